@@ -47,6 +47,16 @@ static int32_t close_rest(vbr_handle *handle, uint64_t *keys, vbr_totals *report
     return at_once ? vbr_close_all(handle, 3, keys, 8, report) : vbr_close(&handle[1], keys, 8, report);
 }
 
+/* How many keys a walk gives, or -1. */
+static int walked(vbr_handle *handle) {
+    vbr_cursor cursor = VBR_CURSOR_BEGIN;
+    uint64_t key = 0;
+    int count = 0;
+    vbr_answer told;
+    while ((told = vbr_next(handle, &cursor, 1000, &key)) == VBR_YES) count++;
+    return told == VBR_NO ? count : -1;
+}
+
 /* A set is opened, used and closed while the nth allocation is refused. 1: none was, 0: one was. */
 static int round_with(long n, int *done) {
     vbr_handle handle[3] = {{0}};
@@ -76,7 +86,7 @@ static int round_with(long n, int *done) {
         if (stays_short) { /* the handles are full: they make calls, and are closed once there is memory */
             CHECK(vbr_has(&handle[1], 7, 1000) == VBR_YES && vbr_remove(&handle[1], 6, 1000) == VBR_YES);
             CHECK(!at_once || vbr_has(&handle[0], 6, 1000) == VBR_NO);
-            CHECK(vbr_insert(&handle[1], 6, 1000) == VBR_YES);
+            CHECK(walked(&handle[1]) == 1 && vbr_insert(&handle[1], 6, 1000) == VBR_YES && walked(&handle[1]) == 2);
             allowed = -1;
             CHECK(close_rest(handle, keys, &report) == VBR_YES);
         }

@@ -42,6 +42,23 @@ static int all_at_once(void) {
     return 0;
 }
 
+static int walked(void) {
+    vbr_handle handle[2] = {{0}};
+    vbr_totals report = {0};
+    vbr_answer told;
+    uint64_t key = 0, sum = 0;
+    static const uint64_t some[3] = {2, 5, 9};
+    if (vbr_open_with(handle, 2, 1024 + 2 * 64, 1024, VBR_MAX_EPOCH, some, 3) != VBR_NO) return 1;
+    vbr_cursor cursor = VBR_CURSOR_BEGIN; // before the first key
+    do {
+        told = vbr_next(&handle[0], &cursor, 100000, &key);
+        if (told == VBR_YES) sum += key; // the key was there during the call
+    } while (told == VBR_YES || told == VBR_OUT_OF_STEPS); // at the end it is VBR_NO
+    CHECK(told == VBR_NO && sum == 2 + 5 + 9);
+    CHECK(vbr_close_all(handle, 2, keys, 8, &report) == VBR_YES && report.live == 3);
+    return 0;
+}
+
 static int refused(void) {
     vbr_handle handle[2] = {{0}};
     vbr_totals report = {0};
@@ -91,7 +108,7 @@ static int lent(void) {
 }
 
 int main(void) {
-    if (one_by_one() || all_at_once() || refused() || the_most() || given_up() || lent()) return 1;
+    if (one_by_one() || all_at_once() || walked() || refused() || the_most() || given_up() || lent()) return 1;
     puts("examples of each call in C: passed");
     return 0;
 }

@@ -101,10 +101,23 @@ static vbr_handle *of_handler;
 static unsigned char held_by_both[KEYS];
 static volatile sig_atomic_t handled;
 
+/* A walk in the handler gives its own keys, the odd ones. */
+static void walk(void) {
+    vbr_cursor cursor = VBR_CURSOR_BEGIN;
+    uint64_t key = 0;
+    vbr_answer told;
+    int missing = 0;
+    for (int i = 1; i < KEYS; i += 2) missing += held_by_both[i];
+    while ((told = vbr_next(of_handler, &cursor, BUDGET, &key)) == VBR_YES)
+        if (key % 2) CHECK(held_by_both[key] && missing-- > 0);
+    CHECK(told == VBR_NO && missing == 0);
+}
+
 /* The handler has a handle and keys of its own: the odd ones. */
 static void handle_signal(int number) {
     (void)number;
     for (int i = 0; i < 4; i++) turn_of(of_handler, held_by_both, handled * 4 + i, 1);
+    walk();
     handled++;
 }
 

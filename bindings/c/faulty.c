@@ -1,5 +1,5 @@
 /* The library with one fault, whose number FAULT names in the environment: what looks for faults has to find it. Link with
-   -Wl,--wrap=vbr_open,--wrap=vbr_open_with,--wrap=vbr_insert,--wrap=vbr_remove,--wrap=vbr_has,--wrap=vbr_close
+   -Wl,--wrap=vbr_open,--wrap=vbr_open_with,--wrap=vbr_insert,--wrap=vbr_remove,--wrap=vbr_has,--wrap=vbr_next,--wrap=vbr_close
 
     1 an insert now and then answers yes for a key that is there
     2 a remove now and then removes nothing, and answers yes
@@ -14,6 +14,11 @@
    11 an opening with several keys leaves out the last one
    12 an insert takes effect only as its thread makes its next call
    13 a remove now and then leaves its node in the list
+   14 a walk now and then passes a key by
+   15 a walk now and then gives a key twice
+   16 a walk gives the key that its call before found, which may be gone by then
+   17 a walk that is refused loses the rest of its bucket
+   18 a call of a walk that gives no key writes
 
    One thread alone can't see the seventh and the twelfth, and four threads don't look for the eighth, ninth and tenth. The
    twelfth leaves each thread's own answers right: it shows only where the program orders calls of several. The thirteenth
@@ -29,6 +34,7 @@ int32_t __real_vbr_open_with(vbr_handle *handles, size_t count, uint32_t slots, 
 int32_t __real_vbr_insert(vbr_handle *handle, uint64_t key, uint32_t budget);
 int32_t __real_vbr_remove(vbr_handle *handle, uint64_t key, uint32_t budget);
 int32_t __real_vbr_has(vbr_handle *handle, uint64_t key, uint32_t budget);
+int32_t __real_vbr_next(vbr_handle *handle, vbr_cursor *cursor, uint32_t budget, uint64_t *key);
 int32_t __real_vbr_close(vbr_handle *handle, uint64_t *keys, size_t room, vbr_totals *report);
 
 static atomic_int number = -1;
@@ -105,6 +111,35 @@ int32_t __wrap_vbr_has(vbr_handle *handle, uint64_t key, uint32_t budget) {
     make_late();
     int32_t answer = __real_vbr_has(handle, key, budget);
     return answer == VBR_YES && now(4) ? VBR_NO : answer;
+}
+
+/* The key after a place of a walk of this thread, as it was found by the call before, for the sixteenth fault. */
+static _Thread_local struct {
+    const vbr_cursor *of;
+    vbr_cursor at, after;
+    uint64_t key;
+} ahead;
+
+static int32_t next_found_before(vbr_handle *handle, vbr_cursor *cursor, uint32_t budget, uint64_t *key) {
+    int32_t answer = VBR_YES;
+    if (ahead.of == cursor && ahead.at.bucket == cursor->bucket && ahead.at.from == cursor->from) *key = ahead.key, *cursor = ahead.after;
+    else answer = __real_vbr_next(handle, cursor, budget, key);
+    ahead.at = ahead.after = *cursor;
+    ahead.of = answer == VBR_YES && __real_vbr_next(handle, &ahead.after, budget, &ahead.key) == VBR_YES ? cursor : NULL;
+    return answer;
+}
+
+int32_t __wrap_vbr_next(vbr_handle *handle, vbr_cursor *cursor, uint32_t budget, uint64_t *key) {
+    vbr_cursor before = *cursor;
+    uint64_t old = *key;
+    make_late();
+    if (fault() == 16) return next_found_before(handle, cursor, budget, key);
+    int32_t answer = __real_vbr_next(handle, cursor, budget, key);
+    if (answer == VBR_YES && now(14)) return *key = old, __real_vbr_next(handle, cursor, budget, key);
+    if (answer == VBR_YES && now(15)) *cursor = before;
+    if (answer == VBR_OUT_OF_STEPS && fault() == 17) cursor->bucket++, cursor->from = 0;
+    if (answer != VBR_YES && fault() == 18) *key = 1;
+    return answer;
 }
 
 int32_t __wrap_vbr_close(vbr_handle *handle, uint64_t *keys, size_t room, vbr_totals *report) {

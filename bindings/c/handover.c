@@ -3,8 +3,8 @@
 
        handover [ROUNDS [FAULT]]
 
-   With FAULT 1 the hand-over is relaxed, with 2 a handle is given on before its last call, and with 3 before it is asked for
-   the number of slots: programs that are wrong, for ThreadSanitizer to find. */
+   With FAULT 1 the hand-over is relaxed, with 2 a handle is given on before its last call, with 3 before it is asked for
+   the number of slots, and with 4 before it walks: programs that are wrong, for ThreadSanitizer to find. */
 #include "vbr.h"
 
 #include <pthread.h>
@@ -46,6 +46,12 @@ static void call(struct baton *b, int id) {
     b->calls++;
 }
 
+static int walks(vbr_handle *handle) {
+    vbr_cursor cursor = VBR_CURSOR_BEGIN;
+    uint64_t key = 0;
+    return vbr_next(handle, &cursor, 8, &key) == VBR_YES;
+}
+
 static void *work(void *of) {
     int id = *(int *)of, next = (id + 1) % THREADS;
     for (long round = 0; round < rounds; round++)
@@ -59,6 +65,7 @@ static void *work(void *of) {
             atomic_store_explicit(&b->turn, next, releases);
             if (fault == 2 && !vbr_has(&b->handle, 0, 8)) sched_yield();
             if (fault == 3 && !vbr_slots(&b->handle)) sched_yield();
+            if (fault == 4 && !walks(&b->handle)) sched_yield();
         }
     return NULL;
 }

@@ -43,7 +43,8 @@ static int check_maps(void) {
     vbr_totals report = {0};
     vbr_map_lender lender = {0};
 #endif
-    uint64_t value = 0;
+    vbr_cursor cursor = VBR_CURSOR_BEGIN;
+    uint64_t key = 0, value = 0;
     CHECK(sizeof(vbr_map_handle) == sizeof(void *) && sizeof(vbr_entry) == 16);
     CHECK(vbr_map_open(map, HANDLES, SLOTS, KEYS, VBR_MAX_EPOCH) == VBR_NO);
     CHECK(vbr_map_epoch(&map[0]) == 1 && vbr_map_last_epoch(&map[0]) == VBR_MAX_EPOCH);
@@ -57,6 +58,8 @@ static int check_maps(void) {
     vbr_map_give_back(&lender, mine);
     CHECK(vbr_map_has(&map[1], 5, BUDGET) == VBR_YES && vbr_map_get(&map[1], 5, BUDGET, &value) == VBR_YES && value == 50);
     CHECK(vbr_map_remove(&map[1], 6, BUDGET, &value) == VBR_NO && value == 50);
+    CHECK(vbr_map_next(&map[1], &cursor, BUDGET, &key, &value) == VBR_YES && key == 5 && value == 50);
+    CHECK(vbr_map_next(&map[1], &cursor, BUDGET, &key, &value) == VBR_NO && vbr_map_next(&none, &cursor, BUDGET, &key, &value) == VBR_EMPTY);
     CHECK(vbr_map_close_all(map, HANDLES, entries, 0, &report) == VBR_NO_ROOM && report.live == 1);
     CHECK(vbr_map_close(&map[0], entries, KEYS, &report) == VBR_NO && vbr_map_close(&map[1], entries, KEYS, &report) == VBR_YES);
     CHECK(report.live == 1 && entries[0].key == 5 && entries[0].value == 50);
@@ -76,8 +79,9 @@ static int check(void) {
     vbr_totals report = {0};
     vbr_lender lender = {0};
 #endif
-    uint64_t keys[KEYS] = {0};
-    CHECK(sizeof(vbr_answer) == 4 && sizeof(vbr_handle) == sizeof(void *) && sizeof(vbr_totals) == 24);
+    vbr_cursor cursor = VBR_CURSOR_BEGIN;
+    uint64_t keys[KEYS] = {0}, key = 0;
+    CHECK(sizeof(vbr_cursor) == 16 && sizeof(vbr_answer) == 4 && sizeof(vbr_handle) == sizeof(void *) && sizeof(vbr_totals) == 24);
     CHECK(VBR_VERSION == 1000000 * VBR_VERSION_MAJOR + 1000 * VBR_VERSION_MINOR + VBR_VERSION_PATCH);
     CHECK(VBR_AMPLE_BUDGET(64) == 100001 && VBR_AMPLE_BUDGET(VBR_MAX_SLOTS) >= 18 * 3 + VBR_MAX_SLOTS / 64 + 20);
     CHECK(VBR_MAX_HANDLES == 64 && VBR_MAX_BUCKETS == 16777216 && VBR_MAX_EPOCH == (UINT64_C(1) << 39) - 1);
@@ -92,6 +96,8 @@ static int check(void) {
     CHECK(added == VBR_YES && text_of(added)[0] == 'y' && text_of(vbr_has(&none, 5, BUDGET))[0] == 'e');
     vbr_give_back(&lender, mine);
     CHECK(vbr_has(&handle[1], 5, BUDGET) == VBR_YES && vbr_remove(&handle[1], 6, BUDGET) == VBR_NO);
+    CHECK(vbr_next(&handle[1], &cursor, BUDGET, &key) == VBR_YES && key == 5);
+    CHECK(vbr_next(&handle[1], &cursor, BUDGET, &key) == VBR_NO && vbr_next(&none, &cursor, BUDGET, &key) == VBR_EMPTY);
     CHECK(vbr_close_all(handle, HANDLES, keys, 0, &report) == VBR_NO_ROOM && report.live == 1);
     CHECK(vbr_close(&handle[0], keys, KEYS, &report) == VBR_NO && vbr_close(&handle[1], keys, KEYS, &report) == VBR_YES);
     CHECK(report.live == 1 && keys[0] == 5);

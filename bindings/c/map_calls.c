@@ -45,6 +45,23 @@ static int all_at_once(void) {
     return 0;
 }
 
+static int walked(void) {
+    vbr_map_handle map[2] = {{0}};
+    vbr_totals report = {0};
+    vbr_answer told;
+    uint64_t key = 0, value = 0, sum = 0;
+    static const vbr_entry some[3] = {{2, 20}, {5, 50}, {9, 90}};
+    if (vbr_map_open_with(map, 2, 1024 + 2 * 64, 1024, VBR_MAX_EPOCH, some, 3) != VBR_NO) return 1;
+    vbr_cursor cursor = VBR_CURSOR_BEGIN; // before the first key
+    do {
+        told = vbr_map_next(&map[0], &cursor, 100000, &key, &value);
+        if (told == VBR_YES) sum += value; // the key had this value during the call
+    } while (told == VBR_YES || told == VBR_OUT_OF_STEPS); // at the end it is VBR_NO
+    CHECK(told == VBR_NO && sum == 20 + 50 + 90);
+    CHECK(vbr_map_close_all(map, 2, entries, 8, &report) == VBR_YES && report.live == 3);
+    return 0;
+}
+
 static int given_up(void) {
     vbr_map_handle map[2] = {{0}};
     vbr_totals report = {0};
@@ -71,7 +88,7 @@ static int lent(void) {
 }
 
 int main(void) {
-    if (one_by_one() || all_at_once() || given_up() || lent()) return 1;
+    if (one_by_one() || all_at_once() || walked() || given_up() || lent()) return 1;
     puts("examples of each call on maps in C: passed");
     return 0;
 }

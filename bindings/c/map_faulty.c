@@ -1,5 +1,6 @@
 /* The library with one fault of its maps, whose number FAULT names in the environment: a soak over maps (values.h) has to find
-   it. Link with -Wl,--wrap=vbr_map_open_with,--wrap=vbr_map_insert,--wrap=vbr_map_remove,--wrap=vbr_map_get,--wrap=vbr_map_close
+   it. Link with
+   -Wl,--wrap=vbr_map_open_with,--wrap=vbr_map_insert,--wrap=vbr_map_remove,--wrap=vbr_map_get,--wrap=vbr_map_next,--wrap=vbr_map_close
 
     1 a get now and then gives the value that its key had before
     2 a get now and then gives a value whose insert was answered no
@@ -14,7 +15,12 @@
    11 an insert now and then answers yes for a key that is there
    12 an insert now and then is lost
    13 a get now and then answers no for a key that is there
-   14 a report is short of an entry */
+   14 a report is short of an entry
+   15 a walk now and then gives the value that its key had before
+   16 a walk now and then gives the value of the next key
+   17 a walk now and then passes a key by
+   18 a walk now and then gives a key twice
+   19 a call of a walk that gives no key writes */
 #include "vbr.h"
 
 #include <pthread.h>
@@ -27,6 +33,7 @@ vbr_answer __real_vbr_map_open_with(vbr_map_handle *handles, size_t count, uint3
 vbr_answer __real_vbr_map_insert(vbr_map_handle *handle, uint64_t key, uint64_t value, uint32_t budget);
 vbr_answer __real_vbr_map_remove(vbr_map_handle *handle, uint64_t key, uint32_t budget, uint64_t *value);
 vbr_answer __real_vbr_map_get(vbr_map_handle *handle, uint64_t key, uint32_t budget, uint64_t *value);
+vbr_answer __real_vbr_map_next(vbr_map_handle *handle, vbr_cursor *cursor, uint32_t budget, uint64_t *key, uint64_t *value);
 vbr_answer __real_vbr_map_close(vbr_map_handle *handle, vbr_entry *entries, size_t room, vbr_totals *report);
 
 enum { KEPT = 1 << 16 };
@@ -93,7 +100,7 @@ vbr_answer __wrap_vbr_map_remove(vbr_map_handle *handle, uint64_t key, uint32_t 
     vbr_answer answer = __real_vbr_map_remove(handle, key, budget, value);
     uint64_t removed = *value;
     if (answer == VBR_YES && now(4)) give_kept(key, value);
-    if (answer == VBR_YES && (fault() == 1 || fault() == 4)) keep(key, removed);
+    if (answer == VBR_YES && (fault() == 1 || fault() == 4 || fault() == 15)) keep(key, removed);
     return answer;
 }
 
@@ -104,6 +111,22 @@ vbr_answer __wrap_vbr_map_get(vbr_map_handle *handle, uint64_t key, uint32_t bud
     if (answer == VBR_YES && (now(1) || now(2))) give_kept(key, value);
     if (answer == VBR_YES && now(3)) (void)!__real_vbr_map_get(handle, key ^ 1, budget, value);
     if (answer != VBR_YES && fault() == 8) *value = 1;
+    return answer;
+}
+
+vbr_answer __wrap_vbr_map_next(vbr_map_handle *handle, vbr_cursor *cursor, uint32_t budget, uint64_t *key, uint64_t *value) {
+    vbr_cursor before = *cursor;
+    uint64_t old_key = *key, old_value = *value;
+    vbr_answer answer = __real_vbr_map_next(handle, cursor, budget, key, value);
+    if (answer == VBR_YES && now(15)) give_kept(*key, value);
+    if (answer == VBR_YES && now(16)) {
+        vbr_cursor copy = *cursor;
+        uint64_t other = 0;
+        (void)!__real_vbr_map_next(handle, &copy, budget, &other, value);
+    }
+    if (answer == VBR_YES && now(17)) return *key = old_key, *value = old_value, __real_vbr_map_next(handle, cursor, budget, key, value);
+    if (answer == VBR_YES && now(18)) *cursor = before;
+    if (answer != VBR_YES && fault() == 19) *value = 1;
     return answer;
 }
 

@@ -3,10 +3,15 @@
 
        page_cache [REQUESTS]
 
-   Who asks for a page looks it up, and pins its frame while it reads. Where the page is absent, a thread takes a frame by
+   Who asks for a page looks it up, and pins its frame while it reads or writes. Where the page is absent, a thread takes a frame by
    CLOCK: the hand goes round, past frames that are pinned, and those that were used since it came by last; the page of the first
-   other one leaves the map. Then the thread reads the page that is wanted into it, and inserts that. Where two threads miss the same
-   page, both inserts have one that is answered VBR_YES, so a page has one frame.
+   other one is written back, and leaves the map. Then the thread inserts the page that is wanted with this frame, and reads it from
+   disk. Where two threads miss the same page, both inserts have one that is answered VBR_YES, so a page has one frame, and is read once.
+
+   Now and then one thread makes a checkpoint, while the others go on: it walks over the map, and writes back each page that was
+   written to. A page that is in the map all the while is given by the walk, and one that leaves it is written back before. So what was
+   written before the checkpoint began is on disk as it ends: of each page it is counted how often it was written to, and how many of
+   these writes are on disk.
 
    The program compares its hits with those of a plain cache with the same CLOCK in one thread, on the same requests: with
    one thread they are equal, whether budgets are small or the epoch is spent again and again. With four, in an order that the
@@ -23,7 +28,7 @@
 
 #define CHECK(x) do { if (!(x)) { fprintf(stderr, "page_cache.c:%d: %s\n", __LINE__, #x); exit(1); } } while (0)
 
-enum { FRAMES = 4096, PAGES = 16384, WORDS = 64, MOST_THREADS = 4 };
+enum { FRAMES = 4096, PAGES = 16384, WORDS = 64, MOST_THREADS = 4, CHECKPOINT = 4000 /* requests between two */ };
 enum { SLOTS = FRAMES + 64 * MOST_THREADS, FEW_SLOTS = FRAMES / 2, AMPLE = VBR_AMPLE_BUDGET(SLOTS) };
 
 #define NO_PAGE UINT64_MAX
@@ -31,8 +36,9 @@ enum { SLOTS = FRAMES + 64 * MOST_THREADS, FEW_SLOTS = FRAMES / 2, AMPLE = VBR_A
 
 /* A frame is pinned by those who read it, or taken by the thread that puts another page into it. */
 struct frame {
-    _Atomic uint32_t pins; /* how many, or TAKEN */
-    atomic_bool is_used;   /* since the hand came by */
+    _Atomic uint32_t pins;   /* how many, or TAKEN */
+    atomic_bool is_used;     /* since the hand came by */
+    _Atomic uint64_t writes; /* how many were made to its page: more than are on disk, where it is dirty */
     uint64_t page, words[WORDS];
     struct frame *below; /* of a spare frame: the one that was spare before */
 };
@@ -41,17 +47,18 @@ struct worker {
     vbr_map_handle *map;
     struct frame *spare; /* frames that it took and has no page for: the last of them, or none */
     long next;           /* its next request; then each that is `threads` further */
-    long hits, tired, full;
+    long hits, tired, full, checkpoints, written_back;
 };
 
 static struct frame frames[FRAMES];
+static _Atomic uint64_t disk[PAGES], written[PAGES]; /* how many writes to a page are on disk, and how many were made */
 static atomic_ulong hand;
 static vbr_map_handle handles[MOST_THREADS];
 static struct worker workers[MOST_THREADS];
 static atomic_bool renewal_is_due;
 static uint64_t last_epoch;
 static uint32_t slots, budget;
-static long requests = 400000, threads, tired, full, renewals;
+static long requests = 400000, threads, tired, full, checkpoints, written_back, renewals;
 
 /* The page of a request: small numbers come more often. */
 static uint64_t page_of(long request) {
@@ -59,8 +66,19 @@ static uint64_t page_of(long request) {
     return ((((x >> 32) * (y >> 32) >> 32) * (z >> 32) >> 32) * PAGES) >> 32;
 }
 
-static void read_from_disk(uint64_t page, uint64_t *words) {
-    for (uint64_t i = 0; i < WORDS; i++) words[i] = page * WORDS + i;
+static int is_write(long request) { return request % 8 == 7; }
+
+static void read_from_disk(struct frame *f) {
+    for (uint64_t i = 0; i < WORDS; i++) f->words[i] = f->page * WORDS + i;
+    atomic_store(&f->writes, atomic_load(&disk[f->page]));
+}
+
+/* Writes the page of a frame to disk, if it is dirty. The frame is taken, or pinned by the one thread that makes checkpoints. */
+static void write_back(struct worker *w, struct frame *f) {
+    uint64_t writes = atomic_load(&f->writes);
+    if (atomic_load(&disk[f->page]) == writes) return;
+    atomic_store(&disk[f->page], writes);
+    w->written_back++;
 }
 
 /* A call that is refused for want of steps wasn't made. It is made again, with twice the budget. */
@@ -69,6 +87,8 @@ static uint32_t twice(struct worker *w, uint32_t steps) {
     return steps < UINT32_MAX / 2 ? 2 * steps : UINT32_MAX;
 }
 
+static void unpin(struct frame *f) { atomic_fetch_sub(&f->pins, 1); }
+
 /* Pins a frame if it has this page. It hasn't where another thread took it since the page was looked up. */
 static int pin(struct frame *f, uint64_t page) {
     uint32_t pins = atomic_load(&f->pins);
@@ -76,7 +96,7 @@ static int pin(struct frame *f, uint64_t page) {
         if (pins == TAKEN) return 0;
     } while (!atomic_compare_exchange_weak(&f->pins, &pins, pins + 1));
     if (f->page == page) return 1;
-    atomic_fetch_sub(&f->pins, 1);
+    unpin(f);
     return 0;
 }
 
@@ -107,6 +127,7 @@ static struct frame *evict(struct worker *w) {
         uint64_t number = 0;
         vbr_answer removed;
         uint32_t steps = AMPLE; /* with a small budget the node could stay in its list, and its slot with it */
+        write_back(w, f); /* before it leaves: who misses it then reads it from disk */
         while ((removed = vbr_map_remove(w->map, f->page, steps, &number)) == VBR_OUT_OF_STEPS) steps = twice(w, steps);
         CHECK(removed == VBR_YES && f == &frames[number]); /* who took the frame is alone in removing its page */
     }
@@ -128,10 +149,9 @@ static struct frame *empty_frame(struct worker *w) {
     return f;
 }
 
-/* Reads a page into a frame, and inserts it: VBR_YES, or VBR_NO if another thread did so meanwhile, or VBR_EPOCH_SPENT. */
+/* Inserts a page with a frame, and reads it: VBR_YES, or VBR_NO if another thread did so meanwhile, or VBR_EPOCH_SPENT. */
 static vbr_answer load(struct worker *w, uint64_t page) {
     struct frame *f = empty_frame(w);
-    read_from_disk(page, f->words);
     f->page = page;
     for (uint32_t steps = budget;;) {
         vbr_answer added = vbr_map_insert(w->map, page, (uint64_t)(f - frames), steps);
@@ -140,16 +160,20 @@ static vbr_answer load(struct worker *w, uint64_t page) {
         } else if (added == VBR_NO_SLOT) {
             keep(w, evict(w)); /* a page that leaves the map leaves its slot to this handle */
             w->full++;
+        } else if (added == VBR_YES) {
+            read_from_disk(f);
+            atomic_store(&f->pins, 0); /* until now others who found the page have waited */
+            return VBR_YES;
         } else {
-            if (added == VBR_YES) atomic_store(&f->pins, 0);
-            else keep(w, f);
+            keep(w, f);
             return added;
         }
     }
 }
 
 /* Serves a request. Where the epoch is spent it can't be served before the map is renewed. */
-static int serve(struct worker *w, uint64_t page) {
+static int serve(struct worker *w, long request) {
+    uint64_t page = page_of(request);
     struct frame *f = find(w, page);
     w->hits += f != NULL;
     while (!f) {
@@ -157,15 +181,42 @@ static int serve(struct worker *w, uint64_t page) {
         f = find(w, page); /* it was there a moment ago */
     }
     for (uint64_t i = 0; i < WORDS; i++) CHECK(f->words[i] == page * WORDS + i);
+    if (is_write(request)) {
+        atomic_fetch_add(&f->writes, 1);
+        atomic_fetch_add(&written[page], 1);
+    }
     atomic_store(&f->is_used, 1);
-    atomic_fetch_sub(&f->pins, 1);
+    unpin(f);
     return 1;
+}
+
+/* Writes back all pages that were written to before it began. One thread alone makes checkpoints. */
+static void checkpoint(struct worker *w) {
+    static uint64_t before[PAGES];
+    vbr_cursor cursor = VBR_CURSOR_BEGIN;
+    uint64_t page = 0, number = 0;
+    uint32_t steps = budget;
+    vbr_answer given;
+    for (int i = 0; i < PAGES; i++) before[i] = atomic_load(&written[i]);
+    while ((given = vbr_map_next(w->map, &cursor, steps, &page, &number)) != VBR_NO) {
+        if (given == VBR_OUT_OF_STEPS) {
+            steps = twice(w, steps); /* the cursor keeps how far the walk has come */
+            continue;
+        }
+        struct frame *f = pin(&frames[number], page) ? &frames[number] : find(w, page);
+        if (!f) continue; /* it has left the map since, and was written back before */
+        write_back(w, f);
+        unpin(f);
+    }
+    for (int i = 0; i < PAGES; i++) CHECK(atomic_load(&disk[i]) >= before[i]);
+    w->checkpoints++;
 }
 
 static void *work(void *of) {
     struct worker *w = of;
     while (w->next < requests && !atomic_load(&renewal_is_due)) {
-        if (serve(w, page_of(w->next))) w->next += threads;
+        if (w == workers && w->next % CHECKPOINT == 0) checkpoint(w);
+        if (serve(w, w->next)) w->next += threads;
         else atomic_store(&renewal_is_due, 1);
     }
     return NULL;
@@ -188,22 +239,30 @@ static void work_all(void) {
     for (long i = 0; i < threads; i++) CHECK(!pthread_join(ids[i], NULL));
 }
 
-/* Ends the cache: each page of the map has its frame, and each frame that isn't spare has its page there. */
+/* Ends the cache: each page of the map has its frame, and each frame that isn't spare has its page there. Once these are written back
+   all writes are on disk. */
 static void close_cache(void) {
     static vbr_entry entries[FRAMES];
     vbr_totals report = {0};
     uint32_t has_page = 0;
     CHECK(vbr_map_close_all(handles, (size_t)threads, entries, FRAMES, &report) == VBR_YES);
     for (uint32_t i = 0; i < report.live; i++) CHECK(frames[entries[i].value].page == entries[i].key);
-    for (int i = 0; i < FRAMES; i++) has_page += frames[i].page != NO_PAGE;
+    for (int i = 0; i < FRAMES; i++) {
+        if (frames[i].page == NO_PAGE) continue;
+        has_page++;
+        write_back(&workers[0], &frames[i]);
+    }
     CHECK(report.live == has_page);
+    for (int i = 0; i < PAGES; i++) CHECK(disk[i] == written[i]);
 }
 
 /* How many of the requests are hits, where so many threads serve them. */
 static long hits(long of_threads, uint32_t of_slots, uint64_t of_last_epoch, uint32_t of_budget) {
     long sum = 0;
-    threads = of_threads, slots = of_slots, last_epoch = of_last_epoch, budget = of_budget, tired = full = renewals = 0;
+    threads = of_threads, slots = of_slots, last_epoch = of_last_epoch, budget = of_budget, tired = full = checkpoints = written_back = renewals = 0;
     memset(frames, 0, sizeof frames);
+    memset(disk, 0, sizeof disk);
+    memset(written, 0, sizeof written);
     for (int i = 0; i < FRAMES; i++) frames[i].page = NO_PAGE;
     atomic_store(&hand, 0);
     CHECK(vbr_map_open(handles, (size_t)threads, slots, FRAMES, last_epoch) == VBR_NO);
@@ -212,10 +271,14 @@ static long hits(long of_threads, uint32_t of_slots, uint64_t of_last_epoch, uin
     for (long i = 0; i < threads; i++) {
         CHECK(workers[i].next >= requests);
         sum += workers[i].hits, tired += workers[i].tired, full += workers[i].full;
+        checkpoints += workers[i].checkpoints, written_back += workers[i].written_back;
     }
+    CHECK(checkpoints >= requests / CHECKPOINT && written_back > 0);
     close_cache();
-    printf("page cache in C: %ld threads, %lu slots, last epoch %llu, budget %lu: %.2f of 100 requests are hits; %ld calls tired, %ld full, %ld renewals\n", threads,
-           (unsigned long)slots, (unsigned long long)last_epoch, (unsigned long)budget, 100.0 * (double)sum / (double)requests, tired, full, renewals);
+    printf("page cache in C: %ld threads, %lu slots, last epoch %llu, budget %lu: %.2f of 100 requests are hits; %ld calls tired, %ld full, %ld renewals; "
+           "%ld pages written back, %ld checkpoints\n",
+           threads, (unsigned long)slots, (unsigned long long)last_epoch, (unsigned long)budget, 100.0 * (double)sum / (double)requests, tired, full,
+           renewals, written_back, checkpoints);
     return sum;
 }
 

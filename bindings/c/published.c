@@ -1,13 +1,13 @@
-/* Records beside the set: a record is written before its key is inserted, and read by who finds the key. The records are
-   plain memory, and nothing but the set orders the threads.
+/* Records beside the set: a record is written before its key is inserted, and read by who finds the key, or is given it by a
+   walk. The records are plain memory, and nothing but the set orders the threads.
 
        published [ROUNDS [FAULT]]
 
-   First two threads write records and insert their keys, and two others look each key up until it is there, and read its
-   record. Then four threads take records by removing their keys, change them, and give them back by inserting the keys: each
+   First two threads write records and insert their keys. Two others read them: one looks each key up until it is there, and one
+   walks until it is given all. Then four threads take records by removing their keys, change them, and give them back by inserting the keys: each
    record is one thread's at a time, and no change is lost. With FAULT 1 a reader doesn't look up, with 2 it reads what it
-   was told is absent, and with 3 a record is changed once more behind its insert: programs that are wrong, for
-   ThreadSanitizer to find. */
+   was told is absent, with 3 a record is changed once more behind its insert, and with 4 both readers walk by one cursor: programs
+   that are wrong, for ThreadSanitizer to find. */
 #include "vbr.h"
 
 #include <pthread.h>
@@ -53,6 +53,23 @@ static void look_up_and_read(struct worker *w) {
     }
 }
 
+static void walk_and_read(struct worker *w) {
+    for (int given = 0; given < RECORDS; sched_yield()) {
+        vbr_cursor cursor = VBR_CURSOR_BEGIN;
+        uint64_t key = 0;
+        vbr_answer told;
+        for (given = 0; (told = vbr_next(&w->handle, &cursor, budget, &key)) == VBR_YES; given++) CHECK(records[key].value == 3 * key + 1);
+        CHECK(told == VBR_NO);
+    }
+}
+
+/* What nobody should do either: the cursor is another thread's too. */
+static void walk_together(struct worker *w) {
+    static vbr_cursor shared = VBR_CURSOR_BEGIN;
+    uint64_t key = 0;
+    for (int i = 0; i < RECORDS; i++) w->changed += vbr_next(&w->handle, &shared, budget, &key) == VBR_YES;
+}
+
 /* What nobody should do: it reads a record that isn't published yet, and only then lets the others begin. */
 static void read_too_early(struct worker *w) {
     if (fault == 2) CHECK(vbr_has(&w->handle, RECORDS - 1, budget) == VBR_NO);
@@ -68,8 +85,12 @@ static void *publish_and_read(void *of) {
         publish(w);
     } else if (is_early) {
         read_too_early(w);
-    } else {
+    } else if (fault == 4) {
+        walk_together(w);
+    } else if (w->id == 2) {
         look_up_and_read(w);
+    } else {
+        walk_and_read(w);
     }
     return NULL;
 }

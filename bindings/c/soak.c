@@ -5,7 +5,12 @@
        soak [OPERATIONS [SEED]]
 
    makes at least that many calls, and tells on standard error how far it is. Each set is one round. Keys are shared
-   by all threads, but for some that one thread alone inserts and removes: each answer on those is known. At the end of
+   by all threads, but for some that one thread alone inserts and removes: each answer on those is known. Others rest: they are
+   in the set from its opening to its close, and no thread inserts or removes them.
+
+   In between the threads walk, some calls at a time. A walk has to give, in the order of buckets and ascending in each, all keys that
+   rest, and those of its own thread that are in the set all the while; of its own thread's keys it gives none that isn't there at that
+   moment, and it gives no key that was never put in. A walk while nothing else runs gives all keys. At the end of
    a round every key is in the set exactly if more inserts than removes of it were answered yes; it is looked up, and
    looked for in the report. In some rounds with slots by the rule of vbr.h one handle then fills the set up to the most
    keys, and finds a slot for each. Where all budgets were ample the report counts no removed node that is still in a list.
@@ -25,18 +30,29 @@
 enum {
     THREADS = 4,
     STILL = 2,         /* handles that take some slots, and then stand still for the whole round */
-    MAX_KEYS = 16384,  /* how many keys a round has at most */
+    MAX_KEYS = 16384,  /* how many keys that come and go a round has at most */
+    MOST = MAX_KEYS + MAX_KEYS / 4, /* and with those that rest */
     AMPLE = 1 << 20,   /* a budget that no call runs out of */
     SPENT_LIMIT = 2000 /* a thread ends its round after so many inserts that found the epoch spent */
 };
 
 struct round {
-    uint32_t keys, slots, buckets;
+    uint32_t keys, resting; /* how many come and go; and how many, of the numbers after these, rest */
+    uint32_t slots, buckets;
     uint64_t last_epoch, spread; /* the key of number i is i * spread, and spread is odd */
+    uint64_t unspread;           /* its inverse: the number of a key is key * unspread */
     uint32_t small_budgets;      /* of 256 calls, how many have one */
     uint32_t look_ups, inserts;  /* of 256 calls; the others are removes */
+    uint32_t walks;              /* of 256 turns, how many go on with a walk, by up to 64 calls */
     long calls;                  /* of each thread */
     int with_still, drops, fills;
+};
+
+struct walk {
+    vbr_cursor cursor;
+    int is_on, has_given;
+    uint64_t bucket, key;     /* of the key that was given last */
+    unsigned char due[MOST];  /* which keys are to be given still */
 };
 
 struct worker {
@@ -47,14 +63,16 @@ struct worker {
     long made, refused[4]; /* by -answer */
     const char *wrong;
     uint32_t wrong_key;
-    int32_t balance[MAX_KEYS]; /* inserts answered yes, less removes answered yes */
+    int32_t balance[MOST]; /* inserts answered yes, less removes answered yes */
+    struct walk walk;
+    long walks; /* that came to their end */
 };
 
 static struct worker workers[THREADS];
-static unsigned char held[MAX_KEYS]; /* which keys were in the set as the round began */
+static unsigned char held[MOST]; /* which keys were in the set as the round began */
 static atomic_int working;
 static volatile sig_atomic_t pause_us;
-static long stalls, sets, carried, filled, left, seed = 1; /* left: removed nodes in lists, at closes */
+static long stalls, sets, carried, filled, walks, left, seed = 1; /* left: removed nodes in lists, at closes */
 static long refusals[4]; /* by -answer */
 
 static uint64_t next(uint64_t *random) {
@@ -66,11 +84,16 @@ static uint64_t next(uint64_t *random) {
 
 static uint64_t key_of(const struct round *r, uint32_t number) { return number * r->spread; }
 
+static uint32_t all_keys(const struct round *r) { return r->keys + r->resting; }
+
+/* In which bucket the library has a key: the upper half of its product, as a part of the buckets. */
+static uint64_t bucket_of(const struct round *r, uint64_t key) { return (key * 0x9e3779b97f4a7c15u >> 32) * r->buckets >> 32; }
+
 /* The thread that alone inserts and removes the key, or -1. */
-static int owner_of(uint32_t number) { return number % 8 < THREADS ? (int)(number % 8) : -1; }
+static int owner_of(const struct round *r, uint32_t number) { return number < r->keys && number % 8 < THREADS ? (int)(number % 8) : -1; }
 
 /* Whether the set has slots by the rule: one for each key, and 64 for each handle. */
-static int is_ample(const struct round *r) { return r->slots >= r->keys + 64 * (THREADS + STILL); }
+static int is_ample(const struct round *r) { return r->slots >= all_keys(r) + 64 * (THREADS + STILL); }
 
 static int is_in(uint32_t number) {
     int32_t sum = held[number];
@@ -91,7 +114,7 @@ static int32_t call(struct worker *w, int kind, uint32_t number, uint32_t budget
                      : kind == 1 ? vbr_insert(&w->handle, key, budget)
                                  : vbr_remove(&w->handle, key, budget);
     if (answer == VBR_YES && kind == 1) w->balance[number]++;
-    if (answer == VBR_YES && kind == 2) w->balance[number]--;
+    if (answer == VBR_YES && kind == 2) w->balance[number]--, w->walk.due[number] = 0;
     return answer;
 }
 
@@ -108,16 +131,82 @@ static const char *fault(const struct worker *w, int kind, int own, int before, 
     return NULL;
 }
 
+static int is_ours(const struct worker *w, uint32_t number) { return owner_of(w->round, number) == w->number; }
+
+/* A walk begins. What rests is due, and what is the thread's own and in the set, unless it is removed meanwhile. */
+static void begin_walk(struct worker *w) {
+    const struct round *r = w->round;
+    static const vbr_cursor begin = VBR_CURSOR_BEGIN;
+    w->walk.cursor = begin;
+    w->walk.is_on = 1;
+    w->walk.has_given = 0;
+    for (uint32_t i = 0; i < all_keys(r); i++) w->walk.due[i] = (unsigned char)(i >= r->keys || (is_ours(w, i) && held[i] + w->balance[i]));
+}
+
+/* What is wrong with the end of a walk, or nothing. */
+static const char *end_walk(struct worker *w) {
+    w->walk.is_on = 0;
+    w->walks++;
+    for (uint32_t i = 0; i < all_keys(w->round); i++)
+        if (w->walk.due[i]) return w->wrong_key = i, "a walk has passed a key by";
+    return NULL;
+}
+
+/* Whether a key comes after the one that a walk gave last. */
+static int is_after(const struct round *r, const struct walk *walk, uint64_t key) {
+    uint64_t bucket = bucket_of(r, key);
+    return !walk->has_given || bucket > walk->bucket || (bucket == walk->bucket && key > walk->key);
+}
+
+/* A walk gives a key: what is wrong with that, or nothing. */
+static const char *give(const struct round *r, struct walk *walk, uint64_t key) {
+    uint64_t number = key * r->unspread;
+    if (number >= all_keys(r)) return "a walk gives a key that was never put in";
+    if (!is_after(r, walk, key)) return "a walk gives a key twice, or out of its order";
+    walk->has_given = 1;
+    walk->bucket = bucket_of(r, key);
+    walk->key = key;
+    walk->due[number] = 0;
+    return NULL;
+}
+
+/* One call of a walk: what is wrong with it, or nothing. */
+static const char *walk_on(struct worker *w, uint32_t budget) {
+    uint64_t key = 0;
+    if (!w->walk.is_on) begin_walk(w);
+    vbr_answer answer = vbr_next(&w->handle, &w->walk.cursor, budget, &key);
+    uint32_t number = (uint32_t)(key * w->round->unspread);
+    w->made++;
+    w->refused[1] += answer == VBR_OUT_OF_STEPS;
+    if (answer != VBR_YES && key) return "a call of a walk that gives no key has written";
+    if (answer == VBR_NO) return end_walk(w);
+    if (answer == VBR_OUT_OF_STEPS) return budget >= AMPLE ? "too few steps for a walk with an ample budget" : NULL;
+    if (answer != VBR_YES) return "an answer that no walk has";
+    w->wrong_key = number;
+    const char *wrong = give(w->round, &w->walk, key);
+    if (wrong) return wrong;
+    return is_ours(w, number) && !(held[number] + w->balance[number]) ? "a walk gives a key of its thread that isn't there" : NULL;
+}
+
+static uint32_t budget_of(const struct round *r, uint64_t x) { return (x >> 8 & 255) < r->small_budgets ? (uint32_t)(x >> 16 & 127) : AMPLE; }
+
+/* A turn of a walk: up to 64 calls. */
+static void walk_some(struct worker *w) {
+    for (uint64_t count = 1 + (next(&w->random) & 63); count > 0 && !w->wrong; count--) w->wrong = walk_on(w, budget_of(w->round, next(&w->random)));
+}
+
 static void *work(void *of) {
     struct worker *w = of;
     const struct round *r = w->round;
     for (long i = 0; i < r->calls && !w->wrong && w->refused[3] < SPENT_LIMIT; i++) {
+        if ((next(&w->random) & 255) < r->walks) walk_some(w);
+        if (w->wrong) break;
         uint64_t x = next(&w->random);
         uint32_t number = (uint32_t)((x >> 32) * r->keys >> 32);
         uint32_t mix = x & 255;
         int kind = mix < r->look_ups ? 0 : mix < r->look_ups + r->inserts ? 1 : 2;
-        uint32_t budget = (x >> 8 & 255) < r->small_budgets ? (uint32_t)(x >> 16 & 127) : AMPLE;
-        int owner = owner_of(number);
+        uint32_t budget = budget_of(r, x);
+        int owner = owner_of(r, number);
         if (kind && owner >= 0 && owner != w->number) kind = 0;
         int own = owner == w->number;
         int before = own ? held[number] + w->balance[number] : 0;
@@ -127,6 +216,7 @@ static void *work(void *of) {
         w->wrong = fault(w, kind, own, before, budget, answer);
         w->wrong_key = number;
     }
+    while (w->walk.is_on && !w->wrong) w->wrong = walk_on(w, AMPLE);
     atomic_fetch_sub(&working, 1);
     return NULL;
 }
@@ -139,19 +229,29 @@ static int failed(const struct round *r, long number, const char *what, uint32_t
     return 1;
 }
 
+/* The inverse of an odd number, modulo 2^64: each turn doubles the bits that are right. */
+static uint64_t inverse_of(uint64_t odd) {
+    uint64_t inverse = odd;
+    for (int bits = 3; bits < 64; bits *= 2) inverse *= 2 - odd * inverse;
+    return inverse;
+}
+
 static struct round plan(uint64_t *random, const struct round *old, int carries) {
     struct round r = {0};
     uint64_t x = next(random);
     r.keys = carries ? old->keys : x % 4 == 0 ? MAX_KEYS : x % 4 == 1 ? 1024 : 8 + (uint32_t)(x >> 8 & 63);
+    r.resting = r.keys / 4;
     r.spread = carries ? old->spread : x >> 32 & 1 ? 1 : next(random) | 1;
+    r.unspread = inverse_of(r.spread);
     r.buckets = 1 + (uint32_t)(next(random) % (r.keys / 2));
     if (r.keys > 64 && r.buckets < r.keys / 8) r.buckets = r.keys / 8; /* so that the lists are short */
-    r.slots = r.keys + 64 * (THREADS + STILL);
-    if ((x >> 33 & 3) == 0) r.slots = r.keys + 2; /* some inserts find no slot */
+    r.slots = all_keys(&r) + 64 * (THREADS + STILL);
+    if ((x >> 33 & 3) == 0) r.slots = all_keys(&r) + 2; /* some inserts find no slot */
     r.last_epoch = (x >> 35 & 3) == 0 ? 1 + next(random) % 5000 : VBR_MAX_EPOCH;
     r.small_budgets = (x >> 37 & 3) == 0 ? 64 : 0;
     r.look_ups = (uint32_t)(x >> 40 & 1 ? 128 : x >> 41 & 1 ? 230 : 0);
     r.inserts = (256 - r.look_ups) / 2;
+    r.walks = x >> 51 & 1 ? 8 : x >> 52 & 1 ? 2 : 0;
     r.calls = 20000 + (long)(next(random) % 180000);
     r.with_still = x >> 42 & 1;
     r.drops = (x >> 43 & 15) == 0;
@@ -167,7 +267,7 @@ static int by_number(const void *a, const void *b) {
 /* The keys of the numbers that pass a test, ascending, and how many they are. */
 static uint32_t keys_in(const struct round *r, int (*test)(uint32_t), uint64_t *keys) {
     uint32_t count = 0;
-    for (uint32_t i = 0; i < r->keys; i++)
+    for (uint32_t i = 0; i < all_keys(r); i++)
         if (test(i)) keys[count++] = key_of(r, i);
     qsort(keys, count, sizeof keys[0], by_number);
     return count;
@@ -175,18 +275,18 @@ static uint32_t keys_in(const struct round *r, int (*test)(uint32_t), uint64_t *
 
 static int was_held(uint32_t number) { return held[number]; }
 
-/* Opens a set, with the keys of the last one or without any. */
+/* Opens a set, with the keys that it is to begin with or without any. */
 static int32_t open_set(const struct round *r, vbr_handle *handles, int count, int with_keys) {
-    static uint64_t keys[MAX_KEYS];
+    static uint64_t keys[MOST];
     if (!with_keys) return vbr_open(handles, (size_t)count, r->slots, r->buckets, r->last_epoch);
     uint32_t key_count = keys_in(r, was_held, keys);
     return vbr_open_with(handles, (size_t)count, r->slots, r->buckets, r->last_epoch, keys, key_count);
 }
 
-/* Sees that the keys of the last set are in the one that was opened with them, or puts them into it, and lets the
+/* Sees that the keys of the last set, and those that rest, are in the one that was opened with them, or puts them into it, and lets the
    handles that stand still take slots. */
 static const char *begin(const struct round *r, vbr_handle *handles, int with_keys) {
-    for (uint32_t i = 0; i < r->keys; i++)
+    for (uint32_t i = 0; i < all_keys(r); i++)
         if (held[i] && vbr_insert(&handles[0], key_of(r, i), AMPLE) != (with_keys ? VBR_NO : VBR_YES))
             return "a key could not be carried over";
     for (int h = THREADS; r->with_still && h < THREADS + STILL; h++)
@@ -216,16 +316,34 @@ static const char *fill(const struct round *r, vbr_handle *handle) {
     uint32_t missing = r->keys;
     for (uint32_t i = 0; i < r->keys; i++) missing -= (uint32_t)is_in(i);
     for (uint32_t i = 0; i < missing; i++)
-        if (vbr_insert(handle, key_of(r, r->keys + i), AMPLE) != VBR_YES) return "no slot in a set that is filled by the rule";
+        if (vbr_insert(handle, key_of(r, all_keys(r) + i), AMPLE) != VBR_YES) return "no slot in a set that is filled by the rule";
     for (uint32_t i = 0; i < missing; i++)
-        if (vbr_remove(handle, key_of(r, r->keys + i), AMPLE) != VBR_YES) return "a key of the filling is lost";
+        if (vbr_remove(handle, key_of(r, all_keys(r) + i), AMPLE) != VBR_YES) return "a key of the filling is lost";
     filled++;
     return NULL;
 }
 
+/* A walk while nothing else runs: it gives the keys that the answers leave, and no other. */
+static const char *walk_at_rest(const struct round *r, vbr_handle *handle) {
+    static struct walk walk;
+    static const struct walk begin = {.cursor = VBR_CURSOR_BEGIN};
+    const char *wrong = NULL;
+    uint64_t key = 0;
+    walk = begin;
+    for (uint32_t i = 0; i < all_keys(r); i++) walk.due[i] = (unsigned char)is_in(i);
+    vbr_answer answer;
+    while (!wrong && (answer = vbr_next(handle, &walk.cursor, AMPLE, &key)) == VBR_YES)
+        wrong = key * r->unspread < all_keys(r) && !walk.due[key * r->unspread] ? "a walk at rest gives a key that isn't there" : give(r, &walk, key);
+    if (!wrong && answer != VBR_NO) return "the end of a walk at rest";
+    for (uint32_t i = 0; i < all_keys(r) && !wrong; i++)
+        if (walk.due[i]) return "a walk at rest has passed a key by";
+    walks++;
+    return wrong;
+}
+
 /* Compares the report with the keys that the answers leave. */
 static int check_report(const struct round *r, const vbr_totals *report, const uint64_t *keys) {
-    static uint64_t want[MAX_KEYS];
+    static uint64_t want[MOST];
     uint32_t count = keys_in(r, is_in, want);
     if (report->live != count) return failed(r, sets, "the report has another number of keys", 0);
     for (uint32_t i = 0; i < count; i++)
@@ -242,20 +360,21 @@ static int check_report(const struct round *r, const vbr_totals *report, const u
 
 /* Looks every key up, closes the set, and checks the report. */
 static int finish(const struct round *r, vbr_handle *handles, int count) {
-    static uint64_t keys[MAX_KEYS];
+    static uint64_t keys[MOST];
     vbr_totals report = {0};
-    for (uint32_t i = 0; i < r->keys; i++) {
+    for (uint32_t i = 0; i < all_keys(r); i++) {
         int sum = is_in(i);
         if (sum != 0 && sum != 1) return failed(r, sets, "the answers do not balance", i);
         if (vbr_has(&handles[i % (uint32_t)count], key_of(r, i), AMPLE) != sum)
             return failed(r, sets, "a look-up differs from the answers", i);
     }
-    const char *wrong = r->fills ? fill(r, &handles[sets % count]) : NULL;
+    const char *wrong = walk_at_rest(r, &handles[sets % count]);
+    if (!wrong && r->fills) wrong = fill(r, &handles[sets % count]);
     if (wrong) return failed(r, sets, wrong, 0);
     if (r->drops) vbr_drop(&handles[0]);
     for (int i = r->drops; i < count - 1; i++)
-        if (vbr_close(&handles[i], keys, MAX_KEYS, &report) != VBR_NO) return failed(r, sets, "a close was not the last", 0);
-    int32_t last = vbr_close(&handles[count - 1], keys, MAX_KEYS, &report);
+        if (vbr_close(&handles[i], keys, MOST, &report) != VBR_NO) return failed(r, sets, "a close was not the last", 0);
+    int32_t last = vbr_close(&handles[count - 1], keys, MOST, &report);
     if (last != VBR_YES) return failed(r, sets, "the last close", 0);
     return check_report(r, &report, keys);
 }
@@ -266,6 +385,7 @@ static int play(struct round *r, uint64_t *random, long *made) {
     int count = THREADS + (r->with_still ? STILL : 0), with_keys = next(random) & 1;
     pthread_t threads[THREADS];
     sets++;
+    for (uint32_t i = 0; i < r->resting; i++) held[r->keys + i] = 1;
     if (open_set(r, handles, count, with_keys) != VBR_NO) return failed(r, sets, "the set could not be opened", 0);
     const char *wrong = begin(r, handles, with_keys);
     if (wrong) return failed(r, sets, wrong, 0);
@@ -283,6 +403,7 @@ static int play(struct round *r, uint64_t *random, long *made) {
         pthread_join(threads[i], NULL);
         handles[i] = workers[i].handle;
         *made += workers[i].made;
+        walks += workers[i].walks;
         for (int k = 1; k < 4; k++) refusals[k] += workers[i].refused[k];
         if (workers[i].wrong) return failed(r, sets, workers[i].wrong, workers[i].wrong_key);
     }
@@ -292,7 +413,7 @@ static int play(struct round *r, uint64_t *random, long *made) {
 /* Whether the next set begins with the keys of this one. */
 static int carry(const struct round *r, uint64_t *random) {
     int carries = (next(random) & 1) && !r->drops;
-    for (uint32_t i = 0; i < MAX_KEYS; i++) held[i] = carries && i < r->keys && is_in(i);
+    for (uint32_t i = 0; i < MOST; i++) held[i] = carries && i < r->keys && is_in(i);
     return carries;
 }
 
@@ -322,8 +443,8 @@ int main(int count, char **words) {
         told = now();
         fprintf(stderr, "soak: %ld of %ld operations, %ld sets, %ld stalls, %.0f s\n", made, wanted, sets, stalls, told - start);
     }
-    printf("soak in C: passed, %ld operations on %ld sets, %ld of them carried over, %ld filled; %ld stalls; "
+    printf("soak in C: passed, %ld operations on %ld sets, %ld of them carried over, %ld filled; %ld walks; %ld stalls; "
            "refused: %ld steps, %ld slots, %ld epochs; left in lists where budgets were small: %ld removed nodes\n",
-           made, sets, carried, filled, stalls, refusals[1], refusals[2], refusals[3], left);
+           made, sets, carried, filled, walks, stalls, refusals[1], refusals[2], refusals[3], left);
     return 0;
 }

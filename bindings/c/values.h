@@ -1,10 +1,10 @@
 /* A set made of a map: with `-include bindings/c/values.h` a client of sets runs over maps, and values are seen to besides.
 
    Each insert stores a value that no other one has, and it is known of each value which key it was stored with and how far it
-   has come. So whatever a get, a remove or a report tells has to be
+   has come. So whatever a get, a remove, a walk or a report tells has to be
    - a value that was stored, and with this key: not one of another key, a part of one, or none;
    - of an insert that is not refused, nor answered no;
-   - not taken out by another remove, and of a get, not taken out before the get began.
+   - not taken out by another remove, and of a get or a walk, not taken out before the call began.
    A program that meets another one ends with what is wrong. A set that opens with keys of the last report gives each the value
    that it had there.
 
@@ -141,6 +141,16 @@ VBR_NODISCARD static inline vbr_answer value_look_up(vbr_map_handle *handle, uin
     return answer;
 }
 
+/* A key that a walk gives has its value. */
+VBR_NODISCARD static inline vbr_answer value_next(vbr_map_handle *handle, vbr_cursor *cursor, uint32_t budget, uint64_t *key) {
+    uint64_t value = 0, before = *key, began = value_read(&value_time);
+    vbr_answer answer = vbr_map_next(handle, cursor, budget, key, &value);
+    struct value_place *it = answer == VBR_YES ? value_told(*key, value, began) : NULL;
+    if (it) value_moves(it, PENDING, SEEN);
+    if (answer != VBR_YES && (value || *key != before)) value_is_wrong("a walk that gives no key has written", *key, value);
+    return answer;
+}
+
 VBR_NODISCARD static inline vbr_answer value_open(vbr_map_handle *handles, size_t count, uint32_t slots, uint32_t buckets, uint64_t last_epoch) {
     return vbr_map_open(handles, count, slots, buckets, last_epoch);
 }
@@ -199,6 +209,7 @@ VBR_NODISCARD static inline vbr_answer value_close_all(vbr_map_handle *handles, 
 #undef vbr_insert
 #undef vbr_remove
 #undef vbr_has
+#undef vbr_next
 #undef vbr_close
 #undef vbr_close_all
 #undef vbr_drop
@@ -213,6 +224,7 @@ VBR_NODISCARD static inline vbr_answer value_close_all(vbr_map_handle *handles, 
 #define vbr_insert value_insert
 #define vbr_remove value_remove
 #define vbr_has value_look_up
+#define vbr_next value_next
 #define vbr_close value_close
 #define vbr_close_all value_close_all
 #define vbr_drop(handle) vbr_map_drop(handle)

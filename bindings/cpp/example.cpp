@@ -1,7 +1,8 @@
-// The set in C++: the examples of vbr.hpp (bindings/headers sees that their lines are here), ranges of keys, closes, ends of handles, exceptions, and loans.
+// The set in C++: the examples of vbr.hpp (bindings/headers sees that their lines are here), ranges of keys, walks, closes, ends of handles, exceptions, and loans.
 #include "vbr.hpp"
 
 #include <cstdio>
+#include <iterator>
 #include <list>
 #include <set>
 #include <stdexcept>
@@ -9,17 +10,25 @@
 #include <thread>
 #include <type_traits>
 #if __cplusplus >= 202002L
+#include <algorithm>
+#include <ranges>
 #include <span>
 #endif
 
 #define CHECK(x) do { if (!(x)) { std::fprintf(stderr, "example.cpp:%d: %s\n", __LINE__, #x); return 1; } } while (0)
 
-// What doesn't compile: a copy of a handle, and an answer or a close as a bool.
+// What doesn't compile: a copy of a handle, an answer or a close as a bool, and a walk whose last answer is told to nobody.
 static_assert(!std::is_copy_constructible_v<vbr::handle> && !std::is_copy_assignable_v<vbr::handle>);
 static_assert(std::is_nothrow_move_constructible_v<vbr::handle> && std::is_nothrow_move_assignable_v<vbr::handle>);
 static_assert(!std::is_constructible_v<bool, vbr::answer> && !std::is_constructible_v<bool, vbr::closed>);
 static_assert(!std::is_constructible_v<bool, vbr::open_answer> && !std::is_constructible_v<bool, vbr::opened>);
 static_assert(!std::is_convertible_v<vbr::answer, int> && !std::is_convertible_v<vbr::loan, bool>);
+static_assert(!std::is_constructible_v<bool, vbr::given<std::uint64_t>> && !std::is_invocable_v<decltype(&vbr::handle::next), vbr::handle &, vbr::cursor, std::uint32_t>);
+template <class Handle, class = void>
+inline constexpr bool walks_without_an_answer = false;
+template <class Handle>
+inline constexpr bool walks_without_an_answer<Handle, std::void_t<decltype(std::declval<Handle &>().keys(1000u))>> = true;
+static_assert(!walks_without_an_answer<vbr::handle>);
 static_assert(vbr::shape::for_keys(1000, 2).slots == 1128 && vbr::shape::for_keys(1000, 2).buckets == 1024);
 static_assert(vbr::shape::for_keys(0, 1).buckets == 1 && vbr::shape::for_keys(~0u, 1).slots == vbr::max_slots + 1);
 
@@ -111,6 +120,93 @@ static int ranges() {
 #endif
     auto opened = vbr::open_with(vbr::shape::for_keys(8, 1), 1, {2, 5, 9});
     CHECK(opened.answer == vbr::open_answer::done && opened.handles[0].close().report->keys == want);
+    return 0;
+}
+
+// A handle to a set of the keys 1 to 9 in four buckets. The bucket of a key is told by the part behind the point of its product with
+// 0.618034: below a quarter it is the first, and so on.
+static vbr::handle opened_with_nine() {
+    vbr::opened nine = vbr::open_with(vbr::shape{9 + 64, 4, vbr::max_epoch}, 1, {1, 2, 3, 4, 5, 6, 7, 8, 9});
+    return nine.answer == vbr::open_answer::done ? std::move(nine.handles[0]) : vbr::handle();
+}
+
+static const std::vector<std::uint64_t> nine_by_bucket{2, 5, 4, 7, 1, 6, 9, 3, 8};
+
+// All keys, and each bucket's in turn; from a cursor on; and with other calls of the handle in between.
+static int walks() {
+    constexpr std::uint32_t budget = 1000;
+    vbr::handle mine = opened_with_nine();
+    std::uint64_t sum = 0;
+    vbr::answer told{};
+    for (std::uint64_t key : mine.keys(budget, told)) sum += key;
+    if (vbr::is_refusal(told)) return 1; // the walk came to no end
+    CHECK(told == vbr::answer::no && sum == 45);
+    vbr::cursor at; // before the first key
+    vbr::given<std::uint64_t> next = mine.next(at, budget);
+    if (next.item) sum += *next.item; // next.answer is yes
+    CHECK(next.answer == vbr::answer::yes && next.item == 2u && sum == 45 + 2);
+    for (std::uint64_t key : mine.keys(at, budget, told))
+        if (key == 7) break;
+    CHECK(told == vbr::answer::yes && mine.next(at, budget).item == 1u);
+    for (std::uint64_t key : mine.keys(at, 2 * budget, told)) sum += key;
+    CHECK(told == vbr::answer::no && sum == 47 + 6 + 9 + 3 + 8 && !mine.next(at, budget).item);
+    for (std::uint64_t key : mine.keys(budget, told)) CHECK(mine.remove(key, budget) == vbr::answer::yes);
+    CHECK(told == vbr::answer::no && mine.close().report->keys.empty());
+    return 0;
+}
+
+// A walk is an input range: of each version of C++ that has them.
+static int walked_by_iterators() {
+    using iterator = decltype(std::declval<vbr::handle &>().keys(0, std::declval<vbr::answer &>()).begin());
+    static_assert(std::is_same_v<std::iterator_traits<iterator>::iterator_category, std::input_iterator_tag>);
+    static_assert(std::is_same_v<std::iterator_traits<iterator>::value_type, std::uint64_t>);
+    vbr::handle mine = opened_with_nine();
+    vbr::answer told{};
+    std::uint64_t sum = 0;
+    {
+        auto walk = mine.keys(1000, told);
+        for (auto each = walk.begin(); each != walk.end(); ++each) sum += *each;
+        CHECK(sum == 45 && walk.begin() == walk.end());
+    }
+    {
+        auto walk = mine.keys(1000, told);
+        auto each = walk.begin(); // at the end already where there is no key
+        auto before = each++;
+        CHECK(*before == 2 && *each == 5 && *each.operator->() == 5 && *each++ == 5 && *each == 4 && before != walk.end());
+    }
+    auto walk = mine.keys(1000, told);
+    CHECK(std::vector<std::uint64_t>(walk.begin(), walk.end()) == nine_by_bucket && told == vbr::answer::no);
+#if __cplusplus >= 202002L
+    static_assert(std::input_iterator<iterator> && std::ranges::input_range<decltype(walk)>);
+    auto again = mine.keys(1000, told);
+    CHECK(std::ranges::equal(again, nine_by_bucket));
+#endif
+    return 0;
+}
+
+// A range asks again while its cursor moves: eleven steps are enough for a key in a bucket of its own, among empty ones, and not
+// for the second key of a bucket. Then it ends, with the refusal, and goes on from there with more.
+static int refused_walks() {
+    vbr::opened wide = vbr::open_with(vbr::shape{1 + 64, 4096, vbr::max_epoch}, 1, {7});
+    CHECK(wide.answer == vbr::open_answer::done);
+    vbr::answer told{};
+    vbr::cursor at;
+    CHECK(wide.handles[0].next(at, 11).answer == vbr::answer::out_of_steps);
+    int count = 0;
+    for (std::uint64_t key : wide.handles[0].keys(11, told)) count += key == 7;
+    CHECK(count == 1 && told == vbr::answer::no);
+
+    vbr::handle mine = opened_with_nine();
+    at = vbr::cursor();
+    std::vector<std::uint64_t> given;
+    for (std::uint64_t key : mine.keys(at, 11, told)) given.push_back(key);
+    CHECK(given == std::vector<std::uint64_t>{2} && told == vbr::answer::out_of_steps);
+    for (std::uint64_t key : mine.keys(at, 100, told)) given.push_back(key);
+    CHECK(given == nine_by_bucket && told == vbr::answer::no);
+
+    vbr::handle none;
+    for (std::uint64_t key : none.keys(100, told)) count += key != 0;
+    CHECK(count == 1 && told == vbr::answer::empty && none.next(at, 100).answer == vbr::answer::empty);
     return 0;
 }
 
@@ -216,13 +312,20 @@ static int loans() {
             }
         });
     for (std::thread &thread : threads) thread.join();
+    {
+        vbr::loan mine = lender.lend();
+        vbr::answer told{};
+        std::set<std::uint64_t> walked;
+        for (std::uint64_t key : mine->keys(100000, told)) CHECK(walked.insert(key).second);
+        CHECK(told == vbr::answer::no && walked.size() == 601 && *walked.rbegin() == 1000);
+    }
     vbr::closed closed = lender.close();
     CHECK(wrong == 0 && closed.answer == vbr::close_answer::last && closed.report->keys.size() == 601);
     return 0;
 }
 
 int main() {
-    if (example() || calls() || the_most() || refusals() || ranges() || ends() || exceptions() || closes_at_once() || loans()) return 1;
+    if (example() || calls() || the_most() || refusals() || ranges() || walks() || walked_by_iterators() || refused_walks() || ends() || exceptions() || closes_at_once() || loans()) return 1;
     std::puts("example in C++: passed");
     return 0;
 }

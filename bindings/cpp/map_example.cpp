@@ -1,4 +1,4 @@
-// The map in C++: the examples of vbr.hpp (bindings/headers sees that their lines are here), ranges of entries, closes, ends of handles, exceptions, and loans.
+// The map in C++: the examples of vbr.hpp (bindings/headers sees that their lines are here), ranges of entries, walks, closes, ends of handles, exceptions, and loans.
 #include "vbr.hpp"
 
 #include <array>
@@ -99,6 +99,35 @@ static int ranges() {
     return 0;
 }
 
+// All entries, bucket by bucket: each key with its value; from a cursor on; and each refusal.
+static int walks() {
+    constexpr std::uint32_t budget = 1000;
+    vbr::map_opened nine = vbr::open_map_with(vbr::shape{9 + 64, 4, vbr::max_epoch}, 1,
+                                              {{1, 10}, {2, 20}, {3, 30}, {4, 40}, {5, 50}, {6, 60}, {7, 70}, {8, 80}, {9, 90}});
+    CHECK(nine.answer == vbr::open_answer::done);
+    vbr::map_handle mine = std::move(nine.handles[0]);
+    const std::vector<vbr::entry> by_bucket{{2, 20}, {5, 50}, {4, 40}, {7, 70}, {1, 10}, {6, 60}, {9, 90}, {3, 30}, {8, 80}};
+    std::uint64_t sum = 0;
+    vbr::answer told{};
+    for (auto [key, value] : mine.entries(budget, told)) sum += key * value;
+    CHECK(told == vbr::answer::no && sum == 10 * (1 + 4 + 9 + 16 + 25 + 36 + 49 + 64 + 81));
+    auto walk = mine.entries(budget, told);
+    CHECK(std::vector<vbr::entry>(walk.begin(), walk.end()) == by_bucket);
+    vbr::cursor at;
+    for (auto [key, value] : mine.entries(at, 11, told)) CHECK(key == 2 && value == 20);
+    CHECK(told == vbr::answer::out_of_steps);
+    vbr::given<vbr::entry> next = mine.next(at, budget);
+    CHECK(next.answer == vbr::answer::yes && next.item && *next.item == by_bucket[1]);
+    sum = 0;
+    for (auto [key, value] : mine.entries(at, 2 * budget, told)) sum += key * value;
+    CHECK(told == vbr::answer::no && sum == 10 * (1 + 9 + 16 + 36 + 49 + 64 + 81) && mine.next(at, budget).answer == vbr::answer::no);
+    for (vbr::entry each : mine.entries(budget, told)) CHECK(mine.remove(each.key, budget).value == each.value);
+    CHECK(told == vbr::answer::no && mine.close().report->entries.empty());
+    for (vbr::entry each : mine.entries(budget, told)) sum += each.value;
+    CHECK(told == vbr::answer::empty && !mine.next(at, budget).item);
+    return 0;
+}
+
 // A map whose report is the opening of the next one: each key keeps its value.
 static int renewals() {
     const vbr::shape shape{8 + 2 * 64, 8, 20};
@@ -195,6 +224,13 @@ static int loans() {
             }
         });
     for (std::thread &thread : threads) thread.join();
+    {
+        vbr::map_loan mine = lender.lend();
+        vbr::answer told{};
+        int walked = 0;
+        for (auto [key, value] : mine->entries(100000, told)) walked += value == (key == 1000 ? 1 : key % 6);
+        CHECK(told == vbr::answer::no && walked == 301);
+    }
     vbr::map_closed closed = lender.close();
     CHECK(wrong == 0 && closed.answer == vbr::close_answer::last && closed.report->entries.size() == 301);
     for (vbr::entry each : closed.report->entries) CHECK(each.value == (each.key == 1000 ? 1 : each.key % 6));
@@ -202,7 +238,7 @@ static int loans() {
 }
 
 int main() {
-    if (example() || calls() || refusals() || ranges() || renewals() || ends() || exceptions() || loans()) return 1;
+    if (example() || calls() || refusals() || ranges() || walks() || renewals() || ends() || exceptions() || loans()) return 1;
     std::puts("example of maps in C++: passed");
     return 0;
 }

@@ -63,7 +63,9 @@ static int maps() {
     auto [opened, handles] = vbr::open_map(shape, 3);
     CHECK(opened == vbr::open_answer::done && handles[1].insert(5, 50, 100000) == vbr::answer::yes);
     long before = asked;
-    CHECK(handles[0].close().answer == vbr::close_answer::others_are_open);
+    vbr::answer told{};
+    for (vbr::entry each : handles[0].entries(100000, told)) CHECK(each.key == 5 && each.value == 50);
+    CHECK(told == vbr::answer::no && handles[0].close().answer == vbr::close_answer::others_are_open);
     handles[1] = vbr::map_handle();
     CHECK(asked == before);
     CHECK(throws([&handle = handles[2]] { static_cast<void>(handle.close()); }));
@@ -85,7 +87,9 @@ static int sets() {
     auto [opened, handles] = vbr::open(shape, 3);
     CHECK(opened == vbr::open_answer::done && handles[1].insert(5, 100000) == vbr::answer::yes);
     long before = asked;
-    CHECK(handles[0].close().answer == vbr::close_answer::others_are_open);
+    vbr::answer told{};
+    for (std::uint64_t key : handles[0].keys(100000, told)) CHECK(key == 5);
+    CHECK(told == vbr::answer::no && handles[0].close().answer == vbr::close_answer::others_are_open);
     handles[1] = vbr::handle();
     CHECK(asked == before);
     CHECK(throws([&handle = handles[2]] { static_cast<void>(handle.close()); }));

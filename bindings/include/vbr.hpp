@@ -16,6 +16,12 @@
        vbr::found there = handles[1].get(5, 100000);         // yes: there.value is 70
        vbr::found taken = handles[1].remove(5, 100000);      // yes: taken.value is 70
 
+   All keys, one after another, while other threads make calls; vbr.h says under "Walks" which are given, and how often:
+
+       vbr::answer told{};
+       for (std::uint64_t key : handles[0].keys(100000, told)) sum += key;
+       if (vbr::is_refusal(told)) return 1; // the walk came to no end
+
    It is a header over the calls of vbr.h, which says what each asks and answers, and links with the same library. Only
    openings and closes take memory; where a vector finds none they throw std::bad_alloc and leave all as it was. How many
    keys are in the set is told by no call while threads run: count the inserts and removes that are answered yes, or read
@@ -23,7 +29,7 @@
 
    A handle may go to another thread by whatever orders the two. Where a thread ends, or an exception leaves a function, the
    handles that it owned end too, which closes them; nothing is lost. What vbr.h says of cancelled threads, signals and forks
-   holds here as well: a signal handler inserts, removes and looks up, and opens, closes and ends no handle. */
+   holds here as well: a signal handler inserts, removes, looks up and walks, and opens, closes and ends no handle. */
 #ifndef VBR_HPP
 #define VBR_HPP
 
@@ -85,7 +91,7 @@ struct shape {
 enum class [[nodiscard]] answer : std::int32_t {
     no = VBR_NO,
     yes = VBR_YES,
-    out_of_steps = VBR_OUT_OF_STEPS, /* the budget is spent; no call was made; a greater budget may help */
+    out_of_steps = VBR_OUT_OF_STEPS, /* the budget is spent; no call was made; a greater budget may help; a cursor keeps how far it has come */
     no_slot = VBR_NO_SLOT,           /* insert: the key is absent, and the handle found no slot; no call was made */
     epoch_spent = VBR_EPOCH_SPENT,   /* insert: the key is absent and the last epoch is spent; no call was made; renew the set */
     empty = VBR_EMPTY                /* the handle is empty */
@@ -98,6 +104,25 @@ enum class [[nodiscard]] answer : std::int32_t {
 struct [[nodiscard]] found {
     vbr::answer answer;
     std::optional<std::uint64_t> value; /* there where the answer is yes */
+};
+
+/* Where a walk stands: before the first key, or after the one that was given last. A copy keeps the place. With another handle, or
+   a set of another shape, the walk from there is another one, and does no harm.
+
+       vbr::cursor at; // before the first key */
+struct cursor {
+    vbr_cursor raw = VBR_CURSOR_BEGIN;
+};
+
+/* What a call of a walk answers: yes with the next key, or of a map the next entry, and no at the end. It is no bool; its item
+   is tested.
+
+       vbr::given<std::uint64_t> next = mine.next(at, budget);
+       if (next.item) sum += *next.item; // next.answer is yes */
+template <class Item>
+struct [[nodiscard]] given {
+    vbr::answer answer;
+    std::optional<Item> item; /* there where the answer is yes */
 };
 
 /* What an opening answers.
@@ -192,6 +217,7 @@ struct set_calls {
     using report = vbr::report;
     using closed = vbr::closed;
     static vbr_answer has(raw *handle, std::uint64_t key, std::uint32_t budget) noexcept { return vbr_has(handle, key, budget); }
+    static vbr_answer next(raw *handle, vbr_cursor *at, std::uint32_t budget, item *key) noexcept { return vbr_next(handle, at, budget, key); }
     static std::uint64_t epoch(raw *handle) noexcept { return vbr_epoch(handle); }
     static std::uint64_t last_epoch(raw *handle) noexcept { return vbr_last_epoch(handle); }
     static std::uint32_t slots(raw *handle) noexcept { return vbr_slots(handle); }
@@ -208,6 +234,9 @@ struct map_calls {
     using report = map_report;
     using closed = map_closed;
     static vbr_answer has(raw *handle, std::uint64_t key, std::uint32_t budget) noexcept { return vbr_map_has(handle, key, budget); }
+    static vbr_answer next(raw *handle, vbr_cursor *at, std::uint32_t budget, item *next) noexcept {
+        return vbr_map_next(handle, at, budget, &next->key, &next->value);
+    }
     static std::uint64_t epoch(raw *handle) noexcept { return vbr_map_epoch(handle); }
     static std::uint64_t last_epoch(raw *handle) noexcept { return vbr_map_last_epoch(handle); }
     static std::uint32_t slots(raw *handle) noexcept { return vbr_map_slots(handle); }
@@ -228,6 +257,81 @@ struct shared {
 };
 
 } // namespace detail
+
+/* All keys of a set, or all entries of a map, one after another: an input range, which a handle gives. It asks again by itself
+   where a call is refused for want of steps and its cursor has come further. It ends where no item is left, or where a call is
+   refused otherwise. What its last call answered is then in the variable that it was given: no at the end, the refusal, or yes
+   where the loop was left before. The handle stays where it is meanwhile, and may make other calls in between.
+
+       vbr::answer told{};
+       for (std::uint64_t key : mine.keys(budget, told)) sum += key;
+       if (vbr::is_refusal(told)) return 1; // the walk came to no end */
+template <class Calls>
+class [[nodiscard]] basic_walk {
+public:
+    /* It keeps the item, so that of a copy stays as it is.
+
+           for (auto each = walk.begin(); each != walk.end(); ++each) sum += *each; */
+    class iterator {
+    public:
+        using iterator_category = std::input_iterator_tag;
+        using value_type = typename Calls::item;
+        using difference_type = std::ptrdiff_t;
+        using pointer = const value_type *;
+        using reference = const value_type &;
+
+        iterator() noexcept = default;
+        reference operator*() const noexcept { return item; }
+        pointer operator->() const noexcept { return &item; }
+        iterator &operator++() noexcept {
+            if (!walk->goes_on(item)) walk = nullptr;
+            return *this;
+        }
+        iterator operator++(int) noexcept {
+            iterator before = *this;
+            ++*this;
+            return before;
+        }
+        friend bool operator==(const iterator &one, const iterator &other) noexcept { return one.walk == other.walk; }
+        friend bool operator!=(const iterator &one, const iterator &other) noexcept { return one.walk != other.walk; }
+
+    private:
+        friend class basic_walk;
+        explicit iterator(basic_walk *of) noexcept : walk(of) {}
+        basic_walk *walk = nullptr; /* none at the end */
+        value_type item = {};
+    };
+
+    /* It begins where the cursor is: at the first item, or after the one that was given last.
+
+           auto each = walk.begin(); // at the end already where there is no key */
+    iterator begin() noexcept {
+        iterator first(this);
+        return ++first;
+    }
+    iterator end() const noexcept { return {}; }
+
+private:
+    template <class>
+    friend class basic_handle;
+    basic_walk(typename Calls::raw *of, cursor *from, std::uint32_t steps, answer &last) noexcept : handle(of), kept(from), budget(steps), told(&last) {}
+
+    /* Whether there is a next item. */
+    bool goes_on(typename Calls::item &next) noexcept {
+        vbr_cursor &at = kept ? kept->raw : own.raw, before;
+        do {
+            before = at;
+            *told = answer{static_cast<std::int32_t>(Calls::next(handle, &at, budget, &next))};
+        } while (*told == answer::out_of_steps && (at.bucket != before.bucket || at.from != before.from));
+        return *told == answer::yes;
+    }
+
+    typename Calls::raw *handle;
+    cursor *kept; /* that of the caller, or none */
+    cursor own;
+    std::uint32_t budget;
+    answer *told;
+};
 
 /* What a handle to a set and one to a map have in common; each may be empty. One thread at a time makes calls with it. Its end
    closes it without a report, which takes no memory and loses nothing: the handle that is closed last is told the keys.
@@ -261,6 +365,16 @@ public:
 
            if (mine.has(7, budget) == vbr::answer::yes) there++; // 7 was there during the call */
     answer has(std::uint64_t key, std::uint32_t budget) noexcept { return answer{static_cast<std::int32_t>(Calls::has(&raw, key, budget))}; }
+
+    /* The next key of a walk, and of a map the next entry: yes with the item, or no at the end. The cursor is then after it; at
+       out_of_steps it keeps how far it has come.
+
+           vbr::given<std::uint64_t> next = mine.next(at, budget); */
+    given<typename Calls::item> next(cursor &at, std::uint32_t budget) noexcept {
+        typename Calls::item item = {};
+        auto told = answer{static_cast<std::int32_t>(Calls::next(&raw, &at.raw, budget, &item))};
+        return {told, told == answer::yes ? std::optional(item) : std::nullopt};
+    }
 
     /* The last epoch that the handle read in a call: 1 before its first, and 0 for an empty handle. Renew the set before it
        comes to last_epoch: close all its handles, and open a set with the keys of the report.
@@ -334,6 +448,8 @@ private:
     std::shared_ptr<detail::shared<Calls>> shared;
 
 protected:
+    basic_walk<Calls> walk(cursor *at, std::uint32_t budget, answer &told) noexcept { return {&raw, at, budget, told}; }
+
     typename Calls::raw raw = {};
 };
 
@@ -351,6 +467,16 @@ public:
 
            if (mine.remove(6, budget) == vbr::answer::yes) taken++; // this call took 6 out */
     answer remove(std::uint64_t key, std::uint32_t budget) noexcept { return answer{static_cast<std::int32_t>(vbr_remove(&raw, key, budget))}; }
+
+    /* All keys, one after another, each call in at most `budget` steps. What the last call answered is then in `told`.
+
+           for (std::uint64_t key : mine.keys(budget, told)) sum += key; */
+    basic_walk<detail::set_calls> keys(std::uint32_t budget, answer &told) noexcept { return walk(nullptr, budget, told); }
+
+    /* The same from a cursor on, which moves along: a walk that was left, or came to no end, goes on from there.
+
+           for (std::uint64_t key : mine.keys(at, 2 * budget, told)) sum += key; */
+    basic_walk<detail::set_calls> keys(cursor &at, std::uint32_t budget, answer &told) noexcept { return walk(&at, budget, told); }
 };
 
 /* A handle to a map, or an empty one.
@@ -382,6 +508,16 @@ public:
         vbr_answer told = vbr_map_get(&raw, key, budget, &value);
         return found_by(told, value);
     }
+
+    /* All entries, one after another, each call in at most `budget` steps. What the last call answered is then in `told`.
+
+           for (auto [key, value] : mine.entries(budget, told)) sum += key * value; */
+    basic_walk<detail::map_calls> entries(std::uint32_t budget, answer &told) noexcept { return walk(nullptr, budget, told); }
+
+    /* The same from a cursor on, which moves along: a walk that was left, or came to no end, goes on from there.
+
+           for (auto [key, value] : mine.entries(at, 2 * budget, told)) sum += key * value; */
+    basic_walk<detail::map_calls> entries(cursor &at, std::uint32_t budget, answer &told) noexcept { return walk(&at, budget, told); }
 
 private:
     static found found_by(vbr_answer told, std::uint64_t value) noexcept {

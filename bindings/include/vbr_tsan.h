@@ -7,7 +7,8 @@
      before it removed one before what a thread does that then finds it absent;
    - that what was done before a handle was closed comes before what the last close tells.
 
-   Of maps it is told the same, where a get is a look-up, and besides that a value was written. So a right program is silent,
+   Of maps it is told the same, where a get is a look-up, and besides that a value was written. A call of a walk is told to write
+   its cursor, and one that gives a key finds it, and writes it. So a right program is silent,
    and one that reads what it didn't look up, or what is absent, is reported. The sanitizer has a place for each of 16,384
    groups of keys, whatever the set, and takes an insert or a remove that is answered no or refused for one that is answered
    yes: where keys of a group meet, or after such an answer, it may miss a race. */
@@ -138,6 +139,18 @@ static inline vbr_answer vbr_tsan_given(uint64_t *value, vbr_answer answer) {
     return answer;
 }
 
+/* What a call of a walk writes, and what comes before the key that it gives. */
+static inline vbr_answer vbr_tsan_walked(vbr_cursor *cursor, uint64_t *key, vbr_answer answer) {
+    __tsan_write8(&cursor->bucket);
+    __tsan_write8(&cursor->from);
+    return answer == VBR_YES ? vbr_tsan_found(*key, vbr_tsan_given(key, answer)) : answer;
+}
+
+VBR_NODISCARD static inline vbr_answer vbr_tsan_next(vbr_handle *handle, vbr_cursor *cursor, uint32_t budget, uint64_t *key) VBR_NOEXCEPT {
+    vbr_tsan_uses(handle);
+    return vbr_tsan_walked(cursor, key, vbr_next(handle, cursor, budget, key));
+}
+
 VBR_NODISCARD static inline vbr_answer vbr_tsan_map_insert(vbr_map_handle *handle, uint64_t key, uint64_t value, uint32_t budget) VBR_NOEXCEPT {
     vbr_tsan_map_uses(handle);
     __tsan_release(vbr_tsan_there(key));
@@ -161,6 +174,11 @@ VBR_NODISCARD static inline vbr_answer vbr_tsan_map_get(vbr_map_handle *handle, 
 VBR_NODISCARD static inline vbr_answer vbr_tsan_map_has(vbr_map_handle *handle, uint64_t key, uint32_t budget) VBR_NOEXCEPT {
     vbr_tsan_map_uses(handle);
     return vbr_tsan_found(key, vbr_map_has(handle, key, budget));
+}
+
+VBR_NODISCARD static inline vbr_answer vbr_tsan_map_next(vbr_map_handle *handle, vbr_cursor *cursor, uint32_t budget, uint64_t *key, uint64_t *value) VBR_NOEXCEPT {
+    vbr_tsan_map_uses(handle);
+    return vbr_tsan_given(value, vbr_tsan_walked(cursor, key, vbr_map_next(handle, cursor, budget, key, value)));
 }
 
 VBR_NODISCARD static inline vbr_answer vbr_tsan_map_close(vbr_map_handle *handle, vbr_entry *entries, size_t room, vbr_totals *report) VBR_NOEXCEPT {
@@ -213,6 +231,7 @@ VBR_NODISCARD static inline uint32_t vbr_tsan_map_buckets(vbr_map_handle *handle
 #define vbr_insert(handle, key, budget) vbr_tsan_insert(handle, key, budget)
 #define vbr_remove(handle, key, budget) vbr_tsan_remove(handle, key, budget)
 #define vbr_has(handle, key, budget) vbr_tsan_has(handle, key, budget)
+#define vbr_next(handle, cursor, budget, key) vbr_tsan_next(handle, cursor, budget, key)
 #define vbr_close(handle, keys, room, report) vbr_tsan_close(handle, keys, room, report)
 #define vbr_close_all(handles, count, keys, room, report) vbr_tsan_close_all(handles, count, keys, room, report)
 #define vbr_drop(handle) vbr_tsan_drop(handle)
@@ -224,6 +243,7 @@ VBR_NODISCARD static inline uint32_t vbr_tsan_map_buckets(vbr_map_handle *handle
 #define vbr_map_remove(handle, key, budget, value) vbr_tsan_map_remove(handle, key, budget, value)
 #define vbr_map_get(handle, key, budget, value) vbr_tsan_map_get(handle, key, budget, value)
 #define vbr_map_has(handle, key, budget) vbr_tsan_map_has(handle, key, budget)
+#define vbr_map_next(handle, cursor, budget, key, value) vbr_tsan_map_next(handle, cursor, budget, key, value)
 #define vbr_map_close(handle, entries, room, report) vbr_tsan_map_close(handle, entries, room, report)
 #define vbr_map_close_all(handles, count, entries, room, report) vbr_tsan_map_close_all(handles, count, entries, room, report)
 #define vbr_map_drop(handle) vbr_tsan_map_drop(handle)

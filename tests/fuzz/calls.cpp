@@ -6,7 +6,9 @@
 // An input is bytes, which are read as calls: openings with good and bad numbers, calls with budgets of all sizes, closings
 // in any order, on handles that are empty or in use, with memory that is refused. While the other handles stand still, as
 // they do here, a budget that vbr.h promises to be enough is enough: so each refusal is known to be due, or isn't made. No two
-// inserts store the same value, so one of an earlier insert is told from that of the last.
+// inserts store the same value, so one of an earlier insert is told from that of the last. Walks go on by any cursor, with other
+// calls in between: each gives the next key of the map in the order of buckets, and by how many steps is known too, but for removed
+// nodes that may still be in their lists.
 // Link with -Wl,--wrap=malloc,--wrap=realloc,--wrap=free.
 #include "fuzz.hpp"
 #include "vbr.h"
@@ -74,6 +76,7 @@ struct Sets {
     static int call(Kind kind, Handle *handle, uint64_t key, uint32_t budget, uint64_t *) {
         return kind == INSERT ? vbr_insert(handle, key, budget) : kind == REMOVE ? vbr_remove(handle, key, budget) : vbr_has(handle, key, budget);
     }
+    static int next(Handle *handle, vbr_cursor *cursor, uint32_t budget, uint64_t *key, uint64_t *) { return vbr_next(handle, cursor, budget, key); }
 };
 
 // A map: an insert stores the value that it is given, and removes and gets give one.
@@ -95,11 +98,47 @@ struct Maps {
                : kind == GET    ? vbr_map_get(handle, key, budget, value)
                                 : vbr_map_has(handle, key, budget);
     }
+    static constexpr auto next = vbr_map_next;
 };
 
 static bool operator==(const vbr_entry &a, const vbr_entry &b) { return a.key == b.key && a.value == b.value; }
 
 // ---- the model -----------------------------------------------------------------------------------------------
+
+// The steps of a call of a walk. It goes on in pieces, each of which begins only where eight steps are left of the budget.
+struct Steps {
+    uint64_t budget, used = 0;
+    uint64_t needed = 0;  // the least budget in which the last piece begins
+
+    bool take(uint64_t steps) {
+        needed = used + 8;
+        if (needed > budget) return false;
+        used += steps;
+        return true;
+    }
+
+    // Whether the last piece may have been one of three steps, whatever it was.
+    bool took_three() {
+        needed = std::max(needed, used + 5);
+        return needed <= budget;
+    }
+
+    // Of so many pieces of three steps, how many it takes.
+    uint64_t take_threes(uint64_t most) {
+        uint64_t count = budget < used + 8 ? 0 : std::min(most, (budget - used - 8) / 3 + 1);
+        used += 3 * count;
+        needed = used + (count < most ? 8 : 5);
+        return count;
+    }
+};
+
+// How far a call of a walk comes: its answer, the key that it gives, and the cursor then.
+struct Reached {
+    int answer;
+    uint64_t key;
+    vbr_cursor cursor;
+    uint64_t needed;
+};
 
 struct Model {
     uint32_t slots, buckets;
@@ -112,13 +151,57 @@ struct Model {
     // Where a key belongs: the upper half of its product with an odd number, as a part of the buckets.
     uint64_t bucket_of(uint64_t key) const { return (key * 0x9E3779B97F4A7C15 >> 32) * buckets >> 32; }
 
-    // How many nodes the bucket of a key has at most.
-    uint64_t nodes(uint64_t key) const {
-        uint64_t bucket = bucket_of(key), count = 0;
-        for (auto &[other, value] : keys) count += bucket_of(other) == bucket;
+    uint64_t marked_in(uint64_t bucket) const {
         auto it = marked.find(bucket);
-        return count + (it == marked.end() ? 0 : it->second);
+        return it == marked.end() ? 0 : it->second;
     }
+
+    // How many nodes a bucket has at most.
+    uint64_t nodes_in(uint64_t bucket) const {
+        uint64_t count = marked_in(bucket);
+        for (auto &[other, value] : keys) count += bucket_of(other) == bucket;
+        return count;
+    }
+
+    // The keys of each bucket that has some, ascending.
+    std::map<uint64_t, std::vector<uint64_t>> lists() const {
+        std::map<uint64_t, std::vector<uint64_t>> lists;
+        for (auto &[key, value] : keys) lists[bucket_of(key)].push_back(key);
+        return lists;
+    }
+
+    // How far a call comes from a cursor on: with no marked node in any list; or with as many as there may be, before the key that
+    // it gives, and one of them the last where it gives none.
+    Reached reach(vbr_cursor at, uint64_t budget, bool with_marked) const {
+        auto lists = this->lists();
+        if (with_marked)
+            for (auto &[bucket, count] : marked) lists[bucket];
+        Steps steps{budget};
+        while (at.bucket < buckets) {
+            auto list = lists.lower_bound(at.bucket);
+            uint64_t empty = (list == lists.end() ? buckets : list->first) - at.bucket;
+            if (empty > 0) {
+                uint64_t passed = steps.take_threes(empty);
+                if (passed > 0) at = {static_cast<uint32_t>(at.bucket + passed), 0};
+                if (passed < empty) return {VBR_OUT_OF_STEPS, 0, at, steps.needed};
+                continue;
+            }
+            uint64_t marks = with_marked ? marked_in(at.bucket) : 0;
+            bool takes = steps.take(3);
+            for (uint64_t i = 0; takes && i < marks; i++) takes = steps.take(3);
+            for (uint64_t key : list->second) {
+                takes = takes && steps.take(5);
+                if (takes && key >= at.from) return {VBR_YES, key, after(at.bucket, key), steps.needed};
+            }
+            if (takes && marks > 0) takes = steps.took_three();
+            if (!takes) return {VBR_OUT_OF_STEPS, 0, at, steps.needed};
+            at = {at.bucket + 1, 0};
+        }
+        return {VBR_NO, 0, at, steps.needed};
+    }
+
+private:
+    static vbr_cursor after(uint32_t bucket, uint64_t key) { return key < UINT64_MAX ? vbr_cursor{bucket, key + 1} : vbr_cursor{bucket + 1, 0}; }
 };
 
 static constexpr size_t CELLS = 80, MOST_KEYS = 96;
@@ -143,6 +226,7 @@ private:
     uint64_t values = 0;  // how many were stored
     typename Of::Handle cells[CELLS] = {};
     std::shared_ptr<Model> models[CELLS];
+    vbr_cursor cursors[CELLS] = {};  // of each cell's walk, which goes on when another set is in the cell
 
     uint8_t byte() { return at < input.size() ? static_cast<uint8_t>(input[at++]) : 0; }
 
@@ -165,11 +249,12 @@ private:
     void step() {
         uint8_t x = byte();
         switch (x % 16) {
-            case 0: case 1: case 2: case 3: case 4: return call(INSERT, cell(), key());
+            case 0: case 1: case 2: case 3: return call(INSERT, cell(), key());
+            case 4: return x & 64 ? walk(cell()) : call(INSERT, cell(), key());
             case 5: case 6: case 7: return call(REMOVE, cell(), key());
             case 8: return call(HAS, cell(), key());
             case 9: return call(Of::HAS_VALUES ? GET : HAS, cell(), key());
-            case 10: return burst(cell(), key(), byte());
+            case 10: return x & 64 ? walk(cell()) : burst(cell(), key(), byte());
             case 11: case 12: return open(cell(), x & 32);
             case 13: return close(cell(), byte() % MOST_KEYS);
             case 14: return drop(cell());
@@ -256,7 +341,7 @@ private:
 
     // The steps that are promised to be enough.
     static uint64_t enough(const Model &m, Kind kind, uint64_t key) {
-        uint64_t n = m.nodes(key), words = (m.slots + 63) / 64;
+        uint64_t n = m.nodes_in(m.bucket_of(key)), words = (m.slots + 63) / 64;
         return kind == HAS || kind == GET ? 5 * n + 11 : kind == REMOVE ? 9 * n + 11 : std::max(18 * n + 82, 18 * n + words + 20);
     }
 
@@ -322,6 +407,83 @@ private:
                 return;
             default: fail("an answer that no call has");
         }
+    }
+
+    // Goes on with the walk of a cell; or first the cursor is put to the beginning, to where another walk is, or anywhere.
+    void walk(size_t cell) {
+        uint8_t x = byte();
+        if (x >= 232) cursors[cell] = {byte() % 32u * (x & 1 ? 1u : 0x8421u), byte() * (x & 2 ? 1u : 0x0101010101010101u)};
+        else if (x >= 208) cursors[cell] = cursors[byte() % 8];
+        else if (x >= 176) cursors[cell] = VBR_CURSOR_BEGIN;
+        if (x < 48) return walk_all(cell, byte());
+        for (int i = 0; i <= x % 8; i++) next(cell);
+    }
+
+    static bool same(vbr_cursor a, vbr_cursor b) { return a.bucket == b.bucket && a.from == b.from; }
+
+    uint32_t budget_of_walk(const Model &m, vbr_cursor at) {
+        uint8_t x = byte();
+        uint64_t least = m.reach(at, UINT64_MAX, false).needed, most = m.reach(at, UINT64_MAX, true).needed;
+        uint64_t budget = x < 64    ? most
+                          : x < 128 ? std::max<uint64_t>(least, 1) - 1
+                          : x < 144 ? UINT32_MAX - (x & 3)
+                          : x < 176 ? x - 144u
+                          : x < 208 ? 5 * m.nodes_in(at.bucket) + 11
+                                    : most * (x - 208) / 48;
+        return static_cast<uint32_t>(budget);
+    }
+
+    void next(size_t cell) {
+        vbr_cursor before = cursors[cell];
+        uint64_t key = NO_VALUE, value = NO_VALUE;
+        if (!models[cell]) {
+            int answer = Of::next(&cells[cell], &cursors[cell], byte(), &key, &value);
+            if (answer != VBR_EMPTY || key != NO_VALUE || value != NO_VALUE || !same(before, cursors[cell])) fail("a walk of an empty handle");
+            return saw(9, answer, 0);
+        }
+        const Model &m = *models[cell];
+        uint32_t budget = budget_of_walk(m, before);
+        int answer = Of::next(&cells[cell], &cursors[cell], budget, &key, &value);
+        check_reached(m, before, budget, answer, key, cursors[cell]);
+        if (answer == VBR_YES && Of::HAS_VALUES ? value != m.keys.at(key) : value != NO_VALUE) fail("the value that a walk gives");
+        saw(9, answer, (before.from > 0) | (before.bucket != cursors[cell].bucket) << 1 | (m.all_marked > 0) << 2 | (m.keys.size() > 8) << 3 |
+                           (m.open < m.handles) << 4 | (budget < 8) << 5 | (key == UINT64_MAX) << 6 | (m.buckets > 1) << 7);
+        if (answer == VBR_YES && budget % 2 == 0) call(Of::HAS_VALUES ? GET : HAS, cell, key);
+    }
+
+    // Whether a call of a walk came as far as it has to, and no further.
+    static void check_reached(const Model &m, vbr_cursor before, uint32_t budget, int answer, uint64_t key, vbr_cursor now) {
+        Reached least = m.reach(before, budget, true), most = m.reach(before, budget, false);
+        if (answer != VBR_YES && key != NO_VALUE) fail("a call of a walk that gives no key has written");
+        if (answer != VBR_OUT_OF_STEPS) {
+            if (answer != most.answer) fail("a wrong answer of a walk");
+            if (answer == VBR_YES && key != most.key) fail("another key than the next one");
+            if (!same(now, most.cursor)) fail("the cursor isn't after the key that was given");
+            return;
+        }
+        if (least.answer != VBR_OUT_OF_STEPS) fail("too few steps for a walk, with a budget that is enough");
+        uint64_t furthest = most.answer == VBR_NO ? m.buckets - 1 : most.answer == VBR_YES ? m.bucket_of(most.key) : most.cursor.bucket;
+        if (now.bucket < least.cursor.bucket || now.bucket > furthest) fail("how far a refused walk has come");
+        if (now.from != (now.bucket == before.bucket ? before.from : 0)) fail("a refused walk has lost its place");
+        if (budget >= 5 * m.nodes_in(before.bucket) + 11 && now.bucket == before.bucket) fail("a walk doesn't go on with a budget that is promised to be enough");
+    }
+
+    // A whole walk, whose budget is doubled where it is too small: it gives all keys, in their order.
+    void walk_all(size_t cell, uint32_t budget) {
+        if (!models[cell]) return next(cell);
+        const Model &m = *models[cell];
+        std::vector<uint64_t> wanted, given;
+        for (auto &[bucket, list] : m.lists()) wanted.insert(wanted.end(), list.begin(), list.end());
+        vbr_cursor &at = cursors[cell], before = VBR_CURSOR_BEGIN;
+        at = before;
+        uint64_t key = 0, value = 0;
+        for (int answer; (answer = Of::next(&cells[cell], &at, budget, &key, &value)) != VBR_NO; before = at) {
+            if (answer == VBR_YES) given.push_back(key);
+            else if (same(at, before)) budget = 2 * budget + 1;
+            if (given.size() > wanted.size()) break;
+        }
+        if (given != wanted) fail("the keys of a walk");
+        saw(10, 0, (given.empty()) | (given.size() > 8) << 1 | (m.all_marked > 0) << 2);
     }
 
     // Inserts and removes of one key in turn: slots are used again, and the epoch moves. In a map a second insert stores nothing,

@@ -1,0 +1,206 @@
+/* Walks in one thread, with answers and budgets that are worked by hand: in which order keys come, how many steps each takes, how
+   far a refused call comes, and what a walk gives whose keys go and come meanwhile.
+
+   Of four buckets a key is in that of the first two bits of its product with 0x9E3779B97F4A7C15, modulo 2^64. These products are the
+   following parts of 2^64, so the buckets begin at 0, 1/4, 1/2 and 3/4:
+
+       key    0     1     2     3     4     5     6     7     8     9     2^64 - 1
+       part   .000  .618  .236  .854  .472  .090  .708  .326  .944  .562  .382
+       bucket 0     2     0     3     1     0     2     1     3     2     1
+
+   A call makes three steps for each bucket that it enters, three for a node that is marked, and five for another; what reads a value
+   makes two more. Each of these begins where eight steps are left of the budget. So the least budget that gives a key is eight more
+   than the steps before its node: the reading of its value is among the eight. */
+#include "vbr.h"
+
+#include <stdio.h>
+#include <string.h>
+
+#define CHECK(x) do { if (!(x)) { fprintf(stderr, "walk.c:%d: %s\n", __LINE__, #x); return 1; } } while (0)
+
+enum { KEYS = 11, SLOTS = 2 * KEYS + 2 * 64, AMPLE = VBR_AMPLE_BUDGET(SLOTS) };
+
+static const uint64_t all[KEYS] = {0, 1, 2, 3, 4, 5, 6, 7, 8, 9, UINT64_MAX};
+static const uint64_t by_bucket[KEYS] = {0, 2, 5, 4, 7, UINT64_MAX, 1, 6, 9, 3, 8};
+
+static int close_both(vbr_handle *handle, uint32_t live) {
+    uint64_t keys[SLOTS] = {0};
+    vbr_totals report = {0};
+    return vbr_close_all(handle, 2, keys, SLOTS, &report) == VBR_YES && report.live == live;
+}
+
+/* Whether the next key is this one, by a budget and not by one step less. */
+static int gives(vbr_handle *handle, vbr_cursor *cursor, uint32_t least, uint64_t wanted) {
+    vbr_cursor copy = *cursor;
+    uint64_t key = 77;
+    CHECK(vbr_next(handle, &copy, least - 1, &key) == VBR_OUT_OF_STEPS && key == 77);
+    CHECK(vbr_next(handle, cursor, least, &key) == VBR_YES && key == wanted);
+    return 0;
+}
+
+/* Whether no key is left, by a budget and not by one step less, and then by none. */
+static int ends(vbr_handle *handle, vbr_cursor *cursor, uint32_t least) {
+    vbr_cursor copy = *cursor;
+    uint64_t key = 77;
+    CHECK(vbr_next(handle, &copy, least - 1, &key) == VBR_OUT_OF_STEPS && key == 77);
+    CHECK(vbr_next(handle, cursor, least, &key) == VBR_NO && key == 77);
+    CHECK(vbr_next(handle, cursor, 0, &key) == VBR_NO && key == 77);
+    return 0;
+}
+
+/* Whether a walk gives these keys from a cursor on, and no other, where no call is refused. */
+static int gives_all(vbr_handle *handle, vbr_cursor cursor, const uint64_t *wanted, int count) {
+    uint64_t key = 77;
+    for (int i = 0; i < count; i++) CHECK(vbr_next(handle, &cursor, AMPLE, &key) == VBR_YES && key == wanted[i]);
+    key = 77;
+    CHECK(vbr_next(handle, &cursor, AMPLE, &key) == VBR_NO && key == 77);
+    return 0;
+}
+
+static int nothing_to_give(void) {
+    vbr_handle handle[2] = {{0}};
+    vbr_cursor cursor, as_it_was;
+    uint64_t key = 77;
+    memset(&cursor, 0x33, sizeof cursor);
+    memset(&as_it_was, 0x33, sizeof as_it_was);
+    CHECK(vbr_next(&handle[0], &cursor, AMPLE, &key) == VBR_EMPTY && key == 77);
+    CHECK(!memcmp(&cursor, &as_it_was, sizeof cursor));
+    CHECK(vbr_open(handle, 2, SLOTS, 4, VBR_MAX_EPOCH) == VBR_NO);
+    vbr_cursor begin = VBR_CURSOR_BEGIN, at = begin;
+    CHECK(!ends(&handle[0], &at, 3 + 3 + 3 + 8)); /* four buckets are entered */
+    at = begin;
+    CHECK(vbr_next(&handle[0], &at, 3 + 3 + 3 + 7, &key) == VBR_OUT_OF_STEPS && !ends(&handle[0], &at, 8)); /* it stood before the last */
+    CHECK(close_both(handle, 0));
+    return 0;
+}
+
+static int bucket_by_bucket(void) {
+    /* the steps before the node of each key: its bucket is entered, and the nodes before it are passed; so is the last bucket */
+    static const uint32_t before[KEYS] = {3, 3 + 5, 3 + 10, 3 + 15 + 3, 3 + 5, 3 + 10, 3, 3 + 5, 3 + 10, 3 + 15 + 3, 3 + 5};
+    vbr_handle handle[2] = {{0}};
+    vbr_cursor begin = VBR_CURSOR_BEGIN, cursor = begin;
+    CHECK(vbr_open_with(handle, 2, SLOTS, 4, VBR_MAX_EPOCH, all, KEYS) == VBR_NO);
+    for (int i = 0; i < KEYS; i++) {
+        CHECK(!gives(&handle[0], &cursor, before[i] + 8, by_bucket[i]));
+        CHECK(!gives_all(&handle[1], cursor, by_bucket + i + 1, KEYS - i - 1)); /* from a copy, by the other handle */
+    }
+    CHECK(!ends(&handle[0], &cursor, 3 + 5 + 8));
+    CHECK(!gives_all(&handle[0], begin, by_bucket, KEYS));
+    CHECK(close_both(handle, KEYS));
+    return 0;
+}
+
+/* A refused call that has come to a later bucket is refused less there; one that hasn't leaves all as it was. */
+static int refused(void) {
+    vbr_handle handle[2] = {{0}};
+    vbr_cursor cursor = VBR_CURSOR_BEGIN, copy;
+    uint64_t key = 77;
+    CHECK(vbr_open_with(handle, 2, SLOTS, 4, VBR_MAX_EPOCH, all, KEYS) == VBR_NO);
+    CHECK(vbr_next(&handle[0], &cursor, AMPLE, &key) == VBR_YES && vbr_next(&handle[0], &cursor, AMPLE, &key) == VBR_YES && key == 2);
+    for (uint32_t budget = 0; budget < 3 + 10 + 8; budget++) CHECK(vbr_next(&handle[0], &cursor, budget, &key) == VBR_OUT_OF_STEPS && key == 2);
+    CHECK(!gives(&handle[0], &cursor, 3 + 10 + 8, 5)); /* it still stood before the third of its bucket */
+    for (uint32_t budget = 0; budget < 3 + 10 + 8; budget++) CHECK(vbr_next(&handle[0], &cursor, budget, &key) == VBR_OUT_OF_STEPS);
+    for (uint32_t budget = 3 + 10 + 8; budget < 3 + 15 + 3 + 8; budget++) {
+        copy = cursor;
+        CHECK(vbr_next(&handle[0], &copy, budget, &key) == VBR_OUT_OF_STEPS && !gives(&handle[0], &copy, 3 + 8, 4)); /* here it passed the bucket */
+    }
+    /* with 5n + 11 steps for each bucket, which has three nodes at most, each call gives a key or comes further */
+    vbr_cursor at = VBR_CURSOR_BEGIN;
+    int given = 0, refusals = 0;
+    for (vbr_answer told; (told = vbr_next(&handle[0], &at, 5 * 3 + 11, &key)) != VBR_NO;) {
+        if (told == VBR_YES) CHECK(key == by_bucket[given++]);
+        else CHECK(told == VBR_OUT_OF_STEPS && ++refusals < 4);
+    }
+    CHECK(given == KEYS && refusals == 2); /* before the keys 4 and 3, which take 29 */
+    CHECK(close_both(handle, KEYS));
+    return 0;
+}
+
+/* The node of a removed key is passed in three steps while it is in its list: a remove with the least budget leaves it there. */
+static int past_removed_nodes(void) {
+    static const uint64_t some[3] = {2, 5, 8};
+    vbr_handle handle[2] = {{0}};
+    vbr_cursor cursor = VBR_CURSOR_BEGIN, copy = cursor;
+    CHECK(vbr_open_with(handle, 2, SLOTS, 4, VBR_MAX_EPOCH, some, 3) == VBR_NO);
+    CHECK(vbr_remove(&handle[0], 2, 3 + 5 + 7) == VBR_OUT_OF_STEPS && vbr_remove(&handle[0], 2, 3 + 5 + 8) == VBR_YES);
+    CHECK(!gives(&handle[1], &cursor, 3 + 3 + 8, 5));
+    CHECK(!gives(&handle[1], &cursor, 3 + 3 + 5 + 3 + 3 + 3 + 8, 8));
+    CHECK(vbr_remove(&handle[0], 2, AMPLE) == VBR_NO); /* this one took the node out */
+    CHECK(!gives(&handle[1], &copy, 3 + 8, 5));
+    CHECK(close_both(handle, 2));
+    return 0;
+}
+
+/* Each key is removed as it is given, by this handle or the other one: none is passed over, and none is left. */
+static int removed_on_the_way(void) {
+    vbr_handle handle[2] = {{0}};
+    vbr_cursor cursor = VBR_CURSOR_BEGIN;
+    uint64_t key = 77;
+    CHECK(vbr_open_with(handle, 2, SLOTS, 4, VBR_MAX_EPOCH, all, KEYS) == VBR_NO);
+    for (int i = 0; i < KEYS; i++) {
+        CHECK(vbr_next(&handle[0], &cursor, AMPLE, &key) == VBR_YES && key == by_bucket[i]);
+        CHECK(vbr_remove(&handle[i % 2], key, AMPLE) == VBR_YES);
+    }
+    CHECK(vbr_next(&handle[0], &cursor, AMPLE, &key) == VBR_NO);
+    CHECK(close_both(handle, 0));
+    return 0;
+}
+
+/* What is inserted before the cursor isn't given, and what is inserted after it is; a key that was given isn't given again. */
+static int inserted_on_the_way(void) {
+    static const uint64_t some[3] = {2, 4, 9}, rest[4] = {5, 1, 9, 8};
+    vbr_handle handle[2] = {{0}};
+    vbr_cursor cursor = VBR_CURSOR_BEGIN;
+    uint64_t key = 77;
+    CHECK(vbr_open_with(handle, 2, SLOTS, 4, VBR_MAX_EPOCH, some, 3) == VBR_NO);
+    CHECK(vbr_next(&handle[0], &cursor, AMPLE, &key) == VBR_YES && key == 2);
+    CHECK(vbr_remove(&handle[0], 2, AMPLE) == VBR_YES && vbr_insert(&handle[1], 2, AMPLE) == VBR_YES);
+    CHECK(vbr_insert(&handle[0], 0, AMPLE) == VBR_YES && vbr_insert(&handle[0], 5, AMPLE) == VBR_YES);
+    CHECK(vbr_insert(&handle[1], 1, AMPLE) == VBR_YES && vbr_insert(&handle[1], 8, AMPLE) == VBR_YES);
+    CHECK(vbr_remove(&handle[1], 4, AMPLE) == VBR_YES);
+    CHECK(!gives_all(&handle[0], cursor, rest, 4));
+    CHECK(close_both(handle, 6));
+    return 0;
+}
+
+/* Any bytes are a cursor, and so is one of another set, which is closed by now: the walk from there gives what is after it. */
+static int other_cursors(void) {
+    static const uint64_t after[6] = {4, 1, 9, 6, 3, 8}; /* of eight buckets 4 is in the fourth, 1 and 9 in the fifth, and one is in each of the last */
+    vbr_handle handle[2] = {{0}};
+    vbr_cursor any, cursor = VBR_CURSOR_BEGIN;
+    uint64_t key = 77;
+    memset(&any, 0xff, sizeof any);
+    CHECK(vbr_open_with(handle, 2, SLOTS, 4, VBR_MAX_EPOCH, all, KEYS) == VBR_NO);
+    CHECK(vbr_next(&handle[0], &any, AMPLE, &key) == VBR_NO && vbr_next(&handle[0], &any, 0, &key) == VBR_NO && key == 77);
+    for (int i = 0; i < 9; i++) CHECK(vbr_next(&handle[0], &cursor, AMPLE, &key) == VBR_YES && key == by_bucket[i]);
+    CHECK(close_both(handle, KEYS)); /* the cursor is after 9, in the third bucket */
+    CHECK(vbr_open_with(handle, 2, SLOTS, 2, VBR_MAX_EPOCH, all, KEYS) == VBR_NO);
+    CHECK(!gives_all(&handle[0], cursor, NULL, 0) && close_both(handle, KEYS));
+    CHECK(vbr_open_with(handle, 2, SLOTS, 8, VBR_MAX_EPOCH, all, KEYS - 1) == VBR_NO);
+    CHECK(!gives_all(&handle[0], cursor, after, 6) && close_both(handle, KEYS - 1));
+    return 0;
+}
+
+/* One handle on two walks at a time: each gives all. */
+static int two_walks(void) {
+    vbr_handle handle[2] = {{0}};
+    vbr_cursor one = VBR_CURSOR_BEGIN, other = one;
+    uint64_t key = 77;
+    CHECK(vbr_open_with(handle, 2, SLOTS, 4, VBR_MAX_EPOCH, all, KEYS) == VBR_NO);
+    for (int i = 0; i < KEYS; i++) {
+        CHECK(vbr_next(&handle[0], &one, AMPLE, &key) == VBR_YES && key == by_bucket[i]);
+        if (i % 2 == 0) CHECK(vbr_next(&handle[0], &other, AMPLE, &key) == VBR_YES && key == by_bucket[i / 2]);
+    }
+    CHECK(vbr_next(&handle[0], &one, AMPLE, &key) == VBR_NO);
+    CHECK(!gives_all(&handle[0], other, by_bucket + (KEYS + 1) / 2, KEYS / 2));
+    CHECK(close_both(handle, KEYS));
+    return 0;
+}
+
+int main(void) {
+    if (nothing_to_give() || bucket_by_bucket() || refused() || past_removed_nodes() || removed_on_the_way() || inserted_on_the_way() ||
+        other_cursors() || two_walks())
+        return 1;
+    puts("walks in C: passed");
+    return 0;
+}
