@@ -3,7 +3,7 @@ ghost use Rattle.std.specs.Prelude.{◌≡◌};
 
 use std::process::Abort;
 use std::test::Fail;
-use vbr_set::{Cursor, Refusal, Shape, VbrMap, VbrMapRef, VbrSet, VbrSetRef};
+use vbr_set::{Cursor, ListError, Refusal, Shape, VbrMap, VbrMapRef, VbrSet, VbrSetRef};
 
 // The next key is this one, and then so many steps were made.
 fn gives(
@@ -36,6 +36,7 @@ fn keys_come_bucket_by_bucket(rt: HostRuntime) -> Result<(), Fail> {
     gives(&rt, &mut caller, &mut cursor, None, 56);
     let keys = caller.keys_now(rt.alloc(), 100)?;
     assert_eq!(rt; keys.as_slice(), [1, 5, 6].as_slice());
+    assert_eq!(rt; caller.count_now(100), Ok(3));
     Ok(())
 }
 
@@ -75,6 +76,39 @@ fn a_marked_node_is_passed(rt: HostRuntime) -> Result<(), Fail> {
     Ok(())
 }
 
+/// A list of all keys goes on where a call was refused and has come further. With 20 steps a call goes over
+/// five empty buckets: 11 steps give the first key, 14 end its bucket and go over two, eleven calls of 15
+/// and one more come to the last bucket, and twice 8 give its key and end there.
+#[test]
+fn a_list_goes_on_behind_a_refusal(rt: HostRuntime) -> Result<(), Fail> {
+    let (set, mut passes) = VbrSet::open_with(rt.alloc(), Shape::new(8, 64, 10)?, 1, &[1, 63])?;
+    let Some(pass) = passes.pop() else {
+        panic!(rt; "no pass")
+    };
+    let mut caller = set.with_pass(pass);
+    let keys = caller.keys_now(rt.alloc(), 20)?;
+    assert_eq!(rt; keys.as_slice(), [1, 63].as_slice());
+    assert_eq!(rt; caller.pass().steps(), 11 + 14 + 11 * 15 + 15 + 8 + 8);
+    assert_eq!(rt; caller.count_now(20), Ok(2));
+    Ok(())
+}
+
+/// With ten steps a call goes over one empty bucket, and none in a bucket with a node: so a list and a count
+/// are refused there, after three steps.
+#[test]
+fn a_list_stops_where_no_call_comes_further(rt: HostRuntime) -> Result<(), Fail> {
+    let (set, mut passes) = VbrSet::open_with(rt.alloc(), Shape::new(8, 64, 10)?, 1, &[1, 63])?;
+    let Some(pass) = passes.pop() else {
+        panic!(rt; "no pass")
+    };
+    let mut caller = set.with_pass(pass);
+    let refusal = Refusal::OutOfSteps { used: 3 };
+    assert_eq!(rt; caller.keys_now(rt.alloc(), 10).err(), Some(ListError::Refused(refusal)));
+    assert_eq!(rt; caller.pass().steps(), 3 + 3);
+    assert_eq!(rt; caller.count_now(10), Err(refusal));
+    Ok(())
+}
+
 // The next entry is this one.
 fn gives_entry(
     rt: &impl Abort,
@@ -101,5 +135,8 @@ fn entries_come_with_their_values(rt: HostRuntime) -> Result<(), Fail> {
     gives_entry(&rt, &mut caller, &mut cursor, Some((5, 71)));
     gives_entry(&rt, &mut caller, &mut cursor, Some((9, 70)));
     gives_entry(&rt, &mut caller, &mut cursor, None);
+    let all = caller.entries_now(rt.alloc(), 100)?;
+    assert_eq!(rt; all.as_slice(), entries.as_slice());
+    assert_eq!(rt; caller.count_now(100), Ok(3));
     Ok(())
 }

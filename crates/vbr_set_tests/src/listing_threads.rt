@@ -34,13 +34,18 @@ fn evens_among(keys: &[u64]) -> Option<usize> {
 }
 
 impl Comer {
-    // The even keys are there all the while, so each list has them; and in one bucket keys ascend.
+    // The even keys are there all the while, so each list has them, and a count is of ten keys or of up to
+    // ten more; and in one bucket keys ascend.
     fn list(&mut self) {
-        let right = match self.member.keys_now(self.alloc, BUDGET) {
+        let listed = match self.member.keys_now(self.alloc, BUDGET) {
             Ok(keys) => evens_among(&keys) == Some(EVENS.len()),
             Err(_) => false,
         };
-        if !right {
+        let counted = match self.member.count_now(BUDGET) {
+            Ok(count) => (10..=20).contains(&count),
+            Err(_) => false,
+        };
+        if !listed || !counted {
             self.wrong = self.wrong.saturating_add(1);
         }
     }
@@ -81,7 +86,7 @@ fn what_stays_is_listed(rt: HostRuntime) -> Result<(), Fail> {
         };
         comers.push(comer).ok().ok_or("no room")?;
     }
-    for_each_mut(&rt, comers.as_mut_slice(), 4, &|_, comer| comer.play(20_000));
+    for_each_mut(&rt, comers.as_mut_slice(), 4, &|_, comer| comer.play(5_000));
     assert!(rt; comers.iter().all(|comer| comer.wrong == 0));
     Ok(())
 }

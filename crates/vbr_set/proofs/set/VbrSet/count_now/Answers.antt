@@ -4,6 +4,7 @@ use Rattle.vbr_list.specs.declared.refusal.Refusal.{Refusal}
 use Rattle.vbr_set.specs.Iterating.{CallsNextWhere}
 use Rattle.vbr_set.specs.Members.{as_member}
 use Rattle.vbr_set.proofs.Listing.{Counts, counted_later, counted_on, gone_over, goes_over, later_bucket, has_counted, lists_none, nearer, nearer_later, stands_short, stood, stood_not}
+use Rattle.vbr_set.proofs.set.VbrSet.count_now.Given as given
 use Rattle.vbr_set.proofs.set.VbrSet.count_now.Goals as goal
 
 pub loop-count-init : goal.loop-count-init
@@ -48,16 +49,20 @@ returns-then-eq g c =
     let x = c.loop-count.invariant.0 in
     goes_over _ c.args.budget x.lists (Err c.in-Err.refusal) y tt (stands_short _ c.args.budget x.lists c.in-Err.refusal c.law.ensures y (stood c.loop-count.cursor c.next_where-next.new.cursor (sym c.eq.ensures ∙ c.if-eq.true)))
 
+-- after a refusal with which it goes on, the cursor stands elsewhere
+elsewhere : (g : given.Over) (c : goal.Else-eq g) → c.next_where-next.new.cursor ≡ c.loop-count.cursor → ⊥
+elsewhere g c = stood_not c.loop-count.cursor c.next_where-next.new.cursor (sym c.eq.ensures ∙ c.if-eq.false)
+
 pub loop-count-smaller : goal.loop-count-smaller
 loop-count-smaller g c =
     let P : Result (Option (ℕ × ℕ)) Refusal → Type 0 = λ answer. CallsNextWhere (as_member c.args.self.now c.loop-count.pass) (as_member c.args.self.now c.next_where-next.new.pass) c.loop-count.cursor c.next_where-next.new.cursor c.args.budget answer in
     let y = subst P c.in-Err.is c.next_where-next.ensures in
-    let later = later_bucket y.iterates.refused.moved (stood_not c.loop-count.cursor c.next_where-next.new.cursor (sym c.eq.ensures ∙ c.if-eq.false)) in
+    let later = later_bucket y.iterates.refused.moved (elsewhere g c) in
     nearer_later c.loop-count.cursor c.next_where-next.new.cursor c.loop-count.invariant.1 (omega arith) (omega arith) later
 
 pub loop-count-preserved : goal.loop-count-preserved
 loop-count-preserved g c =
     let P : Result (Option (ℕ × ℕ)) Refusal → Type 0 = λ answer. CallsNextWhere (as_member c.args.self.now c.loop-count.pass) (as_member c.args.self.now c.next_where-next.new.pass) c.loop-count.cursor c.next_where-next.new.cursor c.args.budget answer in
     let y = subst P c.in-Err.is c.next_where-next.ensures in
-    let later = later_bucket y.iterates.refused.moved (stood_not c.loop-count.cursor c.next_where-next.new.cursor (sym c.eq.ensures ∙ c.if-eq.false)) in
+    let later = later_bucket y.iterates.refused.moved (elsewhere g c) in
     (counted_later _ c.args.budget c.loop-count.count c.loop-count.invariant.0 c.in-Err.refusal y later, omega arith)

@@ -4,6 +4,7 @@ use Rattle.vbr_list.specs.declared.refusal.Refusal.{Refusal}
 use Rattle.vbr_set.specs.Iterating.{CallsNextWhere}
 use Rattle.vbr_set.specs.Members.{as_member}
 use Rattle.vbr_set.proofs.Listing.{ListsAs, gone_over, goes_over, later_bucket, listed_later, listed_on, lists_none, nearer, nearer_later, stands_short, stood, stood_not}
+use Rattle.vbr_set.proofs.set.VbrSet.items_now.Given as given
 use Rattle.vbr_set.proofs.set.VbrSet.items_now.Goals as goal
 
 pub loop-key-init : goal.loop-key-init
@@ -52,16 +53,20 @@ returns-then-eq g c =
     let x = c.loop-key.invariant.0 in
     goes_over _ c.args.budget x.lists _ y tt (stands_short _ c.args.budget x.lists c.in-Err.refusal c.law.ensures y (stood c.loop-key.cursor c.next_where-next.new.cursor (sym c.eq.ensures ∙ c.if-eq.true)))
 
+-- after a refusal with which it goes on, the cursor stands elsewhere
+elsewhere : (g : given.Over) (c : goal.Else-eq g) → c.next_where-next.new.cursor ≡ c.loop-key.cursor → ⊥
+elsewhere g c = stood_not c.loop-key.cursor c.next_where-next.new.cursor (sym c.eq.ensures ∙ c.if-eq.false)
+
 pub loop-key-smaller : goal.loop-key-smaller
 loop-key-smaller g c =
     let P : Result (Option (ℕ × ℕ)) Refusal → Type 0 = λ answer. CallsNextWhere (as_member c.args.self.now c.loop-key.pass) (as_member c.args.self.now c.next_where-next.new.pass) c.loop-key.cursor c.next_where-next.new.cursor c.args.budget answer in
     let y = subst P c.in-Err.is c.next_where-next.ensures in
-    let later = later_bucket y.iterates.refused.moved (stood_not c.loop-key.cursor c.next_where-next.new.cursor (sym c.eq.ensures ∙ c.if-eq.false)) in
+    let later = later_bucket y.iterates.refused.moved (elsewhere g c) in
     nearer_later c.loop-key.cursor c.next_where-next.new.cursor c.loop-key.invariant.1 (omega arith) (omega arith) later
 
 pub loop-key-preserved : goal.loop-key-preserved
 loop-key-preserved g c =
     let P : Result (Option (ℕ × ℕ)) Refusal → Type 0 = λ answer. CallsNextWhere (as_member c.args.self.now c.loop-key.pass) (as_member c.args.self.now c.next_where-next.new.pass) c.loop-key.cursor c.next_where-next.new.cursor c.args.budget answer in
     let y = subst P c.in-Err.is c.next_where-next.ensures in
-    let later = later_bucket y.iterates.refused.moved (stood_not c.loop-key.cursor c.next_where-next.new.cursor (sym c.eq.ensures ∙ c.if-eq.false)) in
+    let later = later_bucket y.iterates.refused.moved (elsewhere g c) in
     (listed_later _ c.args.budget c.loop-key.invariant.0 c.in-Err.refusal y later, omega arith)
