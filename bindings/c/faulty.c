@@ -19,14 +19,14 @@
    16 a walk gives the key that its call before found, which may be gone by then
    17 a walk that is refused loses the rest of its bucket
    18 a call of a walk that gives no key writes
-   19 a look-up begins anew where another thread looks up at the same time, though nothing moved: it takes twice the steps
+   19 a look-up now and then begins anew, though nothing moved: it takes twice the steps
    20 a remove now and then begins anew, though nothing moved
    21 an insert now and then begins anew twice, though nothing moved
 
-   One thread alone can't see the seventh, the twelfth and the nineteenth, and four threads don't look for the eighth, ninth and
-   tenth. The twelfth leaves each thread's own answers right: it shows only where the program orders calls of several. The
-   thirteenth leaves all answers right while there are slots, and the last three leave all answers that come: they show only in
-   what is refused for want of steps. */
+   One thread alone can't see the seventh and the twelfth, and four threads don't look for the eighth, ninth and tenth. The
+   twelfth leaves each thread's own answers right: it shows only where the program orders calls of several. The thirteenth
+   leaves all answers right while there are slots, and the last three leave right whatever is answered: they show only in what
+   is refused for want of steps. */
 #include "vbr.h"
 
 #include <stdatomic.h>
@@ -54,9 +54,6 @@ static int fault(void) {
 
 /* Whether this is the fault, and its turn has come: once in twenty calls. */
 static int now(int n) { return fault() == n && atomic_fetch_add(&calls, 1) % 20 == 19; }
-
-/* How many look-ups are under way, for the nineteenth fault. */
-static atomic_int looking;
 
 /* The insert that this thread has still to make, for the twelfth fault. */
 static _Thread_local struct {
@@ -116,9 +113,7 @@ int32_t __wrap_vbr_remove(vbr_handle *handle, uint64_t key, uint32_t budget) {
 
 int32_t __wrap_vbr_has(vbr_handle *handle, uint64_t key, uint32_t budget) {
     make_late();
-    int is_beside = atomic_fetch_add(&looking, 1) > 0;
-    int32_t answer = __real_vbr_has(handle, key, fault() == 19 && is_beside ? budget / 2 : budget);
-    atomic_fetch_sub(&looking, 1);
+    int32_t answer = __real_vbr_has(handle, key, now(19) ? budget / 2 : budget);
     return answer == VBR_YES && now(4) ? VBR_NO : answer;
 }
 
