@@ -19,10 +19,14 @@
    16 a walk gives the key that its call before found, which may be gone by then
    17 a walk that is refused loses the rest of its bucket
    18 a call of a walk that gives no key writes
+   19 a look-up now and then begins anew, though nothing moved: it takes twice the steps
+   20 a remove now and then begins anew, though nothing moved
+   21 an insert now and then begins anew twice, though nothing moved
 
    One thread alone can't see the seventh and the twelfth, and four threads don't look for the eighth, ninth and tenth. The
    twelfth leaves each thread's own answers right: it shows only where the program orders calls of several. The thirteenth
-   leaves all answers right while there are slots. */
+   leaves all answers right while there are slots, and the last three leave right whatever is answered: they show only in what
+   is refused for want of steps. */
 #include "vbr.h"
 
 #include <stdatomic.h>
@@ -84,7 +88,7 @@ int32_t __wrap_vbr_insert(vbr_handle *handle, uint64_t key, uint32_t budget) {
         late.key = key;
         return VBR_YES;
     }
-    int32_t answer = __real_vbr_insert(handle, key, budget);
+    int32_t answer = __real_vbr_insert(handle, key, now(21) ? budget / 3 : budget);
     if (answer == VBR_NO && now(1)) return VBR_YES;
     if (answer == VBR_YES && now(3)) __real_vbr_remove(handle, key, budget);
     return answer;
@@ -104,12 +108,12 @@ int32_t __wrap_vbr_remove(vbr_handle *handle, uint64_t key, uint32_t budget) {
         int32_t removed = __real_vbr_remove(handle, key, budget);
         return removed < 0 ? removed : answer;
     }
-    return __real_vbr_remove(handle, key, budget);
+    return __real_vbr_remove(handle, key, now(20) ? budget / 2 : budget);
 }
 
 int32_t __wrap_vbr_has(vbr_handle *handle, uint64_t key, uint32_t budget) {
     make_late();
-    int32_t answer = __real_vbr_has(handle, key, budget);
+    int32_t answer = __real_vbr_has(handle, key, now(19) ? budget / 2 : budget);
     return answer == VBR_YES && now(4) ? VBR_NO : answer;
 }
 

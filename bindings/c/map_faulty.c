@@ -20,7 +20,12 @@
    16 a walk now and then gives the value of the next key
    17 a walk now and then passes a key by
    18 a walk now and then gives a key twice
-   19 a call of a walk that gives no key writes */
+   19 a call of a walk that gives no key writes
+   20 a get now and then begins anew, though nothing moved: it takes twice the steps
+   21 a remove now and then begins anew, though nothing moved
+   22 an insert now and then begins anew twice, though nothing moved
+
+   The last three leave right whatever is answered: they show only in what is refused for want of steps. */
 #include "vbr.h"
 
 #include <pthread.h>
@@ -87,7 +92,7 @@ vbr_answer __wrap_vbr_map_insert(vbr_map_handle *handle, uint64_t key, uint64_t 
     uint64_t old = 0;
     if (now(6)) value &= UINT32_MAX;
     if (fault() == 2) keep(key, value);
-    vbr_answer answer = __real_vbr_map_insert(handle, key, value, budget);
+    vbr_answer answer = __real_vbr_map_insert(handle, key, value, now(22) ? budget / 3 : budget);
     if (answer == VBR_YES && now(12)) return __real_vbr_map_remove(handle, key, budget, &old);
     if (answer == VBR_NO && now(11)) return VBR_YES;
     if (answer == VBR_NO && now(5) && __real_vbr_map_remove(handle, key, budget, &old) == VBR_YES)
@@ -97,7 +102,7 @@ vbr_answer __wrap_vbr_map_insert(vbr_map_handle *handle, uint64_t key, uint64_t 
 
 vbr_answer __wrap_vbr_map_remove(vbr_map_handle *handle, uint64_t key, uint32_t budget, uint64_t *value) {
     if (now(7)) return __real_vbr_map_get(handle, key, budget, value);
-    vbr_answer answer = __real_vbr_map_remove(handle, key, budget, value);
+    vbr_answer answer = __real_vbr_map_remove(handle, key, now(21) ? budget / 2 : budget, value);
     uint64_t removed = *value;
     if (answer == VBR_YES && now(4)) give_kept(key, value);
     if (answer == VBR_YES && (fault() == 1 || fault() == 4 || fault() == 15)) keep(key, removed);
@@ -106,7 +111,7 @@ vbr_answer __wrap_vbr_map_remove(vbr_map_handle *handle, uint64_t key, uint32_t 
 
 vbr_answer __wrap_vbr_map_get(vbr_map_handle *handle, uint64_t key, uint32_t budget, uint64_t *value) {
     uint64_t before = *value;
-    vbr_answer answer = __real_vbr_map_get(handle, key, budget, value);
+    vbr_answer answer = __real_vbr_map_get(handle, key, now(20) ? budget / 2 : budget, value);
     if (answer == VBR_YES && now(13)) return *value = before, VBR_NO;
     if (answer == VBR_YES && (now(1) || now(2))) give_kept(key, value);
     if (answer == VBR_YES && now(3)) (void)!__real_vbr_map_get(handle, key ^ 1, budget, value);

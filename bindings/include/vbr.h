@@ -95,10 +95,18 @@
    does not run out of steps with a budget of 5n + 11 for has and get, 9n + 11 for remove, and 18n + slots + 82
    for insert, where n nodes are in the bucket of the key as it begins, removed ones that are still in a
    list among them. With 5n + 11 for the bucket at its cursor vbr_next gives a key, or comes to a later bucket at the
-   least. What other threads do at the same time can cost more: 100,000 is plenty for short
-   buckets, with up to six million slots; with more, take slots / 64 besides, as VBR_AMPLE_BUDGET(slots) does. A call
-   that runs out of steps made no call: give it up, or make it again, with twice the budget if that may have been too
-   small. The same budget is enough later only if it was the other threads that cost the steps.
+   least. 100,000 is plenty for short buckets, with up to six million slots; with more, take slots / 64 besides, as
+   VBR_AMPLE_BUDGET(slots) does. A call that runs out of steps made no call: give it up, or make it again, with twice the
+   budget if that may have been too small. The same budget is enough later only if it was the other threads that cost the
+   steps.
+   Others cost a call steps by what disturbs it: they insert, remove or unlink a node in its bucket, or advance the epoch.
+   Disturbed m times, it doesn't run out of steps with (m + 1) * (5 * (n + m) + 11) for has and get, (m + 1) *
+   (9 * (n + m) + 11) for remove, and (m + 2) * (9 * (n + m) + 11) + 80 for insert, if its handle has a slot of its own; of
+   other inserts this isn't proved. So VBR_OUT_OF_STEPS with the budget for some m is proof that others made progress, and
+   disturbed the call more than m times. They do so at most twice for each insert and remove of theirs that is answered VBR_YES
+   meanwhile, once for each advance of the epoch, of which an insert makes at most one, and once for each removed node that was
+   still in a list. Eight threads that update at once, one update of each other one during the call, are m = 21, three for
+   each: with four nodes in a bucket that is 2,992 for has, 5,192 for remove and 5,508 for insert.
 
    Memory and sizes. The words of a set take 8 * (2 + buckets + 4 * slots + slots / 64) bytes, the last part rounded
    up, in one block, and each handle about 1,200 bytes besides; opening and closing take as much as the words again

@@ -33,7 +33,8 @@ pub enum OpenError {
 #[derive(Clone, Copy, Debug, PartialEq, Eq)]
 pub enum Refusal {
     /// The budget is spent. Make the call again, with twice the budget if that may have been too small:
-    /// [`ample_budget`](crate::ample_budget) is enough in short buckets.
+    /// [`ample_budget`](crate::ample_budget) is enough in short buckets. A look-up or a remove with steps enough alone runs out
+    /// of them only where others inserted or removed in the key's bucket meanwhile, or advanced the epoch.
     OutOfSteps,
     /// An insert of an absent key found no slot: its handle had none of its own, and none was found in the shared pool.
     /// Other handles may keep free ones. Remove keys, let a handle that has free slots make the insert, or make it again;
