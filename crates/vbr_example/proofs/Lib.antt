@@ -1,2 +1,3 @@
 mod ClaimedOnce
 mod Found
+mod Swept

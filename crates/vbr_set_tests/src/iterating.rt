@@ -69,7 +69,10 @@ fn a_marked_node_is_passed(rt: HostRuntime) -> Result<(), Fail> {
     assert_eq!(rt; caller.remove(1, 16), Ok(true));
     let before = caller.pass().steps();
     let mut cursor = Cursor::first();
-    assert_eq!(rt; caller.next_key(&mut cursor, 8), Err(Refusal::OutOfSteps { used: 3 }));
+    assert_eq!(rt;
+        caller.next_key(&mut cursor, 8),
+        Err(Refusal::OutOfSteps { used: 3 })
+    );
     assert_eq!(rt; cursor, Cursor { bucket: 1, from: 0 });
     assert_eq!(rt; caller.next_key(&mut cursor, 100), Ok(Some(5)));
     assert_eq!(rt; caller.pass().steps() - before, 14);
@@ -103,7 +106,10 @@ fn a_list_stops_where_no_call_comes_further(rt: HostRuntime) -> Result<(), Fail>
     };
     let mut caller = set.with_pass(pass);
     let refusal = Refusal::OutOfSteps { used: 3 };
-    assert_eq!(rt; caller.keys_now(rt.alloc(), 10).err(), Some(ListError::Refused(refusal)));
+    assert_eq!(rt;
+        caller.keys_now(rt.alloc(), 10).err(),
+        Some(ListError::Refused(refusal))
+    );
     assert_eq!(rt; caller.pass().steps(), 3 + 3);
     assert_eq!(rt; caller.count_now(10), Err(refusal));
     Ok(())
