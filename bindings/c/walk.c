@@ -10,7 +10,8 @@
 
    A call makes three steps for each bucket that it enters, three for a node that is marked, and five for another; what reads a value
    makes two more. Each of these begins where eight steps are left of the budget. So the least budget that gives a key is eight more
-   than the steps before its node: the reading of its value is among the eight. */
+   than the steps before its node: the reading of its value is among the eight. After the last key of a bucket the cursor stands
+   before the next bucket, unless a marked node is behind that key. */
 #include "vbr.h"
 
 #include <stdio.h>
@@ -75,8 +76,8 @@ static int nothing_to_give(void) {
 }
 
 static int bucket_by_bucket(void) {
-    /* the steps before the node of each key: its bucket is entered, and the nodes before it are passed; so is the last bucket */
-    static const uint32_t before[KEYS] = {3, 3 + 5, 3 + 10, 3 + 15 + 3, 3 + 5, 3 + 10, 3, 3 + 5, 3 + 10, 3 + 15 + 3, 3 + 5};
+    /* the steps before the node of each key: its bucket is entered, and the nodes before it are passed */
+    static const uint32_t before[KEYS] = {3, 3 + 5, 3 + 10, 3, 3 + 5, 3 + 10, 3, 3 + 5, 3 + 10, 3, 3 + 5};
     vbr_handle handle[2] = {{0}};
     vbr_cursor begin = VBR_CURSOR_BEGIN, cursor = begin;
     CHECK(vbr_open_with(handle, 2, SLOTS, 4, VBR_MAX_EPOCH, all, KEYS) == VBR_NO);
@@ -84,7 +85,8 @@ static int bucket_by_bucket(void) {
         CHECK(!gives(&handle[0], &cursor, before[i] + 8, by_bucket[i]));
         CHECK(!gives_all(&handle[1], cursor, by_bucket + i + 1, KEYS - i - 1)); /* from a copy, by the other handle */
     }
-    CHECK(!ends(&handle[0], &cursor, 3 + 5 + 8));
+    uint64_t key = 77;
+    CHECK(vbr_next(&handle[0], &cursor, 0, &key) == VBR_NO && key == 77);
     CHECK(!gives_all(&handle[0], begin, by_bucket, KEYS));
     CHECK(close_both(handle, KEYS));
     return 0;
@@ -98,35 +100,38 @@ static int refused(void) {
     CHECK(vbr_open_with(handle, 2, SLOTS, 4, VBR_MAX_EPOCH, all, KEYS) == VBR_NO);
     CHECK(vbr_next(&handle[0], &cursor, AMPLE, &key) == VBR_YES && vbr_next(&handle[0], &cursor, AMPLE, &key) == VBR_YES && key == 2);
     for (uint32_t budget = 0; budget < 3 + 10 + 8; budget++) CHECK(vbr_next(&handle[0], &cursor, budget, &key) == VBR_OUT_OF_STEPS && key == 2);
-    CHECK(!gives(&handle[0], &cursor, 3 + 10 + 8, 5)); /* it still stood before the third of its bucket */
-    for (uint32_t budget = 0; budget < 3 + 10 + 8; budget++) CHECK(vbr_next(&handle[0], &cursor, budget, &key) == VBR_OUT_OF_STEPS);
-    for (uint32_t budget = 3 + 10 + 8; budget < 3 + 15 + 3 + 8; budget++) {
+    copy = cursor;
+    CHECK(!gives(&handle[0], &copy, 3 + 10 + 8, 5)); /* it still stood before the third of its bucket */
+    CHECK(vbr_remove(&handle[1], 5, AMPLE) == VBR_YES); /* two are left, and the cursor stands after the second */
+    for (uint32_t budget = 0; budget < 3 + 5 + 8; budget++) CHECK(vbr_next(&handle[0], &cursor, budget, &key) == VBR_OUT_OF_STEPS);
+    for (uint32_t budget = 3 + 5 + 8; budget < 3 + 10 + 3 + 8; budget++) {
         copy = cursor;
         CHECK(vbr_next(&handle[0], &copy, budget, &key) == VBR_OUT_OF_STEPS && !gives(&handle[0], &copy, 3 + 8, 4)); /* here it passed the bucket */
     }
-    /* with 5n + 11 steps for each bucket, which has three nodes at most, each call gives a key or comes further */
-    vbr_cursor at = VBR_CURSOR_BEGIN;
-    int given = 0, refusals = 0;
-    for (vbr_answer told; (told = vbr_next(&handle[0], &at, 5 * 3 + 11, &key)) != VBR_NO;) {
-        if (told == VBR_YES) CHECK(key == by_bucket[given++]);
-        else CHECK(told == VBR_OUT_OF_STEPS && ++refusals < 4);
-    }
-    CHECK(given == KEYS && refusals == 2); /* before the keys 4 and 3, which take 29 */
-    CHECK(close_both(handle, KEYS));
+    /* with 5n + 11 steps for its bucket, which has two nodes, it comes further, and then each call gives a key */
+    CHECK(vbr_next(&handle[0], &cursor, 5 * 2 + 11, &key) == VBR_OUT_OF_STEPS);
+    for (int i = 3; i < KEYS; i++) CHECK(vbr_next(&handle[0], &cursor, 5 * 3 + 11, &key) == VBR_YES && key == by_bucket[i]);
+    CHECK(vbr_next(&handle[0], &cursor, 0, &key) == VBR_NO);
+    CHECK(close_both(handle, KEYS - 1));
     return 0;
 }
 
-/* The node of a removed key is passed in three steps while it is in its list: a remove with the least budget leaves it there. */
+/* The node of a removed key is passed in three steps while it is in its list: a remove with the least budget leaves it there. Behind
+   the last key of a bucket it keeps the cursor in the bucket. */
 static int past_removed_nodes(void) {
     static const uint64_t some[3] = {2, 5, 8};
     vbr_handle handle[2] = {{0}};
-    vbr_cursor cursor = VBR_CURSOR_BEGIN, copy = cursor;
+    vbr_cursor begin = VBR_CURSOR_BEGIN, cursor = begin, copy = begin;
     CHECK(vbr_open_with(handle, 2, SLOTS, 4, VBR_MAX_EPOCH, some, 3) == VBR_NO);
     CHECK(vbr_remove(&handle[0], 2, 3 + 5 + 7) == VBR_OUT_OF_STEPS && vbr_remove(&handle[0], 2, 3 + 5 + 8) == VBR_YES);
     CHECK(!gives(&handle[1], &cursor, 3 + 3 + 8, 5));
-    CHECK(!gives(&handle[1], &cursor, 3 + 3 + 5 + 3 + 3 + 3 + 8, 8));
+    CHECK(!gives(&handle[1], &cursor, 3 + 3 + 3 + 8, 8));
     CHECK(vbr_remove(&handle[0], 2, AMPLE) == VBR_NO); /* this one took the node out */
     CHECK(!gives(&handle[1], &copy, 3 + 8, 5));
+    CHECK(vbr_insert(&handle[0], 0, AMPLE) == VBR_YES && vbr_remove(&handle[0], 5, 3 + 5 + 5 + 8) == VBR_YES);
+    copy = begin;
+    CHECK(!gives(&handle[1], &copy, 3 + 8, 0));
+    CHECK(!gives(&handle[1], &copy, 3 + 5 + 3 + 3 + 3 + 3 + 8, 8));
     CHECK(close_both(handle, 2));
     return 0;
 }
@@ -146,38 +151,40 @@ static int removed_on_the_way(void) {
     return 0;
 }
 
-/* What is inserted before the cursor isn't given, and what is inserted after it is; a key that was given isn't given again. */
+/* What is inserted before the cursor isn't given, and what is inserted after it is; a key that was given isn't given again. After 2,
+   the last key of its bucket, the cursor stands before the next one, so 5 isn't given; after 4 it stands before 7 and 2^64 - 1. */
 static int inserted_on_the_way(void) {
-    static const uint64_t some[3] = {2, 4, 9}, rest[4] = {5, 1, 9, 8};
+    static const uint64_t some[4] = {2, 4, 9, UINT64_MAX}, rest[4] = {7, 1, 9, 8};
     vbr_handle handle[2] = {{0}};
     vbr_cursor cursor = VBR_CURSOR_BEGIN;
     uint64_t key = 77;
-    CHECK(vbr_open_with(handle, 2, SLOTS, 4, VBR_MAX_EPOCH, some, 3) == VBR_NO);
+    CHECK(vbr_open_with(handle, 2, SLOTS, 4, VBR_MAX_EPOCH, some, 4) == VBR_NO);
     CHECK(vbr_next(&handle[0], &cursor, AMPLE, &key) == VBR_YES && key == 2);
-    CHECK(vbr_remove(&handle[0], 2, AMPLE) == VBR_YES && vbr_insert(&handle[1], 2, AMPLE) == VBR_YES);
-    CHECK(vbr_insert(&handle[0], 0, AMPLE) == VBR_YES && vbr_insert(&handle[0], 5, AMPLE) == VBR_YES);
+    CHECK(vbr_insert(&handle[0], 0, AMPLE) == VBR_YES && vbr_insert(&handle[1], 5, AMPLE) == VBR_YES);
+    CHECK(vbr_next(&handle[0], &cursor, AMPLE, &key) == VBR_YES && key == 4);
+    CHECK(vbr_remove(&handle[0], 4, AMPLE) == VBR_YES && vbr_insert(&handle[1], 4, AMPLE) == VBR_YES);
+    CHECK(vbr_insert(&handle[0], 7, AMPLE) == VBR_YES && vbr_remove(&handle[1], UINT64_MAX, AMPLE) == VBR_YES);
     CHECK(vbr_insert(&handle[1], 1, AMPLE) == VBR_YES && vbr_insert(&handle[1], 8, AMPLE) == VBR_YES);
-    CHECK(vbr_remove(&handle[1], 4, AMPLE) == VBR_YES);
     CHECK(!gives_all(&handle[0], cursor, rest, 4));
-    CHECK(close_both(handle, 6));
+    CHECK(close_both(handle, 8));
     return 0;
 }
 
 /* Any bytes are a cursor, and so is one of another set, which is closed by now: the walk from there gives what is after it. */
 static int other_cursors(void) {
-    static const uint64_t after[6] = {4, 1, 9, 6, 3, 8}; /* of eight buckets 4 is in the fourth, 1 and 9 in the fifth, and one is in each of the last */
+    static const uint64_t after[7] = {7, 4, 1, 9, 6, 3, 8}; /* of eight buckets 7 is in the third, 4 in the fourth, 1 and 9 in the fifth, and one is in each of the last */
     vbr_handle handle[2] = {{0}};
     vbr_cursor any, cursor = VBR_CURSOR_BEGIN;
     uint64_t key = 77;
     memset(&any, 0xff, sizeof any);
     CHECK(vbr_open_with(handle, 2, SLOTS, 4, VBR_MAX_EPOCH, all, KEYS) == VBR_NO);
     CHECK(vbr_next(&handle[0], &any, AMPLE, &key) == VBR_NO && vbr_next(&handle[0], &any, 0, &key) == VBR_NO && key == 77);
-    for (int i = 0; i < 9; i++) CHECK(vbr_next(&handle[0], &cursor, AMPLE, &key) == VBR_YES && key == by_bucket[i]);
-    CHECK(close_both(handle, KEYS)); /* the cursor is after 9, in the third bucket */
+    for (int i = 0; i < 8; i++) CHECK(vbr_next(&handle[0], &cursor, AMPLE, &key) == VBR_YES && key == by_bucket[i]);
+    CHECK(close_both(handle, KEYS)); /* the cursor is after 6, in the third bucket */
     CHECK(vbr_open_with(handle, 2, SLOTS, 2, VBR_MAX_EPOCH, all, KEYS) == VBR_NO);
     CHECK(!gives_all(&handle[0], cursor, NULL, 0) && close_both(handle, KEYS));
     CHECK(vbr_open_with(handle, 2, SLOTS, 8, VBR_MAX_EPOCH, all, KEYS - 1) == VBR_NO);
-    CHECK(!gives_all(&handle[0], cursor, after, 6) && close_both(handle, KEYS - 1));
+    CHECK(!gives_all(&handle[0], cursor, after, 7) && close_both(handle, KEYS - 1));
     return 0;
 }
 

@@ -291,8 +291,8 @@ typedef struct vbr_cursor {
    cursor after it; VBR_NO at the end, where no key is left. Else VBR_OUT_OF_STEPS or VBR_EMPTY. Unless it answers VBR_YES no key
    is written. At VBR_OUT_OF_STEPS the cursor keeps how far it has come: call again, and with twice the budget if that may have
    been too small. It enters the bucket of the cursor at its head, and makes three steps for each bucket that it enters, three for
-   a removed node that is still in its list, and five for another. What a walk gives is told under "Walks". It takes no memory
-   and never waits.
+   a removed node that is still in its list, and five for another. After the last node of a bucket the cursor is before the next
+   bucket, so a walk doesn't enter the bucket again. What a walk gives is told under "Walks". It takes no memory and never waits.
 
        do {
            told = vbr_next(&handle[0], &cursor, 100000, &key);

@@ -191,7 +191,7 @@ struct Model {
             for (uint64_t i = 0; takes && i < marks; i++) takes = steps.take(3);
             for (uint64_t key : list->second) {
                 takes = takes && steps.take(5);
-                if (takes && key >= at.from) return {VBR_YES, key, after(at.bucket, key), steps.needed};
+                if (takes && key >= at.from) return {VBR_YES, key, after(key, key == list->second.back() && marks == 0), steps.needed};
             }
             if (takes && marks > 0) takes = steps.took_three();
             if (!takes) return {VBR_OUT_OF_STEPS, 0, at, steps.needed};
@@ -200,8 +200,11 @@ struct Model {
         return {VBR_NO, 0, at, steps.needed};
     }
 
-private:
-    static vbr_cursor after(uint32_t bucket, uint64_t key) { return key < UINT64_MAX ? vbr_cursor{bucket, key + 1} : vbr_cursor{bucket + 1, 0}; }
+    // Where the cursor stands after a key: before the next bucket where its node is the last of its list, or no number is greater.
+    vbr_cursor after(uint64_t key, bool is_last) const {
+        uint32_t bucket = static_cast<uint32_t>(bucket_of(key));
+        return is_last || key == UINT64_MAX ? vbr_cursor{bucket + 1, 0} : vbr_cursor{bucket, key + 1};
+    }
 };
 
 static constexpr size_t CELLS = 80, MOST_KEYS = 96;
@@ -458,7 +461,8 @@ private:
         if (answer != VBR_OUT_OF_STEPS) {
             if (answer != most.answer) fail("a wrong answer of a walk");
             if (answer == VBR_YES && key != most.key) fail("another key than the next one");
-            if (!same(now, most.cursor)) fail("the cursor isn't after the key that was given");
+            bool may_stay = answer == VBR_YES && m.marked_in(m.bucket_of(key)) > 0;  // with a marked node behind the key's
+            if (!same(now, most.cursor) && !(may_stay && same(now, m.after(key, false)))) fail("the cursor isn't after the key that was given");
             return;
         }
         if (least.answer != VBR_OUT_OF_STEPS) fail("too few steps for a walk, with a budget that is enough");

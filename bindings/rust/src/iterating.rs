@@ -3,7 +3,7 @@ use crate::{Handle, MapHandle, Refusal};
 use core::fmt;
 use core::iter::FusedIterator;
 
-/// Where a walk over all keys stands: before the first key, right behind one, or at the end. [`Handle::next`] and
+/// Where a walk over all keys stands: before the first key, after one, or at the end. [`Handle::next`] and
 /// [`MapHandle::next`] take it on, and no thread that makes calls holds it up.
 ///
 /// It is plain: it can be copied and kept, and the walk goes on from a copy as well. With another handle of the set it is

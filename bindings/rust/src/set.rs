@@ -295,8 +295,11 @@ impl Handle {
         Iter::new(self, budget)
     }
 
-    /// The next key of a walk, in at most `budget` steps, all of them loads; `None` at its end. The cursor is right behind the
-    /// key then. A walk begins at [`Cursor::first`], and what [`Handle::iter`] says of one is so of these calls of one handle.
+    /// The next key of a walk, in at most `budget` steps, all of them loads; `None` at its end. The cursor is after the key
+    /// then. A walk begins at [`Cursor::first`], and what [`Handle::iter`] says of one is so of these calls of one handle.
+    ///
+    /// It makes three steps for each bucket that it enters, three for a removed node that is still in its list, and five for
+    /// another. After the last node of a bucket the cursor is before the next bucket.
     ///
     /// Between two of them the handle makes any other calls.
     ///

@@ -119,11 +119,11 @@ fn keys_come_bucket_by_bucket<H: Caller>() {
 }
 
 /// A call makes three steps for each bucket that it enters, and five for each node that it visits, and before each of these
-/// eight have to be left. The buckets have no key, 4 and 7, 1, and no key.
+/// eight have to be left. The buckets have no key, 4 and 7, 1, and no key; after 7 and 1 the cursor stands before the next one.
 fn budgets_that_are_just_enough<H: Caller>() {
     let handle = H::open(Shape::new(8, 4, 10), 1, &[1, 4, 7]).remove(0);
     let mut cursor = Cursor::first();
-    for (key, least, stays) in [(Some(4), 14, false), (Some(7), 16, true), (Some(1), 24, false), (None, 16, false)] {
+    for (key, least, stays) in [(Some(4), 14, false), (Some(7), 16, true), (Some(1), 11, true), (None, 8, true)] {
         let mut short = cursor;
         assert_eq!(handle.next_key(&mut short, least - 1), Err(Refusal::OutOfSteps));
         assert_eq!(short == cursor, stays);

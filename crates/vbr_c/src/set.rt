@@ -236,8 +236,8 @@ pub extern "C" fn vbr_drop(alloc: Global, handle: &mut Handle)
 /// another one and does no harm.
 ///
 /// It makes at most `budget` steps, all of them loads: it enters the bucket of the cursor at its head, three
-/// steps for each bucket, three for a removed node that is still in its list, five for another. While the
-/// other handles stand still, 5n + 11 are enough to give a key or to come to a later bucket, with n nodes in
+/// steps for each bucket, three for a removed node that is still in its list, five for another. After the
+/// last node of a bucket the cursor is before the next bucket. While the other handles stand still, 5n + 11 are enough to give a key or to come to a later bucket, with n nodes in
 /// the cursor's.
 ///
 /// Refusals, after which no call was made and the handle can go on: -1, the steps leave no room in the

@@ -1,5 +1,5 @@
 -- An iteration goes from bucket to bucket.
-use Rattle.std.proofs.Common.{◌≡◌, ℕ, suc, ◌+◌, ◌-◌, ◌<◌, ◌≤◌, Some, None, Ok, Err, refl, sym, ap, ◌∙◌, subst, arith, inl, inr}
+use Rattle.std.proofs.Common.{◌≡◌, ℕ, suc, ◌+◌, ◌-◌, ◌<◌, ◌≤◌, Bool, true, false, Some, None, Ok, Err, refl, sym, ap, ◌∙◌, subst, arith, inl, inr}
 use Rattle.vbr_words.specs.Buckets.{bucket_of}
 use Rattle.vbr_machine.specs.Start.{Start}
 use Rattle.vbr_machine.specs.Runs.{IsRun}
@@ -10,13 +10,14 @@ use Rattle.vbr_slots.specs.Views.{PassView, Trace}
 use Rattle.vbr_slots.proofs.Lemmas.{quiet_adds_none}
 use Rattle.vbr_at_table.proofs.Lemmas.{took_all}
 use Rattle.vbr_list.specs.Budgets.{steps_to_value_of}
-use Rattle.vbr_list.specs.Cursors.{HasStayedOrMoved, IsAtEnd, IsBehindKey, IteratesWhere, PassesBy, SeesMore, costs_over, next_bucket}
-use Rattle.vbr_list.specs.Next.{enough_to_seek, listed_in, seek_costs}
+use Rattle.vbr_list.specs.Cursors.{HasStayedOrMoved, IsAtEnd, IsBehindKey, IsPastKey, IteratesWhere, PassesBy, SeesMore, costs_over, entered_by, next_bucket}
+use Rattle.vbr_list.specs.Next.{HasNoNext, enough_to_seek, listed_in, seek_costs}
 use Rattle.vbr_list.specs.Pieces.{Goes, Observes}
 use Rattle.vbr_list.specs.Seeking.{Sought}
 use Rattle.vbr_list.specs.declared.cursor.Cursor.{Cursor}
+use Rattle.vbr_list.specs.declared.seeking.NextNode.{NextNode}
 use Rattle.vbr_list.specs.declared.refusal.Refusal.TheVariants.{OutOfSteps}
-use Rattle.vbr_list.proofs.Cursors.{entry_since, passes_bucket, passes_key, passes_on, passes_still}
+use Rattle.vbr_list.proofs.Cursors.{entry_since, passes_bucket, passes_key, passes_last, passes_on, passes_still}
 use Rattle.vbr_list.proofs.Going.{goes_on, goes_refl, within_of}
 use Rattle.vbr_list.proofs.Nearing.{first_of, then_of}
 use Rattle.vbr_list.proofs.Observing.{observes_on, observes_refl}
@@ -29,9 +30,6 @@ costs_on p from to le =
     let next : to + 1 - from ≡ suc (to - from) = omega (arith, le) in
     let last : from + (to - from) ≡ to = omega (arith, le) in
     ap (costs_over p from) next ∙ ap (λ b. costs_over p from (to - from) + seek_costs p b) last
-
-costs_grow : (p : Trace) (from to : ℕ) → from ≤ to → costs_over p from (to - from) ≤ costs_over p from (to + 1 - from)
-costs_grow p from to le = let e = costs_on p from to le in omega (arith, e)
 
 module _ {p : PassView} (q : PassView) (law : PassLaw p) (quiet : Quiet p.trace q.trace) (alone : IsAlone p.trace q.trace) (bucket : ℕ) where
   listed_no_more : listed_in q.trace bucket ≤ listed_in p.trace bucket
@@ -106,17 +104,19 @@ module _ {p q : PassView} (r : PassView) (law : PassLaw p) (c d : Cursor) (used 
     paid = λ alone. paid_on y.goes.quiet y.paid alone;
   }
 
-  -- to a key
-  pub come_to : (e : Cursor) (key value : ℕ) → Sought q r d.bucket d.from used since budget (Some (Some (key, value))) → IsBehindKey d.bucket key e → IteratesWhere p r c e budget (Ok (Some (key, value)))
-  come_to e key value y behind =
+  -- to a node
+  pub come_to : (e : Cursor) (next : NextNode) → Sought q r d.bucket d.from used since budget (Some (Some next)) → (next.is_last ≡ true → e ≡ next_bucket d) → (next.is_last ≡ false → IsBehindKey d.bucket next.key e) → IteratesWhere p r c e budget (Ok (Some (next.key, next.value)))
+  come_to e next y last more =
       let all = goes_on x.goes y.goes in
       let seen = observes_on x.observes y.observes in
-      let of_bucket : bucket_of p.trace.start.shape key ≡ d.bucket = ap (λ (s : Start). bucket_of s.shape key) (sym x.goes.quiet.same.start) ∙ y.tells.0.of_bucket in
-      let P : ℕ → Type 0 = λ b. IsBehindKey b key e in
+      let tells = y.tells.0 in
+      let of_bucket : bucket_of p.trace.start.shape next.key ≡ d.bucket = ap (λ (s : Start). bucket_of s.shape next.key) (sym x.goes.quiet.same.start) ∙ tells.0.of_bucket in
+      let P : ℕ → Type 0 = λ b. IsPastKey b next.key e in
+      let past = is_past next.is_last last more in
       record {
         gives = (
-          (passes_on to_here (from_here y.goes.quiet) x.passes (passes_key d e key y.tells.0 behind), subst P (sym of_bucket) behind),
-          λ values. entry_since to_here (y.tells.1 (ap (λ (s : Start). s.shape.values) x.goes.quiet.same.start ∙ values)),
+          (passes_on to_here (from_here y.goes.quiet) x.passes (passes next.is_last last more y.tells.1), subst P (sym of_bucket) past),
+          λ values. entry_since to_here (tells.1 (ap (λ (s : Start). s.shape.values) x.goes.quiet.same.start ∙ values)),
         );
         refused = tt;
         quiet = all.quiet;
@@ -125,15 +125,31 @@ module _ {p q : PassView} (r : PassView) (law : PassLaw p) (c d : Cursor) (used 
         takes_no_slot = all.hand.takes_no_slot;
         hand = all.hand.hand;
         steps = within_of since budget y.within.1 all.counts;
-        costs = λ alone. within_of since (costs_over p.trace c.bucket (e.bucket + 1 - c.bucket)) (behind_costs behind (paid_on y.goes.quiet y.paid alone)) all.counts;
+        costs = λ alone. within_of since (costs_over p.trace c.bucket (entered_by e.bucket e.from - c.bucket)) (entered past (paid_on y.goes.quiet y.paid alone)) all.counts;
       }
     where
-      behind_costs : IsBehindKey d.bucket key e → since ≤ costs_over p.trace c.bucket (d.bucket + 1 - c.bucket) → since ≤ costs_over p.trace c.bucket (e.bucket + 1 - c.bucket)
-      behind_costs (inl b) le = let P : ℕ → Type 0 = λ n. since ≤ costs_over p.trace c.bucket (n + 1 - c.bucket) in subst P (sym b.0) le
-      behind_costs (inr b) le =
-          let more = costs_grow p.trace c.bucket (d.bucket + 1) (omega (arith, on)) in
-          let P : ℕ → Type 0 = λ n. since ≤ costs_over p.trace c.bucket (n + 1 - c.bucket) in
-          subst P (sym b.0) (omega (arith, le, more))
+      is_past : (is_last : Bool) → (is_last ≡ true → e ≡ next_bucket d) → (is_last ≡ false → IsBehindKey d.bucket next.key e) → IsPastKey d.bucket next.key e
+      is_past true last more = let same = last refl in inr (ap (λ (u : Cursor). u.bucket) same, ap (λ (u : Cursor). u.from) same)
+      is_past false last more = go (more refl)
+        where
+          go : IsBehindKey d.bucket next.key e → IsPastKey d.bucket next.key e
+          go (inl b) = inl b
+          go (inr b) = inr (b.0, b.1)
+
+      passes : (is_last : Bool) → (is_last ≡ true → e ≡ next_bucket d) → (is_last ≡ false → IsBehindKey d.bucket next.key e) → (is_last ≡ true → HasNoNext q.trace r.trace d.bucket (next.key + 1)) → PassesBy q.trace r.trace d e (Some next.key)
+      passes true last more none = let P : Cursor → Type 0 = λ u. PassesBy q.trace r.trace d u (Some next.key) in subst P (sym (last refl)) (passes_last d next.key y.tells.0.0 (none refl))
+      passes false last more none = passes_key d e next.key y.tells.0.0 (more refl)
+
+      entered : IsPastKey d.bucket next.key e → since ≤ costs_over p.trace c.bucket (d.bucket + 1 - c.bucket) → since ≤ costs_over p.trace c.bucket (entered_by e.bucket e.from - c.bucket)
+      entered (inl b) le =
+          let f : e.from ≡ suc next.key = let g = b.1 in omega (arith, g) in
+          let P : ℕ → Type 0 = λ n. since ≤ costs_over p.trace c.bucket (entered_by n e.from - c.bucket) in
+          let Q : ℕ → Type 0 = λ n. since ≤ costs_over p.trace c.bucket (entered_by d.bucket n - c.bucket) in
+          subst P (sym b.0) (subst Q (sym f) le)
+      entered (inr b) le =
+          let P : ℕ → Type 0 = λ n. since ≤ costs_over p.trace c.bucket (entered_by n e.from - c.bucket) in
+          let Q : ℕ → Type 0 = λ n. since ≤ costs_over p.trace c.bucket (entered_by (d.bucket + 1) n - c.bucket) in
+          subst P (sym b.0) (subst Q (sym b.1) le)
 
   -- no further, for want of steps
   pub come_short : d.bucket < p.trace.start.shape.buckets → Sought q r d.bucket d.from used since budget None → IteratesWhere p r c d budget (Err (OutOfSteps since))

@@ -1,5 +1,5 @@
 -- From cursor to cursor, and what an iteration has given.
-use Rattle.std.proofs.Common.{◌≡◌, ℕ, ◌^◌, ◌<◌, ◌≤◌, Bool, true, false, List, [], ◌∷◌, ◌++◌, Option, Some, None, sym, ap, ◌∙◌, subst, arith, inl, inr, append-nil, option_to_list}
+use Rattle.std.proofs.Common.{◌≡◌, ℕ, ◌+◌, ◌^◌, ◌<◌, ◌≤◌, Bool, true, false, List, [], ◌∷◌, ◌++◌, Option, Some, None, sym, ap, ◌∙◌, subst, arith, inl, inr, append-nil, option_to_list}
 use Rattle.std.specs.Prelude.{◌⊎◌, Contains, IfSome}
 use Rattle.std.specs.List.{AllByRecursion}
 use Rattle.std.proofs.lemmas.Bool.{cases_lt, cases_order}
@@ -127,6 +127,28 @@ passes_key {p} {q} c d key next behind = record {
     others other small (inr b) (inl x) (inl y) = absurd (let e = b.0 in omega (arith, e, x, y))
     others other small (inr b) (inl x) (inr y) = absurd (let e = b.1 in let u = y.1 in omega (arith, e, u))
     others other small (inr b) (inr x) y = same_or_less other x.0 x.1 (let u = b.2 in omega (arith, u, small)) (cases_order other key)
+
+-- to the last key of a bucket, and before the next bucket
+pub passes_last : {p q : Trace} (c : Cursor) (key : ℕ) → IsNextKey p q c.bucket c.from key → HasNoNext p q c.bucket (key + 1) → PassesBy p q c (next_bucket c) (Some key)
+passes_last {p} {q} c key next none = record {
+  onward = λ other passed. onward other passed;
+  was = (inr (next.of_bucket, next.high), inl (let e = next.of_bucket in omega (arith, e)), next.was);
+  others = λ other small ahead passed. others other ahead passed;
+}
+  where
+    onward : (other : ℕ) → IsPassed p.start c other → IsPassed p.start (next_bucket c) other
+    onward other (inl x) = inl (omega (arith, x))
+    onward other (inr x) = inl (let e = x.0 in omega (arith, e))
+
+    at : (other : ℕ) → bucket_of p.start.shape other ≡ c.bucket → c.from ≤ other → (other ≡ key) ⊎ ((other < key) ⊎ (key < other)) → (Some key ≡ Some other) ⊎ WasSo p q other false
+    at other b from (inl e) = inl (ap Some (sym e))
+    at other b from (inr (inl low)) = inr (next.between other b from low)
+    at other b from (inr (inr high)) = inr (none.behind other b (omega (arith, high)))
+
+    others : (other : ℕ) → IsToCome p.start c other → IsPassed p.start (next_bucket c) other → (Some key ≡ Some other) ⊎ WasSo p q other false
+    others other (inl x) (inl y) = absurd (omega (arith, x, y))
+    others other (inl x) (inr y) = absurd (let u = y.1 in omega (arith, u))
+    others other (inr x) y = at other x.0 x.1 (cases_order other key)
 
 -- first to one cursor, where nothing is given, and then on to another
 pub passes_on : {p q r : Trace} {c d e : Cursor} {given : Option ℕ} → SeesMore p q → SeesMore q r → PassesBy p q c d None → PassesBy q r d e given → PassesBy p r c e given

@@ -1,5 +1,6 @@
 -- A seek goes on from place to place, and what it tells of the keys that it has passed by.
 use Rattle.std.proofs.Common.{◌≡◌, ℕ, suc, ◌+◌, ◌*◌, ◌<◌, ◌≤◌, Bool, true, false, Option, Some, None, refl, sym, ap, ◌∙◌, subst, arith, inl, inr}
+use Rattle.std.specs.Option.{is_none}
 use Rattle.vbr_machine.specs.Start.{Start, IsStart}
 use Rattle.vbr_words.specs.Words.{link_of}
 use Rattle.vbr_words.specs.declared.place.At.{At}
@@ -21,13 +22,14 @@ use Rattle.vbr_at_table.specs.Moments.{IsNext, IsRead, WasSo}
 use Rattle.vbr_at_table.specs.Values.{ValueAt}
 use Rattle.vbr_at_table.specs.declared.held.Held.{Held}
 use Rattle.vbr_at_table.specs.declared.held.Marked.{Marked}
-use Rattle.vbr_at_table.proofs.Lemmas.{behind_kept, fresh_kept, held_in_kept, held_in_next, held_kept, keeps_on, stood_before, was_absent_on, was_entry, was_present}
+use Rattle.vbr_at_table.proofs.Lemmas.{behind_kept, fresh_kept, held_in_kept, held_in_next, held_kept, keeps_on, stood_before, was_absent, was_absent_on, was_entry, was_present}
 use Rattle.vbr_list.specs.Budgets.{steps_to_value_of}
 use Rattle.vbr_list.specs.Nearing.{StandsInList, StillAt}
 use Rattle.vbr_list.specs.Next.{HasNoNext, listed_in}
 use Rattle.vbr_list.specs.Pieces.{Goes, Observes}
-use Rattle.vbr_list.specs.Seeking.{ComesBefore, IsNextRead, IsPlaceBefore, IsPlaceIn, IsSameSeek, TellsWhere}
+use Rattle.vbr_list.specs.Seeking.{ComesBefore, IsNextRead, IsPlaceBefore, IsPlaceIn, IsSameSeek, TellsNode}
 use Rattle.vbr_list.specs.declared.seek.PendingSeek.{PendingSeek}
+use Rattle.vbr_list.specs.declared.seeking.NextNode.{NextNode}
 use Rattle.vbr_words.specs.declared.nodes.Nodes.{Ghosts}
 use Rattle.vbr_list.proofs.Nearing.{looks_leave}
 use Rattle.vbr_list.proofs.Passing.{leads_kept, peeks_on}
@@ -102,9 +104,9 @@ node_before {p} {q} {r} bucket from key here node x keep n keep2 k in_bucket unm
     }
 
 -- a node with the next key
-pub node_next : {p q r s : Trace} (bucket from key value : ℕ) (here node : Held) → IsPlaceIn (knows p) bucket here → Keeps (knows p) (knows q) → IsNext p q here (Some node) → Keeps (knows q) (knows r) → KeyAt (knows r) node.at key →
-    ((b : ℕ) → HeldIn (knows q) node.at b → bucket_of q.start.shape key ≡ b) → (link_of node.word).mark ≡ false → from ≤ key → Quiet q r → Keeps (knows r) (knows s) → (s.start.shape.values ≡ true → ValueAt (knows s) node.at value) → Quiet r s → IsNextRead p s bucket from here key value
-node_next {p} {q} {r} {s} bucket from key value here node x keep n keep2 k in_bucket unmarked high a keep3 v b =
+pub node_next : {p q r s : Trace} (bucket from key value : ℕ) (is_last : Bool) (here node : Held) → IsPlaceIn (knows p) bucket here → Keeps (knows p) (knows q) → IsNext p q here (Some node) → Keeps (knows q) (knows r) → KeyAt (knows r) node.at key →
+    ((b : ℕ) → HeldIn (knows q) node.at b → bucket_of q.start.shape key ≡ b) → (link_of node.word).mark ≡ false → from ≤ key → Quiet q r → Keeps (knows r) (knows s) → (s.start.shape.values ≡ true → ValueAt (knows s) node.at value) → Quiet r s → is_last ≡ is_none (link_of node.word).slot → IsNextRead p s bucket from here (record { key = key; value = value; is_last = is_last })
+node_next {p} {q} {r} {s} bucket from key value is_last here node x keep n keep2 k in_bucket unmarked high a keep3 v b last =
     let both = quiet_on a b in
     record {
       node = node;
@@ -117,6 +119,7 @@ node_next {p} {q} {r} {s} bucket from key value here node x keep n keep2 k in_bu
       of_bucket = ap (λ (t : Start). bucket_of t.shape key) both.same.start ∙ in_bucket bucket (next_inside bucket here node x keep n);
       high = high;
       valued = v;
+      last = last;
     }
 
 -- ---- from place to place
@@ -171,25 +174,37 @@ passed_by {p} {q} r bucket from a b budget here start x quiet keeps other is hig
     let now : bucket_of r.trace.start.shape other ≡ bucket = ap (λ (t : Start). bucket_of t.shape other) whole.same.start ∙ is in
     was_absent_on x.pred start whole.same (record { known = place.held; stood = stood_before x.come.stood quiet }) place.unmarked other (link_of here.word) (leads_kept (link_of x.pred.word) (link_of here.word) keeps x.leads) (place.behind other now high) before
 
+no_slot : (o : Option ℕ) → is_none o ≡ true → o ≡ None
+no_slot None e = refl
+no_slot (Some s) e = absurd (cc)
+
 -- there is no next key
 pub tells_none : {p q : PassView} (bucket from a b budget : ℕ) (here : Held) → IsStart p.trace.start → Follows p q bucket from a b budget here → Quiet q.trace q.trace → Keeps (knows q.trace) (knows q.trace) → (link_of here.word).slot ≡ None → HasNoNext p.trace q.trace bucket from
 tells_none {p} {q} bucket from a b budget here start x quiet keeps none = record { behind = λ other is high. passed_by q bucket from a b budget here start x quiet keeps other is high (rw none tt) }
 
--- the next key
-pub tells_next : {p q : PassView} (r : PassView) (bucket from a b budget key value : ℕ) (here : Held) → IsStart p.trace.start → Follows p q bucket from a b budget here → Quiet q.trace r.trace → Keeps (knows q.trace) (knows r.trace) → IsNextRead q.trace r.trace bucket from here key value → TellsWhere p.trace r.trace bucket from (Some (key, value))
-tells_next {p} {q} r bucket from a b budget key value here start x quiet keeps n =
+-- the next node
+pub tells_next : {p q : PassView} (r : PassView) (bucket from a b budget : ℕ) (next : NextNode) (here : Held) → IsStart p.trace.start → Follows p q bucket from a b budget here → Quiet q.trace r.trace → Keeps (knows q.trace) (knows r.trace) → IsNextRead q.trace r.trace bucket from here next → TellsNode p.trace r.trace bucket from (Some next)
+tells_next {p} {q} r bucket from a b budget next here start x quiet keeps n =
     let whole = quiet_on x.peeks.tries.goes.quiet quiet in
-    let P : At → Type 0 = λ at. KeyAt (knows r.trace) at key in
-    let Q : At → Type 0 = λ at. ValueAt (knows r.trace) at value in
-    let keyed : KeyAt (knows r.trace) (Slot n.slot) key = subst P n.at n.keyed in
+    let P : At → Type 0 = λ at. KeyAt (knows r.trace) at next.key in
+    let Q : At → Type 0 = λ at. ValueAt (knows r.trace) at next.value in
+    let keyed : KeyAt (knows r.trace) (Slot n.slot) next.key = subst P n.at n.keyed in
     let read : IsRead p.trace r.trace n.node = record { known = n.read.known; stood = stood_since x.peeks.tries.goes.quiet n.read.stood } in (
-      record {
-        high = n.high;
-        of_bucket = ap (λ (t : Start). bucket_of t.shape key) (sym whole.same.start) ∙ n.of_bucket;
-        was = was_present n.node start whole.same read n.unmarked key n.keyed;
-        between = λ other is high low. passed_by r bucket from a b budget here start x quiet keeps other is high (rw n.named (key, keyed, low));
+      (
+        record {
+          high = n.high;
+          of_bucket = ap (λ (t : Start). bucket_of t.shape next.key) (sym whole.same.start) ∙ n.of_bucket;
+          was = was_present n.node start whole.same read n.unmarked next.key n.keyed;
+          between = λ other is high low. passed_by r bucket from a b budget here start x quiet keeps other is high (rw n.named (next.key, keyed, low));
+        },
+        λ values. was_entry n.node start whole.same read n.unmarked n.slot next.key next.value n.at keyed (subst Q n.at (n.valued (ap (λ (t : Start). t.shape.values) whole.same.start ∙ values))) values,
+      ),
+      λ last. record {
+        behind = λ other is high.
+            let now : bucket_of r.trace.start.shape other ≡ bucket_of r.trace.start.shape next.key = ap (λ (t : Start). bucket_of t.shape other) whole.same.start ∙ is ∙ sym n.of_bucket in
+            let none = no_slot (link_of n.node.word).slot (sym n.last ∙ last) in
+            was_absent n.node start whole.same read n.unmarked other (behind_node r.trace.start (knows r.trace) n.node.at n.slot next.key other n.at n.keyed now (omega (arith, high))) (rw none tt);
       },
-      λ values. was_entry n.node start whole.same read n.unmarked n.slot key value n.at keyed (subst Q n.at (n.valued (ap (λ (t : Start). t.shape.values) whole.same.start ∙ values))) values,
     )
 
 -- ---- a pass that is alone
@@ -235,17 +250,23 @@ next_paid p q bucket before a b here x some sum = let u = x.paid in omega (arith
 -- ---- again
 
 -- what a later part of what the pass did tells is told of the whole
-pub tells_since : {p q : Trace} (r : Trace) (bucket from : ℕ) (told : Option (ℕ × ℕ)) → Quiet p q → TellsWhere q r bucket from told → TellsWhere p r bucket from told
+pub tells_since : {p q : Trace} (r : Trace) (bucket from : ℕ) (told : Option NextNode) → Quiet p q → TellsNode q r bucket from told → TellsNode p r bucket from told
 tells_since {p} {q} r bucket from told a x =
-    let P : Start → Type 0 = λ s. TellsWhere (record q { start = s }) r bucket from told in
+    let P : Start → Type 0 = λ s. TellsNode (record q { start = s }) r bucket from told in
     go told (subst P a.same.start x)
   where
     so : {key : ℕ} {present : Bool} → WasSo (record q { start = p.start }) r key present → WasSo p r key present
     so w = record { moment = w.moment; within = record { from = begins_trans p.seen q.seen w.moment a.seen w.within.from; to = w.within.to; is_run = w.within.is_run }; was = w.was }
 
-    go : (told : Option (ℕ × ℕ)) → TellsWhere (record q { start = p.start }) r bucket from told → TellsWhere p r bucket from told
-    go None y = record { behind = λ other is high. so (y.behind other is high) }
-    go (Some entry) y = (
-      record { high = y.0.high; of_bucket = y.0.of_bucket; was = so y.0.was; between = λ other is high low. so (y.0.between other is high low) },
-      λ values. let e = y.1 values in record { moment = e.moment; within = record { from = begins_trans p.seen q.seen e.moment a.seen e.within.from; to = e.within.to; is_run = e.within.is_run }; was = e.was; stored = e.stored },
+    none : (from : ℕ) → HasNoNext (record q { start = p.start }) r bucket from → HasNoNext p r bucket from
+    none from y = record { behind = λ other is high. so (y.behind other is high) }
+
+    go : (told : Option NextNode) → TellsNode (record q { start = p.start }) r bucket from told → TellsNode p r bucket from told
+    go None y = none from y
+    go (Some next) y = (
+      (
+        record { high = y.0.0.high; of_bucket = y.0.0.of_bucket; was = so y.0.0.was; between = λ other is high low. so (y.0.0.between other is high low) },
+        λ values. let e = y.0.1 values in record { moment = e.moment; within = record { from = begins_trans p.seen q.seen e.moment a.seen e.within.from; to = e.within.to; is_run = e.within.is_run }; was = e.was; stored = e.stored },
+      ),
+      λ last. none (next.key + 1) (y.1 last),
     )

@@ -29,6 +29,10 @@ next_bucket c = record { bucket = c.bucket + 1; from = 0 }
 abbrev pub IsBehindKey : ℕ → ℕ → Cursor → Type 0
 IsBehindKey bucket key c = ((c.bucket ≡ bucket) × (c.from ≡ key + 1)) ⊎ ((c.bucket ≡ bucket + 1) × (c.from ≡ 0) × (2 ^ 64 ≤ key + 1))
 
+-- past a key of a bucket: in this bucket and from the next number on, or before the next bucket
+abbrev pub IsPastKey : ℕ → ℕ → Cursor → Type 0
+IsPastKey bucket key c = ((c.bucket ≡ bucket) × (c.from ≡ key + 1)) ⊎ ((c.bucket ≡ bucket + 1) × (c.from ≡ 0))
+
 -- a key stands before a cursor: it is of an earlier bucket, or of its bucket and below its number
 abbrev pub IsPassed : Start → Cursor → ℕ → Type 0
 IsPassed start c key = (bucket_of start.shape key < c.bucket) ⊎ ((bucket_of start.shape key ≡ c.bucket) × (key < c.from))
@@ -53,10 +57,10 @@ pub record PassesBy (p q : Trace) (c d : Cursor) (given : Option ℕ) : Type 0 w
 abbrev pub IsAtEnd : Start → Cursor → Type 0
 IsAtEnd start c = start.shape.buckets ≤ c.bucket
 
--- what a call gives: a key, and then the cursor is right behind it, or none, and then it has come to the end
+-- what a call gives: a key, and then the cursor is right behind it or before the next bucket, or none, and then it has come to the end
 abbrev pub GivesNext : Trace → Trace → Cursor → Cursor → Option ℕ → Type 0
 GivesNext p q c d None = PassesBy p q c d None × IsAtEnd p.start d
-GivesNext p q c d (Some key) = PassesBy p q c d (Some key) × IsBehindKey (bucket_of p.start.shape key) key d
+GivesNext p q c d (Some key) = PassesBy p q c d (Some key) × IsPastKey (bucket_of p.start.shape key) key d
 
 -- where nodes have values, an entry: a key with its value at a moment at which it was there
 abbrev pub GivesNextEntry : Trace → Trace → Cursor → Cursor → Option (ℕ × ℕ) → Type 0
@@ -77,6 +81,11 @@ abbrev pub costs_over : Trace → ℕ → ℕ → ℕ
 costs_over p bucket zero = 0
 costs_over p bucket (suc more) = costs_over p bucket more + seek_costs p (bucket + more)
 
+-- how many buckets have been entered where a cursor stands so: those before its own, and its own unless it stands before the first key
+abbrev pub entered_by : ℕ → ℕ → ℕ
+entered_by bucket zero = bucket
+entered_by bucket (suc from) = bucket + 1
+
 -- a call was refused, for want of steps alone, in a bucket of the table, where the cursor then stands; it gave no key on the way. Alone its budget was below what the buckets cost that it has gone over, and what is enough in the one where it stands
 pub record StopsShort (p q : PassView) (c d : Cursor) (budget : ℕ) (refusal : Refusal) : Type 0 where
   pub tired : IsTired p q budget refusal
@@ -85,7 +94,7 @@ pub record StopsShort (p q : PassView) (c d : Cursor) (budget : ℕ) (refusal : 
   pub bucket : d.bucket < p.trace.start.shape.buckets
   pub short : IsAlone p.trace q.trace → budget < costs_over p.trace c.bucket (d.bucket - c.bucket) + enough_to_seek p.trace d.bucket
 
--- the pass gave what it was to give, or was refused; it made no call, and loads alone, added nothing to the chronicle, and has what slots it had; it made no more steps than its budget; and alone, what it gave cost no more than seeking in each bucket from the first to the one where the cursor stands
+-- the pass gave what it was to give, or was refused; it made no call, and loads alone, added nothing to the chronicle, and has what slots it had; it made no more steps than its budget; and alone, what it gave cost no more than seeking in each bucket from the first to the last one that it entered
 pub record Iterates {A : Type 0} (Gives : A → Type 0) (p q : PassView) (c d : Cursor) (budget : ℕ) (answer : Result A Refusal) : Type 0 where
   pub gives : IfOk answer Gives
   pub refused : IfErr answer (StopsShort p q c d budget)
@@ -95,7 +104,7 @@ pub record Iterates {A : Type 0} (Gives : A → Type 0) (p q : PassView) (c d : 
   pub takes_no_slot : TakesNoSlot p q
   pub hand : q.hand ≡ p.hand
   pub steps : TookWithin p.trace q.trace budget
-  pub costs : IfOk answer (λ given. IsAlone p.trace q.trace → TookWithin p.trace q.trace (costs_over p.trace c.bucket (d.bucket + 1 - c.bucket)))
+  pub costs : IfOk answer (λ given. IsAlone p.trace q.trace → TookWithin p.trace q.trace (costs_over p.trace c.bucket (entered_by d.bucket d.from - c.bucket)))
 
 -- so it is of keys, of entries, and of entries where nodes have values
 abbrev pub IteratesKeys : PassView → PassView → Cursor → Cursor → ℕ → Result (Option ℕ) Refusal → Type 0

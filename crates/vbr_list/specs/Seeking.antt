@@ -1,5 +1,6 @@
 -- Seeking the next key of a bucket, piece by piece: all its steps are loads. Only contracts of private functions cite this.
 use Rattle.std.specs.Prelude.{◌≡◌, ℕ, ◌+◌, ◌<◌, ◌≤◌, suc, true, false, Option, Some, None, IfSome, IfNone}
+use Rattle.std.specs.Option.{is_none}
 use Rattle.vbr_words.specs.Buckets.{bucket_of}
 use Rattle.vbr_words.specs.Words.{link_of}
 use Rattle.vbr_words.specs.declared.nodes.Nodes.{Ghosts}
@@ -24,6 +25,7 @@ use Rattle.vbr_list.specs.Nearing.{StandsInList, StillAt}
 use Rattle.vbr_list.specs.Next.{HasNoNext, IsNextKey, enough_to_seek, seek_costs}
 use Rattle.vbr_list.specs.Pieces.{Goes, Observes}
 use Rattle.vbr_list.specs.declared.seeking.Met.{Met}
+use Rattle.vbr_list.specs.declared.seeking.NextNode.{NextNode}
 use Rattle.vbr_list.specs.declared.seeking.Met.TheVariants.{Marked, Before, Next}
 use Rattle.vbr_list.specs.declared.seek.PendingSeek.{PendingSeek}
 use Rattle.vbr_list.specs.declared.traversal.Stop.{Stop}
@@ -81,35 +83,36 @@ pub record StartsSeek {N : Type 0} {kind : Ghosts N} (c d : PendingSeek N kind) 
 
 -- ---- a visit
 
--- the node that the link of a place names: its link is unmarked and stood so at a moment, and its key, which was read, is one of the bucket and no less than the number; and its value is known, where nodes have values
-pub record IsNextRead (p q : Trace) (bucket from : ℕ) (here : Held) (key value : ℕ) : Type 0 where
+-- the node that the link of a place names: its link is unmarked and stood so at a moment, and its key, which was read, is one of the bucket and no less than the number; its value is known, where nodes have values; and it was the last where its link names none
+pub record IsNextRead (p q : Trace) (bucket from : ℕ) (here : Held) (next : NextNode) : Type 0 where
   pub node : Held
   pub read : IsRead p q node
   pub unmarked : (link_of node.word).mark ≡ false
   pub slot : ℕ
   pub named : Names here slot
   pub at : node.at ≡ Slot slot
-  pub keyed : KeyAt (knows q) node.at key
-  pub of_bucket : bucket_of q.start.shape key ≡ bucket
-  pub high : from ≤ key
-  pub valued : q.start.shape.values ≡ true → ValueAt (knows q) node.at value
+  pub keyed : KeyAt (knows q) node.at next.key
+  pub of_bucket : bucket_of q.start.shape next.key ≡ bucket
+  pub high : from ≤ next.key
+  pub valued : q.start.shape.values ≡ true → ValueAt (knows q) node.at next.value
+  pub last : next.is_last ≡ is_none (link_of node.word).slot
 
 -- what a visit met behind a place
 abbrev pub VisitsIn : Trace → Trace → ℕ → ℕ → Held → Met → Type 0
 VisitsIn p q bucket from here (Before node) = ComesBefore p q bucket from node
-VisitsIn p q bucket from here (Next key value) = IsNextRead p q bucket from here key value
+VisitsIn p q bucket from here (Next next) = IsNextRead p q bucket from here next
 VisitsIn p q bucket from here (Marked marked) = HoldsMarked (knows q) marked × Names here marked.slot
 
 -- the steps of a visit
 abbrev pub steps_met : Start → Met → ℕ
 steps_met start (Before node) = 5
-steps_met start (Next key value) = 5 + steps_to_value_of start
+steps_met start (Next next) = 5 + steps_to_value_of start
 steps_met start (Marked marked) = 3
 
 -- what a visit leaves to a pass that was alone: the node that was visited has one node fewer behind it
 abbrev pub VisitsInAlone : Trace → Trace → ℕ → Held → Met → Type 0
 VisitsInAlone p q bucket here (Before node) = StillAt q node × (ahead p bucket here.at ≡ suc (ahead q bucket node.at))
-VisitsInAlone p q bucket here (Next key value) = 0 < ahead p bucket here.at
+VisitsInAlone p q bucket here (Next next) = 0 < ahead p bucket here.at
 VisitsInAlone p q bucket here (Marked marked) = StillAt q (held_of marked) × (ahead p bucket here.at ≡ suc (ahead q bucket (Slot marked.slot))) × (is_there (nodes q) (Slot marked.slot) ≡ true)
 
 -- it met this behind a place, in so many steps, and knows what it knew; alone, it has one node fewer ahead
@@ -130,9 +133,14 @@ abbrev pub TellsWhere : Trace → Trace → ℕ → ℕ → Option (ℕ × ℕ) 
 TellsWhere p q bucket from None = HasNoNext p q bucket from
 TellsWhere p q bucket from (Some entry) = IsNextKey p q bucket from entry.0 × (p.start.shape.values ≡ true → WasEntry p q entry.0 entry.1)
 
+-- the node with the next key, if there is one; where it was the last of its list, each key of the bucket above it was absent at a moment too
+abbrev pub TellsNode : Trace → Trace → ℕ → ℕ → Option NextNode → Type 0
+TellsNode p q bucket from None = HasNoNext p q bucket from
+TellsNode p q bucket from (Some next) = TellsWhere p q bucket from (Some (next.key, next.value)) × (next.is_last ≡ true → HasNoNext p q bucket (next.key + 1))
+
 -- it tells what is next; alone, in no more steps than is known before
-pub record FindsNext {N : Type 0} {kind : Ghosts N} (c d : PendingSeek N kind) (told : Option (ℕ × ℕ)) : Type 0 where
-  pub tells : TellsWhere (seen_in c) (seen_in d) c.bucket c.from told
+pub record FindsNext {N : Type 0} {kind : Ghosts N} (c d : PendingSeek N kind) (told : Option NextNode) : Type 0 where
+  pub tells : TellsNode (seen_in c) (seen_in d) c.bucket c.from told
   pub paid : IsAlone (seen_in c) (seen_in d) → d.used ≤ c.used + seek_costs (seen_in c) c.bucket
 
 -- the budget has no room for one more piece; alone it was below what is enough
@@ -148,11 +156,11 @@ SeekStops c d Tired = SeekTires c d
 -- ---- one bucket
 
 -- a seek that began with so many steps: what the pass did, and what it found, or that it tired
-pub record Sought (p q : PassView) (bucket from before since budget : ℕ) (found : Option (Option (ℕ × ℕ))) : Type 0 where
+pub record Sought (p q : PassView) (bucket from before since budget : ℕ) (found : Option (Option NextNode)) : Type 0 where
   pub goes : Goes p q before since
   pub observes : Observes p.trace q.trace
   pub within : (before ≤ since) × (since ≤ budget)
-  pub tells : IfSome found (TellsWhere p.trace q.trace bucket from)
+  pub tells : IfSome found (TellsNode p.trace q.trace bucket from)
   pub paid : IfSome found (λ told. IsAlone p.trace q.trace → since ≤ before + seek_costs p.trace bucket)
   pub tired : IfNone found (budget < since + PIECE)
   pub short : IfNone found (IsAlone p.trace q.trace → budget < before + enough_to_seek p.trace bucket)

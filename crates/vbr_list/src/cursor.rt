@@ -1,6 +1,8 @@
 //! Where an iteration over all keys stands.
-ghost use Rattle.std.specs.Prelude.{◌≡◌, ◌+◌, ◌<◌, ◌^◌};
+ghost use Rattle.std.specs.Prelude.{◌≡◌, ◌+◌, ◌<◌, ◌^◌, true, false};
 ghost use Rattle.vbr_list.specs.Cursors.{IsBehindKey, first_cursor, next_bucket};
+
+use crate::seeking::NextNode;
 
 /// Where an iteration over all keys stands: in which bucket, and from which number on. Buckets come in
 /// their order, and the keys of a bucket ascend. It is plain: it can be copied, kept, and made by hand, and
@@ -56,6 +58,21 @@ impl Cursor {
                 from,
             },
             None => self.next_bucket(),
+        }
+    }
+
+    // Past a node of the bucket: before the next bucket where it was the last of its list, else right behind
+    // its key.
+    #[inline]
+    pub(crate) fn past(self, node: NextNode) -> Cursor
+        requires { self.bucket + 1 < 2 ^ 32 }
+        ensures last { node.is_last ≡ true → result ≡ next_bucket self }
+        ensures more { node.is_last ≡ false → IsBehindKey self.bucket node.key result }
+    {
+        if node.is_last {
+            self.next_bucket()
+        } else {
+            self.behind(node.key)
         }
     }
 }

@@ -11,8 +11,9 @@ use crate::refusal::Refusal;
 use vbr_slots::{AtTable, Pass, Slots};
 use vbr_words::{Entries, Nodes};
 
-/// The next key at a cursor, in at most `budget` steps; none behind the last one. The cursor is then right
-/// behind that key. Buckets come in their order, and the keys of a bucket ascend.
+/// The next key at a cursor, in at most `budget` steps; none after the last one. The cursor is then right
+/// after that key, or before the next bucket where its node was the last of its list. Buckets come in their
+/// order, and the keys of a bucket ascend.
 ///
 /// The key was there at a moment of the call, and each other key that the cursor has passed by was absent at
 /// a moment of the call. So call after call, whatever other threads do meanwhile, and whatever other calls
@@ -96,8 +97,8 @@ fn iterate<N: Nodes>(
         used = since;
         match found {
             None => return ((Err(Refusal::OutOfSteps { used }), now), used),
-            Some(Some((key, value))) => {
-                return ((Ok(Some((key, value))), now.behind(key)), used);
+            Some(Some(node)) => {
+                return ((Ok(Some((node.key, node.value))), now.past(node)), used);
             }
             Some(None) => now = now.next_bucket(),
         }

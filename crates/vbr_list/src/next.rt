@@ -8,6 +8,7 @@ ghost use Rattle.vbr_list.specs.Seeking.{Sought, TellsWhere};
 
 use crate::refusal::Refusal;
 use crate::seek::PendingSeek;
+use crate::seeking::NextNode;
 use vbr_slots::{AtTable, Pass, Slots};
 use vbr_words::{Entries, Nodes};
 
@@ -115,7 +116,8 @@ fn seek_by<N: Nodes>(
 {
     let (found, used) = seek_in(at, bucket, from, budget, 0);
     match found {
-        Some(next) => (Ok(next), used),
+        Some(Some(node)) => (Ok(Some((node.key, node.value))), used),
+        Some(None) => (Ok(None), used),
         None => (Err(Refusal::OutOfSteps { used }), used),
     }
 }
@@ -129,7 +131,7 @@ pub(crate) fn seek_in<N: Nodes>(
     from: u64,
     budget: u32,
     used: u32,
-) -> (Option<Option<(u64, u64)>>, u32)
+) -> (Option<Option<NextNode>>, u32)
     requires bucket { bucket < at.old.slots.now.start.shape.buckets }
     requires within { used ≤ budget }
     ensures table { IsSameTable at.old at.new }

@@ -22,8 +22,19 @@ pub(crate) enum Met {
     Marked(Marked),
     /// An unmarked node with a key below the number.
     Before(Held),
-    /// An unmarked node with a key that is no less, and its value, 0 where nodes have none.
-    Next(u64, u64),
+    /// An unmarked node with a key that is no less.
+    Next(NextNode),
+}
+
+/// The node with the next key.
+#[derive(Clone, Copy)]
+pub(crate) struct NextNode {
+    /// Its key.
+    pub(crate) key: u64,
+    /// Its value, 0 where nodes have none.
+    pub(crate) value: u64,
+    /// Whether it was the last of its list: its link names none.
+    pub(crate) is_last: bool,
 }
 
 impl<N: Nodes> PendingSeek<'_, N> {
@@ -72,12 +83,17 @@ impl<N: Nodes> PendingSeek<'_, N> {
         let read = value_if_any(&mut self.at, &node);
         self.used += steps_to_value_of(self.at.slots);
         let value = read?;
-        Ok(Met::Next(key, value))
+        let is_last = decode(node.word).slot.is_none();
+        Ok(Met::Next(NextNode {
+            key,
+            value,
+            is_last,
+        }))
     }
 
-    // One walk from the head to the next key, past marked nodes.
+    // One walk from the head to the next node, past marked nodes.
     #[inline(always)]
-    fn walk(&mut self) -> Result<Option<(u64, u64)>, Stop>
+    fn walk(&mut self) -> Result<Option<NextNode>, Stop>
         ensures goes { SeeksOn self.old self.new }
         ensures observes { Observes (seen_in self.old) (seen_in self.new) }
         ensures next { IfOk result (FindsNext self.old self.new) }
@@ -98,16 +114,16 @@ impl<N: Nodes> PendingSeek<'_, N> {
                 Err(_) => return Err(Stop::Again),
                 Ok(Met::Marked(marked)) => here = held_of(marked),
                 Ok(Met::Before(node)) => here = node,
-                Ok(Met::Next(key, value)) => return Ok(Some((key, value))),
+                Ok(Met::Next(node)) => return Ok(Some(node)),
             }
         }
         Ok(None)
     }
 
-    /// Seeks until it finds the next key, or that there is none; none where the budget has no room for
+    /// Seeks until it finds the next node, or that there is none; none where the budget has no room for
     /// one more piece.
     #[inline(always)]
-    pub(crate) fn seek(&mut self) -> Option<Option<(u64, u64)>>
+    pub(crate) fn seek(&mut self) -> Option<Option<NextNode>>
         ensures goes { SeeksOn self.old self.new }
         ensures observes { Observes (seen_in self.old) (seen_in self.new) }
         ensures next { IfSome result (FindsNext self.old self.new) }

@@ -16,7 +16,7 @@ use Rattle.vbr_at_table.specs.KeptSlots.{TakesNoSlot}
 use Rattle.vbr_at_table.specs.Moments.{WasEntry}
 use Rattle.vbr_at_table.specs.Steps.{TookWithin}
 use Rattle.vbr_at_table.proofs.Lemmas.{none_on, none_refl}
-use Rattle.vbr_list.specs.Cursors.{HasGiven, HasGivenAll, HasStayedOrMoved, IsAtEnd, IsBehindKey, IsToCome, SeesMore, StopsShort, costs_over, first_cursor}
+use Rattle.vbr_list.specs.Cursors.{HasGiven, HasGivenAll, HasStayedOrMoved, IsAtEnd, IsPastKey, IsToCome, SeesMore, StopsShort, costs_over, first_cursor}
 use Rattle.vbr_list.specs.Next.{enough_to_seek, listed_in}
 use Rattle.vbr_list.specs.declared.cursor.Cursor.{Cursor}
 use Rattle.vbr_list.specs.declared.refusal.Refusal.{Refusal}
@@ -117,7 +117,7 @@ module _ {m n : MemberView} (o : MemberView) {c d : Cursor} {entries : List (ℕ
         in_table = x.in_table;
       }
     where
-      behind : IsToCome n.pass.trace.start c key → IsBehindKey (bucket_of n.pass.trace.start.shape key) key d → x.refused ≤ d.bucket
+      behind : IsToCome n.pass.trace.start c key → IsPastKey (bucket_of n.pass.trace.start.shape key) key d → x.refused ≤ d.bucket
       behind (inl a) (inl b) = let l = x.later in let e = b.0 in omega (arith, l, a, e)
       behind (inl a) (inr b) = let l = x.later in let e = b.0 in omega (arith, l, a, e)
       behind (inr a) (inl b) = let l = x.later in let e = b.0 in let f = a.0 in omega (arith, l, e, f)
@@ -293,7 +293,7 @@ abbrev pub left_of : Cursor → ℕ
 left_of c = 2 ^ 96 - (c.bucket * 2 ^ 64 + c.from)
 
 -- it comes nearer with each key
-pub nearer : (start : Start) (c d : Cursor) (key : ℕ) → c.from < 2 ^ 64 → d.bucket < 2 ^ 32 → d.from < 2 ^ 64 → IsToCome start c key → IsBehindKey (bucket_of start.shape key) key d → left_of d < left_of c
+pub nearer : (start : Start) (c d : Cursor) (key : ℕ) → c.from < 2 ^ 64 → d.bucket < 2 ^ 32 → d.from < 2 ^ 64 → IsToCome start c key → IsPastKey (bucket_of start.shape key) key d → left_of d < left_of c
 nearer start c d key a b e (inl x) (inl y) = let u = y.0 in omega (arith, a, b, e, x, u)
 nearer start c d key a b e (inl x) (inr y) = let u = y.0 in omega (arith, a, b, e, x, u)
 nearer start c d key a b e (inr x) (inl y) = let u = x.0 in let v = x.1 in let w = y.0 in let z = y.1 in omega (arith, a, b, e, u, v, w, z)

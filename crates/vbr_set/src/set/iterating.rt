@@ -39,8 +39,9 @@ impl Item for (u64, u64) {
 }
 
 impl<N: Nodes> VbrSet<N> {
-    /// The next key at a cursor, in at most `budget` steps, and none behind the last one. The cursor is then
-    /// right behind that key. It begins at [`Cursor::first`].
+    /// The next key at a cursor, in at most `budget` steps, and none after the last one. The cursor is then
+    /// right after that key, or before the next bucket where its node was the last of its list. It begins at
+    /// [`Cursor::first`].
     ///
     /// The key was there at a moment of the call, and each other key that the cursor has passed by was
     /// absent at a moment of it. So over the calls from the first cursor to the last, whatever other callers

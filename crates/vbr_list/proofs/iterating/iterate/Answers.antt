@@ -3,6 +3,7 @@ use Rattle.vbr_words.specs.Dimensions.{Dimensions}
 use Rattle.vbr_machine.specs.Start.{Start}
 use Rattle.vbr_list.specs.Seeking.{Sought}
 use Rattle.vbr_list.specs.declared.cursor.Cursor.{Cursor}
+use Rattle.vbr_list.specs.declared.seeking.NextNode.{NextNode}
 use Rattle.vbr_list.proofs.ComingBy.{HasComeBy, come_none, come_on, come_short, come_to}
 use Rattle.vbr_list.proofs.iterating.iterate.Goals as goal
 
@@ -21,15 +22,15 @@ returns-in-None-clause-iterates g c =
 
 pub returns-in-Some-Some-clause-iterates : goal.returns-in-Some-Some-clause-iterates
 returns-in-Some-Some-clause-iterates g c =
-    let whole : c.seek_in-found.result.0 ≡ Some (Some (c.in-Some-Some.key, c.in-Some-Some.value)) = c.in-Some-Some.is ∙ ap Some (rw c.in-Some-Some.is at c.in-Some-Some.field-0-is) in
-    let P : Option (Option (ℕ × ℕ)) → Type 0 = Sought c.loop-now.at.stepper.now c.seek_in-found.new.at.stepper.now c.loop-now.now.bucket c.loop-now.now.from c.loop-now.used c.seek_in-found.result.1 c.args.budget in
-    come_to c.seek_in-found.new.at.stepper.now c.law.ensures c.args.cursor c.loop-now.now c.loop-now.used c.seek_in-found.result.1 c.args.budget c.loop-now.invariant.1 c.behind.result c.in-Some-Some.key c.in-Some-Some.value (subst P whole c.seek_in-found.ensures.sought) c.behind.ensures
+    let whole : c.seek_in-found.result.0 ≡ Some (Some c.in-Some-Some.node) = c.in-Some-Some.is ∙ ap Some (rw c.in-Some-Some.is at c.in-Some-Some.field-0-is) in
+    let P : Option (Option NextNode) → Type 0 = Sought c.loop-now.at.stepper.now c.seek_in-found.new.at.stepper.now c.loop-now.now.bucket c.loop-now.now.from c.loop-now.used c.seek_in-found.result.1 c.args.budget in
+    come_to c.seek_in-found.new.at.stepper.now c.law.ensures c.args.cursor c.loop-now.now c.loop-now.used c.seek_in-found.result.1 c.args.budget c.loop-now.invariant.1 c.past.result c.in-Some-Some.node (subst P whole c.seek_in-found.ensures.sought) c.past.ensures.last c.past.ensures.more
 
 pub loop-now-preserved : goal.loop-now-preserved
 loop-now-preserved g c =
     let same = c.loop-now.invariant.0 in
     let whole : c.seek_in-found.result.0 ≡ Some None = c.in-Some-None.is ∙ ap Some (rw c.in-Some-None.is at c.in-Some-None.field-0-is) in
-    let S : Option (Option (ℕ × ℕ)) → Type 0 = Sought c.loop-now.at.stepper.now c.seek_in-found.new.at.stepper.now c.loop-now.now.bucket c.loop-now.now.from c.loop-now.used c.seek_in-found.result.1 c.args.budget in
+    let S : Option (Option NextNode) → Type 0 = Sought c.loop-now.at.stepper.now c.seek_in-found.new.at.stepper.now c.loop-now.now.bucket c.loop-now.now.from c.loop-now.used c.seek_in-found.result.1 c.args.budget in
     let on = come_on c.seek_in-found.new.at.stepper.now c.law.ensures c.args.cursor c.loop-now.now c.loop-now.used c.seek_in-found.result.1 c.args.budget c.loop-now.invariant.1 (subst S whole c.seek_in-found.ensures.sought) in
     let P : Cursor → Type 0 = λ d. HasComeBy c.args.at.now.stepper.now c.seek_in-found.new.at.stepper.now c.args.cursor d c.seek_in-found.result.1 c.args.budget in (
       record { pass = c.seek_in-found.ensures.table.pass ∙ same.pass; slots = c.seek_in-found.ensures.table.slots ∙ same.slots },

@@ -1,7 +1,9 @@
-use Rattle.std.proofs.Common.{rules, ◌≡◌, ◌+◌, ℕ, Option, Some, None, arith, sym, ap, ◌∙◌}
+use Rattle.std.proofs.Common.{rules, ◌≡◌, ◌+◌, ℕ, Bool, true, false, not, Option, Some, None, arith, sym, ap, ◌∙◌}
 use Rattle.std.specs.Prelude.{IsSome}
+use Rattle.std.specs.Option.{is_none, is_some}
 use Rattle.vbr_machine.specs.Start.{Start}
 use Rattle.vbr_words.specs.Words.{link_of}
+use Rattle.vbr_words.specs.declared.link.Link.{Link}
 use Rattle.vbr_slots.specs.Views.{PassView}
 use Rattle.vbr_at_table.specs.CallSteps.{next_steps}
 use Rattle.vbr_at_table.specs.Reading.{ReadsIn}
@@ -14,6 +16,10 @@ use Rattle.vbr_list.proofs.Nearing.{either, first_of, node_still_there, read_lea
 use Rattle.vbr_list.proofs.Observing.{looks_read}
 use Rattle.vbr_list.proofs.Reaching.{node_unmarked}
 use Rattle.vbr_list.proofs.seek.PendingSeek.visit.Goals as goal
+
+is_last_so : (is_last : Bool) (slot : Option ℕ) → is_some slot ≡ not is_last → is_last ≡ is_none slot
+is_last_so true slot e = ap not (sym e)
+is_last_so false slot e = ap not (sym e)
 
 in_three : {p q : PassView} (next : Option ℕ) → IsSome next → ReadsIn p q (next_steps next) → ReadsIn p q 3
 in_three None some x = absurd (cc)
@@ -147,7 +153,7 @@ returns-clause-met g c =
     let steps : c.steps_to_value_of.result ≡ steps_to_value_of c.args.self.now.at.stepper.now.trace.start = c.steps_to_value_of.ensures ∙ ap steps_to_value_of (sym c.value_if_any-read.new.at.own.1 ∙ reads.quiet.same.start ∙ both.quiet.same.start) in
     record {
       keeps = keeps_on (keeps_on x.next.keeps y.key.keeps) z.value.keeps;
-      visits = node_next c.args.self.now.bucket c.args.self.now.from c.in_ok-key.key c.in_ok-value.value c.args.here.now c.in-Some.node c.requires.inside x.next.keeps n y.key.keeps y.key.key y.key.bucket (node_unmarked c.args.here.now c.in-Some.node n c.in_default-of.ensures) c.if-key-self.false y.reads.quiet z.value.keeps (λ values. z.value.value (ap (λ (d : Start). d.shape.values) (sym reads.quiet.same.start) ∙ values)) reads.quiet;
+      visits = node_next c.args.self.now.bucket c.args.self.now.from c.in_ok-key.key c.in_ok-value.value c.is_none-is_last.result c.args.here.now c.in-Some.node c.requires.inside x.next.keeps n y.key.keeps y.key.key y.key.bucket (node_unmarked c.args.here.now c.in-Some.node n c.in_default-of.ensures) c.if-key-self.false y.reads.quiet z.value.keeps (λ values. z.value.value (ap (λ (d : Start). d.shape.values) (sym reads.quiet.same.start) ∙ values)) reads.quiet (is_last_so c.is_none-is_last.result c.decode.result.slot c.is_none-is_last.ensures ∙ ap (λ (l : Link). is_none l.slot) c.decode.ensures.link);
       count = omega (arith, steps);
       alone = λ fresh there stands alone. some_ahead c.args.self.now.at.stepper.now c.law.ensures c.next-node.new.at.stepper.now.trace c.args.self.now.bucket c.args.here.now c.in-Some.node c.requires.inside there stands n;
     }

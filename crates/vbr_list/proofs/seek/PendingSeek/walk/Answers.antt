@@ -116,7 +116,7 @@ returns-in-Ok-Next-clause-next g c =
     let r = c.visit.new.self.at.stepper.now in
     let a = i.peeks.tries.goes.quiet in
     record {
-      tells = tells_next r c.args.self.now.bucket c.args.self.now.from c.args.self.now.used c.loop-here.self.used c.args.self.now.budget c.in-Ok-Next.key c.in-Ok-Next.value c.loop-here.here c.law.ensures.start i v met.keeps (rw (same.bucket, same.from) at met.visits);
+      tells = tells_next r c.args.self.now.bucket c.args.self.now.from c.args.self.now.used c.loop-here.self.used c.args.self.now.budget c.in-Ok-Next.node c.loop-here.here c.law.ensures.start i v met.keeps (rw (same.bucket, same.from) at met.visits);
       paid = λ alone.
           let near = i.nears (first_of a v alone) in
           next_paid p.trace q.trace c.args.self.now.bucket c.args.self.now.used c.loop-here.self.used c.visit.new.self.used c.loop-here.here near ((rw same.bucket at met.alone) near.place.fresh near.there near.place.stands (then_of a v alone)) (met.count ∙ ap (λ (s : Start). c.loop-here.self.used + (5 + steps_to_value_of s)) a.same.start);
