@@ -47,11 +47,7 @@ pub fn next_entry(
 }
 
 // Writes the key and the value of an answer, where it gives an entry, and tells the number of the answer.
-fn give_entry(
-    answer: Result<Option<(u64, u64)>, Refusal>,
-    key: &mut u64,
-    value: &mut u64,
-) -> i32
+fn give_entry(answer: Result<Option<(u64, u64)>, Refusal>, key: &mut u64, value: &mut u64) -> i32
     ensures code { result ≡ call_code (is_yes answer) }
     ensures writes { WritesGiven answer (key.old, value.old) (key.new, value.new) }
 {
