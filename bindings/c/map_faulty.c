@@ -76,6 +76,14 @@ static void give_kept(uint64_t key, uint64_t *value) {
     pthread_mutex_unlock(&lock);
 }
 
+/* Gives the value of another key, the first of a walk, if there is one. */
+static void give_other(vbr_map_handle *handle, uint64_t key, uint32_t budget, uint64_t *value) {
+    vbr_cursor cursor = VBR_CURSOR_BEGIN;
+    uint64_t other = key, found = 0;
+    while (other == key && __real_vbr_map_next(handle, &cursor, budget, &other, &found) == VBR_YES) {}
+    if (other != key) *value = found;
+}
+
 vbr_answer __wrap_vbr_map_open_with(vbr_map_handle *handles, size_t count, uint32_t slots, uint32_t buckets, uint64_t last_epoch,
                                     const vbr_entry *entries, size_t entry_count) {
     if (fault() != 10 || entry_count < 2) return __real_vbr_map_open_with(handles, count, slots, buckets, last_epoch, entries, entry_count);
@@ -114,7 +122,7 @@ vbr_answer __wrap_vbr_map_get(vbr_map_handle *handle, uint64_t key, uint32_t bud
     vbr_answer answer = __real_vbr_map_get(handle, key, now(20) ? budget / 2 : budget, value);
     if (answer == VBR_YES && now(13)) return *value = before, VBR_NO;
     if (answer == VBR_YES && (now(1) || now(2))) give_kept(key, value);
-    if (answer == VBR_YES && now(3)) (void)!__real_vbr_map_get(handle, key ^ 1, budget, value);
+    if (answer == VBR_YES && now(3)) give_other(handle, key, budget, value);
     if (answer != VBR_YES && fault() == 8) *value = 1;
     return answer;
 }
