@@ -7,7 +7,8 @@ ghost use Rattle.vbr_list.specs.LookingUp.{LookTires, Sees, WalkStops, WalksTo};
 ghost use Rattle.vbr_list.specs.Pieces.{GoesOn, Observes, trace_in};
 
 use crate::call::PendingCall;
-use crate::traversal::{Stop, Visited};
+use crate::traversal::Stop;
+use crate::visiting::Met;
 use vbr_at_table::budget::affords;
 use vbr_at_table::{Held, Marked};
 use vbr_words::{At, Nodes, decode};
@@ -57,13 +58,18 @@ impl<N: Nodes> PendingCall<'_, N> {
             }
             match self.visit(&here) {
                 Err(_) => return Err(Stop::Again),
-                Ok(Visited::Marked(marked)) => here = held_of(marked),
-                Ok(Visited::Smaller(node)) => {
+                Ok(Met::Marked(marked)) => here = held_of(marked),
+                Ok(Met::Node(node, key)) => {
+                    if key >= self.key {
+                        return Ok(if self.key == key {
+                            Sight::Present(node)
+                        } else {
+                            Sight::Absent(pred)
+                        });
+                    }
                     pred = node;
                     here = node;
                 }
-                Ok(Visited::Beyond(node, true)) => return Ok(Sight::Present(node)),
-                Ok(Visited::Beyond(_, false)) => return Ok(Sight::Absent(pred)),
             }
         }
         Ok(Sight::Absent(pred))
