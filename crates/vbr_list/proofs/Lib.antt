@@ -1,3 +1,4 @@
+mod PaidPlaces
 mod Traversals
 mod Going
 mod KeptHands

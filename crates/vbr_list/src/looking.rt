@@ -7,8 +7,7 @@ ghost use Rattle.vbr_list.specs.LookingUp.{LookTires, Sees, WalkStops, WalksTo};
 ghost use Rattle.vbr_list.specs.Pieces.{GoesOn, Observes, trace_in};
 
 use crate::call::PendingCall;
-use crate::traversal::Stop;
-use crate::visiting::Met;
+use crate::traversal::{Stop, Visited};
 use vbr_at_table::budget::affords;
 use vbr_at_table::{Held, Marked};
 use vbr_words::{At, Nodes, decode};
@@ -58,18 +57,13 @@ impl<N: Nodes> PendingCall<'_, N> {
             }
             match self.visit(&here) {
                 Err(_) => return Err(Stop::Again),
-                Ok(Met::Marked(marked)) => here = held_of(marked),
-                Ok(Met::Node(node, key)) => {
-                    if key >= self.key {
-                        return Ok(if self.key == key {
-                            Sight::Present(node)
-                        } else {
-                            Sight::Absent(pred)
-                        });
-                    }
+                Ok(Visited::Marked(marked)) => here = held_of(marked),
+                Ok(Visited::Smaller(node)) => {
                     pred = node;
                     here = node;
                 }
+                Ok(Visited::Beyond(node, true)) => return Ok(Sight::Present(node)),
+                Ok(Visited::Beyond(_, false)) => return Ok(Sight::Absent(pred)),
             }
         }
         Ok(Sight::Absent(pred))

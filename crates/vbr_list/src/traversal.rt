@@ -2,19 +2,28 @@
 ghost use Rattle.std.specs.Prelude.{◌≡◌, ◌+◌, ◌≤◌, IsSome, IfOk, IfErr};
 ghost use Rattle.vbr_words.specs.Words.{link_of};
 ghost use Rattle.vbr_slots.specs.Views.{knows};
-ghost use Rattle.vbr_at_table.specs.Held.{HoldsMarked, IsHeld, Names};
+ghost use Rattle.vbr_at_table.specs.Held.{HoldsMarked, Names};
 ghost use Rattle.vbr_list.specs.Helping.{Helps, HelpsNone};
-ghost use Rattle.vbr_list.specs.Pieces.{GoesOn, HasRoom, OnlyLooks, pass_in, trace_in};
-ghost use Rattle.vbr_list.specs.Traversing.{HasComeTo, IsPredFor, SearchStops, WalkFinds};
-ghost use Rattle.vbr_list.specs.Visiting.{IsVisit, Meets, RollsBackFrom, StartsAt, StartsNone};
+ghost use Rattle.vbr_list.specs.Pieces.{GoesOn, HasRoom, IsPiece, OnlyLooks, pass_in, trace_in};
+ghost use Rattle.vbr_list.specs.Traversing.{IsInsideFor, IsPredFor, Meets, RollsBackFrom, SearchStops, Starts, StartsNone, WalkFinds};
 
 use crate::call::PendingCall;
 use crate::found::Found;
 use crate::helping::help_by_copy;
-use crate::visiting::{Met, start_at, visit_behind};
 use vbr_at_table::budget::affords;
-use vbr_at_table::{Held, Marked, Rollback};
+use vbr_at_table::{Held, Marked, Rollback, checkpoint, first, key_of, next};
 use vbr_words::{Nodes, decode};
+
+/// What a visit comes to behind a place.
+#[derive(Clone, Copy)]
+pub(crate) enum Visited {
+    /// An unmarked node with a smaller key.
+    Smaller(Held),
+    /// An unmarked node with a key that isn't smaller, and whether it is the key.
+    Beyond(Held, bool),
+    /// A marked node.
+    Marked(Marked),
+}
 
 /// Why a traversal ended before it came to the key.
 #[derive(Clone, Copy)]
@@ -33,33 +42,42 @@ impl<N: Nodes> PendingCall<'_, N> {
         ensures goes { GoesOn self.old self.new }
         ensures looks { OnlyLooks (trace_in self.old) (trace_in self.new) }
         ensures used { self.new.used ≡ self.old.used + 3 }
-        ensures head { IfOk result (StartsAt (trace_in self.old) (trace_in self.new)
-            self.old.bucket) }
-        ensures come { IfOk result (HasComeTo (trace_in self.old) (trace_in self.new)
-            self.old.key) }
-        ensures moved { IfErr result (StartsNone (trace_in self.old) (trace_in self.new)) }
+        ensures head { IfOk result (Starts self.old self.new) }
+        ensures moved { IfErr result (StartsNone self.old self.new) }
     {
-        let head = start_at(&mut self.at, self.bucket);
+        let point = checkpoint(&mut self.at);
+        let head = first(&mut self.at, &point, self.bucket);
         self.used += 3;
         head
     }
 
     // Visits the node that the link of a place names, in three steps if it is marked, else in five.
     #[inline(always)]
-    pub(crate) fn visit(&mut self, here: &Held) -> Result<Met, Rollback>
-        requires held { IsHeld (knows (trace_in self.old)) here.now }
-        requires some { IsSome (link_of here.now.word).slot }
+    pub(crate) fn visit(&mut self, pred: &Held) -> Result<Visited, Rollback>
+        requires pred { IsInsideFor self.old pred.now }
+        requires some { IsSome (link_of pred.now.word).slot }
         requires room { HasRoom self.old }
         ensures goes { GoesOn self.old self.new }
         ensures looks { OnlyLooks (trace_in self.old) (trace_in self.new) }
-        ensures used { IsVisit self.old.used self.new.used }
-        ensures met { IfOk result (Meets (trace_in self.old) (trace_in self.new)
-            self.old.used self.new.used here.now) }
-        ensures moved { IfErr result (RollsBackFrom (trace_in self.old) (trace_in self.new)) }
+        ensures used { IsPiece self.old.used self.new.used }
+        ensures met { IfOk result (Meets self.old self.new pred.now) }
+        ensures moved { IfErr result (RollsBackFrom self.old self.new) }
     {
-        let (met, made) = visit_behind(&mut self.at, here);
-        self.used += made;
-        met
+        self.at.law();
+        let node = next(&mut self.at, pred);
+        self.used += 3;
+        let Some(node) = node? else { unreachable!() };
+        if let Some(marked) = Marked::of(&node) {
+            return Ok(Visited::Marked(marked));
+        }
+        let read = key_of(&mut self.at, &node);
+        self.used += 2;
+        let here = read?;
+        Ok(if here < self.key {
+            Visited::Smaller(node)
+        } else {
+            Visited::Beyond(node, self.key == here)
+        })
     }
 
     // Helps to unlink a marked node behind a place, in one step to six: gives the place with its new link,
@@ -107,7 +125,7 @@ impl<N: Nodes> PendingCall<'_, N> {
             }
             match self.visit(&pred) {
                 Err(_) => return Err(Stop::Again),
-                Ok(Met::Marked(marked)) => {
+                Ok(Visited::Marked(marked)) => {
                     if !affords(self.budget, self.used) {
                         return Err(Stop::Tired);
                     }
@@ -116,16 +134,14 @@ impl<N: Nodes> PendingCall<'_, N> {
                         Err(_) => return Err(Stop::Again),
                     }
                 }
-                Ok(Met::Node(node, key)) => {
-                    if key >= self.key {
-                        return Ok(Found {
-                            pred,
-                            cur: Some(node),
-                            present: self.key == key,
-                            used: self.used,
-                        });
-                    }
-                    pred = node;
+                Ok(Visited::Smaller(node)) => pred = node,
+                Ok(Visited::Beyond(node, present)) => {
+                    return Ok(Found {
+                        pred,
+                        cur: Some(node),
+                        present,
+                        used: self.used,
+                    });
                 }
             }
         }

@@ -1,5 +1,4 @@
 use Rattle.std.proofs.Common.{rules, ◌≡◌, ◌+◌, ◌≤◌, true, false, sym, ap, ◌∙◌, refl, subst, arith}
-use Rattle.std.specs.Prelude.{◌==◌}
 use Rattle.std.specs.Option.{is_some}
 use Rattle.vbr_words.specs.Buckets.{bucket_of}
 use Rattle.vbr_words.specs.Words.{link_of}
@@ -14,9 +13,12 @@ use Rattle.vbr_list.specs.Walking.{Walks}
 use Rattle.vbr_list.proofs.Disturbing.{loses_place_disturb, moves_on, moves_on_disturb, run_at, unchanged_at}
 use Rattle.vbr_list.proofs.Going.{call_on, goes_on}
 use Rattle.vbr_list.proofs.Moments.{cur_found}
-use Rattle.vbr_list.proofs.Reaching.{node_found, node_reached, pred_inside, pred_on, stood_since, traverses_on}
+use Rattle.vbr_list.proofs.Reaching.{pred_inside, pred_on, stood_since, traverses_on}
 use Rattle.vbr_list.proofs.Walking.{knows_now, node_open, stands_still_on, start_disturbed, walk_begins, walk_helped, walk_paid, walk_past, walk_to, walk_visited}
 use Rattle.vbr_list.proofs.call.PendingCall.traverse.Goals as goal
+
+pub visit-requires-clause-pred : goal.visit-requires-clause-pred
+visit-requires-clause-pred g c = rw c.loop-pred.invariant.0.key (pred_inside c.loop-pred.invariant.1.reached.is)
 
 pub help-requires-clause-pred : goal.help-requires-clause-pred
 help-requires-clause-pred g c = rw (c.visit.ensures.goes.call.key, c.loop-pred.invariant.0.key) (pred_on c.args.self.now.key c.loop-pred.pred c.visit.ensures.goes.goes.quiet.same c.in-Ok-Marked.ensures.met.keeps c.loop-pred.invariant.1.reached.is)
@@ -34,7 +36,7 @@ loop-pred-init g c =
       record {
         tries = record { goes = c.start.ensures.goes.goes; within = (omega (arith, used), omega (arith, fits, used)) };
         some = omega (arith, used);
-        reached = c.in-Ok.ensures.come;
+        reached = head.come;
         walks = walk_begins 9 p.trace r.trace c.law.ensures.start ok c.args.self.now.key quiet.same c.args.self.now.bucket c.args.self.now.used c.start.new.self.used c.in-Ok.pred c.args.self.now.of_key used head.at (unchanged_at p.trace p.trace r.trace c.args.self.now.key c.law.ensures.start ok (same_refl p.trace) quiet.same quiet.seen c.start.ensures.looks.observes.adds_none) head.reads;
       },
     )
@@ -42,10 +44,8 @@ loop-pred-init g c =
 pub loop-pred-preserved : goal.loop-pred-preserved
 loop-pred-preserved g c =
     let v = c.visit.ensures.goes in
-    let met = rw c.in-Ok-Node.field-0-is at c.in-Ok-Node.ensures.met in
-    let same = v.call.key ∙ c.loop-pred.invariant.0.key in
-    let low = c.if-key-self.false in
-    let come = node_reached c.args.self.now.key c.in-Ok-Node.key c.loop-pred.pred c.in-Ok-Node.node v.goes.quiet.same (pred_inside c.loop-pred.invariant.1.reached.is) met.keeps met.reads met.visits (omega (arith, low, same)) in
+    let met = rw c.in-Ok-Smaller.field-0-is at c.in-Ok-Smaller.ensures.met in
+    let come = rw c.loop-pred.invariant.0.key at met.visits in
     let x = c.visit.ensures.used in
     let y = c.affords-in-loop-pred.ensures.0 c.if-not-affords-2.false in
     let p = c.args.self.now.at.stepper.now.trace in
@@ -58,7 +58,7 @@ loop-pred-preserved g c =
     let b = c.loop-pred.invariant.0.budget in (
       call_on c.loop-pred.invariant.0 v.call,
       traverses_on i v.goes (omega (arith, x)) (omega (arith, x, y, b)) come
-          (walk_to 9 p r c.law.ensures.start ok c.args.self.now.key whole.same q first.same first.seen v.goes.quiet.seen i.walks met.reads.slot met.reads.named (unchanged_at p q r c.args.self.now.key c.law.ensures.start ok first.same whole.same v.goes.quiet.seen c.visit.ensures.looks.observes.adds_none) c.in-Ok-Node.node met.fresh met.keeps.epoch met.reads.at met.reads (let count = met.count in omega (arith, count)) come.is.unmarked),
+          (walk_to 9 p r c.law.ensures.start ok c.args.self.now.key whole.same q first.same first.seen v.goes.quiet.seen i.walks met.reads.slot met.reads.named (unchanged_at p q r c.args.self.now.key c.law.ensures.start ok first.same whole.same v.goes.quiet.seen c.visit.ensures.looks.observes.adds_none) c.in-Ok-Smaller.node met.fresh met.keeps.epoch met.reads.at met.reads (let count = met.count in omega (arith, count)) come.is.unmarked),
     )
 
 pub loop-pred-preserved-in-Ok-help : goal.loop-pred-preserved-in-Ok-help
@@ -109,8 +109,8 @@ returns-then-not-affords-3-clause-goes g c = record {
   more = omega arith;
 }
 
-pub returns-then-key-self-clause-goes : goal.returns-then-key-self-clause-goes
-returns-then-key-self-clause-goes g c = record {
+pub returns-in-Ok-Beyond-clause-goes : goal.returns-in-Ok-Beyond-clause-goes
+returns-in-Ok-Beyond-clause-goes g c = record {
   call = call_on c.loop-pred.invariant.0 c.visit.ensures.goes.call;
   goes = goes_on c.loop-pred.invariant.1.tries.goes c.visit.ensures.goes.goes;
   more = omega arith;
@@ -123,15 +123,12 @@ returns-in-Err-help-clause-goes g c = record {
   more = omega arith;
 }
 
-pub returns-then-key-self-clause-found : goal.returns-then-key-self-clause-found
-returns-then-key-self-clause-found g c =
+pub returns-in-Ok-Beyond-clause-found : goal.returns-in-Ok-Beyond-clause-found
+returns-in-Ok-Beyond-clause-found g c =
     let v = c.visit.ensures.goes.goes.quiet in
     let i = c.loop-pred.invariant.1 in
-    let met = rw c.in-Ok-Node.field-0-is at c.in-Ok-Node.ensures.met in
-    let same = c.visit.ensures.goes.call.key ∙ c.loop-pred.invariant.0.key in
-    let high = c.if-key-self.true in
-    let says = ap (λ k. k == c.in-Ok-Node.key) same in
-    let cur = node_found c.args.self.now.key c.in-Ok-Node.key _ c.loop-pred.pred c.in-Ok-Node.node met.reads met.visits (omega (arith, high, same)) says in
+    let met = rw c.in-Ok-Beyond.field-0-is at c.in-Ok-Beyond.ensures.met in
+    let visits = rw c.loop-pred.invariant.0.key at met.visits in
     let p = c.args.self.now.at.stepper.now.trace in
     let q = c.loop-pred.self.at.stepper.now.trace in
     let r = c.visit.new.self.at.stepper.now.trace in
@@ -142,11 +139,11 @@ returns-then-key-self-clause-found g c =
     let key = c.args.self.now.key in
     let none = unchanged_at p q r key is ok first.same whole.same v.seen c.visit.ensures.looks.observes.adds_none in
     record {
-      found = cur_found c.args.self.now.key c.visit.new.self.used c.loop-pred.pred c.in-Ok-Node.node (c.visit.new.self.key == c.in-Ok-Node.key) i.reached i.tries.goes.quiet v met.keeps cur met.reads.stood;
+      found = cur_found c.args.self.now.key c.visit.new.self.used c.loop-pred.pred c.in-Ok-Beyond.node c.in-Ok-Beyond.present i.reached i.tries.goes.quiet v met.keeps visits.0 visits.1;
       used = refl;
       knew = knows_now p r whole.same whole.seen met.fresh;
       pred = stands_still_on v.seen none i.walks.stands;
-      cur = node_open 9 p r is ok key whole.same q first.same first.seen v.seen i.walks met.reads.slot met.reads.named none c.in-Ok-Node.node met.fresh met.keeps.epoch met.reads.at met.reads cur.unmarked;
+      cur = node_open 9 p r is ok key whole.same q first.same first.seen v.seen i.walks met.reads.slot met.reads.named none c.in-Ok-Beyond.node met.fresh met.keeps.epoch met.reads.at met.reads visits.0.unmarked;
       paid = walk_visited 9 p r is ok key whole.same q first.same first.seen v.seen i.walks (let count = met.count in omega (arith, count)) (ap is_some met.reads.named);
     }
 
@@ -197,7 +194,7 @@ returns-in-Err-clause-stopped g c =
     let is = c.law.ensures.start in
     let ok = run_at p r whole.same (whole.is_run c.law.ensures.is_run) in
     let key = c.args.self.now.key in
-    let few = c.visit.ensures.used.1 in
+    let few = c.in-Err.ensures.moved.few in
     let some : is_some (link_of c.loop-pred.pred.word).slot ≡ true = ap (λ (l : Link). is_some l.slot) (sym c.decode.ensures.link) ∙ sym c.is_some.ensures ∙ c.loop-pred-test.true in
     let steps = c.visit.ensures.goes.goes.hand.takes_no_slot.count ∙ i.tries.goes.hand.takes_no_slot.count in (
       omega arith,
