@@ -33,7 +33,8 @@
    large blocks to the kernel for large pages. It is built for processors of x86-64-v2 and later, under Linux.
 
    Maps. Each call on a set has its like on a map, with `vbr_map_` in its name, and handles to maps are of a type of their own.
-   What is said here of sets and their keys holds of maps and their entries too; vbr_map_get is a second kind of look-up.
+   What is said here of sets and their keys holds of maps and their entries too; vbr_map_get is a second kind of look-up, and
+   vbr_map_next gives a key with its value.
    A key keeps the value that it was inserted with until it is removed: an insert of a key that is there answers VBR_NO and
    stores nothing. To give a key another value remove it and insert it again; in between others find it absent. vbr_map_get and
    vbr_map_remove write the value where they answer VBR_YES, and nothing otherwise. It is the value that was stored last for
@@ -64,7 +65,7 @@
    stays as it is, and whoever joined the thread goes on with it or closes it; its set isn't closed without it. No call
    is a point of cancellation. A thread that is cancelled at once (PTHREAD_CANCEL_ASYNCHRONOUS), or that leaves a
    signal handler by longjmp, may do so in the middle of a call: its handle is then not used again. A signal handler may
-   make calls that insert, remove and look up with a handle that nothing else uses, and none of the other
+   make calls that insert, remove, look up and walk with a handle that nothing else uses, and none of the other
    functions, since these take memory. After a fork the child has copies of the sets: where the process had one thread
    it may go on with them, and the parent doesn't see it; where it had several, the child uses no handle.
 
@@ -73,22 +74,39 @@
    gets: once you are told that a key was inserted, and nobody removes it, vbr_has answers VBR_YES. Calls
    that your program does not order have some order, in one history of the set. A relaxed flag orders none.
    What a thread wrote before it inserted a key can be read by a thread that then finds the key (vbr_has or vbr_remove
-   answers VBR_YES, vbr_insert VBR_NO), and what it did before it removed one is done for a thread that then inserts it:
-   each step is a sequentially consistent atomic. ThreadSanitizer is told so by vbr_tsan.h, which this header includes
+   answers VBR_YES, vbr_insert VBR_NO, vbr_next gives it), and what it did before it removed one is done for a thread that then
+   inserts it: each step is a sequentially consistent atomic. ThreadSanitizer is told so by vbr_tsan.h, which this header includes
    where the program is compiled for it.
+
+   Walks. A walk gives the keys one after another, while other threads make calls: it is the calls of vbr_next by one handle, from
+   VBR_CURSOR_BEGIN until the answer is VBR_NO. Buckets come in their order, and the keys of a bucket ascend. Each key that is
+   there from the first call of a walk to its last is given, once. No key is given twice, and none that wasn't there at a moment
+   of the call that gives it; a value is the one that the key had at such a moment. A key that is inserted or removed meanwhile
+   may be given or not. So the keys of a walk need not have been there together at any moment; those of a report were. Between
+   the calls of a walk its handle may make others: it may remove the key that was just given, insert and look up, and walk by
+   another cursor.
 
    How many keys are in the set is told by no call while threads run. Count the inserts and removes that are answered
    VBR_YES, in a counter for each thread, or read the report of a close.
 
    Budgets. A call makes at most `budget` steps, each one atomic operation on a word that the
-   threads share, and never waits for another thread. A look-up makes loads alone, so it writes nothing
-   that another thread can see. While the other handles make no step, wherever they stand still, a call
+   threads share, and never waits for another thread. A look-up makes loads alone, and so does a call of a walk: it
+   writes nothing that another thread can see. While the other handles make no step, wherever they stand still, a call
    does not run out of steps with a budget of 5n + 11 for has and get, 9n + 11 for remove, and 18n + slots + 82
    for insert, where n nodes are in the bucket of the key as it begins, removed ones that are still in a
-   list among them. What other threads do at the same time can cost more: 100,000 is plenty for short
-   buckets, with up to six million slots; with more, take slots / 64 besides, as VBR_AMPLE_BUDGET(slots) does. A call
-   that runs out of steps made no call: give it up, or make it again, with twice the budget if that may have been too
-   small. The same budget is enough later only if it was the other threads that cost the steps.
+   list among them. With 5n + 11 for the bucket at its cursor vbr_next gives a key, or comes to a later bucket at the
+   least. 100,000 is plenty for short buckets, with up to six million slots; with more, take slots / 64 besides, as
+   VBR_AMPLE_BUDGET(slots) does. A call that runs out of steps made no call: give it up, or make it again, with twice the
+   budget if that may have been too small. The same budget is enough later only if it was the other threads that cost the
+   steps.
+   Others cost a call steps by what disturbs it: they insert, remove or unlink a node in its bucket, or advance the epoch.
+   Disturbed m times, it doesn't run out of steps with (m + 1) * (5 * (n + m) + 11) for has and get, (m + 1) *
+   (9 * (n + m) + 11) for remove, and (m + 2) * (9 * (n + m) + 11) + 80 for insert, if its handle has a slot of its own; of
+   other inserts this isn't proved. So VBR_OUT_OF_STEPS with the budget for some m is proof that others made progress, and
+   disturbed the call more than m times. They do so at most twice for each insert and remove of theirs that is answered VBR_YES
+   meanwhile, once for each advance of the epoch, of which an insert makes at most one, and once for each removed node that was
+   still in a list. Eight threads that update at once, one update of each other one during the call, are m = 21, three for
+   each: with four nodes in a bucket that is 2,992 for has, 5,192 for remove and 5,508 for insert.
 
    Memory and sizes. The words of a set take 8 * (2 + buckets + 4 * slots + slots / 64) bytes, the last part rounded
    up, in one block, and each handle about 1,200 bytes besides; opening and closing take as much as the words again
@@ -181,9 +199,10 @@ typedef enum vbr_answer : int32_t {
 #else
 typedef enum vbr_answer {
 #endif
-    VBR_NO = 0,            /* the answer is no; of vbr_open: done; of vbr_close: others are open */
-    VBR_YES = 1,           /* the answer is yes; of vbr_close: it was the last, the set is closed */
-    VBR_OUT_OF_STEPS = -1, /* insert, remove, has, get: the budget is spent; no call was made; a greater budget may help */
+    VBR_NO = 0,            /* the answer is no; of vbr_open: done; of vbr_close: others are open; of vbr_next: the walk is at its end */
+    VBR_YES = 1,           /* the answer is yes; of vbr_close: it was the last, the set is closed; of vbr_next: the next key is given */
+    VBR_OUT_OF_STEPS = -1, /* insert, remove, has, get, next: the budget is spent; no call was made; a greater budget may help;
+                              next: the cursor keeps how far it has come */
     VBR_NO_SLOT = -2,      /* insert: the key is absent, and the handle found no slot; no call was made */
     VBR_EPOCH_SPENT = -3,  /* insert: the key is absent and the last epoch is spent; no call was made; renew the set */
     VBR_EMPTY = -4,        /* the handle is empty, or null where it may be; nothing was done */
@@ -256,6 +275,31 @@ VBR_NODISCARD vbr_answer vbr_remove(vbr_handle *handle, uint64_t key, uint32_t b
 
        if (vbr_has(&handle[1], 5, 100000) == VBR_YES) there++; // 5 was there during the call */
 VBR_NODISCARD vbr_answer vbr_has(vbr_handle *handle, uint64_t key, uint32_t budget) VBR_NOEXCEPT VBR_NONNULL;
+
+/* Where a walk stands: before the first key, or after the one that was given last. Its 16 bytes may be copied and kept, and
+   the walk goes on from a copy as well. What they say is of the shape of a set. With another handle, or a set of another
+   shape, or any other bytes in it, the walk from there is another one, and does no harm.
+
+       vbr_cursor cursor = VBR_CURSOR_BEGIN; // before the first key */
+typedef struct vbr_cursor {
+    uint32_t bucket; /* these are the library's */
+    uint64_t from;
+} vbr_cursor;
+#define VBR_CURSOR_BEGIN {0, 0}
+
+/* Gives the next key of a walk, in at most `budget` steps, all of them loads: VBR_YES, and the key is then in `*key` and the
+   cursor after it; VBR_NO at the end, where no key is left. Else VBR_OUT_OF_STEPS or VBR_EMPTY. Unless it answers VBR_YES no key
+   is written. At VBR_OUT_OF_STEPS the cursor keeps how far it has come: call again, and with twice the budget if that may have
+   been too small. It enters the bucket of the cursor at its head, and makes three steps for each bucket that it enters, three for
+   a removed node that is still in its list, and five for another. After the last node of a bucket the cursor is before the next
+   bucket, so a walk doesn't enter the bucket again. What a walk gives is told under "Walks". It takes no memory and never waits.
+
+       do {
+           told = vbr_next(&handle[0], &cursor, 100000, &key);
+           if (told == VBR_YES) sum += key; // the key was there during the call
+       } while (told == VBR_YES || told == VBR_OUT_OF_STEPS); // at the end it is VBR_NO */
+VBR_NODISCARD vbr_answer vbr_next(vbr_handle *handle, vbr_cursor *cursor, uint32_t budget,
+                                  uint64_t *key) VBR_NOEXCEPT VBR_NONNULL;
 
 /* The last epoch that the handle read in a call: 1 before its first, and 0 for an empty handle. It makes no step, so others
    may have advanced the epoch since. Renew the set before it comes to vbr_last_epoch.
@@ -378,6 +422,18 @@ VBR_NODISCARD vbr_answer vbr_map_get(vbr_map_handle *handle, uint64_t key, uint3
 
        if (vbr_map_has(&map[0], 5, 100000) == VBR_YES) there++; // 5 was there during the call */
 VBR_NODISCARD vbr_answer vbr_map_has(vbr_map_handle *handle, uint64_t key, uint32_t budget) VBR_NOEXCEPT VBR_NONNULL;
+
+/* Gives the next key of a walk with its value, as vbr_next gives a key: VBR_YES, and the two are then in `*key` and `*value`,
+   and were in the map together at a moment of the call; VBR_NO at the end, where no key is left. Else VBR_OUT_OF_STEPS or
+   VBR_EMPTY. Unless it answers VBR_YES neither is written. At VBR_OUT_OF_STEPS the cursor keeps how far it has come. The value
+   takes two steps more. It takes no memory and never waits.
+
+       do {
+           told = vbr_map_next(&map[0], &cursor, 100000, &key, &value);
+           if (told == VBR_YES) sum += value; // the key had this value during the call
+       } while (told == VBR_YES || told == VBR_OUT_OF_STEPS); // at the end it is VBR_NO */
+VBR_NODISCARD vbr_answer vbr_map_next(vbr_map_handle *handle, vbr_cursor *cursor, uint32_t budget, uint64_t *key,
+                                      uint64_t *value) VBR_NOEXCEPT VBR_NONNULL;
 
 /* The last epoch that the handle read in a call: 1 before its first, and 0 for an empty handle. It makes no step, so others
    may have advanced the epoch since. Renew the map before it comes to vbr_map_last_epoch.
