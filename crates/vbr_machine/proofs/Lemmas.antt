@@ -57,7 +57,7 @@ pub use Rattle.vbr_machine.proofs.UnlinkedInTurn.{in_turn_before}
 pub use Rattle.vbr_machine.proofs.OutsidePool.{IsRaise, NoneRaises, count_none, none_shared, stays_outside}
 -- What disturbs a pass at a bucket: a moved epoch and a changed link show it; and the nodes that a walk meets were in the list since it began, so there are no more than were there then, and than it was disturbed.
 pub use Rattle.vbr_machine.proofs.Since.{Since, changed_disturbed, disturbances_grow, moved_disturbed, own_between, own_unchanged, since, step_changes_none, undisturbed_by_itself, undisturbed_shown}
-pub use Rattle.vbr_machine.proofs.MovedEpochs.{AdvancesNone, IsAdvance, moved_by_others}
+pub use Rattle.vbr_machine.proofs.MovedEpochs.{AdvancesNone, IsAdvance, moved_by_others, moved_by_steps}
 pub use Rattle.vbr_machine.proofs.Visits.{ahead_few, head_visited, known_open, met_bound, met_later, met_on, next_visited, shown_there, unmarked_open, visited_few, visited_on}
 pub use Rattle.vbr_machine.proofs.OwnInserts.{met_bound_quiet}
 -- What disturbances are: updates that were answered, and advances.

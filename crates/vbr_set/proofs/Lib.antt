@@ -15,7 +15,9 @@ mod Ends
 mod HavingSlots
 mod CountedKeys
 mod RoomLeft
+mod PassSums
 mod RoomOfOthers
 mod TakenUp
 mod Listing
 mod Progress
+mod StretchedRuns

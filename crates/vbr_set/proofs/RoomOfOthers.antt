@@ -13,21 +13,10 @@ use Rattle.vbr_slots.specs.declared.pass.TheConstants.{POOL}
 use Rattle.vbr_slots.specs.Views.{PassView, Trace, knows}
 use Rattle.vbr_at_table.specs.KeptSlots.{HasSlot}
 use Rattle.vbr_set.specs.Room.{HasAllSlots, IsBetweenCalls}
+use Rattle.vbr_set.proofs.PassSums.{sum_at_most, sum_same}
 use Rattle.vbr_set.proofs.RoomLeft.{bears, none_unstamped}
 
--- ---- sums over passes
-
-pub sum_same : (passes : ℕ) (f g : ℕ → ℕ) → ((i : ℕ) → f i ≡ g i) → sum_of passes f ≡ sum_of passes g
-sum_same zero f g e = refl
-sum_same (suc i) f g e = let before = sum_same i f g e in let now = e i in omega arith
-
-sum_at_most : (passes most : ℕ) (f : ℕ → ℕ) → ((i : ℕ) → i < passes → f i ≤ most) → sum_of passes f ≤ most * passes
-sum_at_most zero most f h = omega arith
-sum_at_most (suc i) most f h =
-    let before = sum_at_most i most f (λ j l. h j (omega arith)) in
-    let now = h i (omega arith) in
-    let product = mul-suc most i in
-    omega arith
+-- ---- sums over passes but one
 
 -- a number of each pass but one
 abbrev but : ℕ → (ℕ → ℕ) → ℕ → ℕ

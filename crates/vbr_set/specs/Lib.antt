@@ -20,6 +20,7 @@ pub mod Seats
 pub mod Ends
 pub mod Room
 pub mod Laws
+pub mod Stretches
 pub mod AllMembers
 pub mod Apart
 pub mod Names

@@ -48,6 +48,7 @@ pub mod report;
 pub mod room;
 pub mod set;
 pub mod set_ref;
+pub mod stretches;
 mod walking;
 
 pub use close_all_error::CloseAllError;

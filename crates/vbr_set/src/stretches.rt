@@ -1,0 +1,24 @@
+//! The laws of a stretch of a run: how often the calls of all passes can have disturbed one of them.
+//! Each function says its law in its contract, and does nothing.
+ghost use Rattle.vbr_set.specs.Stretches.{PassesComeByCalls, StretchesDisturb, StretchesMakeProgress};
+
+/// A law: an insert, answered or refused, makes at most one step that would advance the epoch; each
+/// other call makes none, and so it is of going over keys, of meeting others and of catching up.
+pub fn passes_come_by_calls()
+    ensures { PassesComeByCalls }
+{}
+
+/// A law: let each pass of the set have begun so many inserts in a stretch of a run, which begins no
+/// earlier than one of its calls has ended, and ends no later than another has. Then a pass is disturbed
+/// in the stretch at most once for each of these inserts, twice for each update that was answered yes
+/// in it, and once for each node that was marked when it began. So where no update is answered yes, it
+/// is disturbed no more often than inserts were begun and nodes were marked.
+pub fn stretches_disturb()
+    ensures { StretchesDisturb }
+{}
+
+/// A law: so a call that is refused for want of steps had a budget below what is enough for that many
+/// disturbances: a look-up, a remove, and an insert with a slot in the pass's own pool.
+pub fn stretches_make_progress()
+    ensures { StretchesMakeProgress }
+{}
