@@ -24,5 +24,7 @@ pub use Rattle.vbr_at_table.proofs.AloneReads.{fresh_kept}
 pub use Rattle.vbr_at_table.proofs.NoneUnlinked.{unlinks_none}
 -- What calls that read tell, one after another.
 pub use Rattle.vbr_at_table.proofs.ReadCalls.{reads_on}
+-- The slots that other passes took out of the shared pool, from piece to piece of a call.
+pub use Rattle.vbr_at_table.proofs.Gained.{alone_gained, gained_on, gained_since, more_lost, none_lost}
 -- What adds nothing to the chronicle changes no list.
 pub use Rattle.vbr_at_table.proofs.Unchanged.{unchanged_by_none}

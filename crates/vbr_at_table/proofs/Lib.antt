@@ -8,7 +8,8 @@ mod Counting
 mod InTurn
 mod Advancing
 mod Scanning
-mod AloneWinning
+mod Gained
+mod Probing
 mod Winning
 mod Births
 mod EpochReads

@@ -28,13 +28,13 @@ epoch_stood {p} {q} {r} d = let e : Value r ≡ Value (world_after p.start (p.se
 
 -- ---- flags
 
-in_pool : (place : SlotPlace) → is_shared place ≡ true → place ≡ Shared
+pub in_pool : (place : SlotPlace) → is_shared place ≡ true → place ≡ Shared
 in_pool Shared e = refl
 in_pool (Own p) e = absurd (cc)
 in_pool (Hand p) e = absurd (cc)
 in_pool (Listed b) e = absurd (cc)
 
-out_of_pool : (place : SlotPlace) → is_shared place ≡ false → place ≢ Shared
+pub out_of_pool : (place : SlotPlace) → is_shared place ≡ false → place ≢ Shared
 out_of_pool Shared e = absurd (cc)
 out_of_pool (Own p) e = λ is. absurd (cc)
 out_of_pool (Hand p) e = λ is. absurd (cc)

@@ -2,13 +2,15 @@
 use Rattle.std.proofs.Common.{◌≡◌, ◌≢◌, ℕ, zero, suc, ◌+◌, ◌<◌, ◌≤◌, Bool, not, cond, List, [], ◌∷◌, length, Result, Ok, Err, refl, sym, ap, ◌∙◌, subst, inl, inr, ⊎_elim, eq-eqb, arith}
 use Rattle.std.specs.Prelude.{◌⊎◌, Contains, IfOk, IfErr, None}
 use Rattle.vbr_slots.specs.declared.pass.TheConstants.{POOL}
+use Rattle.vbr_machine.specs.Runs.{Begins}
 use Rattle.vbr_slots.specs.Alone.{IsAlone}
 use Rattle.vbr_slots.specs.Calls.{Quiet, Took}
 use Rattle.vbr_slots.specs.Pools.{without}
 use Rattle.vbr_slots.specs.Views.{PassView, knows}
-use Rattle.vbr_slots.proofs.Lemmas.{alone_first, quiet_on}
+use Rattle.vbr_slots.proofs.Lemmas.{quiet_on}
 use Rattle.vbr_at_table.specs.Advances.{AdvancesWhereNeeded}
-use Rattle.vbr_at_table.specs.Budgets.{NeedsMore, steps_to_win, steps_to_take}
+use Rattle.vbr_at_table.specs.Budgets.{NeedsMore, probes_lost, steps_to_take, steps_to_take_among, steps_to_win}
+use Rattle.vbr_at_table.specs.Gained.{gained}
 use Rattle.vbr_at_table.specs.Hands.{HandView}
 use Rattle.vbr_at_table.specs.KeptSlots.{KeepsSlots, SharesWhereFull}
 use Rattle.vbr_at_table.specs.Pieces.{BearsNone, Chooses, ChoosesNone, HasSlots, IsBorn, IsChosen, IsShortOrSpent, Probes, Uses, WinsNone, told_steps}
@@ -19,17 +21,24 @@ use Rattle.vbr_at_table.specs.declared.refusal.TakeRefusal.{TakeRefusal}
 use Rattle.vbr_at_table.specs.declared.refusal.TakeRefusal.TheVariants.{OutOfSteps, NoSlot, EpochSpent}
 use Rattle.vbr_at_table.proofs.Advancing.{slots_kept_on, longer, needed_after, needed_before, shared_on, shares_more}
 use Rattle.vbr_at_table.proofs.Counting.{uses_on, took_all}
+use Rattle.vbr_at_table.proofs.Gained.{alone_gained, gained_on, more_lost, none_lost}
 use Rattle.vbr_at_table.proofs.Shown.{came_before}
 
 -- ---- no slot is won
 
+-- a refusal that says so whatever others do says so to a pass that was alone
+alone_enough : (p q : PassView) (budget : ℕ) (refusal : TakeRefusal) → NeedsMore (steps_to_take_among p.trace.start p.pool (gained p.trace q.trace)) budget refusal → IsAlone p.trace q.trace → NeedsMore (steps_to_take p.trace.start p.pool) budget refusal
+alone_enough p q budget (OutOfSteps used) short alone = let none = none_lost p.pool (gained p.trace q.trace) (alone_gained p.trace q.trace alone) in omega (arith, short, none)
+alone_enough p q budget NoSlot short alone = tt
+alone_enough p q budget (EpochSpent epoch) short alone = tt
+
 -- the steps to win a slot are fewer than those of a call that takes one
-win_enough : (p : PassView) (budget : ℕ) (refusal : TakeRefusal) → p.pool ≡ [] → NeedsMore (steps_to_win p.trace.start) budget refusal → NeedsMore (steps_to_take p.trace.start p.pool) budget refusal
-win_enough p budget (OutOfSteps used) empty short =
-    let P : List ℕ → Type 0 = λ pool. budget < steps_to_take p.trace.start pool + 7 in
+win_enough : (p : PassView) (budget gains : ℕ) (refusal : TakeRefusal) → p.pool ≡ [] → NeedsMore (steps_to_win p.trace.start + gains) budget refusal → NeedsMore (steps_to_take_among p.trace.start p.pool gains) budget refusal
+win_enough p budget gains (OutOfSteps used) empty short =
+    let P : List ℕ → Type 0 = λ pool. budget < steps_to_take_among p.trace.start pool gains + 7 in
     subst P (sym empty) (omega (arith, short))
-win_enough p budget NoSlot empty short = tt
-win_enough p budget (EpochSpent epoch) empty short = tt
+win_enough p budget gains NoSlot empty short = tt
+win_enough p budget gains (EpochSpent epoch) empty short = tt
 
 module _ (p q : PassView) (budget : ℕ) (told : TakeRefusal × ℕ) (first : Probes p q) (none : WinsNone p q budget told) where
   pub unwon_takes : Takes p q budget
@@ -45,13 +54,17 @@ module _ (p q : PassView) (budget : ℕ) (told : TakeRefusal × ℕ) (first : Pr
   pub unwon_took : Took p.trace q.trace told.1
   unwon_took = took_all none.uses.counts
 
+  unwon_among : NeedsMore (steps_to_take_among p.trace.start p.pool (gained p.trace q.trace)) budget told.0
+  unwon_among = win_enough p budget (gained p.trace q.trace) told.0 none.empty none.enough
+
   pub unwon_refused : p.hand ≡ None → RefusesTake p q budget told.0
   unwon_refused empty = record {
     why = none.why;
     pool = inl none.pool.0;
     hand = none.pool.1 ∙ empty;
     ready = λ some. absurd (some none.empty);
-    enough = λ alone. win_enough p budget told.0 none.empty (none.enough alone);
+    enough = alone_enough p q budget told.0 unwon_among;
+    among = unwon_among;
   }
 
 -- ---- the own pool has slots
@@ -100,22 +113,26 @@ module _ (p q r : PassView) (budget used : ℕ) (first : Probes p q) (begun : Ha
       ⊎_elim (λ (x : (q.pool ≡ p.pool) × (p.pool ≢ []) × (used ≡ 0)). (let none = x.2 in let room = begun.room in omega (arith, none, room)))
       (λ (x : (p.pool ≡ []) × (slot : ℕ) × (q.pool ≡ slot ∷ []) × CameByFlag p.trace q.trace slot). absurd (some x.0)) begun.won
 
-  won_few : IsAlone p.trace q.trace → used + (length q.pool + 4) ≤ steps_to_take p.trace.start p.pool
-  won_few alone =
+  won_few : used + (length q.pool + 4) ≤ steps_to_take_among p.trace.start p.pool (gained p.trace q.trace)
+  won_few =
       ⊎_elim (λ (x : (q.pool ≡ p.pool) × (p.pool ≢ []) × (used ≡ 0)). at_most p.pool x.1 (few_own x.1))
-      (λ (x : (p.pool ≡ []) × (slot : ℕ) × (q.pool ≡ slot ∷ []) × CameByFlag p.trace q.trace slot). shared x.0 (ap length x.2) (begun.few x.0 alone)) begun.won
+      (λ (x : (p.pool ≡ []) × (slot : ℕ) × (q.pool ≡ slot ∷ []) × CameByFlag p.trace q.trace slot). shared x.0 (ap length x.2) (begun.few x.0)) begun.won
     where
-      at_most : (pool : List ℕ) → pool ≢ [] → used + length q.pool ≤ POOL → used + (length q.pool + 4) ≤ steps_to_take p.trace.start pool
+      at_most : (pool : List ℕ) → pool ≢ [] → used + length q.pool ≤ POOL → used + (length q.pool + 4) ≤ steps_to_take_among p.trace.start pool (gained p.trace q.trace)
       at_most [] some few = absurd (some refl)
       at_most (slot ∷ pool) some few = omega (arith, few)
 
-      shared : p.pool ≡ [] → length q.pool ≡ 1 → used ≤ steps_to_win p.trace.start → used + (length q.pool + 4) ≤ steps_to_take p.trace.start p.pool
+      shared : p.pool ≡ [] → length q.pool ≡ 1 → used ≤ steps_to_win p.trace.start + gained p.trace q.trace → used + (length q.pool + 4) ≤ steps_to_take_among p.trace.start p.pool (gained p.trace q.trace)
       shared empty one few =
-          let P : List ℕ → Type 0 = λ pool. used + (length q.pool + 4) ≤ steps_to_take p.trace.start pool in
+          let P : List ℕ → Type 0 = λ pool. used + (length q.pool + 4) ≤ steps_to_take_among p.trace.start pool (gained p.trace q.trace) in
           subst P (sym empty) (omega (arith, one, few))
 
-  alone_before : IsAlone p.trace r.trace → IsAlone p.trace q.trace
-  alone_before alone = alone_first {p = p.trace} {q = q.trace} {r = r.trace} first.quiet.seen then.quiet.seen alone
+  -- and so it is of what was seen later
+  few_later : (t : PassView) → Begins q.trace.seen t.trace.seen → used + (length q.pool + 4) ≤ steps_to_take_among p.trace.start p.pool (gained p.trace t.trace)
+  few_later t b =
+      let few = won_few in
+      let more = more_lost p.pool (gained p.trace q.trace) (gained p.trace t.trace) (gained_on p.trace q.trace t.trace b) in
+      omega (arith, few, more)
 
   -- no slot was chosen
   module _ (told : TakeRefusal × ℕ) (none : ChoosesNone q r budget used told) where
@@ -136,14 +153,14 @@ module _ (p q r : PassView) (budget used : ℕ) (first : Probes p q) (begun : Ha
     ready_none NoSlot why some ample = absurd why
     ready_none (EpochSpent e) why some ample = tt
 
-    enough_none : (refusal : TakeRefusal) → IsShortOrSpent r budget told.1 refusal → IsAlone p.trace r.trace → NeedsMore (steps_to_take p.trace.start p.pool) budget refusal
-    enough_none (OutOfSteps n) why alone =
-        let most = won_few (alone_before alone) in
+    among_none : (refusal : TakeRefusal) → IsShortOrSpent r budget told.1 refusal → NeedsMore (steps_to_take_among p.trace.start p.pool (gained p.trace r.trace)) budget refusal
+    among_none (OutOfSteps n) why =
+        let most = few_later r then.quiet.seen in
         let made = none.uses.at_most in
         let short = why.1 in
         omega (arith, most, short, made)
-    enough_none NoSlot why alone = tt
-    enough_none (EpochSpent e) why alone = tt
+    among_none NoSlot why = tt
+    among_none (EpochSpent e) why = tt
 
     pub unchosen_refused : RefusesTake p r budget told.0
     unchosen_refused = record {
@@ -151,7 +168,8 @@ module _ (p q r : PassView) (budget used : ℕ) (first : Probes p q) (begun : Ha
       pool = leaves;
       hand = then.pool.1 ∙ begun.hand;
       ready = ready_none told.0 none.why;
-      enough = enough_none told.0 none.why;
+      enough = alone_enough p r budget told.0 (among_none told.0 none.why);
+      among = among_none told.0 none.why;
     }
 
   -- a slot was chosen, and then an incarnation was to be born there
@@ -176,10 +194,10 @@ module _ (p q r : PassView) (budget used : ℕ) (first : Probes p q) (begun : Ha
         (λ (x : (p.pool ≡ []) × (s : ℕ) × (q.pool ≡ s ∷ []) × CameByFlag p.trace q.trace s).
         is ∙ ap (without slot) (then.pool.0 ∙ x.2) ∙ gone x.1 (one x.1 (subst (λ (l : List ℕ). Contains l slot) (then.pool.0 ∙ x.2) chosen.below.0)) ∙ sym (ap (without slot) x.0)) begun.won
 
-    -- what was used before the birth, by a pass that was alone
-    chosen_few : Quiet r.trace t.trace → IsAlone p.trace t.trace → since + 1 ≤ steps_to_take p.trace.start p.pool
-    chosen_few last alone =
-        let most = won_few (alone_before (alone_first {p = p.trace} {q = r.trace} {r = t.trace} quiet_all.seen last.seen alone)) in
+    -- what was used before the birth
+    chosen_few : Quiet r.trace t.trace → since + 1 ≤ steps_to_take_among p.trace.start p.pool (gained p.trace t.trace)
+    chosen_few last =
+        let most = few_later t (quiet_on then.quiet last).seen in
         let made = chosen.uses.at_most in
         omega (arith, most, made)
 
@@ -212,8 +230,8 @@ module _ (p q r : PassView) (budget used : ℕ) (first : Probes p q) (begun : Ha
           rest = subst (λ (s : ℕ). t.pool ≡ without s p.pool) (sym born.slot) (rest (subst (λ (s : ℕ). t.pool ≡ without s r.pool) born.slot born.births.rest));
           room = born.births.room;
         };
-        few = λ alone. record { steps = told.1; within = (let few = chosen_few born.leaves.quiet alone in let is = born.sum in omega (arith, few, is)); took = born_took };
-        ready = λ some. (let few = few_own some in let made = chosen.uses.at_most in let is = born.sum in let took = born_took.made in omega (arith, few, made, is, took));
+        few = λ alone. record { steps = told.1; within = (let few = chosen_few born.leaves.quiet in let none = none_lost p.pool (gained p.trace t.trace) (alone_gained p.trace t.trace alone) in let is = born.sum in omega (arith, few, none, is)); took = born_took };
+        among = (let few = chosen_few born.leaves.quiet in let is = born.sum in let took = born_took.made in omega (arith, few, is, took));
       }
 
     -- or it wasn't
@@ -233,11 +251,19 @@ module _ (p q r : PassView) (budget used : ℕ) (first : Probes p q) (begun : Ha
         pool = at_end (LeavesPool p) leaves;
         hand = at_end (λ (x : PassView). x.hand ≡ None) (then.pool.1 ∙ begun.hand);
         ready = λ some ample. (let few = few_own some in let made = chosen.uses.at_most in let used = none.short.uses.at_most in let short = none.short.short in absurd (omega (arith, few, made, used, short, ample)));
-        enough = λ alone. (let most = won_few (alone_before (at_end_alone alone)) in let made = chosen.uses.at_most in let used = none.short.uses.at_most in let short = none.short.short in omega (arith, most, made, used, short));
+        enough = alone_enough p t budget (OutOfSteps told.1) unborn_among;
+        among = unborn_among;
       })
         where
-          at_end_alone : IsAlone p.trace t.trace → IsAlone p.trace r.trace
-          at_end_alone alone = subst (λ (x : PassView). IsAlone p.trace x.trace) none.same alone
+          unborn_among : budget < steps_to_take_among p.trace.start p.pool (gained p.trace t.trace) + 7
+          unborn_among =
+              let same : gained p.trace t.trace ≡ gained p.trace r.trace = ap (λ (x : PassView). gained p.trace x.trace) none.same in
+              let lost : probes_lost p.pool (gained p.trace t.trace) ≡ probes_lost p.pool (gained p.trace r.trace) = ap (probes_lost p.pool) same in
+              let most = few_later r then.quiet.seen in
+              let made = chosen.uses.at_most in
+              let used = none.short.uses.at_most in
+              let short = none.short.short in
+              omega (arith, lost, most, made, used, short)
 
     -- whatever came of it
     module _ (result : Result (HandView × ℕ) (TakeRefusal × ℕ)) (ok : IfOk result (IsBorn r t slot budget since)) (none : IfErr result (BearsNone r t budget since)) where

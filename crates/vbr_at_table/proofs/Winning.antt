@@ -1,25 +1,26 @@
 -- The shared pool, probed word by word.
 use Rattle.std.proofs.Common.{◌≡◌, ℕ, ◌+◌, ◌*◌, ◌/◌, ◌<◌, ◌≤◌, ◌==◌, Bool, true, false, cond, List, [], ◌∷◌, ◌++◌, length, None, refl, sym, ap, ◌∙◌, subst, ◌⊎◌, inl, inr, ⊎_elim, arith}
 use Rattle.std.proofs.lemmas.Bool.{cases_lt, eqb-true}
-use Rattle.vbr_machine.specs.Start.{Start}
+use Rattle.vbr_machine.specs.Start.{Start, IsStart}
 use Rattle.vbr_words.specs.Flags.{word_of_flag, flag_words, has_flag, IsNextFlag}
 use Rattle.vbr_machine.specs.Acceptance.{MayBear}
 use Rattle.vbr_machine.specs.Knowledge.{Know}
 use Rattle.vbr_machine.specs.declared.event.Step.TheVariants.{TakeFlag}
 use Rattle.vbr_machine.proofs.Lemmas.{put_other}
-use Rattle.vbr_slots.specs.Alone.{IsAlone}
 use Rattle.vbr_slots.specs.Calls.{Quiet}
 use Rattle.vbr_slots.specs.Pools.{hand_without}
 use Rattle.vbr_slots.specs.Tried.{last_tried}
 use Rattle.vbr_slots.specs.Views.{Trace, PassView, KeepsPool, Did, knows}
-use Rattle.vbr_slots.proofs.Lemmas.{alone_first, alone_then, did_quiet, did_seen, quiet_on}
+use Rattle.vbr_slots.proofs.Lemmas.{did_quiet, did_seen, quiet_on}
+use Rattle.vbr_at_table.specs.Gained.{gained, gained_by_now}
 use Rattle.vbr_at_table.specs.KeptSlots.{TakesNoSlot}
 use Rattle.vbr_at_table.specs.Pieces.{HasSlots, Probes, WinsNone}
 use Rattle.vbr_at_table.specs.SharedPool.{WasOutside, ComesBefore, CameByFlag}
 use Rattle.vbr_at_table.specs.Steps.{CountsSteps}
 use Rattle.vbr_at_table.specs.declared.budget.TheConstants.{PIECE}
 use Rattle.vbr_at_table.specs.declared.refusal.TakeRefusal.TheVariants.{OutOfSteps, NoSlot}
-use Rattle.vbr_at_table.proofs.AloneWinning.{Probed, probed_lost, probed_next, probed_few}
+use Rattle.vbr_at_table.proofs.Gained.{gained_on, gained_same}
+use Rattle.vbr_at_table.proofs.Probing.{Probed, probed_lost, probed_next, probed_few}
 use Rattle.vbr_at_table.proofs.InTurn.{did_turn}
 use Rattle.vbr_at_table.proofs.Advancing.{same_advances, same_flags, none_given, none_known, none_on}
 use Rattle.vbr_at_table.proofs.Counting.{counts_one, counts_on, took_all}
@@ -38,7 +39,9 @@ pub record Winning (p q : PassView) (budget used start next end : ℕ) : Type 0 
   pub turn : ((end ≡ p.trace.start.shape.slots) × (start ≤ next) × (next < p.trace.start.shape.slots)) ⊎ (end ≡ start)
   pub ahead : (slot : ℕ) → slot < p.trace.start.shape.slots → start ≤ slot → slot < next → WasOutside p.trace q.trace slot
   pub round : end ≡ start → (slot : ℕ) → slot < p.trace.start.shape.slots → (start ≤ slot) ⊎ (slot < next) → WasOutside p.trace q.trace slot
-  pub alone : IsAlone p.trace q.trace → (end ≡ p.trace.start.shape.slots → Probed q.trace (word_of_flag start) 0 used next) × (end ≡ start → Probed q.trace (word_of_flag start) (flag_words p.trace.start.shape.slots) used next)
+  pub opens : IsStart p.trace.start
+  pub first : end ≡ p.trace.start.shape.slots → Probed q.trace (word_of_flag start + gained_by_now p.trace) 0 used next
+  pub second : end ≡ start → Probed q.trace (word_of_flag start + gained_by_now p.trace) (flag_words p.trace.start.shape.slots) used next
 
 -- what comes next is no further than the next word
 next_low : (word slot next : ℕ) → IsNextFlag word slot next → next ≤ 64 * (slot / 64 + 1)
@@ -72,11 +75,13 @@ module _ {p q r : PassView} {budget used start slot end next n : ℕ} (at : Winn
   round_next over s in_shape (inl from) = still (at.round over s in_shape (inl from))
   round_next over s in_shape (inr less) = ⊎_elim (λ (earlier : s < slot). still (at.round over s in_shape (inr earlier))) (λ (later : slot ≤ s). told s in_shape later less) (cases_lt s slot)
 
-  alone_before : IsAlone p.trace r.trace → IsAlone p.trace q.trace
-  alone_before alone = alone_first at.quiet.seen (did_seen d) alone
+  slot_low : slot < q.trace.start.shape.slots
+  slot_low =
+      let same : q.trace.start.shape.slots ≡ p.trace.start.shape.slots = ap (λ (start : Start). start.shape.slots) at.quiet.same.start in
+      ⊎_elim (λ (first : (end ≡ p.trace.start.shape.slots) × (start ≤ slot) × (slot < p.trace.start.shape.slots)). (let less = first.2 in omega (arith, same, less))) (λ (over : end ≡ start). (let less = at.low in omega (arith, same, over, less, below))) at.turn
 
-  alone_here : IsAlone p.trace r.trace → IsAlone q.trace r.trace
-  alone_here alone = alone_then at.quiet.same.who at.quiet.seen (did_seen d) alone
+  opens_here : IsStart q.trace.start
+  opens_here = subst IsStart (sym at.quiet.same.start) at.opens
 
   -- the search goes on there, if that is a slot
   pub win_next : next < p.trace.start.shape.slots → Winning p r budget (used + 1) start next end
@@ -91,7 +96,9 @@ module _ {p q r : PassView} {budget used start slot end next n : ℕ} (at : Winn
     turn = ⊎_elim (λ (first : (end ≡ p.trace.start.shape.slots) × (start ≤ slot) × (slot < p.trace.start.shape.slots)). inl (first.0, ⊎_elim (λ (here : (word_of_flag next ≡ word_of_flag slot) × (has_flag n next ≡ true)). (let same = here.0 in let b = at.begins in let f = first.1 in omega (arith, same, b, f))) (λ (past : (n ≡ 0) × (next ≡ 64 * (slot / 64 + 1))). (let e = past.1 in let f = first.1 in omega (arith, e, f))) then.place, in_shape)) (λ (over : end ≡ start). inr over) at.turn;
     ahead = ahead_next;
     round = round_next;
-    alone = λ alone. ((λ is. probed_next d (alone_here alone) lost (word_of_flag start) 0 used next ((at.alone (alone_before alone)).0 is) then), (λ over. probed_next d (alone_here alone) lost (word_of_flag start) (flag_words p.trace.start.shape.slots) used next ((at.alone (alone_before alone)).1 over) then));
+    opens = at.opens;
+    first = λ is. probed_next opens_here d slot_low lost (word_of_flag start + gained_by_now p.trace) 0 used next (at.first is) then;
+    second = λ over. probed_next opens_here d slot_low lost (word_of_flag start + gained_by_now p.trace) (flag_words p.trace.start.shape.slots) used next (at.second over) then;
   }
 
   -- or with slot 0, if there is none behind the last one
@@ -107,24 +114,28 @@ module _ {p q r : PassView} {budget used start slot end next n : ℕ} (at : Winn
     turn = inr refl;
     ahead = λ s in_shape from less. absurd (omega (arith, less));
     round = λ over s in_shape which. ⊎_elim (λ (from : start ≤ s). ahead_next s in_shape from (omega (arith, in_shape, past))) (λ (less : s < 0). absurd (omega (arith, less))) which;
-    alone = λ alone. ((λ is. absurd (omega (arith, is, at.low))), (λ over. inl (few alone)));
+    opens = at.opens;
+    first = λ is. absurd (omega (arith, is, at.low));
+    second = λ over. inl few;
   }
     where
       -- this was no second turn, since that ends before the first slot of a word
       first : (end ≡ p.trace.start.shape.slots) × (start ≤ slot) × (slot < p.trace.start.shape.slots)
       first = ⊎_elim (λ (first : (end ≡ p.trace.start.shape.slots) × (start ≤ slot) × (slot < p.trace.start.shape.slots)). first) (λ (over : end ≡ start). (let low = next_low n slot next then in let b = at.begins in let l = at.low in absurd (omega (arith, low, b, l, over, below, past)))) at.turn
 
-      few : IsAlone p.trace r.trace → word_of_flag start + (used + 1) ≤ flag_words p.trace.start.shape.slots + word_of_flag 0
-      few alone = let lost_first = probed_lost d (alone_here alone) lost (word_of_flag start) 0 used ((at.alone (alone_before alone)).0 first.0) in let low = first.2 in omega (arith, lost_first, low)
+      few : word_of_flag start + gained_by_now p.trace + (used + 1) ≤ flag_words p.trace.start.shape.slots + word_of_flag 0 + gained_by_now r.trace
+      few = let lost_first = probed_lost opens_here d slot_low lost (word_of_flag start + gained_by_now p.trace) 0 used (at.first first.0) in let low = first.2 in omega (arith, lost_first, low)
 
--- a pass that was alone made no more probes than there are flag words, and one more that won
-few : {p q : PassView} {budget used start slot end : ℕ} → Winning p q budget used start slot end → slot < end → IsAlone p.trace q.trace → used ≤ flag_words p.trace.start.shape.slots
-few {p} {q} {used = used} {start = start} {slot = slot} {end = end} at below alone = ⊎_elim
-    (λ (first : (end ≡ p.trace.start.shape.slots) × (start ≤ slot) × (slot < p.trace.start.shape.slots)). (let most = probed_few q.trace (word_of_flag start) 0 used slot ((at.alone alone).0 first.0) in let low = first.2 in omega (arith, most, low)))
-    (λ (over : end ≡ start). (let most = probed_few q.trace (word_of_flag start) (flag_words p.trace.start.shape.slots) used slot ((at.alone alone).1 over) in let b = at.begins in omega (arith, most, b, over, below))) at.turn
+-- no more probes were made than there are flag words, and one for each slot that others took out of the shared pool; and one more that won
+few : {p q : PassView} {budget used start slot end : ℕ} → Winning p q budget used start slot end → slot < end → used ≤ flag_words p.trace.start.shape.slots + gained p.trace q.trace
+few {p} {q} {used = used} {start = start} {slot = slot} {end = end} at below =
+    let same = gained_same at.quiet.same in
+    ⊎_elim
+    (λ (first : (end ≡ p.trace.start.shape.slots) × (start ≤ slot) × (slot < p.trace.start.shape.slots)). (let most = probed_few q.trace (word_of_flag start + gained_by_now p.trace) 0 used slot (at.first first.0) in let low = first.2 in omega (arith, most, low, same)))
+    (λ (over : end ≡ start). (let most = probed_few q.trace (word_of_flag start + gained_by_now p.trace) (flag_words p.trace.start.shape.slots) used slot (at.second over) in let b = at.begins in omega (arith, most, b, over, below, same))) at.turn
 
-win_few : {p q : PassView} {t : Trace} {budget used start slot end n : ℕ} → Winning p q budget used start slot end → slot < end → Did (TakeFlag slot) q.trace t n → IsAlone p.trace t → used + 1 ≤ flag_words p.trace.start.shape.slots + 1
-win_few at below d alone = let most = few at below (alone_first at.quiet.seen (did_seen d) alone) in omega (arith, most)
+win_few : {p q : PassView} {t : Trace} {budget used start slot end n : ℕ} → Winning p q budget used start slot end → slot < end → Did (TakeFlag slot) q.trace t n → used + 1 ≤ flag_words p.trace.start.shape.slots + 1 + gained p.trace t
+win_few {p} {q} {t} at below d = let most = few at below in let more = gained_on p.trace q.trace t (did_seen d) in omega (arith, most, more)
 
 -- a flag was won
 pub win_done : {p q r t : PassView} {budget used start slot end n : ℕ} → Winning p q budget used start slot end → slot < end → p.pool ≡ [] → p.hand ≡ None → used + PIECE ≤ budget → Did (TakeFlag slot) q.trace r.trace n → has_flag n slot ≡ true → KeepsPool q r → t.trace ≡ r.trace → t.pool ≡ r.pool ++ slot ∷ [] → t.hand ≡ hand_without slot r.hand →
@@ -137,7 +148,7 @@ win_done {p} {q} {r} {t} {budget} {used} {start} {slot} {end} at below empty no_
       won = inr (empty, slot, one, subst (λ (x : Trace). CameByFlag p.trace x slot) (sym same) (came at.quiet d set (λ s in_shape before. missed_before (first s in_shape before) (did_quiet d (λ know. refl)))));
       some = λ none. not_empty slot (sym one ∙ none);
       room = (let e = ap length one in omega (arith, e));
-      few = λ empty alone. win_few at below d (subst (IsAlone p.trace) same alone);
+      few = λ empty. subst (λ (x : Trace). used + 1 ≤ flag_words p.trace.start.shape.slots + 1 + gained p.trace x) (sym same) (win_few at below d);
     }
   where
     not_empty : (s : ℕ) → s ∷ [] ≡ [] → ⊥
@@ -172,7 +183,7 @@ win_short at below empty short = record {
   empty = empty;
   pool = at.pool;
   why = record { took = took_all at.counts; within = at.within; short = short };
-  enough = λ alone. (let most = few at below alone in omega (arith, most, short));
+  enough = (let most = few at below in omega (arith, most, short));
 }
 
 pub win_no_slot : {p q : PassView} {budget used start slot end : ℕ} → Winning p q budget used start slot end → end ≤ slot → p.pool ≡ [] → WinsNone p q budget (NoSlot, used)
@@ -187,7 +198,7 @@ win_no_slot {p} {q} {start = start} {slot = slot} {end = end} at behind empty =
         still = at.pool.0 ∙ empty;
         outside = λ s in_shape. at.round over s in_shape (⊎_elim (λ (earlier : s < start). inr (omega (arith, earlier, behind, over))) (λ (later : start ≤ s). inl later) (cases_lt s start));
       };
-      enough = λ alone. tt;
+      enough = tt;
     }
 
 -- a list that has no length is empty

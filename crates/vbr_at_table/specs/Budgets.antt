@@ -1,4 +1,4 @@
--- How many steps it takes a pass that is alone to take a slot.
+-- How many steps it takes a pass to take a slot: alone, and while others take slots out of the shared pool.
 use Rattle.std.specs.Prelude.{ℕ, ◌+◌, ◌<◌, max, List, [], ◌∷◌}
 use Rattle.vbr_machine.specs.Start.{Start}
 use Rattle.vbr_words.specs.Flags.{flag_words}
@@ -19,6 +19,19 @@ steps_to_take start (slot ∷ pool) = POOL + 4
 abbrev pub most_to_take : Start → List ℕ → ℕ
 most_to_take start [] = max (POOL + 4) (steps_to_win start + 5)
 most_to_take start (slot ∷ pool) = POOL + 4
+
+-- how many more probes than alone a pass makes whose own pool was empty, while others take so many slots out of the shared pool: no more than one for each of these; with slots in the own pool it makes none
+abbrev pub probes_lost : List ℕ → ℕ → ℕ
+probes_lost [] gains = gains
+probes_lost (slot ∷ pool) gains = 0
+
+-- so a slot is taken in so many steps, whatever others do
+abbrev pub steps_to_take_among : Start → List ℕ → ℕ → ℕ
+steps_to_take_among start pool gains = steps_to_take start pool + probes_lost pool gains
+
+-- and so where more slots may have come into the own pool by then
+abbrev pub most_to_take_among : Start → List ℕ → ℕ → ℕ
+most_to_take_among start pool gains = most_to_take start pool + probes_lost pool gains
 
 -- a refusal for want of steps comes of a budget that has no room for so many steps: before each piece it must have room for eight, the most that a piece has
 abbrev pub NeedsMore : ℕ → ℕ → TakeRefusal → Type 0

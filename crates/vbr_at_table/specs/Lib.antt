@@ -4,6 +4,7 @@ pub mod UnlinkedView
 pub mod Steps
 pub mod SharedPool
 pub mod Counts
+pub mod Gained
 pub mod KeptSlots
 pub mod Advances
 pub mod Budgets

@@ -2,12 +2,12 @@
 use Rattle.std.specs.Prelude.{◌≡◌, ◌≢◌, ℕ, ◌+◌, ◌<◌, ◌≤◌, ◌⊎◌, [], ◌∷◌, length, All, Contains, Option, Some, None, Result, Ok, Err}
 use Rattle.vbr_machine.specs.Acceptance.{stamp_in}
 use Rattle.vbr_slots.specs.declared.pass.TheConstants.{POOL}
-use Rattle.vbr_slots.specs.Alone.{IsAlone}
 use Rattle.vbr_slots.specs.Calls.{Quiet}
 use Rattle.vbr_slots.specs.Views.{PassView, KeepsPool, knows}
 use Rattle.vbr_at_table.specs.Advances.{AdvancesWhereNeeded}
 use Rattle.vbr_at_table.specs.Budgets.{NeedsMore, steps_to_win}
 use Rattle.vbr_at_table.specs.Counts.{advances, flags_raised}
+use Rattle.vbr_at_table.specs.Gained.{gained}
 use Rattle.vbr_at_table.specs.KeptSlots.{KeepsSlots, SharesWhereFull, TakesNoSlot}
 use Rattle.vbr_at_table.specs.Hands.{HandView}
 use Rattle.vbr_at_table.specs.Refusals.{IsSpent, TakeIsRefused}
@@ -49,14 +49,14 @@ abbrev pub IsWon : PassView → PassView → ℕ → Type 0
 IsWon p q used = ((q.pool ≡ p.pool) × (p.pool ≢ []) × (used ≡ 0))
     ⊎ ((p.pool ≡ []) × (slot : ℕ) × (q.pool ≡ slot ∷ []) × CameByFlag p.trace q.trace slot)
 
--- the own pool has slots; and a pass that was alone used no more steps than it takes to win one
+-- the own pool has slots; and where it was empty, no more steps were used than it takes a lone pass to win one, and one for each slot that others took out of the shared pool
 pub record HasSlots (p q : PassView) (budget used : ℕ) : Type 0 where
   pub uses : Uses p q budget 0 used budget
   pub hand : q.hand ≡ None
   pub won : IsWon p q used
   pub some : q.pool ≢ []
   pub room : length q.pool ≤ POOL
-  pub few : p.pool ≡ [] → IsAlone p.trace q.trace → used ≤ steps_to_win p.trace.start
+  pub few : p.pool ≡ [] → used ≤ steps_to_win p.trace.start + gained p.trace q.trace
 
 -- the own pool was empty, and no slot was won, for what the refusal says
 pub record WinsNone (p q : PassView) (budget : ℕ) (told : TakeRefusal × ℕ) : Type 0 where
@@ -64,7 +64,7 @@ pub record WinsNone (p q : PassView) (budget : ℕ) (told : TakeRefusal × ℕ) 
   pub empty : p.pool ≡ []
   pub pool : KeepsPool p q
   pub why : TakeIsRefused p q budget told.0
-  pub enough : IsAlone p.trace q.trace → NeedsMore (steps_to_win p.trace.start) budget told.0
+  pub enough : NeedsMore (steps_to_win p.trace.start + gained p.trace q.trace) budget told.0
 
 -- ---- the oldest slot of the own pool
 

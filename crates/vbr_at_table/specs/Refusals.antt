@@ -4,7 +4,8 @@ use Rattle.vbr_machine.specs.Acceptance.{stamp_in}
 use Rattle.vbr_slots.specs.Alone.{IsAlone}
 use Rattle.vbr_slots.specs.Calls.{Took}
 use Rattle.vbr_slots.specs.Views.{PassView, knows}
-use Rattle.vbr_at_table.specs.Budgets.{NeedsMore, steps_to_take}
+use Rattle.vbr_at_table.specs.Budgets.{NeedsMore, steps_to_take, steps_to_take_among}
+use Rattle.vbr_at_table.specs.Gained.{gained}
 use Rattle.vbr_at_table.specs.SharedPool.{WasOutside, CameByFlag}
 use Rattle.vbr_at_table.specs.declared.budget.TheConstants.{PIECE}
 use Rattle.vbr_at_table.specs.declared.refusal.TakeRefusal.{TakeRefusal}
@@ -55,10 +56,11 @@ abbrev pub TellsSpent : TakeRefusal → Type 0
 TellsSpent (EpochSpent epoch) = Unit {0}
 TellsSpent _ = ⊥
 
--- no slot was taken, for what the refusal says, and none is in hand; with a slot in the own pool and a budget of 80 it says that the epoch is spent, and to a pass that was alone it says so of a budget that has no room for the steps that it takes
+-- no slot was taken, for what the refusal says, and none is in hand; with a slot in the own pool and a budget of 80 it says that the epoch is spent, and to a pass that was alone it says so of a budget that has no room for the steps that it takes, as to any other, but for one more for each slot that others took out of the shared pool, where its own was empty
 pub record RefusesTake (p q : PassView) (budget : ℕ) (refusal : TakeRefusal) : Type 0 where
   pub why : TakeIsRefused p q budget refusal
   pub pool : LeavesPool p q
   pub hand : q.hand ≡ None
   pub ready : p.pool ≢ [] → 80 ≤ budget → TellsSpent refusal
   pub enough : IsAlone p.trace q.trace → NeedsMore (steps_to_take p.trace.start p.pool) budget refusal
+  pub among : NeedsMore (steps_to_take_among p.trace.start p.pool (gained p.trace q.trace)) budget refusal

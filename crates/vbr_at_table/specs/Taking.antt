@@ -1,5 +1,5 @@
 -- What a call that takes a slot tells.
-use Rattle.std.specs.Prelude.{◌≡◌, ◌≢◌, ℕ, ◌+◌, ◌<◌, ◌≤◌, List, [], length, get_or, ◌⊎◌}
+use Rattle.std.specs.Prelude.{◌≡◌, ℕ, ◌+◌, ◌<◌, ◌≤◌, List, [], length, get_or, ◌⊎◌}
 use Rattle.vbr_machine.specs.Acceptance.{stamp_in}
 use Rattle.vbr_machine.specs.Knowledge.{Know}
 use Rattle.vbr_slots.specs.declared.pass.TheConstants.{POOL}
@@ -8,7 +8,8 @@ use Rattle.vbr_slots.specs.Calls.{Quiet}
 use Rattle.vbr_slots.specs.Pools.{without}
 use Rattle.vbr_slots.specs.Views.{PassView, knows, steps_of}
 use Rattle.vbr_at_table.specs.Advances.{AdvancesWhereNeeded}
-use Rattle.vbr_at_table.specs.Budgets.{steps_to_take}
+use Rattle.vbr_at_table.specs.Budgets.{steps_to_take, steps_to_take_among}
+use Rattle.vbr_at_table.specs.Gained.{gained}
 use Rattle.vbr_at_table.specs.Hands.{HandView, IsHandOf}
 use Rattle.vbr_at_table.specs.KeptSlots.{KeepsSlots, SharesWhereFull}
 use Rattle.vbr_at_table.specs.SharedPool.{CameByFlag}
@@ -38,10 +39,10 @@ pub record Births (p q : PassView) (hand : HandView) : Type 0 where
   pub rest : q.pool ≡ without hand.slot p.pool
   pub room : length q.pool < POOL
 
--- the slot of the hand was in the own pool, where no slot before it could be born in at that epoch, or came by a flag where that was empty; it was born in; and a pass that was alone made no more steps than that takes, nor did one that had slots, whatever others did
+-- the slot of the hand was in the own pool, where no slot before it could be born in at that epoch, or came by a flag where that was empty; it was born in; and a pass that was alone made no more steps than that takes, nor did any other, but for one more for each slot that others took out of the shared pool, where its own was empty
 pub record IsTaken (p q : PassView) (hand : HandView) : Type 0 where
   pub from : IsOldest (knows q.trace) p.pool hand.slot hand.birth
       ⊎ ((p.pool ≡ []) × CameByFlag p.trace q.trace hand.slot)
   pub births : Births p q hand
   pub few : IsAlone p.trace q.trace → TookWithin p.trace q.trace (steps_to_take p.trace.start p.pool)
-  pub ready : p.pool ≢ [] → steps_of q.trace ≤ steps_of p.trace + (POOL + 4)
+  pub among : steps_of q.trace ≤ steps_of p.trace + steps_to_take_among p.trace.start p.pool (gained p.trace q.trace)

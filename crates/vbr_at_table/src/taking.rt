@@ -29,8 +29,9 @@ use vbr_words::flags::{FLAGS, next_flag};
 /// is stamped below the epoch that it read: EpochSpent, if that is the last. That is tested last, where
 /// the budget had room to advance it. A flag that it won stays in the own pool after a refusal.
 ///
-/// With slots in the own pool a budget of 80 is enough, whatever others do; with none, one of w + 13
-/// is, while the other passes stand still, where w is the number of flag words.
+/// With slots in the own pool a budget of 80 is enough, whatever others do; with none, one of
+/// w + 13 + g is, where w is the number of flag words, and g that of the slots which other passes take
+/// out of the shared pool meanwhile.
 ///
 /// It tells how many steps it made.
 pub fn take<N: Nodes>(at: &mut AtTable<'_, N>, budget: u32) -> (Result<Hand, TakeRefusal>, u32)
@@ -78,6 +79,7 @@ fn win_slot<N: Nodes>(at: &mut AtTable<'_, N>, budget: u32) -> Result<u32, (Take
     if !at.pool().is_empty() {
         return Ok(0);
     }
+    at.law();
     // Each probe is a step, and one that is lost shows the flags of sixty-four slots.
     let start = at.last_tried() / FLAGS * FLAGS;
     let mut probes = 0;

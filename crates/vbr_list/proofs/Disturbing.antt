@@ -406,5 +406,5 @@ enough_among_more nodes times most le = mul-le (times + 1) (5 * (nodes + times) 
 pub enough_to_search_more : (nodes times most : ℕ) → times ≤ most → enough_to_search_among nodes times ≤ enough_to_search_among nodes most
 enough_to_search_more nodes times most le = mul-le (times + 1) (9 * (nodes + times) + 11) (most + 1) (9 * (nodes + most) + 11) (omega (arith, le)) (omega (arith, le))
 
-pub enough_to_insert_more : (nodes times most : ℕ) → times ≤ most → enough_to_insert_among nodes times ≤ enough_to_insert_among nodes most
-enough_to_insert_more nodes times most le = let x = mul-le (times + 2) (9 * (nodes + times) + 11) (most + 2) (9 * (nodes + most) + 11) (omega (arith, le)) (omega (arith, le)) in omega (arith, x)
+pub enough_to_insert_more : (nodes times most taking : ℕ) → times ≤ most → enough_to_insert_among nodes times taking ≤ enough_to_insert_among nodes most taking
+enough_to_insert_more nodes times most taking le = let x = mul-le times (9 * (nodes + times) + 7) most (9 * (nodes + most) + 7) le (omega (arith, le)) in omega (arith, x, le)

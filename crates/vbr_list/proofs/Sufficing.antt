@@ -1,4 +1,4 @@
--- The steps of an insert by a pass that was alone.
+-- The steps of an insert: of a slot, and of a pass that was alone.
 use Rattle.std.proofs.Common.{◌≡◌, ◌≢◌, ℕ, ◌+◌, ◌*◌, ◌<◌, ◌≤◌, List, [], ◌∷◌, Result, Ok, Err, refl, sym, subst, arith}
 use Rattle.std.specs.Prelude.{IfErr}
 use Rattle.vbr_machine.specs.Start.{Start}
@@ -8,10 +8,17 @@ use Rattle.vbr_slots.specs.Alone.{IsAlone, ahead}
 use Rattle.vbr_slots.specs.Calls.{Quiet}
 use Rattle.vbr_slots.specs.Views.{Trace, PassView}
 use Rattle.vbr_slots.proofs.Lemmas.{quiet_adds_none}
-use Rattle.vbr_at_table.specs.Budgets.{most_to_take, steps_to_take}
+use Rattle.vbr_machine.specs.Runs.{Begins}
+use Rattle.vbr_at_table.specs.Budgets.{most_to_take, most_to_take_among, steps_to_take_among}
+use Rattle.vbr_at_table.specs.Gained.{gained}
+use Rattle.vbr_at_table.proofs.Lemmas.{alone_gained, gained_on, gained_since, more_lost, none_lost}
 use Rattle.vbr_slots.specs.PassLaw.{PassLaw}
-use Rattle.vbr_list.specs.Budgets.{IsAnsweredOrSpent, LacksSteps, listed_for}
-use Rattle.vbr_list.specs.Inserting.{InsertIsShort}
+use Rattle.vbr_at_table.specs.Steps.{TookWithin}
+use Rattle.vbr_at_table.specs.Values.{steps_to_value}
+use Rattle.vbr_list.specs.Budgets.{IsAnsweredOrSpent, LacksSteps, enough_past, enough_to_insert, insert_costs, insert_costs_past, listed_for}
+use Rattle.vbr_list.specs.Disturbed.{disturbed, enough_to_insert_among, insert_costs_among, steps_for_slot}
+use Rattle.vbr_list.specs.Inserting.{InsertIsShort, RefusesInsert}
+use Rattle.vbr_list.proofs.Disturbing.{alone_undisturbed}
 use Rattle.vbr_list.specs.declared.refusal.Refusal.{Refusal}
 use Rattle.vbr_list.specs.declared.refusal.Refusal.TheVariants.{OutOfSteps, NoSlot, EpochSpent}
 
@@ -22,20 +29,31 @@ no_more_listed p sound q key quiet alone =
     subst P (sym quiet.same.start) (quiet_adds_none sound.start sound.is_run quiet alone (bucket_of p.trace.start.shape key) (bucket_of p.trace.start.shape key))
 
 -- where an own pool with slots keeps some, a slot is taken in no more steps than were allowed for before
-pub take_later : (start : Start) (before now : List ℕ) → (before ≢ [] → now ≢ []) → steps_to_take start now ≤ most_to_take start before
-take_later start [] [] some = omega arith
-take_later start [] (s ∷ now) some = omega arith
-take_later start (s ∷ before) [] some = absurd (some (λ e. absurd (cc)) refl)
-take_later start (s ∷ before) (t ∷ now) some = omega arith
+take_later : (start : Start) (before now : List ℕ) (less more : ℕ) → less ≤ more → (before ≢ [] → now ≢ []) → steps_to_take_among start now less ≤ most_to_take_among start before more
+take_later start [] [] less more le some = omega (arith, le)
+take_later start [] (s ∷ now) less more le some = omega arith
+take_later start (s ∷ before) [] less more le some = absurd (some (λ e. absurd (cc)) refl)
+take_later start (s ∷ before) (t ∷ now) less more le some = omega arith
 
-pub take_after : (p q : PassView) → Quiet p.trace q.trace → (p.pool ≢ [] → q.pool ≢ []) → steps_to_take q.trace.start q.pool ≤ most_to_take p.trace.start p.pool
-take_after p q quiet some =
-    let P : Start → Type 0 = λ start. steps_to_take start q.pool ≤ most_to_take p.trace.start p.pool in
-    subst P (sym quiet.same.start) (take_later p.trace.start p.pool q.pool some)
+pub take_after : (p q : PassView) (r : Trace) → Quiet p.trace q.trace → (p.pool ≢ [] → q.pool ≢ []) → steps_to_take_among q.trace.start q.pool (gained q.trace r) ≤ steps_for_slot p r
+take_after p q r quiet some =
+    let P : Start → Type 0 = λ start. steps_to_take_among start q.pool (gained q.trace r) ≤ steps_for_slot p r in
+    subst P (sym quiet.same.start) (take_later p.trace.start p.pool q.pool (gained q.trace r) (gained p.trace r) (gained_since p.trace q.trace r quiet.same quiet.seen) some)
 
-pub take_least : (start : Start) (pool : List ℕ) → 68 ≤ most_to_take start pool
-take_least start [] = omega arith
-take_least start (s ∷ pool) = omega arith
+-- and in no more while others have taken more
+pub slot_later : (p : PassView) (q r : Trace) → Begins q.seen r.seen → steps_for_slot p q ≤ steps_for_slot p r
+slot_later p q r b = let more = more_lost p.pool (gained p.trace q) (gained p.trace r) (gained_on p.trace q r b) in omega (arith, more)
+
+-- alone, none have
+pub slot_alone : (p : PassView) (q : Trace) → IsAlone p.trace q → steps_for_slot p q ≡ most_to_take p.trace.start p.pool
+slot_alone p q alone = let none = none_lost p.pool (gained p.trace q) (alone_gained p.trace q alone) in omega (arith, none)
+
+pub take_least : (p : PassView) (q : Trace) → 68 ≤ steps_for_slot p q
+take_least p q = go p.trace.start p.pool (gained p.trace q)
+  where
+    go : (start : Start) (pool : List ℕ) (gains : ℕ) → 68 ≤ most_to_take_among start pool gains
+    go start [] gains = omega arith
+    go start (s ∷ pool) gains = omega arith
 
 -- a budget that is short of so many steps is short of more
 pub lacks_more : (m n budget : ℕ) (refusal : Refusal) → m ≤ n → LacksSteps m budget refusal → LacksSteps n budget refusal
@@ -52,6 +70,37 @@ pub never_refused : (pool : List ℕ) (p q : PassView) (before budget : ℕ) (re
 never_refused pool p q before budget (OutOfSteps used) x e = absurd (cc)
 never_refused pool p q before budget NoSlot x e = absurd x
 never_refused pool p q before budget (EpochSpent epoch) x e = absurd x
+
+-- only an empty own pool has no slot
+pub had_none : (p q : PassView) (key before budget : ℕ) (refusal : Refusal) → RefusesInsert p q key before budget refusal → refusal ≡ NoSlot → p.pool ≡ []
+had_none p q key before budget (OutOfSteps used) x e = absurd (cc)
+had_none p q key before budget NoSlot x e = x.empty
+had_none p q key before budget (EpochSpent epoch) x e = absurd (cc)
+
+-- what is so of a pass that was disturbed so often is so of one that was alone
+lone_short : (n t taking most budget : ℕ) → budget < enough_to_insert_among n t taking → t ≡ 0 → taking ≡ most → budget < enough_past n most
+lone_short n t taking most budget short none same =
+    let P : ℕ → Type 0 = λ u. budget < enough_to_insert_among n u taking in
+    let x = subst P none short in
+    omega (arith, x, same)
+
+pub lone_lacks : (p : PassView) (q : Trace) (key budget : ℕ) (refusal : Refusal) → LacksSteps (enough_to_insert_among (listed_for p.trace key) (disturbed p.trace q key) (steps_for_slot p q)) budget refusal → IsAlone p.trace q → LacksSteps (enough_to_insert p key) budget refusal
+lone_lacks p q key budget (OutOfSteps used) short alone = lone_short (listed_for p.trace key) (disturbed p.trace q key) (steps_for_slot p q) (most_to_take p.trace.start p.pool) budget short (alone_undisturbed p.trace q key alone) (slot_alone p q alone)
+lone_lacks p q key budget NoSlot short alone = tt
+lone_lacks p q key budget (EpochSpent epoch) short alone = tt
+
+lone_few : (n t taking most storing now : ℕ) → now ≤ insert_costs_among n t taking storing → t ≡ 0 → taking ≡ most → now ≤ insert_costs_past n most storing
+lone_few n t taking most storing now few none same =
+    let P : ℕ → Type 0 = λ u. now ≤ insert_costs_among n u taking storing in
+    let x = subst P none few in
+    omega (arith, x, same)
+
+pub lone_costs : (p : PassView) (q : Trace) (key : ℕ) → TookWithin p.trace q (insert_costs_among (listed_for p.trace key) (disturbed p.trace q key) (steps_for_slot p q) (steps_to_value p.trace.start.shape.values)) → IsAlone p.trace q → TookWithin p.trace q (insert_costs p key)
+lone_costs p q key x alone = record {
+  steps = x.steps;
+  within = lone_few (listed_for p.trace key) (disturbed p.trace q key) (steps_for_slot p q) (most_to_take p.trace.start p.pool) (steps_to_value p.trace.start.shape.values) x.steps x.within (alone_undisturbed p.trace q key alone) (slot_alone p q alone);
+  took = x.took;
+}
 
 -- with slots in the own pool an insert that has steps enough is answered, or the epoch is spent
 pub answered_or_spent : {A : Type 0} (p q : PassView) (budget n : ℕ) (answer : Result A Refusal) → p.pool ≢ [] → IsAlone p.trace q.trace → 18 * n + 82 ≤ budget → IfErr answer (λ refusal. refusal ≡ NoSlot → p.pool ≡ []) → IfErr answer (λ refusal. IsAlone p.trace q.trace → LacksSteps (18 * n + most_to_take p.trace.start p.pool + 14) budget refusal) → IsAnsweredOrSpent answer

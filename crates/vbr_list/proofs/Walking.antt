@@ -19,7 +19,7 @@ use Rattle.vbr_machine.proofs.Lemmas.{ahead_few, begins_refl, begins_run, begins
 use Rattle.vbr_slots.specs.Alone.{IsAlone, IsFresh}
 use Rattle.vbr_slots.specs.Calls.{IsSame, Quiet}
 use Rattle.vbr_slots.specs.Views.{Trace, knows}
-use Rattle.vbr_slots.proofs.Lemmas.{same_on}
+use Rattle.vbr_slots.proofs.Lemmas.{quiet_on, same_on}
 use Rattle.vbr_at_table.specs.Held.{held_of}
 use Rattle.vbr_at_table.specs.declared.held.Held.{Held}
 use Rattle.vbr_at_table.specs.declared.held.Marked.{Marked}
@@ -30,12 +30,11 @@ use Rattle.vbr_list.specs.declared.found.Found.{Found}
 use Rattle.vbr_at_table.specs.Counts.{advances}
 use Rattle.vbr_list.specs.Disturbed.{changed_after, costs_among, disturbed_after, disturbed, enough_among, enough_to_search_among, find_costs_among}
 use Rattle.vbr_at_table.specs.Values.{steps_to_update, steps_to_value}
-use Rattle.vbr_slots.specs.declared.pass.TheConstants.{POOL}
 use Rattle.vbr_list.specs.Budgets.{LacksSteps}
-use Rattle.vbr_list.specs.Disturbed.{enough_to_insert_among}
+use Rattle.vbr_list.specs.Disturbed.{enough_to_insert_among, searches_more}
 use Rattle.vbr_list.specs.declared.refusal.Refusal.{Refusal}
 use Rattle.vbr_list.specs.declared.refusal.Refusal.TheVariants.{OutOfSteps, NoSlot, EpochSpent}
-use Rattle.vbr_list.specs.Inserting.{SearchesFor, SearchesInVain}
+use Rattle.vbr_list.specs.Inserting.{SearchedFor, SearchesFor, SearchesInVain}
 use Rattle.vbr_list.specs.Traversing.{LastWalk}
 use Rattle.vbr_list.specs.Walking.{KnowsEpoch, LosesFound, LosesHeld, MovesSince, NextStandsStill, ReadsFresh, ReadsNext, Repeats, StandsStill, StoodOpen, Walks, WalksAgain, WalksOnce, met_since, nodes_after}
 use Rattle.vbr_list.proofs.Disturbing.{alone_undisturbed, changed_same, disturbed_same, fresh_alone, fresh_at, grows_disturbed, loses_disturb, loses_found_disturb, met_before, met_few, met_less, met_quiet, moves_disturb, next_stands_alone, run_at, stands_alone}
@@ -517,60 +516,113 @@ few_to_update_most start = go start.shape.values
     go true = omega arith
     go false = omega arith
 
+more_searched : (before tries lost m1 m2 m a b now more all : ℕ) → a ≤ before + tries * (9 * m1 + 7) → b ≤ a + (lost + 1) * (9 * m2 + 3) → now ≤ b + more → more + 3 ≤ all → m1 ≤ m → m2 ≤ m → now ≤ before + 9 * m + (tries + lost) * (9 * m + 7) + all
+more_searched before tries lost m1 m2 m a b now more all x y z w l k =
+    let u = mul-le tries (9 * m1 + 7) tries (9 * m + 7) (omega arith) (omega (arith, l)) in
+    let v = mul-le (lost + 1) (9 * m2 + 3) (lost + 1) (9 * m + 3) (omega arith) (omega (arith, k)) in
+    omega (arith, x, y, z, w, u, v)
+
 -- after so many, and what came then
-pub searches_end : (p q m : Trace) → IsStart p.start → IsRun p.start p.passes m.seen → (key : ℕ) → IsSame p q → Begins p.seen q.seen → Begins q.seen m.seen → {before_all used mid : ℕ} → HasRepeated 9 p q key 7 before_all used → WalksAgain 9 q m key used mid → (since_then more : ℕ) → since_then ≤ mid + more → SearchesFor p m key before_all since_then more
-searches_end p q m is ok key sq a b {before_all} {used} {mid} x w since_then more le =
+pub searches_end : (p q m : Trace) → IsStart p.start → IsRun p.start p.passes m.seen → (key : ℕ) → IsSame p q → Begins p.seen q.seen → Begins q.seen m.seen → {before_all used mid : ℕ} → HasRepeated 9 p q key 7 before_all used → WalksAgain 9 q m key used mid → (since_then more all : ℕ) → since_then ≤ mid + more → more + 3 ≤ all → SearchesFor p m key before_all since_then all
+searches_end p q m is ok key sq a b {before_all} {used} {mid} x w since_then more all le least =
     let here = disturbed_same p q key q.seen sq in
     let there = disturbed_same p q key m.seen sq in
     let before = x.repeats.few in
     let since_q = w.repeats.few in
     let low = met_before p m is ok key q a b in
     let high = met_less p m is ok key q sq a b in
-    let all = more_searches before_all 4 x.lost w.lost (met_since p q key) (met_since q m key) (met_since p m key) used mid mid x.repeats.paid w.repeats.paid (omega arith) low high in
-    record { lost = x.lost + w.lost; few = omega (arith, before, since_q, here, there); paid = omega (arith, all, le) }
+    record {
+      lost = x.lost + w.lost;
+      few = omega (arith, before, since_q, here, there);
+      paid = more_searched before_all x.lost w.lost (met_since p q key) (met_since q m key) (met_since p m key) used mid since_then more all x.repeats.paid w.repeats.paid le least low high;
+    }
 
-pub searches_later : (p m r : Trace) → IsStart p.start → IsRun p.start p.passes r.seen → (key : ℕ) → Begins p.seen m.seen → Begins m.seen r.seen → {before_all since_then more : ℕ} → SearchesFor p m key before_all since_then more → SearchesFor p r key before_all since_then more
-searches_later p m r is ok key a b {before_all} {since_then} {more} x =
+searched_later : (before lost m1 m2 now least most : ℕ) → now ≤ before + 9 * m1 + lost * (9 * m1 + 7) + least → m1 ≤ m2 → least ≤ most → now ≤ before + 9 * m2 + lost * (9 * m2 + 7) + most
+searched_later before lost m1 m2 now least most x l le =
+    let u = mul-le lost (9 * m1 + 7) lost (9 * m2 + 7) (omega arith) (omega (arith, l)) in
+    omega (arith, x, l, le, u)
+
+-- until a later moment
+pub searches_later : (p m r : Trace) → IsStart p.start → IsRun p.start p.passes r.seen → (key : ℕ) → Begins p.seen m.seen → Begins m.seen r.seen → {before_all since_then least : ℕ} (most : ℕ) → least ≤ most → SearchesFor p m key before_all since_then least → SearchesFor p r key before_all since_then most
+searches_later p m r is ok key a b {before_all} {since_then} {least} most le x =
     let grows = grows_disturbed p r is ok key m.seen b in
-    let high = met_before p r is ok key m a b in
     let few = x.few in
-    let paid = x.paid in
-    let u = mul-le (x.lost + 1) (9 * met_since p m key + 7) (x.lost + 1) (9 * met_since p r key + 7) (omega arith) (omega (arith, high)) in
-    record { lost = x.lost; few = omega (arith, few, grows); paid = omega (arith, paid, u) }
+    record {
+      lost = x.lost;
+      few = omega (arith, few, grows);
+      paid = searched_later before_all x.lost (met_since p m key) (met_since p r key) since_then least most x.paid (met_before p r is ok key m a b) le;
+    }
 
 -- a refusal for want of steps
-pub in_vain : (p r : Trace) (key before_all mid budget : ℕ) → ((since_then more : ℕ) → since_then ≤ mid + more → SearchesFor p r key before_all since_then more) → (refusal : Refusal) → LacksSteps (mid + 80) budget refusal → SearchesInVain p r key before_all budget 80 refusal
-in_vain p r key before_all mid budget x (OutOfSteps used) short = x (budget + 1) 80 (omega (arith, short))
-in_vain p r key before_all mid budget x NoSlot short = tt
-in_vain p r key before_all mid budget x (EpochSpent epoch) short = tt
+pub in_vain : (p r : Trace) (key before_all mid budget steps all : ℕ) → ((since_then more : ℕ) → since_then ≤ mid + more → more + 3 ≤ all → SearchesFor p r key before_all since_then all) → (refusal : Refusal) → steps + 10 ≤ all → LacksSteps (mid + steps + 7) budget refusal → SearchesInVain p r key before_all budget all refusal
+in_vain p r key before_all mid budget steps all x (OutOfSteps used) le short = x (budget + 1) (steps + 7) (omega (arith, short)) (omega (arith, le))
+in_vain p r key before_all mid budget steps all x NoSlot le short = tt
+in_vain p r key before_all mid budget steps all x (EpochSpent epoch) le short = tt
 
-once_lacks : (lost m n t budget : ℕ) → budget + 1 ≤ 0 + (lost + 1) * (9 * m + 7) + 80 → m ≤ n + t → lost ≤ t → budget < (t + 2) * (9 * (n + t) + 11) + 80
-once_lacks lost m n t budget x l f =
-    let u = mul-le (lost + 1) (9 * m + 7) (t + 2) (9 * (n + t) + 11) (omega (arith, f)) (omega (arith, l)) in
-    omega (arith, x, u)
+-- one half of an insert
+one_half : (lost m n t now more : ℕ) → now ≤ 0 + 9 * m + lost * (9 * m + 7) + more → m ≤ n + t → lost ≤ t → now ≤ 9 * (n + t) + searches_more n t + more
+one_half lost m n t now more x l f =
+    let u = mul-le lost (9 * m + 7) t (9 * (n + t) + 7) f (omega (arith, l)) in
+    omega (arith, x, u, l)
 
-twice_lack : (lost lost2 m1 m2 n t used budget : ℕ) → used ≤ 0 + (lost + 1) * (9 * m1 + 7) + 72 → budget + 1 ≤ used + (lost2 + 1) * (9 * m2 + 7) + 8 → m1 ≤ n + t → m2 ≤ n + t → lost + lost2 ≤ t → budget < (t + 2) * (9 * (n + t) + 11) + 80
-twice_lack lost lost2 m1 m2 n t used budget x y l k f =
-    let u = mul-le (lost + 1) (9 * m1 + 7) (lost + 1) (9 * (n + t) + 11) (omega arith) (omega (arith, l)) in
-    let v = mul-le (lost2 + 1) (9 * m2 + 7) (lost2 + 1) (9 * (n + t) + 11) (omega arith) (omega (arith, k)) in
-    let w = mul-le (lost + lost2 + 2) (9 * (n + t) + 11) (t + 2) (9 * (n + t) + 11) (omega (arith, f)) (omega arith) in
-    omega (arith, x, y, u, v, w)
+-- and both
+both_halves : (lost lost2 m1 m2 n t used now more more2 : ℕ) → used ≤ 0 + 9 * m1 + lost * (9 * m1 + 7) + more → now ≤ used + 9 * m2 + lost2 * (9 * m2 + 7) + more2 → m1 ≤ n + t → m2 ≤ n + t → lost + lost2 ≤ t → now ≤ 18 * (n + t) + searches_more n t + more + more2
+both_halves lost lost2 m1 m2 n t used now more more2 x y l k f =
+    let u = mul-le lost (9 * m1 + 7) lost (9 * (n + t) + 7) (omega arith) (omega (arith, l)) in
+    let v = mul-le lost2 (9 * m2 + 7) lost2 (9 * (n + t) + 7) (omega arith) (omega (arith, k)) in
+    let w = mul-le (lost + lost2) (9 * (n + t) + 7) t (9 * (n + t) + 7) f (omega arith) in
+    omega (arith, x, y, u, v, w, l, k)
 
-pub vain_lacks : (p q : Trace) → IsStart p.start → IsRun p.start p.passes q.seen → (key budget : ℕ) → Quiet p q → (refusal : Refusal) → SearchesInVain p q key 0 budget 80 refusal → LacksSteps (enough_to_insert_among (listed_for p key) (disturbed p q key)) budget refusal
-vain_lacks p q is ok key budget quiet (OutOfSteps used) x =
+pub half_searched : (p q : Trace) → IsStart p.start → IsRun p.start p.passes q.seen → (key : ℕ) → Quiet p q → {used more : ℕ} → SearchesFor p q key 0 used more → used ≤ 9 * (listed_for p key + disturbed p q key) + searches_more (listed_for p key) (disturbed p q key) + more
+half_searched p q is ok key quiet {used} {more} x =
     let few = x.few in
-    once_lacks x.lost (met_since p q key) (listed_for p key) (disturbed p q key) budget x.paid (met_quiet p q is ok key quiet) (omega (arith, few))
-vain_lacks p q is ok key budget quiet NoSlot x = tt
-vain_lacks p q is ok key budget quiet (EpochSpent epoch) x = tt
+    one_half x.lost (met_since p q key) (listed_for p key) (disturbed p q key) used more x.paid (met_quiet p q is ok key quiet) (omega (arith, few))
 
-pub insert_lacks : (p q r : Trace) → IsStart p.start → IsRun p.start p.passes r.seen → (key budget used : ℕ) → IsSame p q → Begins p.seen q.seen → Begins q.seen r.seen → Quiet p r → SearchesFor p q key 0 used (POOL + 4) → SearchesFor q r key used (budget + 1) 8 → budget < enough_to_insert_among (listed_for p key) (disturbed p r key)
-insert_lacks p q r is ok key budget used sq a b quiet x y =
+pub vain_lacks : (p q : Trace) → IsStart p.start → IsRun p.start p.passes q.seen → (key budget taking : ℕ) → Quiet p q → (refusal : Refusal) → SearchesInVain p q key 0 budget (taking + 10) refusal → LacksSteps (enough_to_insert_among (listed_for p key) (disturbed p q key) taking) budget refusal
+vain_lacks p q is ok key budget taking quiet (OutOfSteps used) x = let most = half_searched p q is ok key quiet x in omega (arith, most)
+vain_lacks p q is ok key budget taking quiet NoSlot x = tt
+vain_lacks p q is ok key budget taking quiet (EpochSpent epoch) x = tt
+
+-- a search that follows another
+pub both_searched : (p q r : Trace) → IsStart p.start → IsRun p.start p.passes r.seen → (key : ℕ) → IsSame p q → Begins p.seen q.seen → Begins q.seen r.seen → met_since p r key ≤ listed_for p key + disturbed p r key → {used now more more2 : ℕ} → SearchesFor p q key 0 used more → SearchesFor q r key used now more2 → now ≤ 18 * (listed_for p key + disturbed p r key) + searches_more (listed_for p key) (disturbed p r key) + more + more2
+both_searched p q r is ok key sq a b few {used} {now} {more} {more2} x y =
     let here = disturbed_same p q key q.seen sq in
     let there = disturbed_same p q key r.seen sq in
     let before = x.few in
     let since_q = y.few in
-    let few = met_quiet p r is ok key quiet in
     let low = met_before p r is ok key q a b in
     let high = met_less p r is ok key q sq a b in
-    let paid = x.paid in
-    twice_lack x.lost y.lost (met_since p q key) (met_since q r key) (listed_for p key) (disturbed p r key) used budget (omega (arith, paid)) y.paid (omega (arith, few, low)) (omega (arith, few, high)) (omega (arith, before, since_q, here, there))
+    both_halves x.lost y.lost (met_since p q key) (met_since q r key) (listed_for p key) (disturbed p r key) used now more more2 x.paid y.paid (omega (arith, few, low)) (omega (arith, few, high)) (omega (arith, before, since_q, here, there))
+
+-- the first search, until a later moment
+pub searched_first : (p q : Trace) → IsStart p.start → IsRun p.start p.passes q.seen → (key : ℕ) {before_all now more : ℕ} → SearchedFor p q key before_all now more → SearchesFor p q key before_all now more
+searched_first p q is ok key {before_all} {now} {more} x = searches_later p x.ended q is ok key x.quiet.seen x.to more (omega arith) x.searches
+
+more_often : (k n t u now more : ℕ) → now ≤ k * (n + t) + searches_more n t + more → t ≤ u → now ≤ k * (n + u) + searches_more n u + more
+more_often k n t u now more x l =
+    let y = mul-le t (9 * (n + t) + 7) u (9 * (n + u) + 7) l (omega (arith, l)) in
+    let z = mul-le k (n + t) k (n + u) (omega arith) (omega (arith, l)) in
+    omega (arith, x, y, z)
+
+-- what an answer cost: after one search
+pub once_paid : (p q : Trace) → IsStart p.start → IsRun p.start p.passes q.seen → (key : ℕ) {used more : ℕ} → SearchedFor p q key 0 used more → used ≤ 9 * (listed_for p key + disturbed p q key) + searches_more (listed_for p key) (disturbed p q key) + more
+once_paid p q is ok key {used} {more} x =
+    let most = half_searched p x.ended is (begins_run p.start p.passes x.ended.seen q.seen x.to ok) key x.quiet x.searches in
+    more_often 9 (listed_for p key) (disturbed p x.ended key) (disturbed p q key) used more most (disturbed_on p x.ended q is ok key x.to)
+
+-- and after two
+pub twice_paid : (p q r : Trace) → IsStart p.start → IsRun p.start p.passes r.seen → (key : ℕ) → Quiet p q → {used now more more2 : ℕ} → SearchedFor p q key 0 used more → SearchedFor q r key used now more2 → now ≤ 18 * (listed_for p key + disturbed p r key) + searches_more (listed_for p key) (disturbed p r key) + (more + more2)
+twice_paid p q r is ok key quiet {used} {now} {more} {more2} x y =
+    let m = y.ended in
+    let ok_m = begins_run p.start p.passes m.seen r.seen y.to ok in
+    let ok_q = begins_run p.start p.passes q.seen m.seen y.quiet.seen ok_m in
+    let first = searched_first p q is ok_q key x in
+    let both = both_searched p q m is ok_m key quiet.same quiet.seen y.quiet.seen (met_quiet p m is ok_m key (quiet_on quiet y.quiet)) first y.searches in
+    more_often 18 (listed_for p key) (disturbed p m key) (disturbed p r key) now (more + more2) (omega (arith, both)) (disturbed_on p m r is ok key y.to)
+
+-- a budget that has no room for one more piece was below what is enough
+pub insert_lacks : (p q r : Trace) → IsStart p.start → IsRun p.start p.passes r.seen → (key budget used taking : ℕ) → Quiet p q → Quiet q r → SearchedFor p q key 0 used (taking + 3) → SearchesFor q r key used (budget + 1) 11 → budget < enough_to_insert_among (listed_for p key) (disturbed p r key) taking
+insert_lacks p q r is ok key budget used taking quiet then x y =
+    let first = searched_first p q is (begins_run p.start p.passes q.seen r.seen then.seen ok) key x in
+    let both = both_searched p q r is ok key quiet.same quiet.seen then.seen (met_quiet p r is ok key (quiet_on quiet then)) first y in
+    omega (arith, both)

@@ -67,9 +67,13 @@ remove_costs p key = 9 * listed_for p key + 10 + steps_to_value_of p.start
 abbrev pub enough_to_unlink : Trace → ℕ → ℕ
 enough_to_unlink p key = remove_costs p key + 2
 
--- an insert twice nine for each, those of taking a slot, and nine, and that of storing the value
+-- an insert past so many nodes: twice nine for each, those of taking a slot, and nine, and those of storing the value
+abbrev pub insert_costs_past : ℕ → ℕ → ℕ → ℕ
+insert_costs_past nodes taking storing = 18 * nodes + taking + 9 + storing
+
+-- among those of the key's bucket
 abbrev pub insert_costs : PassView → ℕ → ℕ
-insert_costs p key = 18 * listed_for p.trace key + most_to_take p.trace.start p.pool + 9 + steps_to_value p.trace.start.shape.values
+insert_costs p key = insert_costs_past (listed_for p.trace key) (most_to_take p.trace.start p.pool) (steps_to_value p.trace.start.shape.values)
 
 -- a refusal for want of steps comes of a budget below so many
 abbrev pub LacksSteps : ℕ → ℕ → Refusal → Type 0

@@ -4,7 +4,10 @@ use Rattle.vbr_words.specs.Buckets.{bucket_of}
 use Rattle.vbr_machine.specs.Accounts.{incarnations_after}
 use Rattle.vbr_machine.specs.Disturbances.{disturbances, marked_nodes, own_changes, updates}
 use Rattle.vbr_machine.specs.declared.event.Event.{Event}
-use Rattle.vbr_slots.specs.Views.{Trace}
+use Rattle.vbr_slots.specs.Views.{PassView, Trace}
+use Rattle.vbr_at_table.specs.Budgets.{most_to_take_among}
+use Rattle.vbr_at_table.specs.Gained.{gained}
+use Rattle.vbr_list.specs.Budgets.{enough_past, insert_costs_past}
 
 -- how often other passes had disturbed this one at a key's bucket, after these events: they inserted, marked or unlinked a node there, or advanced the epoch
 abbrev pub disturbed_after : Trace → ℕ → List Event → ℕ
@@ -36,9 +39,21 @@ changed_after p key run = own_changes p.start run p.who (bucket_of p.start.shape
 abbrev pub enough_to_search_among : ℕ → ℕ → ℕ
 enough_to_search_among nodes times = (times + 1) * (9 * (nodes + times) + 11)
 
--- enough to insert with a slot in the own pool: two searches, a slot, and once more for each time that it is disturbed
-abbrev pub enough_to_insert_among : ℕ → ℕ → ℕ
-enough_to_insert_among nodes times = (times + 2) * (9 * (nodes + times) + 11) + 80
+-- what an insert has to do more than alone where it is disturbed so often: for each time one more search among all nodes that it can meet, and seven steps
+abbrev pub searches_more : ℕ → ℕ → ℕ
+searches_more nodes times = times * (9 * (nodes + times) + 7)
+
+-- enough to insert among so many nodes, for a pass that is disturbed so often and takes a slot in so many steps
+abbrev pub enough_to_insert_among : ℕ → ℕ → ℕ → ℕ
+enough_to_insert_among nodes times taking = enough_past (nodes + times) taking + searches_more nodes times
+
+-- the most that it costs where it is answered, with so many steps to store a value
+abbrev pub insert_costs_among : ℕ → ℕ → ℕ → ℕ → ℕ
+insert_costs_among nodes times taking storing = insert_costs_past (nodes + times) taking storing + searches_more nodes times
+
+-- the most steps in which the call takes a slot, while other passes take slots out of the shared pool
+abbrev pub steps_for_slot : PassView → Trace → ℕ
+steps_for_slot p q = most_to_take_among p.trace.start p.pool (gained p.trace q)
 
 -- the most that it costs where it is found
 abbrev pub find_costs_among : ℕ → ℕ → ℕ

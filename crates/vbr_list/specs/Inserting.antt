@@ -1,24 +1,25 @@
 -- An insert, piece by piece: it takes a slot once it has found the key absent, and then links it. Only contracts of private functions cite this.
-use Rattle.std.specs.Prelude.{◌≡◌, ◌≢◌, [], ℕ, ◌+◌, ◌*◌, ◌<◌, ◌≤◌, Bool, false, length, Option, Some, None}
+use Rattle.std.specs.Prelude.{◌≡◌, ℕ, ◌+◌, ◌*◌, ◌<◌, ◌≤◌, Bool, false, length, Option, Some, None}
 use Rattle.vbr_words.specs.declared.nodes.Nodes.{Ghosts}
+use Rattle.vbr_machine.specs.Runs.{Begins}
 use Rattle.vbr_machine.specs.declared.history.Op.TheVariants.{Insert}
 use Rattle.vbr_slots.specs.declared.pass.TheConstants.{POOL}
 use Rattle.vbr_slots.specs.Calls.{Quiet}
 use Rattle.vbr_slots.specs.Views.{Trace, PassView}
 use Rattle.vbr_at_table.specs.Advances.{AdvancesWhereNeeded}
-use Rattle.vbr_at_table.specs.Budgets.{most_to_take, steps_to_take}
+use Rattle.vbr_at_table.specs.Budgets.{steps_to_take_among}
+use Rattle.vbr_at_table.specs.Gained.{gained}
 use Rattle.vbr_at_table.specs.Hands.{HandView, IsHandOf}
 use Rattle.vbr_at_table.specs.KeptSlots.{HasStill, KeepsSlots, SharesWhereFull, TakesNoSlot}
 use Rattle.vbr_at_table.specs.Refusals.{HasNoSlot, IsSpent}
 use Rattle.vbr_at_table.specs.Steps.{CountsSteps}
 use Rattle.vbr_at_table.specs.declared.budget.TheConstants.{PIECE}
-use Rattle.vbr_at_table.specs.Alone.{NextStands, StandsNow}
 use Rattle.vbr_at_table.specs.Moments.{WasSo}
 use Rattle.vbr_at_table.specs.Values.{steps_to_update}
-use Rattle.vbr_list.specs.Budgets.{LacksSteps, enough_to_search, listed_for}
-use Rattle.vbr_list.specs.Disturbed.{disturbed_after}
+use Rattle.vbr_list.specs.Budgets.{LacksSteps}
+use Rattle.vbr_list.specs.Disturbed.{disturbed_after, steps_for_slot}
 use Rattle.vbr_list.specs.Walking.{LosesFound, LosesNext, met_since}
-use Rattle.vbr_list.specs.Pieces.{IsPiece, IsSameCall, Replies, Stores, WasAlone, pass_in, trace_in}
+use Rattle.vbr_list.specs.Pieces.{IsPiece, IsSameCall, Replies, Stores, pass_in, trace_in}
 use Rattle.vbr_list.specs.Refusals.{FoundNoSlot}
 use Rattle.vbr_list.specs.declared.call.PendingCall.{PendingCall}
 use Rattle.vbr_list.specs.declared.found.Found.{Found}
@@ -69,11 +70,10 @@ InsertIsShort p q before budget (EpochSpent epoch) = ⊥
 
 -- ---- an answer no
 
--- the insert isn't answered, and no call was made, as the node with the key is lost, which it isn't alone, where that stands
+-- the insert isn't answered, and no call was made, as the node with the key is lost
 pub record DeniesNone {N : Type 0} {kind : Ghosts N} (c d : PendingCall N kind) (found : Found) : Type 0 where
   pub quiet : Quiet (trace_in c) (trace_in d)
   pub loses : LosesNext (trace_in c) (trace_in d) found.cur
-  pub wins : NextStands (trace_in c) found.cur → WasAlone c d → ⊥
 
 -- ---- a slot is taken
 
@@ -86,58 +86,52 @@ pub record Prepares {N : Type 0} {kind : Ghosts N} (c d : PendingCall N kind) : 
   pub had : HasStill (pass_in c) (pass_in d)
   pub shared : SharesWhereFull 2 (pass_in c) (pass_in d)
 
--- a slot is in hand; alone, in so many steps, and so where the own pool had slots
+-- a slot is in hand, in no more steps than that takes while others take slots out of the shared pool
 pub record Provides {N : Type 0} {kind : Ghosts N} (c d : PendingCall N kind) (hand : HandView) : Type 0 where
   pub has : HasHandAndRoom (pass_in d) hand
-  pub few : WasAlone c d → d.used ≤ c.used + steps_to_take (trace_in c).start (pass_in c).pool
-  pub ready : (pass_in c).pool ≢ [] → d.used ≤ c.used + (POOL + 4)
+  pub few : d.used ≤ c.used + steps_to_take_among (trace_in c).start (pass_in c).pool (gained (trace_in c) (trace_in d))
 
--- none is; alone, a budget with seven steps more has enough, and where the own pool has slots one with 80
+-- none is; a budget with seven steps more has enough
 pub record ProvidesNone {N : Type 0} {kind : Ghosts N} (c d : PendingCall N kind) (refusal : Refusal) : Type 0 where
   pub hand : (pass_in d).hand ≡ None
   pub says : TakesNone (pass_in c) (pass_in d) c.used c.budget refusal
-  pub enough : WasAlone c d → LacksSteps (c.used + steps_to_take (trace_in c).start (pass_in c).pool + 7) c.budget refusal
-  pub ready : (pass_in c).pool ≢ [] → LacksSteps (c.used + 80) c.budget refusal
+  pub enough : LacksSteps (c.used + steps_to_take_among (trace_in c).start (pass_in c).pool (gained (trace_in c) (trace_in d)) + 7) c.budget refusal
 
--- searches for a key, each but the last disturbed, and each with so many steps for a node; and so many steps more
+-- searches for a key, each but the last disturbed: so many steps for each node of each of them, seven for each that was disturbed, and so many more
 pub record SearchesFor (p q : Trace) (key before since more : ℕ) : Type 0 where
   pub lost : ℕ
   pub few : disturbed_after p key p.seen + lost ≤ disturbed_after p key q.seen
-  pub paid : since ≤ before + (lost + 1) * (9 * met_since p q key + 7) + more
+  pub paid : since ≤ before + 9 * met_since p q key + lost * (9 * met_since p q key + 7) + more
 
--- so it is of one that has a hand then
-abbrev pub SearchesForHand : Trace → Trace → ℕ → ℕ → ℕ → Option HandView → Type 0
-SearchesForHand p q key before since None = Unit {0}
-SearchesForHand p q key before since (Some hand) = SearchesFor p q key before since (POOL + 4)
+-- so it is until a moment at which the pass had made no call yet
+pub record SearchedFor (p q : Trace) (key before since more : ℕ) : Type 0 where
+  pub ended : Trace
+  pub quiet : Quiet p ended
+  pub to : Begins ended.seen q.seen
+  pub searches : SearchesFor p ended key before since more
 
--- and of one whose budget has no room for one more piece, if it was refused for want of steps
+-- so it is of one whose budget has no room for one more piece, if it was refused for want of steps
 abbrev pub SearchesInVain : Trace → Trace → ℕ → ℕ → ℕ → ℕ → Refusal → Type 0
 SearchesInVain p q key before budget more (OutOfSteps used) = SearchesFor p q key before (budget + 1) more
 SearchesInVain p q key before budget more NoSlot = Unit {0}
 SearchesInVain p q key before budget more (EpochSpent epoch) = Unit {0}
-
--- how many steps it takes a pass that is alone to come to the key and then to take a slot, beside three to start and seven that the budget needs more
-abbrev pub steps_to_prepare : {N : Type 0} {kind : Ghosts N} → PendingCall N kind → ℕ
-steps_to_prepare c = 9 * listed_for (trace_in c) c.key + most_to_take (trace_in c).start (pass_in c).pool
 
 -- the pass has answered no; or it has made no call, and has a slot in hand
 abbrev pub IsPrepared : {N : Type 0} {kind : Ghosts N} → PendingCall N kind → PendingCall N kind → Option HandView → Type 0
 IsPrepared c d None = Replies Insert c d false × ((pass_in d).hand ≡ None)
 IsPrepared c d (Some hand) = Quiet (trace_in c) (trace_in d) × HasHandAndRoom (pass_in d) hand
 
--- so it is; alone, in so many steps
+-- so it is, once it has come to the key and then taken a slot
 pub record PreparesHand {N : Type 0} {kind : Ghosts N} (c d : PendingCall N kind) (hand : Option HandView) : Type 0 where
   pub is : IsPrepared c d hand
-  pub few : WasAlone c d → d.used ≤ c.used + steps_to_prepare c + 3
-  pub searches : (pass_in c).pool ≢ [] → SearchesForHand (trace_in c) (trace_in d) c.key c.used d.used hand
+  pub searched : SearchedFor (trace_in c) (trace_in d) c.key c.used d.used (steps_for_slot (pass_in c) (trace_in d) + 3)
 
--- it isn't; alone, a budget with seven steps more has enough
+-- it isn't; a budget with seven steps more has enough
 pub record PreparesNone {N : Type 0} {kind : Ghosts N} (c d : PendingCall N kind) (refusal : Refusal) : Type 0 where
   pub quiet : Quiet (trace_in c) (trace_in d)
   pub hand : (pass_in d).hand ≡ None
   pub says : RefusesInsert (pass_in c) (pass_in d) c.key c.used c.budget refusal
-  pub enough : WasAlone c d → LacksSteps (c.used + steps_to_prepare c + 10) c.budget refusal
-  pub searches : (pass_in c).pool ≢ [] → SearchesInVain (trace_in c) (trace_in d) c.key c.used c.budget 80 refusal
+  pub searches : SearchesInVain (trace_in c) (trace_in d) c.key c.used c.budget (steps_for_slot (pass_in c) (trace_in d) + 10) refusal
 
 -- ---- the slot is linked
 
@@ -154,12 +148,11 @@ pub record InsertAnswers {N : Type 0} {kind : Ghosts N} (value : ℕ) (c d : Pen
   pub made : Stores value c d reply
   pub spent : (pass_in d).hand ≡ None
 
--- it isn't answered, and the hand comes back, as what was found is lost, which it isn't alone, where that stands
+-- it isn't answered, and the hand comes back, as what was found is lost
 pub record GivesHandBack {N : Type 0} {kind : Ghosts N} (c d : PendingCall N kind) (found : Found) (back : HandView) : Type 0 where
   pub quiet : Quiet (trace_in c) (trace_in d)
   pub hand : HasHandAndRoom (pass_in d) back
   pub loses : LosesFound (trace_in c) (trace_in d) found
-  pub wins : StandsNow (trace_in c) found.pred → NextStands (trace_in c) found.cur → WasAlone c d → ⊥
 
 -- all its pieces: the steps are within the budget, it takes no slot, and the hand is empty then
 pub record Links {N : Type 0} {kind : Ghosts N} (c d : PendingCall N kind) : Type 0 where
@@ -168,14 +161,13 @@ pub record Links {N : Type 0} {kind : Ghosts N} (c d : PendingCall N kind) : Typ
   pub takes_no_slot : TakesNoSlot (pass_in c) (pass_in d)
   pub spent : (pass_in d).hand ≡ None
 
--- the insert is answered; alone, in so many steps
+-- the insert is answered, once it has come to the key
 pub record LinksHand {N : Type 0} {kind : Ghosts N} (value : ℕ) (c d : PendingCall N kind) (reply : Bool) : Type 0 where
   pub made : Stores value c d reply
-  pub few : WasAlone c d → d.used ≤ c.used + 3 + 9 * listed_for (trace_in c) c.key + steps_to_update (trace_in c).start
+  pub searched : SearchedFor (trace_in c) (trace_in d) c.key c.used d.used (steps_to_update (trace_in c).start + 3)
 
 -- it isn't linked, for want of steps
 pub record LinksNone {N : Type 0} {kind : Ghosts N} (c d : PendingCall N kind) (refusal : Refusal) : Type 0 where
   pub quiet : Quiet (trace_in c) (trace_in d)
   pub says : InsertIsShort (pass_in c) (pass_in d) c.used c.budget refusal
-  pub short : WasAlone c d → c.budget < c.used + enough_to_search (trace_in c) c.key
-  pub searches : SearchesFor (trace_in c) (trace_in d) c.key c.used (c.budget + 1) 8
+  pub searches : SearchesFor (trace_in c) (trace_in d) c.key c.used (c.budget + 1) 11

@@ -11,15 +11,16 @@ use Rattle.vbr_slots.specs.Views.{PassView, Trace}
 use Rattle.vbr_at_table.specs.Advances.{AdvancesWhereNeeded}
 use Rattle.vbr_at_table.specs.KeptSlots.{HasUnpublished, KeepsSlots, SharesWhereFull, TakesNoSlot}
 use Rattle.vbr_at_table.specs.Steps.{TookWithin}
+use Rattle.vbr_at_table.specs.Values.{steps_to_value}
 use Rattle.vbr_list.specs.Alone.{AnswersAlone}
 use Rattle.vbr_list.specs.Budgets.{IsAnsweredOrSpent, LacksSteps, enough_to_insert, enough_to_look_up, enough_with_a_slot, get_costs, insert_costs, listed_for, look_up_costs}
-use Rattle.vbr_list.specs.Disturbed.{costs_among, disturbed, enough_among, enough_to_insert_among}
+use Rattle.vbr_list.specs.Disturbed.{costs_among, disturbed, enough_among, enough_to_insert_among, insert_costs_among, steps_for_slot}
 use Rattle.vbr_list.specs.Leaving.{SparesRemove}
 use Rattle.vbr_list.specs.Refusals.{IsRefusedInsert, IsTired}
 use Rattle.vbr_list.specs.Told.{given_call, stored_call}
 use Rattle.vbr_list.specs.declared.refusal.Refusal.{Refusal}
 
--- what an insert promises besides: it advances the epoch only where that is needed, loses no slot, has each that it had but for the one that it published, puts one into the shared pool only where its own has no more than two places left, and is refused where it must be; alone it has steps enough with a budget that is known before, and with a slot in the own pool it is answered, unless the epoch is spent; and alone its answer costs no more than is known before; and with a slot in the own pool a pass that was disturbed so often has steps enough with a budget for that
+-- what an insert promises besides: it advances the epoch only where that is needed, loses no slot, has each that it had but for the one that it published, puts one into the shared pool only where its own has no more than two places left, and is refused where it must be; alone it has steps enough with a budget that is known before, and with a slot in the own pool it is answered, unless the epoch is spent; and alone its answer costs no more than is known before; and so it is of a pass that was disturbed so often, where with an empty own pool one step more is counted for each slot that others took out of the shared pool
 pub record SparesInsert (p q : PassView) (key budget : ℕ) (answer : Result Bool Refusal) : Type 0 where
   pub advances : AdvancesWhereNeeded p q
   pub kept : KeepsSlots p q
@@ -27,9 +28,10 @@ pub record SparesInsert (p q : PassView) (key budget : ℕ) (answer : Result Boo
   pub shared : SharesWhereFull 2 p q
   pub refused : IfErr answer (IsRefusedInsert p q key budget)
   pub within : IfErr answer (λ refusal. IsAlone p.trace q.trace → LacksSteps (enough_to_insert p key) budget refusal)
-  pub disturbed_within : p.pool ≢ [] → IfErr answer (λ refusal. LacksSteps (enough_to_insert_among (listed_for p.trace key) (disturbed p.trace q.trace key)) budget refusal)
+  pub disturbed_within : IfErr answer (λ refusal. LacksSteps (enough_to_insert_among (listed_for p.trace key) (disturbed p.trace q.trace key) (steps_for_slot p q.trace)) budget refusal)
   pub ready : p.pool ≢ [] → IsAlone p.trace q.trace → enough_with_a_slot p.trace key ≤ budget → IsAnsweredOrSpent answer
   pub costs : IfOk answer (λ reply. IsAlone p.trace q.trace → TookWithin p.trace q.trace (insert_costs p key))
+  pub disturbed_costs : IfOk answer (λ reply. TookWithin p.trace q.trace (insert_costs_among (listed_for p.trace key) (disturbed p.trace q.trace key) (steps_for_slot p q.trace) (steps_to_value p.trace.start.shape.values)))
 
 -- what a call that looks a key up promises besides: all its steps are loads, and its answer is all that it adds to the chronicle; it advances no epoch, loses no slot, and is refused for want of steps alone; alone it has steps enough with a budget that is known before, and its answer costs no more than is known before; and so it is of a pass that was disturbed so often, by updates of others in the key's bucket and advances of the epoch
 pub record SparesLookUp {A : Type 0} (told : A → Call) (most : ℕ) (p q : PassView) (key budget : ℕ) (answer : Result A Refusal) : Type 0 where

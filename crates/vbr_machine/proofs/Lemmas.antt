@@ -60,5 +60,7 @@ pub use Rattle.vbr_machine.proofs.Since.{Since, changed_disturbed, disturbances_
 pub use Rattle.vbr_machine.proofs.MovedEpochs.{AdvancesNone, IsAdvance, moved_by_others, moved_by_steps}
 pub use Rattle.vbr_machine.proofs.Visits.{ahead_few, head_visited, known_open, met_bound, met_later, met_on, next_visited, shown_there, unmarked_open, visited_few, visited_on}
 pub use Rattle.vbr_machine.proofs.OwnInserts.{met_bound_quiet}
+-- A slot that was in the shared pool, and isn't there after events of other passes, was gained by one of these.
+pub use Rattle.vbr_machine.proofs.GainedSlots.{gains_grow, own_gains_uncounted, slot_gained}
 -- What disturbances are: updates that were answered, and advances.
 pub use Rattle.vbr_machine.proofs.Progress.{disturbances_paid}

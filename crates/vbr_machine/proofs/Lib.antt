@@ -75,6 +75,7 @@ mod Visits
 mod OwnInserts
 mod Progress
 mod MovedEpochs
+mod GainedSlots
 mod WorkedLists
 mod WorkedMaps
 mod WorkedChronicles

@@ -24,6 +24,7 @@ pub mod Nodes
 pub mod Removals
 pub mod Agreement
 pub mod Disturbances
+pub mod Gains
 pub mod SlotPlaces
 pub mod Whereabouts
 pub mod Safety

@@ -1,7 +1,7 @@
 -- What runs out of steps was disturbed, and what disturbs is answered.
 use Rattle.std.proofs.Common.{arith}
 use Rattle.vbr_list.specs.Budgets.{listed_for}
-use Rattle.vbr_list.specs.Disturbed.{disturbed, most_disturbed}
+use Rattle.vbr_list.specs.Disturbed.{disturbed, most_disturbed, steps_for_slot}
 use Rattle.vbr_list.proofs.Lemmas.{disturbed_most, enough_among_more, enough_to_insert_more, enough_to_search_more, lacks_more}
 use Rattle.vbr_set.specs.Laws.{InsertsMakeProgress, LookUpsMakeProgress, RemovesMakeProgress}
 
@@ -20,7 +20,7 @@ removes_progress p q key budget refusal law called =
     omega (arith, less, more)
 
 pub inserts_progress : InsertsMakeProgress
-inserts_progress p q key budget refusal law some called =
+inserts_progress p q key budget refusal law called =
     let most = disturbed_most p.trace q.trace law.start law.is_run key called.quiet in
-    let more = enough_to_insert_more (listed_for p.trace key) (disturbed p.trace q.trace key) (most_disturbed p.trace q.trace) most in
-    lacks_more _ _ budget refusal more (called.spares.disturbed_within some)
+    let more = enough_to_insert_more (listed_for p.trace key) (disturbed p.trace q.trace key) (most_disturbed p.trace q.trace) (steps_for_slot p q.trace) most in
+    lacks_more _ _ budget refusal more called.spares.disturbed_within

@@ -25,7 +25,7 @@ use Rattle.vbr_at_table.specs.Counts.{advances, is_advance}
 use Rattle.vbr_at_table.proofs.Lemmas.{did_none}
 use Rattle.vbr_list.specs.Budgets.{listed_for}
 use Rattle.vbr_list.specs.Cursors.{SeesMore}
-use Rattle.vbr_list.specs.Disturbed.{disturbed}
+use Rattle.vbr_list.specs.Disturbed.{disturbed, steps_for_slot}
 use Rattle.vbr_list.specs.declared.refusal.Refusal.{Refusal}
 use Rattle.vbr_list.proofs.Lemmas.{enough_among_more, enough_to_insert_more, enough_to_search_more, lacks_more, sees_on}
 use Rattle.vbr_set.specs.MapCalls.{MapCalled}
@@ -126,9 +126,9 @@ stretches_progress =
           let less = called.spares.disturbed_within in
           let more = enough_to_search_more (listed_for p.trace key) (disturbed p.trace q.trace key) (most_disturbed_by inserts p.trace q.trace) (disturbed_by p q inserts key law stretch) in
           omega (arith, less, more);
-      insert = λ p q inserts key budget refusal law some stretch called.
-          let more = enough_to_insert_more (listed_for p.trace key) (disturbed p.trace q.trace key) (most_disturbed_by inserts p.trace q.trace) (disturbed_by p q inserts key law stretch) in
-          lacks_more _ _ budget refusal more (called.spares.disturbed_within some);
+      insert = λ p q inserts key budget refusal law stretch called.
+          let more = enough_to_insert_more (listed_for p.trace key) (disturbed p.trace q.trace key) (most_disturbed_by inserts p.trace q.trace) (steps_for_slot p q.trace) (disturbed_by p q inserts key law stretch) in
+          lacks_more _ _ budget refusal more called.spares.disturbed_within;
     }
 
 -- ---- the calls

@@ -1,5 +1,5 @@
 -- What the laws of a set say: those of tokens, and those of room.
-use Rattle.std.specs.Prelude.{◌≢◌, [], ℕ, ◌+◌, ◌-◌, ◌*◌, ◌<◌, ◌≤◌, Bool, Err, List, Result, length}
+use Rattle.std.specs.Prelude.{ℕ, ◌+◌, ◌-◌, ◌*◌, ◌<◌, ◌≤◌, Bool, Err, List, Result, length}
 use Rattle.vbr_machine.specs.History.{set_after}
 use Rattle.vbr_machine.specs.Keys.{AreKeysOf}
 use Rattle.vbr_machine.specs.Nodes.{marked_after}
@@ -19,7 +19,7 @@ use Rattle.vbr_slots.specs.Views.{Did, KeepsPool, PassView, TableView, Trace, ne
 use Rattle.vbr_slots.specs.declared.pass.TheConstants.{POOL}
 use Rattle.vbr_at_table.specs.KeptSlots.{UnlinkedInTurn}
 use Rattle.vbr_list.specs.Budgets.{LacksSteps, listed_for}
-use Rattle.vbr_list.specs.Disturbed.{enough_among, enough_to_insert_among, enough_to_search_among, most_disturbed}
+use Rattle.vbr_list.specs.Disturbed.{enough_among, enough_to_insert_among, enough_to_search_among, most_disturbed, steps_for_slot}
 use Rattle.vbr_list.specs.Sparing.{Calls}
 use Rattle.vbr_list.specs.declared.refusal.Refusal.{Refusal}
 use Rattle.vbr_list.specs.declared.refusal.Refusal.TheVariants.{NoSlot}
@@ -39,9 +39,9 @@ LookUpsMakeProgress = (p q : PassView) (key budget : ℕ) (refusal : Refusal) �
 abbrev pub RemovesMakeProgress : Type 0
 RemovesMakeProgress = (p q : PassView) (key budget : ℕ) (refusal : Refusal) → PassLaw p → Calls Remove p q key budget (Err refusal) → budget < enough_to_search_among (listed_for p.trace key) (most_disturbed p.trace q.trace)
 
--- and so of an insert that is refused for want of steps, with a slot in the own pool
+-- and so of an insert that is refused for want of steps, whose own pool had a slot, or which took one out of the shared pool while others took so many
 abbrev pub InsertsMakeProgress : Type 0
-InsertsMakeProgress = (p q : PassView) (key budget : ℕ) (refusal : Refusal) → PassLaw p → p.pool ≢ [] → Calls Insert p q key budget (Err refusal) → LacksSteps (enough_to_insert_among (listed_for p.trace key) (most_disturbed p.trace q.trace)) budget refusal
+InsertsMakeProgress = (p q : PassView) (key budget : ℕ) (refusal : Refusal) → PassLaw p → Calls Insert p q key budget (Err refusal) → LacksSteps (enough_to_insert_among (listed_for p.trace key) (most_disturbed p.trace q.trace) (steps_for_slot p q.trace)) budget refusal
 
 -- ---- tokens
 

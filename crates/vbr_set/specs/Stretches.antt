@@ -1,5 +1,5 @@
 -- What the calls of all passes did in a stretch of a run, and how often it can have disturbed one of them.
-use Rattle.std.specs.Prelude.{◌≡◌, ◌≢◌, [], ℕ, ◌+◌, ◌-◌, ◌*◌, ◌<◌, ◌≤◌, Bool, Err, Option, Result}
+use Rattle.std.specs.Prelude.{◌≡◌, ℕ, ◌+◌, ◌-◌, ◌*◌, ◌<◌, ◌≤◌, Bool, Err, Option, Result}
 use Rattle.vbr_machine.specs.Accounts.{incarnations_after}
 use Rattle.vbr_machine.specs.Disturbances.{marked_nodes, updates}
 use Rattle.vbr_machine.specs.Runs.{Begins, IsRun}
@@ -15,7 +15,7 @@ use Rattle.vbr_at_table.specs.Counts.{advances}
 use Rattle.vbr_at_table.specs.KeptSlots.{TakesNoSlot}
 use Rattle.vbr_list.specs.Budgets.{LacksSteps, listed_for}
 use Rattle.vbr_list.specs.Cursors.{SeesMore}
-use Rattle.vbr_list.specs.Disturbed.{disturbed, enough_among, enough_to_insert_among, enough_to_search_among}
+use Rattle.vbr_list.specs.Disturbed.{disturbed, enough_among, enough_to_insert_among, enough_to_search_among, steps_for_slot}
 use Rattle.vbr_list.specs.Sparing.{Calls}
 use Rattle.vbr_list.specs.declared.refusal.Refusal.{Refusal}
 use Rattle.vbr_set.specs.MapCalls.{GetsEntry, InsertsEntry, RemovesEntry}
@@ -75,11 +75,11 @@ most_disturbed_by inserts p q = sum_of q.passes inserts
 abbrev pub StretchesDisturb : Type 0
 StretchesDisturb = (p q : PassView) (inserts : ℕ → ℕ) (key : ℕ) → PassLaw p → Stretch p.trace q.trace inserts → disturbed p.trace q.trace key ≤ most_disturbed_by inserts p.trace q.trace
 
--- so a call that is refused for want of steps had a budget below what is enough for that: a look-up, a remove, and an insert with a slot in the own pool
+-- so a call that is refused for want of steps had a budget below what is enough for that: a look-up, a remove or an insert
 pub record StretchesMakeProgress : Type 0 where
   pub look_up : (p q : PassView) (inserts : ℕ → ℕ) (key budget : ℕ) (refusal : Refusal) → PassLaw p → Stretch p.trace q.trace inserts
       → Calls Has p q key budget (Err refusal) → budget < enough_among (listed_for p.trace key) (most_disturbed_by inserts p.trace q.trace)
   pub remove : (p q : PassView) (inserts : ℕ → ℕ) (key budget : ℕ) (refusal : Refusal) → PassLaw p → Stretch p.trace q.trace inserts
       → Calls Remove p q key budget (Err refusal) → budget < enough_to_search_among (listed_for p.trace key) (most_disturbed_by inserts p.trace q.trace)
-  pub insert : (p q : PassView) (inserts : ℕ → ℕ) (key budget : ℕ) (refusal : Refusal) → PassLaw p → p.pool ≢ [] → Stretch p.trace q.trace inserts
-      → Calls Insert p q key budget (Err refusal) → LacksSteps (enough_to_insert_among (listed_for p.trace key) (most_disturbed_by inserts p.trace q.trace)) budget refusal
+  pub insert : (p q : PassView) (inserts : ℕ → ℕ) (key budget : ℕ) (refusal : Refusal) → PassLaw p → Stretch p.trace q.trace inserts
+      → Calls Insert p q key budget (Err refusal) → LacksSteps (enough_to_insert_among (listed_for p.trace key) (most_disturbed_by inserts p.trace q.trace) (steps_for_slot p q.trace)) budget refusal

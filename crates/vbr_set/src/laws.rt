@@ -27,8 +27,10 @@ pub fn removes_make_progress()
     ensures { RemovesMakeProgress }
 {}
 
-/// A law: so it is of an insert with a slot in the pass's own pool, that is refused for want of steps:
-/// its budget was below (m + 2) * (9 * (n + m) + 11) + 80.
+/// A law: so it is of an insert that is refused for want of steps. With a slot in the pass's own pool
+/// its budget was below (m + 2) * (9 * (n + m) + 7) + 68. With none, 68 stands for the greater of it and
+/// w + 6, with w flag words, and besides for each slot that other passes took out of the shared pool
+/// meanwhile the bound is one more.
 pub fn inserts_make_progress()
     ensures { InsertsMakeProgress }
 {}

@@ -18,7 +18,7 @@ pub fn stretches_disturb()
 {}
 
 /// A law: so a call that is refused for want of steps had a budget below what is enough for that many
-/// disturbances: a look-up, a remove, and an insert with a slot in the pass's own pool.
+/// disturbances: a look-up, a remove or an insert.
 pub fn stretches_make_progress()
     ensures { StretchesMakeProgress }
 {}

@@ -1,7 +1,6 @@
 use Rattle.std.specs.Prelude.{Result, Ok, Err, IfOk, OnOk}
 use Rattle.vbr_slots.specs.Views.{knows}
 use Rattle.std.proofs.Common.{Option, subst, sym}
-use Rattle.vbr_at_table.specs.Alone.{NextStands}
 use Rattle.vbr_at_table.specs.Answering.{FindsAnother}
 use Rattle.vbr_at_table.specs.declared.held.Held.{Held}
 use Rattle.vbr_at_table.proofs.Lemmas.{unchanged_by_none}
@@ -29,10 +28,8 @@ returns-clause-rolls g c =
     let p = c.args.self.now.at.stepper.now.trace in
     let r = c.confirm_present_entry.new.at.stepper.now.trace in
     let Q : Option Held → Type 0 = LosesNext p r in
-    let P : Option Held → Type 0 = NextStands p in
     each_error (FindsAnother p r c.in-Some.cur) _ c.confirm_present_entry.result
     (λ rollback lost. record {
       quiet = lost.quiet;
       loses = subst Q (sym c.in-Some.is) (lost_place c.in-Some.cur rollback lost.lost (unchanged_by_none c.law.ensures.start (run_at p r lost.quiet.same (lost.quiet.is_run c.law.ensures.is_run)) lost.quiet.same lost.quiet.seen lost.adds_none));
-      wins = λ next alone. lost.wins alone (subst P c.in-Some.is next);
     }) c.confirm_present_entry.ensures.lost

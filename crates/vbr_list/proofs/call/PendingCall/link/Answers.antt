@@ -1,16 +1,13 @@
-use Rattle.std.proofs.Common.{rules, ◌+◌, ◌*◌, ◌<◌, ◌≤◌, ◌∙◌, ap, sym, subst, arith}
-use Rattle.vbr_slots.specs.Alone.{IsAlone}
+use Rattle.std.proofs.Common.{rules, ◌+◌, ◌∙◌, ap, sym, subst, arith}
 use Rattle.vbr_slots.specs.Calls.{Quiet}
 use Rattle.vbr_slots.specs.Views.{Trace}
-use Rattle.vbr_slots.proofs.Lemmas.{alone_first, quiet_on}
+use Rattle.vbr_slots.proofs.Lemmas.{quiet_on}
 use Rattle.vbr_at_table.proofs.Lemmas.{had_back, had_grown, had_on, had_then, no_room, none_back, none_on}
 use Rattle.vbr_at_table.specs.Values.{steps_to_update}
-use Rattle.vbr_list.specs.Budgets.{enough_to_search, listed_for}
 use Rattle.vbr_list.specs.Inserting.{SearchesFor}
 use Rattle.vbr_list.proofs.Going.{call_on, within_call}
 use Rattle.vbr_list.proofs.Disturbing.{run_at}
 use Rattle.vbr_list.proofs.Walking.{few_to_update_most, search_round_on, searches_end}
-use Rattle.vbr_list.proofs.Nearing.{at_first, first_lost, first_of, then_of}
 use Rattle.vbr_list.proofs.Preparing.{within_on, within_same}
 use Rattle.vbr_list.proofs.Told.{stored_same, told_since}
 use Rattle.vbr_list.proofs.call.PendingCall.link.Goals as goal
@@ -32,13 +29,11 @@ loop-found-preserved g c =
       none_on (none_on c.loop-found.invariant.3 s.goes.hand.takes_no_slot) more.takes_no_slot,
       back.hand,
       had_on p q r (had_on p c.loop-found.self.at.stepper.now q c.loop-found.invariant.5 (had_grown c.loop-found.self.at.stepper.now q s.goes.hand.takes_no_slot.grows s.goes.hand.hand)) (rw c.in-Err.is at c.settle_insert.ensures.had),
-      first_lost p c.loop-found.self.at.stepper.now r c.loop-found.invariant.6 c.loop-found.invariant.1 (quiet_on s.goes.quiet back.quiet)
-          (λ alone. let f = c.in-Some.ensures.found.alone (first_of s.goes.quiet back.quiet alone) in back.wins f.pred.stands f.cur (then_of s.goes.quiet back.quiet alone)),
       let first = c.loop-found.invariant.1 in
           let whole = quiet_on (quiet_on first s.goes.quiet) back.quiet in
           let few = more.few in
           let most = few_to_update_most q.trace.start in
-          search_round_on p.trace c.loop-found.self.at.stepper.now.trace q.trace r.trace c.law.ensures.start (run_at p.trace r.trace whole.same (whole.is_run c.law.ensures.is_run)) c.args.self.now.key 4 first.same s.goes.quiet.same whole.same first.seen s.goes.quiet.seen back.quiet.seen more.takes_no_slot.count c.loop-found.invariant.7 c.in-Some.found (rw c.loop-found.invariant.0.key at c.in-Some.ensures.found.last) (omega (arith, few, most)) back.loses,
+          search_round_on p.trace c.loop-found.self.at.stepper.now.trace q.trace r.trace c.law.ensures.start (run_at p.trace r.trace whole.same (whole.is_run c.law.ensures.is_run)) c.args.self.now.key 4 first.same s.goes.quiet.same whole.same first.seen s.goes.quiet.seen back.quiet.seen more.takes_no_slot.count c.loop-found.invariant.6 c.in-Some.found (rw c.loop-found.invariant.0.key at c.in-Some.ensures.found.last) (omega (arith, few, most)) back.loses,
     )
 
 pub returns-in_default-clause-links : goal.returns-in_default-clause-links
@@ -80,19 +75,17 @@ returns-in_default-clause-refused g c =
     let s = c.search.ensures.goes in
     let begun = call_on c.loop-found.invariant.0 s.call in
     let tired = c.in_default.ensures.tired in
-    let P : Trace → Type 0 = λ t. IsAlone c.args.self.now.at.stepper.now.trace t in
     let Q : Trace → Type 0 = λ t. Quiet c.args.self.now.at.stepper.now.trace t in
     let p = c.args.self.now.at.stepper.now.trace in
     let q = c.loop-found.self.at.stepper.now.trace in
     let m = c.search.new.self.at.stepper.now.trace in
     let first = c.loop-found.invariant.1 in
     let whole = quiet_on first s.goes.quiet in
-    let S : Trace → Type 0 = λ t. SearchesFor p t c.args.self.now.key c.args.self.now.used (c.args.self.now.budget + 1) 8 in
+    let S : Trace → Type 0 = λ t. SearchesFor p t c.args.self.now.key c.args.self.now.used (c.args.self.now.budget + 1) 11 in
     record {
       quiet = subst Q (sym c.give_back.ensures.back.trace) (quiet_on c.loop-found.invariant.1 s.goes.quiet);
       says = record { counts = within_same c.give_back.ensures.back.trace (within_on c.loop-found.invariant.2 s.goes.counts s.more (within_call begun)); short = rw c.loop-found.invariant.0.budget at tired.tired };
-      searches = subst S (sym c.give_back.ensures.back.trace) (searches_end p q m c.law.ensures.start (run_at p m whole.same (whole.is_run c.law.ensures.is_run)) c.args.self.now.key first.same first.seen s.goes.quiet.seen c.loop-found.invariant.7 (rw c.loop-found.invariant.0.key at c.in_default.ensures.tired.walks) (c.args.self.now.budget + 1) 8 (let t = rw c.loop-found.invariant.0.budget at tired.tired in omega (arith, t)));
-      short = λ alone. at_first (λ q since. c.args.self.now.budget < since + enough_to_search q.trace c.args.self.now.key) c.args.self.now.at.stepper.now c.loop-found.self.at.stepper.now c.search.new.self.at.stepper.now c.loop-found.invariant.6 c.loop-found.invariant.1 s.goes.quiet (subst P c.give_back.ensures.back.trace alone) (rw (c.loop-found.invariant.0.key, c.loop-found.invariant.0.budget) at tired.short);
+      searches = subst S (sym c.give_back.ensures.back.trace) (searches_end p q m c.law.ensures.start (run_at p m whole.same (whole.is_run c.law.ensures.is_run)) c.args.self.now.key first.same first.seen s.goes.quiet.seen c.loop-found.invariant.6 (rw c.loop-found.invariant.0.key at c.in_default.ensures.tired.walks) (c.args.self.now.budget + 1) 8 11 (let t = rw c.loop-found.invariant.0.budget at tired.tired in omega (arith, t)) (omega arith));
     }
 
 pub returns-then-not-affords-clause-refused : goal.returns-then-not-affords-clause-refused
@@ -100,20 +93,17 @@ returns-then-not-affords-clause-refused g c =
     let s = c.search.ensures.goes in
     let begun = call_on c.loop-found.invariant.0 s.call in
     let short = rw begun.budget at (no_room c.search.new.self.used c.search.new.self.budget c.affords.result c.if-not-affords.true c.affords.ensures.1) in
-    let P : Trace → Type 0 = λ t. IsAlone c.args.self.now.at.stepper.now.trace t in
     let Q : Trace → Type 0 = λ t. Quiet c.args.self.now.at.stepper.now.trace t in
     let p = c.args.self.now.at.stepper.now.trace in
     let q = c.loop-found.self.at.stepper.now.trace in
     let m = c.search.new.self.at.stepper.now.trace in
     let first = c.loop-found.invariant.1 in
     let whole = quiet_on first s.goes.quiet in
-    let S : Trace → Type 0 = λ t. SearchesFor p t c.args.self.now.key c.args.self.now.used (c.args.self.now.budget + 1) 8 in
+    let S : Trace → Type 0 = λ t. SearchesFor p t c.args.self.now.key c.args.self.now.used (c.args.self.now.budget + 1) 11 in
     record {
       quiet = subst Q (sym c.give_back-then-not-affords.ensures.back.trace) (quiet_on c.loop-found.invariant.1 s.goes.quiet);
       says = record { counts = within_same c.give_back-then-not-affords.ensures.back.trace (within_on c.loop-found.invariant.2 s.goes.counts s.more (within_call begun)); short = short };
-      searches = subst S (sym c.give_back-then-not-affords.ensures.back.trace) (searches_end p q m c.law.ensures.start (run_at p m whole.same (whole.is_run c.law.ensures.is_run)) c.args.self.now.key first.same first.seen s.goes.quiet.seen c.loop-found.invariant.7 (rw c.loop-found.invariant.0.key at c.in-Some.ensures.found.walks) (c.args.self.now.budget + 1) 8 (omega (arith, short)));
-      short = λ alone. at_first (λ q since. c.args.self.now.budget < since + enough_to_search q.trace c.args.self.now.key) c.args.self.now.at.stepper.now c.loop-found.self.at.stepper.now c.search.new.self.at.stepper.now c.loop-found.invariant.6 c.loop-found.invariant.1 s.goes.quiet (subst P c.give_back-then-not-affords.ensures.back.trace alone)
-          (λ then. let f = (rw c.loop-found.invariant.0.key at c.in-Some.ensures.found.alone then).paid in omega (arith, f, short));
+      searches = subst S (sym c.give_back-then-not-affords.ensures.back.trace) (searches_end p q m c.law.ensures.start (run_at p m whole.same (whole.is_run c.law.ensures.is_run)) c.args.self.now.key first.same first.seen s.goes.quiet.seen c.loop-found.invariant.6 (rw c.loop-found.invariant.0.key at c.in-Some.ensures.found.walks) (c.args.self.now.budget + 1) 8 11 (omega (arith, short)) (omega arith));
     }
 
 pub returns-in-Ok-clause-links : goal.returns-in-Ok-clause-links
@@ -140,15 +130,20 @@ returns-in-Ok-clause-had g c =
 pub returns-in-Ok-clause-linked : goal.returns-in-Ok-clause-linked
 returns-in-Ok-clause-linked g c =
     let s = c.search.ensures.goes.goes.quiet in
-    let quiet = quiet_on c.loop-found.invariant.1 s in
+    let first = c.loop-found.invariant.1 in
+    let quiet = quiet_on first s in
     let made = rw (call_on c.loop-found.invariant.0 c.search.ensures.goes.call).key at c.in-Ok.ensures.answers.made in
-    let p = c.args.self.now.at.stepper.now in
+    let p = c.args.self.now.at.stepper.now.trace in
+    let q = c.loop-found.self.at.stepper.now.trace in
+    let m = c.search.new.self.at.stepper.now.trace in
+    let few = c.settle_insert.ensures.publishes.few in
+    let start = ap steps_to_update quiet.same.start in
     record {
       made = told_since quiet (stored_same quiet.same c.args.self.now.key c.args.value c.in-Ok.reply) made;
-      few = λ alone.
-          let searched : c.search.new.self.used ≤ c.args.self.now.used + 3 + 9 * listed_for p.trace c.args.self.now.key = at_first (λ q since. c.search.new.self.used ≤ since + 3 + 9 * listed_for q.trace c.args.self.now.key) p c.loop-found.self.at.stepper.now c.search.new.self.at.stepper.now c.loop-found.invariant.6 c.loop-found.invariant.1 s (alone_first quiet.seen made.seen alone)
-          (λ then. (rw c.loop-found.invariant.0.key at c.in-Some.ensures.found.alone then).paid) in
-          let few = c.settle_insert.ensures.publishes.few in
-          let start = ap steps_to_update quiet.same.start in
-          omega (arith, searched, few, start);
+      searched = record {
+        ended = m;
+        quiet = quiet;
+        to = made.seen;
+        searches = searches_end p q m c.law.ensures.start (run_at p m quiet.same (quiet.is_run c.law.ensures.is_run)) c.args.self.now.key first.same first.seen s.seen c.loop-found.invariant.6 (rw c.loop-found.invariant.0.key at c.in-Some.ensures.found.walks) c.settle_insert.new.self.used (steps_to_update p.start) (steps_to_update p.start + 3) (omega (arith, few, start)) (omega arith);
+      };
     }

@@ -1,19 +1,18 @@
-use Rattle.std.proofs.Common.{ℕ, ◌+◌, ◌*◌, ◌<◌, ◌≤◌, Bool, inr, sym, ◌∙◌, subst, arith}
+use Rattle.std.proofs.Common.{ℕ, ◌+◌, Bool, inr, sym, ◌∙◌, subst, arith}
 use Rattle.std.proofs.lemmas.Result.{err_from_is_err_and}
-use Rattle.vbr_slots.proofs.Lemmas.{alone_first, quiet_on}
-use Rattle.vbr_at_table.specs.Budgets.{most_to_take}
+use Rattle.vbr_slots.proofs.Lemmas.{quiet_on}
+use Rattle.vbr_at_table.specs.Budgets.{steps_to_take_among}
+use Rattle.vbr_at_table.specs.Gained.{gained}
 use Rattle.vbr_at_table.proofs.Lemmas.{no_room, none_on, some_grown}
 use Rattle.vbr_at_table.specs.Moments.{WasSo}
-use Rattle.vbr_list.specs.Budgets.{LacksSteps, listed_for}
+use Rattle.vbr_list.specs.Disturbed.{steps_for_slot}
 use Rattle.vbr_list.specs.Inserting.{CountsWithin}
 use Rattle.vbr_list.proofs.Going.{call_on, counts_step, goes_on, goes_step, tries_on, within_call}
 use Rattle.vbr_list.proofs.Disturbing.{run_at}
 use Rattle.vbr_list.proofs.Walking.{in_vain, search_round_on, searches_end, searches_later}
-use Rattle.vbr_slots.specs.declared.pass.TheConstants.{POOL}
 use Rattle.vbr_list.proofs.Moments.{found_since, was_so}
-use Rattle.vbr_list.proofs.Nearing.{at_first, first_lost, first_of, then_of}
 use Rattle.vbr_list.proofs.Preparing.{if_err, if_ok, made_since, prepares_none, prepares_on, refuses_after, within_on, within_tries}
-use Rattle.vbr_list.proofs.Sufficing.{lacks_more, take_after, take_least}
+use Rattle.vbr_list.proofs.Sufficing.{take_after, take_least}
 use Rattle.vbr_list.proofs.call.PendingCall.prepare.Goals as goal
 
 pub loop-found-preserved : goal.loop-found-preserved
@@ -26,8 +25,6 @@ loop-found-preserved g c =
     let rolls = if_err c.deny.result (sym c.is_ok.ensures.value ∙ c.if-is_ok.false) d.rolls in (
       call_on begun d.call,
       rw d.used (tries_on found (goes_step c.search.new.self.used 1 rolls.quiet d.keeps.took d.keeps.own d.keeps.takes_no_slot) (omega arith) (let e = begun.budget in omega (arith, fits, e))),
-      first_lost c.args.self.now.at.stepper.now c.loop-found.self.at.stepper.now c.deny.new.self.at.stepper.now c.loop-found.invariant.2 c.loop-found.invariant.1.goes.quiet (quiet_on s.goes.quiet rolls.quiet)
-          (λ alone. rolls.wins (c.in-Some.ensures.found.alone (first_of s.goes.quiet rolls.quiet alone)).cur (then_of s.goes.quiet rolls.quiet alone)),
       let p = c.args.self.now.at.stepper.now.trace in
           let q = c.loop-found.self.at.stepper.now.trace in
           let m = c.search.new.self.at.stepper.now.trace in
@@ -35,7 +32,7 @@ loop-found-preserved g c =
           let first = c.loop-found.invariant.1.goes.quiet in
           let whole = quiet_on (quiet_on first s.goes.quiet) rolls.quiet in
           let used = d.used in
-          search_round_on p q m r c.law.ensures.start (run_at p r whole.same (whole.is_run c.law.ensures.is_run)) c.args.self.now.key 4 first.same s.goes.quiet.same whole.same first.seen s.goes.quiet.seen rolls.quiet.seen d.keeps.takes_no_slot.count c.loop-found.invariant.3 c.in-Some.found (rw c.loop-found.invariant.0.key at c.in-Some.ensures.found.last) (omega (arith, used)) (inr rolls.loses),
+          search_round_on p q m r c.law.ensures.start (run_at p r whole.same (whole.is_run c.law.ensures.is_run)) c.args.self.now.key 4 first.same s.goes.quiet.same whole.same first.seen s.goes.quiet.seen rolls.quiet.seen d.keeps.takes_no_slot.count c.loop-found.invariant.2 c.in-Some.found (rw c.loop-found.invariant.0.key at c.in-Some.ensures.found.last) (omega (arith, used)) (inr rolls.loses),
     )
 
 pub returns-in_default-clause-prepares : goal.returns-in_default-clause-prepares
@@ -84,13 +81,16 @@ returns-in_default-clause-refused g c =
     let begun = goes_on c.loop-found.invariant.1.goes s.goes in
     let same = call_on c.loop-found.invariant.0 s.call in
     let tired = c.in_default.ensures.tired in
+    let p = c.args.self.now.at.stepper.now in
+    let q = c.loop-found.self.at.stepper.now.trace in
+    let m = c.search.new.self.at.stepper.now.trace in
+    let first = c.loop-found.invariant.1.goes.quiet in
+    let least = take_least p m in
     record {
       quiet = begun.quiet;
       hand = begun.hand.hand ∙ c.requires.empty_hand;
       says = record { counts = within_on (within_tries c.loop-found.invariant.1) s.goes.counts s.more (within_call same); short = rw c.loop-found.invariant.0.budget at tired.tired };
-      searches = λ some. searches_end c.args.self.now.at.stepper.now.trace c.loop-found.self.at.stepper.now.trace c.search.new.self.at.stepper.now.trace c.law.ensures.start (run_at c.args.self.now.at.stepper.now.trace c.search.new.self.at.stepper.now.trace begun.quiet.same (begun.quiet.is_run c.law.ensures.is_run)) c.args.self.now.key c.loop-found.invariant.1.goes.quiet.same c.loop-found.invariant.1.goes.quiet.seen s.goes.quiet.seen c.loop-found.invariant.3 (rw c.loop-found.invariant.0.key at tired.walks) (c.args.self.now.budget + 1) 80 (let t = rw c.loop-found.invariant.0.budget at tired.tired in omega (arith, t));
-      enough = λ alone. at_first (λ q since. c.args.self.now.budget < since + (9 * listed_for q.trace c.args.self.now.key + most_to_take q.trace.start q.pool) + 10) c.args.self.now.at.stepper.now c.loop-found.self.at.stepper.now c.search.new.self.at.stepper.now c.loop-found.invariant.2 c.loop-found.invariant.1.goes.quiet s.goes.quiet alone
-          (λ then. let x = rw (c.loop-found.invariant.0.key, c.loop-found.invariant.0.budget) at tired.short then in let y = take_least c.loop-found.self.at.stepper.now.trace.start c.loop-found.self.at.stepper.now.pool in omega (arith, x, y));
+      searches = searches_end p.trace q m c.law.ensures.start (run_at p.trace m begun.quiet.same (begun.quiet.is_run c.law.ensures.is_run)) c.args.self.now.key first.same first.seen s.goes.quiet.seen c.loop-found.invariant.2 (rw c.loop-found.invariant.0.key at tired.walks) (c.args.self.now.budget + 1) 8 (steps_for_slot p m + 10) (let t = rw c.loop-found.invariant.0.budget at tired.tired in omega (arith, t)) (omega (arith, least));
     }
 
 pub returns-then-not-affords-clause-refused : goal.returns-then-not-affords-clause-refused
@@ -99,13 +99,16 @@ returns-then-not-affords-clause-refused g c =
     let begun = goes_on c.loop-found.invariant.1.goes s.goes in
     let same = call_on c.loop-found.invariant.0 s.call in
     let short = rw same.budget at (no_room c.search.new.self.used c.search.new.self.budget c.affords.result c.if-not-affords.true c.affords.ensures.1) in
+    let p = c.args.self.now.at.stepper.now in
+    let q = c.loop-found.self.at.stepper.now.trace in
+    let m = c.search.new.self.at.stepper.now.trace in
+    let first = c.loop-found.invariant.1.goes.quiet in
+    let least = take_least p m in
     record {
       quiet = begun.quiet;
       hand = begun.hand.hand ∙ c.requires.empty_hand;
       says = record { counts = within_on (within_tries c.loop-found.invariant.1) s.goes.counts s.more (within_call same); short = short };
-      searches = λ some. searches_end c.args.self.now.at.stepper.now.trace c.loop-found.self.at.stepper.now.trace c.search.new.self.at.stepper.now.trace c.law.ensures.start (run_at c.args.self.now.at.stepper.now.trace c.search.new.self.at.stepper.now.trace begun.quiet.same (begun.quiet.is_run c.law.ensures.is_run)) c.args.self.now.key c.loop-found.invariant.1.goes.quiet.same c.loop-found.invariant.1.goes.quiet.seen s.goes.quiet.seen c.loop-found.invariant.3 (rw c.loop-found.invariant.0.key at c.in-Some.ensures.found.walks) (c.args.self.now.budget + 1) 80 (omega (arith, short));
-      enough = λ alone. at_first (λ q since. c.args.self.now.budget < since + (9 * listed_for q.trace c.args.self.now.key + most_to_take q.trace.start q.pool) + 10) c.args.self.now.at.stepper.now c.loop-found.self.at.stepper.now c.search.new.self.at.stepper.now c.loop-found.invariant.2 c.loop-found.invariant.1.goes.quiet s.goes.quiet alone
-          (λ then. let x = (rw c.loop-found.invariant.0.key at c.in-Some.ensures.found.alone then).paid in let y = take_least c.loop-found.self.at.stepper.now.trace.start c.loop-found.self.at.stepper.now.pool in omega (arith, x, y, short));
+      searches = searches_end p.trace q m c.law.ensures.start (run_at p.trace m begun.quiet.same (begun.quiet.is_run c.law.ensures.is_run)) c.args.self.now.key first.same first.seen s.goes.quiet.seen c.loop-found.invariant.2 (rw c.loop-found.invariant.0.key at c.in-Some.ensures.found.walks) (c.args.self.now.budget + 1) 8 (steps_for_slot p m + 10) (omega (arith, short)) (omega (arith, least));
     }
 
 pub returns-in_err-hand-clause-refused : goal.returns-in_err-hand-clause-refused
@@ -118,22 +121,24 @@ returns-in_err-hand-clause-refused g c =
     let none = c.in_err-hand.ensures.refused in
     let d = c.provide.ensures.quiet in
     let p = c.args.self.now.at.stepper.now in
-    let q = c.search.new.self.at.stepper.now in
+    let q = c.loop-found.self.at.stepper.now.trace in
+    let m = c.search.new.self.at.stepper.now in
+    let r = c.provide.new.self.at.stepper.now in
+    let first = c.loop-found.invariant.1.goes.quiet in
+    let whole = quiet_on begun.quiet d in
+    let some = some_grown p m begun.hand.takes_no_slot.grows in
+    let taken = take_after p m r.trace begun.quiet some in
     let counts = within_on (within_tries c.loop-found.invariant.1) s.goes.counts s.more (within_call same) in
-    let so = was_so c.args.self.now.key c.in-Some.found c.law.ensures.start begun.quiet.same (found_since c.args.self.now.key c.in-Some.found c.loop-found.invariant.1.goes.quiet (rw c.loop-found.invariant.0.key at c.in-Some.ensures.found.found)) in
-    let P : Bool → Type 0 = WasSo p.trace q.trace c.args.self.now.key in
+    let so = was_so c.args.self.now.key c.in-Some.found c.law.ensures.start begun.quiet.same (found_since c.args.self.now.key c.in-Some.found first (rw c.loop-found.invariant.0.key at c.in-Some.ensures.found.found)) in
+    let P : Bool → Type 0 = WasSo p.trace m.trace c.args.self.now.key in
     rw (error.1, error.2) (record {
-      quiet = quiet_on begun.quiet d;
+      quiet = whole;
       hand = none.hand;
-      says = refuses_after p q c.provide.new.self.at.stepper.now begun.quiet (some_grown p q begun.hand.takes_no_slot.grows) counts (subst P c.if-not-found.true so) d refusal (rw same.budget at none.says);
-      searches = λ some. in_vain p.trace c.provide.new.self.at.stepper.now.trace c.args.self.now.key c.args.self.now.used c.search.new.self.used c.args.self.now.budget (λ since_then more le. searches_later c.args.self.now.at.stepper.now.trace c.search.new.self.at.stepper.now.trace c.provide.new.self.at.stepper.now.trace c.law.ensures.start (run_at c.args.self.now.at.stepper.now.trace c.provide.new.self.at.stepper.now.trace (quiet_on begun.quiet d).same ((quiet_on begun.quiet d).is_run c.law.ensures.is_run)) c.args.self.now.key begun.quiet.seen d.seen (searches_end c.args.self.now.at.stepper.now.trace c.loop-found.self.at.stepper.now.trace c.search.new.self.at.stepper.now.trace c.law.ensures.start (run_at c.args.self.now.at.stepper.now.trace c.search.new.self.at.stepper.now.trace begun.quiet.same (begun.quiet.is_run c.law.ensures.is_run)) c.args.self.now.key c.loop-found.invariant.1.goes.quiet.same c.loop-found.invariant.1.goes.quiet.seen s.goes.quiet.seen c.loop-found.invariant.3 (rw c.loop-found.invariant.0.key at c.in-Some.ensures.found.walks) since_then more le)) refusal (rw same.budget at (none.ready (some_grown p q begun.hand.takes_no_slot.grows some)));
-      enough = λ alone.
-          let lacks = rw same.budget at none.enough (then_of begun.quiet d alone) in
-          at_first (λ q since. LacksSteps (since + (9 * listed_for q.trace c.args.self.now.key + most_to_take q.trace.start q.pool) + 10) c.args.self.now.budget refusal) p c.loop-found.self.at.stepper.now c.provide.new.self.at.stepper.now c.loop-found.invariant.2 c.loop-found.invariant.1.goes.quiet (quiet_on s.goes.quiet d) alone
-          (λ then.
-          let x = (rw c.loop-found.invariant.0.key at c.in-Some.ensures.found.alone (first_of s.goes.quiet d then)).paid in
-          let y = take_after c.loop-found.self.at.stepper.now q s.goes.quiet (some_grown c.loop-found.self.at.stepper.now q s.goes.hand.takes_no_slot.grows) in
-          lacks_more _ _ c.args.self.now.budget refusal (omega (arith, x, y)) lacks);
+      says = refuses_after p m r begun.quiet some counts (subst P c.if-not-found.true so) d refusal (rw same.budget at none.says);
+      searches = in_vain p.trace r.trace c.args.self.now.key c.args.self.now.used c.search.new.self.used c.args.self.now.budget (steps_to_take_among m.trace.start m.pool (gained m.trace r.trace)) (steps_for_slot p r.trace + 10)
+          (λ since_then more le least. searches_later p.trace m.trace r.trace c.law.ensures.start (run_at p.trace r.trace whole.same (whole.is_run c.law.ensures.is_run)) c.args.self.now.key begun.quiet.seen d.seen (steps_for_slot p r.trace + 10) (omega arith)
+          (searches_end p.trace q m.trace c.law.ensures.start (run_at p.trace m.trace begun.quiet.same (begun.quiet.is_run c.law.ensures.is_run)) c.args.self.now.key first.same first.seen s.goes.quiet.seen c.loop-found.invariant.2 (rw c.loop-found.invariant.0.key at c.in-Some.ensures.found.walks) since_then more (steps_for_slot p r.trace + 10) le least))
+          refusal (omega (arith, taken)) (rw same.budget at none.enough);
     })
 
 pub returns-then-is_ok-clause-prepared : goal.returns-then-is_ok-clause-prepared
@@ -143,11 +148,21 @@ returns-then-is_ok-clause-prepared g c =
     let begun = goes_on c.loop-found.invariant.1.goes s.goes in
     let same = call_on c.loop-found.invariant.0 s.call in
     let made = if_ok c.deny.result (sym c.is_ok.ensures.value ∙ c.if-is_ok.true) d.made in
+    let p = c.args.self.now.at.stepper.now in
+    let q = c.loop-found.self.at.stepper.now.trace in
+    let m = c.search.new.self.at.stepper.now.trace in
+    let r = c.deny.new.self.at.stepper.now.trace in
+    let first = c.loop-found.invariant.1.goes.quiet in
+    let least = take_least p r in
+    let used = d.used in
     record {
       is = (made_since begun.quiet (rw same.key at made), d.keeps.own.hand ∙ begun.hand.hand ∙ c.requires.empty_hand);
-      searches = λ some. tt;
-      few = λ alone. rw d.used (at_first (λ q since. c.search.new.self.used + 1 ≤ since + (9 * listed_for q.trace c.args.self.now.key + most_to_take q.trace.start q.pool) + 3) c.args.self.now.at.stepper.now c.loop-found.self.at.stepper.now c.search.new.self.at.stepper.now c.loop-found.invariant.2 c.loop-found.invariant.1.goes.quiet s.goes.quiet (alone_first begun.quiet.seen made.seen alone)
-          (λ then. let x = (rw c.loop-found.invariant.0.key at c.in-Some.ensures.found.alone then).paid in let y = take_least c.loop-found.self.at.stepper.now.trace.start c.loop-found.self.at.stepper.now.pool in omega (arith, x, y)));
+      searched = record {
+        ended = m;
+        quiet = begun.quiet;
+        to = made.seen;
+        searches = searches_end p.trace q m c.law.ensures.start (run_at p.trace m begun.quiet.same (begun.quiet.is_run c.law.ensures.is_run)) c.args.self.now.key first.same first.seen s.goes.quiet.seen c.loop-found.invariant.2 (rw c.loop-found.invariant.0.key at c.in-Some.ensures.found.walks) c.deny.new.self.used 1 (steps_for_slot p r + 3) (omega (arith, used)) (omega (arith, least));
+      };
     }
 
 pub returns-then-not-found-clause-prepared : goal.returns-then-not-found-clause-prepared
@@ -156,14 +171,19 @@ returns-then-not-found-clause-prepared g c =
     let begun = goes_on c.loop-found.invariant.1.goes s.goes in
     let d = c.provide.ensures.quiet in
     let hand = c.in_ok-hand.ensures.hand in
+    let p = c.args.self.now.at.stepper.now in
+    let q = c.loop-found.self.at.stepper.now.trace in
+    let m = c.search.new.self.at.stepper.now in
+    let r = c.provide.new.self.at.stepper.now in
+    let first = c.loop-found.invariant.1.goes.quiet in
+    let taken = take_after p m r.trace begun.quiet (some_grown p m begun.hand.takes_no_slot.grows) in
+    let few = hand.few in
     record {
       is = (quiet_on begun.quiet d, hand.has);
-      searches = λ some. searches_later c.args.self.now.at.stepper.now.trace c.search.new.self.at.stepper.now.trace c.provide.new.self.at.stepper.now.trace c.law.ensures.start (run_at c.args.self.now.at.stepper.now.trace c.provide.new.self.at.stepper.now.trace (quiet_on begun.quiet d).same ((quiet_on begun.quiet d).is_run c.law.ensures.is_run)) c.args.self.now.key begun.quiet.seen d.seen (searches_end c.args.self.now.at.stepper.now.trace c.loop-found.self.at.stepper.now.trace c.search.new.self.at.stepper.now.trace c.law.ensures.start (run_at c.args.self.now.at.stepper.now.trace c.search.new.self.at.stepper.now.trace begun.quiet.same (begun.quiet.is_run c.law.ensures.is_run)) c.args.self.now.key c.loop-found.invariant.1.goes.quiet.same c.loop-found.invariant.1.goes.quiet.seen s.goes.quiet.seen c.loop-found.invariant.3 (rw c.loop-found.invariant.0.key at c.in-Some.ensures.found.walks) c.provide.new.self.used (POOL + 4) (hand.ready (some_grown c.args.self.now.at.stepper.now c.search.new.self.at.stepper.now begun.hand.takes_no_slot.grows some)));
-      few = λ alone.
-          let made = hand.few (then_of begun.quiet d alone) in
-          at_first (λ q since. c.provide.new.self.used ≤ since + (9 * listed_for q.trace c.args.self.now.key + most_to_take q.trace.start q.pool) + 3) c.args.self.now.at.stepper.now c.loop-found.self.at.stepper.now c.provide.new.self.at.stepper.now c.loop-found.invariant.2 c.loop-found.invariant.1.goes.quiet (quiet_on s.goes.quiet d) alone
-          (λ then.
-          let x = (rw c.loop-found.invariant.0.key at c.in-Some.ensures.found.alone (first_of s.goes.quiet d then)).paid in
-          let y = take_after c.loop-found.self.at.stepper.now c.search.new.self.at.stepper.now s.goes.quiet (some_grown c.loop-found.self.at.stepper.now c.search.new.self.at.stepper.now s.goes.hand.takes_no_slot.grows) in
-          omega (arith, x, y, made));
+      searched = record {
+        ended = m.trace;
+        quiet = begun.quiet;
+        to = d.seen;
+        searches = searches_end p.trace q m.trace c.law.ensures.start (run_at p.trace m.trace begun.quiet.same (begun.quiet.is_run c.law.ensures.is_run)) c.args.self.now.key first.same first.seen s.goes.quiet.seen c.loop-found.invariant.2 (rw c.loop-found.invariant.0.key at c.in-Some.ensures.found.walks) c.provide.new.self.used (steps_for_slot p r.trace) (steps_for_slot p r.trace + 3) (omega (arith, few, taken)) (omega arith);
+      };
     }

@@ -1,11 +1,11 @@
 use Rattle.std.proofs.Common.{◌-◌}
 use Rattle.vbr_list.specs.Pieces.{IsSameCall}
 use Rattle.vbr_list.proofs.call.PendingCall.prepare.Given as goal
-use Rattle.vbr_list.proofs.Traversals.{IsFirst, Tries}
+use Rattle.vbr_list.proofs.Traversals.{Tries}
 use Rattle.vbr_list.proofs.Walking.{HasRepeated}
 
 abbrev pub invariant-loop-found : goal.invariant-loop-found
-invariant-loop-found g l = IsSameCall l.fn.self l.self × Tries l.fn.self.at.stepper.now l.self.at.stepper.now l.fn.self.used l.self.used l.fn.self.budget × IsFirst l.fn.self.at.stepper.now l.self.at.stepper.now l.fn.self.used l.self.used × HasRepeated 9 l.fn.self.at.stepper.now.trace l.self.at.stepper.now.trace l.fn.self.key 7 l.fn.self.used l.self.used
+invariant-loop-found g l = IsSameCall l.fn.self l.self × Tries l.fn.self.at.stepper.now l.self.at.stepper.now l.fn.self.used l.self.used l.fn.self.budget × HasRepeated 9 l.fn.self.at.stepper.now.trace l.self.at.stepper.now.trace l.fn.self.key 7 l.fn.self.used l.self.used
 
 abbrev pub decreases-loop-found : goal.decreases-loop-found
 decreases-loop-found g l = l.self.budget - l.self.used

@@ -27,6 +27,5 @@ returns-in-EpochSpent-clause-refused g c =
     record {
       hand = search rules;
       says = spent_rest p q c.args.self.now.used c.args.self.now.budget c.in-EpochSpent.epoch c.args.self.now.within why.0 why.1;
-      enough = search rules;
-      ready = λ some. tt;
+      enough = tt;
     }
