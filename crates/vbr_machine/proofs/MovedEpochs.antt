@@ -15,7 +15,7 @@ use Rattle.vbr_machine.specs.Disturbances.{counted, disturbances_in, disturbance
 use Rattle.vbr_machine.specs.declared.history.Call.{Call}
 use Rattle.vbr_machine.specs.declared.event.Event.{Event}
 use Rattle.vbr_machine.specs.declared.event.Step.{Step}
-use Rattle.vbr_machine.specs.declared.event.Step.TheVariants.{ReadEpoch, Advance, LoadStamp, StoreStamp, Raise, TakeFlag, StoreBirth, StoreKey, StoreLink, LoadLink, LoadBirth, LoadKey, Publish, Mark, Unlink, ConfirmPresent, ConfirmAbsent, StoreValue, LoadValue}
+use Rattle.vbr_machine.specs.declared.event.Step.TheVariants.{ReadEpoch, Advance, LoadStamp, StoreStamp, Raise, TakeFlag, StoreBirth, StoreKey, StoreLink, LoadLink, LoadBirth, LoadKey, Publish, Mark, Replace, Unlink, ConfirmPresent, ConfirmAbsent, StoreValue, LoadValue}
 use Rattle.vbr_machine.specs.declared.knowledge.Holding.{Holding}
 use Rattle.vbr_machine.specs.declared.knowledge.Holding.TheVariants.{Free, Unlinked, InHand}
 use Rattle.vbr_machine.proofs.EveryRun.{incarnations-append, incarnations_from-append}
@@ -70,6 +70,7 @@ module _ (start : Start) (who bucket : ℕ) where
   step_moves w a p (LoadValue s) none = omega arith
   step_moves w a p (Publish pred expected s) none = either_moves a (found start w (Publish pred expected s) == expected) _ _ (omega arith) (omega arith)
   step_moves w a p (Mark s expected) none = either_moves a (found start w (Mark s expected) == expected) _ _ (omega arith) (omega arith)
+  step_moves w a p (Replace s expected t) none = either_moves a (found start w (Replace s expected t) == expected) _ _ (omega arith) (omega arith)
   step_moves w a p (Unlink pred expected s) none = either_moves a (found start w (Unlink pred expected s) == expected) _ _ (omega arith) (omega arith)
   step_moves w a p (ConfirmPresent op s expected) none = either_moves a (found start w (ConfirmPresent op s expected) == expected) _ _ (answered_moves a p (call_of start p (w.know p) (ConfirmPresent op s expected))) (omega arith)
   step_moves w a p (ConfirmAbsent op key at expected) none = either_moves a (found start w (ConfirmAbsent op key at expected) == expected) _ _ (answered_moves a p (call_of start p (w.know p) (ConfirmAbsent op key at expected))) (omega arith)
