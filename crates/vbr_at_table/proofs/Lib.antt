@@ -36,4 +36,5 @@ mod NoneUnlinked
 mod LookUps
 mod Filled
 mod ExchangeCalls
+mod Replacements
 pub mod Lemmas

@@ -1,0 +1,25 @@
+-- What a replacement tells: two calls, next to each other.
+use Rattle.std.specs.Prelude.{◌≡◌, ℕ, true, None, [], ◌∷◌, ◌++◌}
+use Rattle.vbr_machine.specs.Runs.{IsRun, Begins}
+use Rattle.vbr_machine.specs.declared.history.Call.{Call}
+use Rattle.vbr_machine.specs.declared.history.Op.TheVariants.{Insert, Remove}
+use Rattle.vbr_slots.specs.Calls.{IsSame, made_by}
+use Rattle.vbr_slots.specs.Views.{PassView, Trace, knows}
+use Rattle.vbr_at_table.specs.Held.{HoldsMarked, held_of}
+use Rattle.vbr_at_table.specs.Values.{ValueAt, entry_call}
+use Rattle.vbr_at_table.specs.declared.held.Held.{Held}
+use Rattle.vbr_at_table.specs.declared.held.Marked.{Marked}
+
+-- the pass has seen more, and made just these two calls, next to each other
+pub record MadeTwo (first second : Call) (p q : Trace) : Type 0 where
+  pub same : IsSame p q
+  pub seen : Begins p.seen q.seen
+  pub is_run : IsRun q.start q.passes q.seen
+  pub calls : made_by q ≡ made_by p ++ first ∷ second ∷ []
+
+-- the pass removed the key of the node that was held with the value that was known of it, and inserted it with this one; its hand is empty, and the node is held by its marked link
+pub record ReplacesEntry (p q : PassView) (node : Held) (key value : ℕ) (now : Marked) : Type 0 where
+  pub made : (old : ℕ) → ValueAt (knows p.trace) node.at old → MadeTwo (entry_call p.trace.start p.trace.who Remove key true old) (entry_call p.trace.start p.trace.who Insert key true value) p.trace q.trace
+  pub at : (held_of now).at ≡ node.at
+  pub held : HoldsMarked (knows q.trace) now
+  pub spent : q.hand ≡ None
