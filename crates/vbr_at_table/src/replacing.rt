@@ -1,17 +1,14 @@
 //! Replacing a node: its key gets another value.
-ghost use Rattle.std.specs.Prelude.{◌≡◌, Some, true, IfOk, IfErr};
-ghost use Rattle.vbr_words.specs.Words.{link_of};
-ghost use Rattle.vbr_machine.specs.Membership.{BirthNamed, KeyAt};
+ghost use Rattle.std.specs.Prelude.{IfOk, IfErr};
 ghost use Rattle.vbr_slots.specs.AtTables.{IsSameTable, trace_of, pass_of};
 ghost use Rattle.vbr_slots.specs.Views.{knows};
-ghost use Rattle.vbr_at_table.specs.Answering.{IsPresent};
 ghost use Rattle.vbr_at_table.specs.CallSteps.{steps_to_birth};
 ghost use Rattle.vbr_at_table.specs.Exchanges.{StoresIn, GivesBack};
 ghost use Rattle.vbr_at_table.specs.Hands.{IsHandOf};
 ghost use Rattle.vbr_at_table.specs.Held.{IsHeld};
 ghost use Rattle.vbr_at_table.specs.Reading.{IsBirthRead, ReadsIn, BirthMoved};
-ghost use Rattle.vbr_at_table.specs.Replacing.{ReplacesEntry};
-ghost use Rattle.vbr_at_table.specs.Values.{IsValued, steps_to_update};
+ghost use Rattle.vbr_at_table.specs.Replacing.{IsReplaceable, ReplacesEntry};
+ghost use Rattle.vbr_at_table.specs.Values.{steps_to_update};
 
 use crate::hand::Hand;
 use crate::held::{Held, Marked};
@@ -58,11 +55,7 @@ pub fn replace_entry<N: Nodes>(
     value: u64,
     hand: Hand,
 ) -> Result<Marked, (Hand, Rollback)>
-    requires values { (trace_of at.old).start.shape.values ≡ true }
-    requires node { IsPresent (knows (trace_of at.old)) held.now }
-    requires key { KeyAt (knows (trace_of at.old)) held.now.at key }
-    requires valued { IsValued (trace_of at.old) held.now.at }
-    requires birth { BirthNamed (knows (trace_of at.old)) (link_of held.now.word).slot next_birth }
+    requires node { IsReplaceable (trace_of at.old) held.now key next_birth }
     requires hand { IsHandOf (pass_of at.old) hand }
     ensures table { IsSameTable at.old at.new }
     ensures stores { StoresIn (pass_of at.old) (pass_of at.new)

@@ -25,7 +25,7 @@ marked_link_to-word-requires g c =
     let low = at.0 in
     let most = c.law.ensures.start.shape.slots in
     let one = fits p c.law.ensures (Some c.slot-new.result) c.args.held.now.birth c.birth.result (omega (arith, low, most))
-    (birth_at_low p c.law.ensures c.args.held.now.at c.args.held.now.birth (held_kept c.args.held.now c.fill.ensures.stores.keeps c.requires.node.held).birth)
+    (birth_at_low p c.law.ensures c.args.held.now.at c.args.held.now.birth (held_kept c.args.held.now c.fill.ensures.stores.keeps c.requires.node.present.held).birth)
     (birth_in_hand_low p c.law.ensures c.slot-new.result c.birth.result (at.2 ∙ sym c.birth.ensures)) in
     record { slot = one.slot; version = one.version }
 
@@ -33,10 +33,10 @@ pub replace-requires-clause-slot : goal.replace-requires-clause-slot
 replace-requires-clause-slot g c =
     let P : Start → Type 0 = λ start. IsAtIn start c.args.held.now.at in
     let Q : At → Type 0 = IsAtIn c.fill.new.at.slots.now.start in
-    subst Q c.in-Slot.is (subst P (c.fill.new.at.own.1) (place_in c.fill.new.at.stepper.now c.law.ensures c.args.held.now (held_kept c.args.held.now c.fill.ensures.stores.keeps c.requires.node.held)))
+    subst Q c.in-Slot.is (subst P (c.fill.new.at.own.1) (place_in c.fill.new.at.stepper.now c.law.ensures c.args.held.now (held_kept c.args.held.now c.fill.ensures.stores.keeps c.requires.node.present.held)))
 
 pub replace-requires-clause-values : goal.replace-requires-clause-values
-replace-requires-clause-values g c = ap (λ (d : Start). d.shape.values) (sym c.fill.new.at.own.1 ∙ c.fill.ensures.fills.fills.quiet.same.start) ∙ c.requires.values
+replace-requires-clause-values g c = ap (λ (d : Start). d.shape.values) (sym c.fill.new.at.own.1 ∙ c.fill.ensures.fills.fills.quiet.same.start) ∙ c.requires.node.has_values
 
 pub replace-requires-clause-checked : goal.replace-requires-clause-checked
 replace-requires-clause-checked g c =
@@ -46,17 +46,17 @@ replace-requires-clause-checked g c =
     let at = hand_at p c.law.ensures c.args.hand hand c.slot-new.result c.slot-new.ensures in
     let Q : ℕ → Type 0 = λ s. IsFilled ((knows p.trace).own s) c.args.hand.birth c.args.key (link_to (link_of c.args.held.now.word).slot c.args.hand.birth c.args.next_birth) in
     let V : ℕ → Type 0 = λ s. value_in_hand ((knows p.trace).own s) ≡ Some c.args.value in
-    let has = ap (λ (d : Start). d.shape.values) c.fill.ensures.fills.fills.quiet.same.start ∙ c.requires.values in
-    let old = c.requires.valued c.requires.values in
-    accepted_checked c.fill.new.at.own (replace_accepted p c.law.ensures c.args.held.now c.in-Slot.slot c.slot-new.result c.args.key c.args.hand.birth c.args.next_birth (held_kept c.args.held.now k c.requires.node.held) c.in-Slot.is (subst Q (sym c.slot-new.ensures) c.fill.ensures.fills.fills.filled)
-    c.args.value old.0 has (subst V (sym c.slot-new.ensures) (c.fill.ensures.fills.valued c.requires.values)) c.requires.node.unmarked at.0 (birth_named_kept (link_of c.args.held.now.word).slot c.args.next_birth k c.requires.birth)
-    (key_on c.args.held.now.at c.args.key k c.requires.key) (value_on c.args.held.now.at old.0 k old.1))
+    let has = ap (λ (d : Start). d.shape.values) c.fill.ensures.fills.fills.quiet.same.start ∙ c.requires.node.has_values in
+    let old = c.requires.node.valued c.requires.node.has_values in
+    accepted_checked c.fill.new.at.own (replace_accepted p c.law.ensures c.args.held.now c.in-Slot.slot c.slot-new.result c.args.key c.args.hand.birth c.args.next_birth (held_kept c.args.held.now k c.requires.node.present.held) c.in-Slot.is (subst Q (sym c.slot-new.ensures) c.fill.ensures.fills.fills.filled)
+    c.args.value old.0 has (subst V (sym c.slot-new.ensures) (c.fill.ensures.fills.valued c.requires.node.has_values)) c.requires.node.present.unmarked at.0 (birth_named_kept (link_of c.args.held.now.word).slot c.args.next_birth k c.requires.node.birth)
+    (key_on c.args.held.now.at c.args.key k c.requires.node.key_is) (value_on c.args.held.now.at old.0 k old.1))
 
 pub replace-requires-clause-word : goal.replace-requires-clause-word
 replace-requires-clause-word g c =
     let p = c.fill.new.at.stepper.now in
     let Q : ℕ → Type 0 = λ s. IsFilled ((knows p.trace).own s) c.args.hand.birth c.args.key (link_to (link_of c.args.held.now.word).slot c.args.hand.birth c.args.next_birth) in
-    let w = replace_writes p c.law.ensures c.args.held.now c.in-Slot.slot c.slot-new.result c.args.key c.args.hand.birth c.args.next_birth (held_kept c.args.held.now c.fill.ensures.stores.keeps c.requires.node.held) c.in-Slot.is (subst Q (sym c.slot-new.ensures) c.fill.ensures.fills.fills.filled) in
+    let w = replace_writes p c.law.ensures c.args.held.now c.in-Slot.slot c.slot-new.result c.args.key c.args.hand.birth c.args.next_birth (held_kept c.args.held.now c.fill.ensures.stores.keeps c.requires.node.present.held) c.in-Slot.is (subst Q (sym c.slot-new.ensures) c.fill.ensures.fills.fills.filled) in
     c.marked_link_to-word.ensures.word ∙ ap (λ (b : ℕ). word_of (marked (link_to (Some c.slot-new.result) c.args.held.now.birth b))) c.birth.ensures ∙ ap word_of (sym w)
 
 pub returns-in-Ok-clause-stores : goal.returns-in-Ok-clause-stores
@@ -82,13 +82,13 @@ returns-in-Ok-clause-replaced g c =
     let k = c.fill.ensures.stores.keeps in
     let Q : ℕ → Type 0 = λ s. IsFilled ((knows p.trace).own s) c.args.hand.birth c.args.key (link_to (link_of c.args.held.now.word).slot c.args.hand.birth c.args.next_birth) in
     let V : ℕ → Type 0 = λ s. value_in_hand ((knows p.trace).own s) ≡ Some c.args.value in
-    let has = ap (λ (d : Start). d.shape.values) c.fill.ensures.fills.fills.quiet.same.start ∙ c.requires.values in
-    replace_told c.args.at.now.stepper.now p c.replace.new.self.stepper.now c.args.held.now c.in-Slot.slot c.slot-new.result c.args.key c.args.hand.birth c.args.next_birth c.args.value c.marked_link_to-word.result c.law.ensures c.fill.ensures.fills.fills.quiet k (held_kept c.args.held.now k c.requires.node.held) c.in-Slot.is (subst Q (sym c.slot-new.ensures) c.fill.ensures.fills.fills.filled)
-    has (subst V (sym c.slot-new.ensures) (c.fill.ensures.fills.valued c.requires.values)) c.requires.key (c.marked_link_to-word.ensures.link ∙ ap (λ (b : ℕ). marked (link_to (Some c.slot-new.result) c.args.held.now.birth b)) c.birth.ensures) c.in-Ok.ensures.found.did (search rules)
+    let has = ap (λ (d : Start). d.shape.values) c.fill.ensures.fills.fills.quiet.same.start ∙ c.requires.node.has_values in
+    replace_told c.args.at.now.stepper.now p c.replace.new.self.stepper.now c.args.held.now c.in-Slot.slot c.slot-new.result c.args.key c.args.hand.birth c.args.next_birth c.args.value c.marked_link_to-word.result c.law.ensures c.fill.ensures.fills.fills.quiet k (held_kept c.args.held.now k c.requires.node.present.held) c.in-Slot.is (subst Q (sym c.slot-new.ensures) c.fill.ensures.fills.fills.filled)
+    has (subst V (sym c.slot-new.ensures) (c.fill.ensures.fills.valued c.requires.node.has_values)) c.requires.node.key_is (c.marked_link_to-word.ensures.link ∙ ap (λ (b : ℕ). marked (link_to (Some c.slot-new.result) c.args.held.now.birth b)) c.birth.ensures) c.in-Ok.ensures.found.did (search rules)
 
 pub returns-in-Err-clause-lost : goal.returns-in-Err-clause-lost
 returns-in-Err-clause-lost g c = record {
   same = search rules;
   hand = search rules;
-  exchange = replace_lost c.args.held.now c.in-Slot.is c.law.ensures.start c.fill.ensures.fills.fills.quiet c.fill.ensures.fills.fills.unchanged c.fill.ensures.stores.keeps (λ alone. c.fill.ensures.fills.fills.stands alone c.requires.node.unmarked) c.in-Err.ensures.other.did c.in-Err.ensures.other.unexpected;
+  exchange = replace_lost c.args.held.now c.in-Slot.is c.law.ensures.start c.fill.ensures.fills.fills.quiet c.fill.ensures.fills.fills.unchanged c.fill.ensures.stores.keeps (λ alone. c.fill.ensures.fills.fills.stands alone c.requires.node.present.unmarked) c.in-Err.ensures.other.did c.in-Err.ensures.other.unexpected;
 }
