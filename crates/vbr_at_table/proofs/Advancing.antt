@@ -14,7 +14,7 @@ use Rattle.vbr_machine.specs.Learning.{learn, reread, with_key, with_value, with
 use Rattle.vbr_machine.specs.Runs.{IsRun, NoneOf, know_after, Begins}
 use Rattle.vbr_machine.specs.declared.event.Event.{Event}
 use Rattle.vbr_machine.specs.declared.event.Step.{Step}
-use Rattle.vbr_machine.specs.declared.event.Step.TheVariants.{ReadEpoch, Advance, LoadStamp, StoreStamp, Raise, TakeFlag, StoreBirth, StoreKey, StoreLink, LoadLink, LoadBirth, LoadKey, Publish, Mark, Unlink, ConfirmPresent, ConfirmAbsent, StoreValue, LoadValue}
+use Rattle.vbr_machine.specs.declared.event.Step.TheVariants.{ReadEpoch, Advance, LoadStamp, StoreStamp, Raise, TakeFlag, StoreBirth, StoreKey, StoreLink, LoadLink, LoadBirth, LoadKey, Publish, Mark, Replace, Unlink, ConfirmPresent, ConfirmAbsent, StoreValue, LoadValue}
 use Rattle.vbr_machine.specs.declared.knowledge.Holding.{Holding}
 use Rattle.vbr_machine.specs.declared.knowledge.Holding.TheVariants.{Free, Unlinked, InHand}
 use Rattle.vbr_machine.proofs.Lemmas.{begins_trans, others_leave_know, put_here, put_other}
@@ -176,6 +176,7 @@ no_advance (LoadKey s) e = refl
 no_advance (LoadValue s) e = refl
 no_advance (Publish pred expected s) e = refl
 no_advance (Mark s expected) e = refl
+no_advance (Replace s expected t) e = refl
 no_advance (Unlink pred expected s) e = refl
 no_advance (ConfirmPresent op s expected) e = refl
 no_advance (ConfirmAbsent op key at expected) e = refl
@@ -197,6 +198,7 @@ no_raise (LoadKey s) e = refl
 no_raise (LoadValue s) e = refl
 no_raise (Publish pred expected s) e = refl
 no_raise (Mark s expected) e = refl
+no_raise (Replace s expected t) e = refl
 no_raise (Unlink pred expected s) e = refl
 no_raise (ConfirmPresent op s expected) e = refl
 no_raise (ConfirmAbsent op key at expected) e = refl
@@ -253,6 +255,7 @@ may_before (LoadKey t) found stamp know s e m = m
 may_before (LoadValue t) found stamp know s e m = m
 may_before (Publish pred expected t) found stamp know s e m = either_know (found == expected) _ know know s (may_put know.own t None s (λ x. absurd x)) (λ x. x) m
 may_before (Mark t expected) found stamp know s e m = either_know (found == expected) _ know know s (λ x. x) (λ x. x) m
+may_before (Replace v expected t) found stamp know s e m = either_know (found == expected) _ know know s (may_put know.own t None s (λ x. absurd x)) (λ x. x) m
 may_before (Unlink pred expected t) found stamp know s e m = absurd (cc)
 may_before (ConfirmPresent op t expected) found stamp know s e m = m
 may_before (ConfirmAbsent op key at expected) found stamp know s e m = m
@@ -311,6 +314,7 @@ unlinked_before (LoadKey t) found stamp know s e u = u
 unlinked_before (LoadValue t) found stamp know s e u = u
 unlinked_before (Publish pred expected t) found stamp know s e u = either_unlinked (found == expected) _ know know s (unlinked_put know.own t None s (λ x. absurd x)) (λ x. x) u
 unlinked_before (Mark t expected) found stamp know s e u = either_unlinked (found == expected) _ know know s (λ x. x) (λ x. x) u
+unlinked_before (Replace v expected t) found stamp know s e u = either_unlinked (found == expected) _ know know s (unlinked_put know.own t None s (λ x. absurd x)) (λ x. x) u
 unlinked_before (Unlink pred expected t) found stamp know s e u = absurd (cc)
 unlinked_before (ConfirmPresent op t expected) found stamp know s e u = u
 unlinked_before (ConfirmAbsent op key at expected) found stamp know s e u = u
@@ -336,6 +340,7 @@ no_unlink (LoadKey s) e = refl
 no_unlink (LoadValue s) e = refl
 no_unlink (Publish pred expected s) e = refl
 no_unlink (Mark s expected) e = refl
+no_unlink (Replace s expected t) e = refl
 no_unlink (Unlink pred expected s) e = e
 no_unlink (ConfirmPresent op s expected) e = refl
 no_unlink (ConfirmAbsent op key at expected) e = refl

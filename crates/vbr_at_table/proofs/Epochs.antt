@@ -16,7 +16,7 @@ use Rattle.vbr_machine.specs.Put.{put}
 use Rattle.vbr_machine.specs.Runs.{world_from, AreAccepted, IsRun, world_after, know_after}
 use Rattle.vbr_machine.specs.declared.event.Event.{Event}
 use Rattle.vbr_machine.specs.declared.event.Step.{Step}
-use Rattle.vbr_machine.specs.declared.event.Step.TheVariants.{ReadEpoch, Advance, LoadStamp, StoreStamp, Raise, TakeFlag, StoreBirth, StoreKey, StoreLink, LoadLink, LoadBirth, LoadKey, Publish, Mark, Unlink, ConfirmPresent, ConfirmAbsent, StoreValue, LoadValue}
+use Rattle.vbr_machine.specs.declared.event.Step.TheVariants.{ReadEpoch, Advance, LoadStamp, StoreStamp, Raise, TakeFlag, StoreBirth, StoreKey, StoreLink, LoadLink, LoadBirth, LoadKey, Publish, Mark, Replace, Unlink, ConfirmPresent, ConfirmAbsent, StoreValue, LoadValue}
 use Rattle.vbr_machine.proofs.Lemmas.{by_both, is_run_after, is_run_before, is_run_first, know_other, know_own, put_here, put_other, run_agrees, stamp_known, step_agrees, world_after-append}
 use Rattle.vbr_slots.specs.Views.{epoch_after}
 use Rattle.vbr_slots.proofs.Lemmas.{epoch_learned}
@@ -63,6 +63,7 @@ later start w p (LoadValue s) t low ok = same_epoch_and_stamps w (after start w 
 later start w p (Publish (Head b) expected s) t low ok = same_epoch_and_stamps w (after start w p (Publish (Head b) expected s)) (by_both (word_of (w.head b) == expected) epoch_and_stamps _ w (epoch_and_stamps w) refl refl) t
 later start w p (Publish (Slot v) expected s) t low ok = same_epoch_and_stamps w (after start w p (Publish (Slot v) expected s)) (by_both (word_of (w.link v) == expected) epoch_and_stamps _ w (epoch_and_stamps w) refl refl) t
 later start w p (Mark s expected) t low ok = same_epoch_and_stamps w (after start w p (Mark s expected)) (by_both (word_of (w.link s) == expected) epoch_and_stamps _ w (epoch_and_stamps w) refl refl) t
+later start w p (Replace s expected v) t low ok = same_epoch_and_stamps w (after start w p (Replace s expected v)) (by_both (word_of (w.link s) == expected) epoch_and_stamps _ w (epoch_and_stamps w) refl refl) t
 later start w p (Unlink (Head b) expected s) t low ok = same_epoch_and_stamps w (after start w p (Unlink (Head b) expected s)) (by_both (word_of (w.head b) == expected) epoch_and_stamps _ w (epoch_and_stamps w) refl refl) t
 later start w p (Unlink (Slot v) expected s) t low ok = same_epoch_and_stamps w (after start w p (Unlink (Slot v) expected s)) (by_both (word_of (w.link v) == expected) epoch_and_stamps _ w (epoch_and_stamps w) refl refl) t
 later start w p (ConfirmPresent op s expected) t low ok = same_epoch_and_stamps w (after start w p (ConfirmPresent op s expected)) (by_both (word_of (w.link s) == expected) epoch_and_stamps _ w (epoch_and_stamps w) refl refl) t
@@ -86,6 +87,7 @@ some_read start w (LoadKey s) e t some = some
 some_read start w (LoadValue s) e t some = some
 some_read start w (Publish pred expected s) e t some = some
 some_read start w (Mark s expected) e t some = some
+some_read start w (Replace s expected v) e t some = some
 some_read start w (Unlink pred expected s) e t some = some
 some_read start w (ConfirmPresent op s expected) e t some = some
 some_read start w (ConfirmAbsent op key at expected) e t some = some

@@ -1,5 +1,5 @@
 -- A step that exchanges a link word, as what its call tells.
-use Rattle.std.proofs.Common.{◌≡◌, ◌≢◌, ℕ, true, false, refl, sym, ap, ◌∙◌, subst}
+use Rattle.std.proofs.Common.{◌≡◌, ◌≢◌, ℕ, true, false, List, [], ◌∷◌, ◌++◌, refl, sym, ap, ◌∙◌, subst}
 use Rattle.std.specs.Prelude.{Option, Result, Ok, Err, IfErr, None, Some}
 use Rattle.vbr_machine.specs.Start.{Start, IsStart}
 use Rattle.vbr_words.specs.Words.{link_of}
@@ -10,15 +10,21 @@ use Rattle.vbr_machine.specs.Acceptance.{IsUnlinked}
 use Rattle.vbr_machine.specs.Images.{link_shown_at}
 use Rattle.vbr_machine.specs.Links.{link_to, marked}
 use Rattle.vbr_machine.specs.Membership.{BirthAt, KeyAt, Knows}
-use Rattle.vbr_machine.specs.Runs.{IsRun}
+use Rattle.vbr_machine.specs.Accounts.{incarnations_after}
+use Rattle.vbr_machine.specs.Incarnations.{Incarnations}
+use Rattle.vbr_machine.specs.Knowledge.{Know}
+use Rattle.vbr_machine.specs.Removals.{IsTakenOut}
+use Rattle.vbr_machine.specs.Runs.{IsRun, know_after}
+use Rattle.vbr_machine.specs.declared.event.Event.{Event}
 use Rattle.vbr_machine.specs.declared.event.Step.{Step}
 use Rattle.vbr_machine.specs.declared.event.Step.TheVariants.{Mark, Publish, Unlink}
 use Rattle.vbr_machine.specs.declared.history.Op.TheVariants.{Insert, Remove}
 use Rattle.vbr_machine.specs.declared.knowledge.Read.TheVariants.{LinkAt}
-use Rattle.vbr_slots.specs.Alone.{IsAlone, IsFresh}
+use Rattle.vbr_machine.proofs.Lemmas.{is_run_before, is_run_last, mark_out, others_leave_know}
+use Rattle.vbr_slots.specs.Alone.{IsAlone, IsFresh, nodes}
 use Rattle.vbr_slots.specs.Calls.{Made, Quiet}
 use Rattle.vbr_slots.specs.PassLaw.{PassLaw}
-use Rattle.vbr_slots.specs.Views.{Did, KeepsPool, PassView, Trace, knows}
+use Rattle.vbr_slots.specs.Views.{Did, KeepsPool, PassView, Trace, knows, event_of}
 use Rattle.vbr_slots.proofs.Lemmas.{adds_on, alone_first, alone_then, did_run, did_same, did_seen, made_on, quiet_on}
 use Rattle.vbr_at_table.specs.Hands.{UnlinkedView}
 use Rattle.vbr_at_table.proofs.Advancing.{none_on}
@@ -38,7 +44,7 @@ use Rattle.vbr_at_table.proofs.AloneExchanges.{publish_wins, unlink_wins, unlink
 use Rattle.vbr_at_table.proofs.Keeping.{held_kept, keeps_on, marked_kept}
 use Rattle.vbr_at_table.proofs.MadeCalls.{mark_made, publish_adds_none, publish_failed, unlink_adds_none}
 use Rattle.vbr_at_table.proofs.MarkedLinks.{marked_alone}
-use Rattle.vbr_at_table.proofs.Moments.{found_after, publish_found, unlink_found}
+use Rattle.vbr_at_table.proofs.Moments.{found_after, publish_found, unlink_found, won}
 use Rattle.vbr_at_table.specs.Counts.{ChangesNone}
 use Rattle.vbr_at_table.proofs.Unchanged.{unchanged_by_none, unchanged_on}
 use Rattle.vbr_at_table.proofs.NoneUnlinked.{lost_none, unlinks_on, won_unlinks}
@@ -46,6 +52,18 @@ use Rattle.vbr_at_table.proofs.Unlinks.{accepted, new_read, read_after, written}
 use Rattle.vbr_at_table.proofs.WonExchanges.{mark_keeps, mark_known, publish_lost_keeps, unlink_keeps, unlink_lost_keeps}
 
 -- ---- a mark
+
+-- the node is taken out
+mark_takes_out : {p q : Trace} {s expected : ℕ} → (d : Did (Mark s expected) p q expected) → IsStart p.start → IsTakenOut (nodes q) (knows q).epoch s
+mark_takes_out {p} {q} {s} {expected} d start =
+    let event = event_of p.who (Mark s expected) in
+    let before = p.seen ++ d.rest in
+    let P : List Event → Type 0 = IsRun p.start p.passes in
+    let run = subst P d.seen d.is_run in
+    let out = mark_out p.start p.passes before start (is_run_before p.start p.passes before (event ∷ []) run) p.who s expected (is_run_last p.start p.passes before event run).1 (won expected _ d.shows.answers) in
+    let epoch : (know_after p.start before p.who).epoch ≡ (knows q).epoch = ap (λ (k : Know). k.epoch) (others_leave_know p.start p.seen d.rest p.who d.none) ∙ sym ((mark_keeps d).epoch) in
+    let Q : Incarnations × ℕ → Type 0 = λ x. IsTakenOut x.0 x.1 s in
+    subst Q (λ i. (incarnations_after (sym d.same.1 i) (sym d.seen i), epoch i)) out
 
 pub mark_told : {p q : Trace} {s word : ℕ} (node : Held) → IsStart p.start → IsRun p.start p.passes p.seen → IsHeld (knows p) node → node.at ≡ Slot s → Did (Mark s node.word) p q node.word → link_of word ≡ marked (link_of node.word)
     → RemovesEntry p q node (record { slot = s; birth = node.birth; word = word; epoch = node.epoch })
@@ -61,6 +79,7 @@ mark_told {p} {q} {s} {word} node start is_run held at d link =
       at = sym at;
       link = link;
       held = record { held = record { epoch = h.epoch; link = subst L (sym link) (mark_known d); birth = subst B at h.birth }; mark = ap (λ (l : Link). l.mark) link };
+      out = mark_takes_out d start;
       alone = λ alone. marked_alone node start at d alone;
     }
 
@@ -73,6 +92,7 @@ key_removed {p} {q} bare removed = record {
   at = removed.at;
   link = removed.link;
   held = removed.held;
+  out = removed.out;
   alone = removed.alone;
 }
 

@@ -37,4 +37,5 @@ mod NoneUnlinked
 mod LookUps
 mod Filled
 mod ExchangeCalls
+mod Replacements
 pub mod Lemmas

@@ -21,7 +21,7 @@ use Rattle.vbr_machine.specs.Sound.{Sound}
 use Rattle.vbr_machine.specs.Incarnations.{State, Incarnations, IsLate}
 use Rattle.vbr_machine.specs.declared.event.Event.{Event}
 use Rattle.vbr_machine.specs.declared.event.Step.{Step}
-use Rattle.vbr_machine.specs.declared.event.Step.TheVariants.{ReadEpoch, Advance, LoadStamp, StoreStamp, Raise, TakeFlag, StoreBirth, StoreKey, StoreValue, StoreLink, LoadLink, LoadBirth, LoadKey, LoadValue, Publish, Mark, Unlink, ConfirmPresent, ConfirmAbsent}
+use Rattle.vbr_machine.specs.declared.event.Step.TheVariants.{ReadEpoch, Advance, LoadStamp, StoreStamp, Raise, TakeFlag, StoreBirth, StoreKey, StoreValue, StoreLink, LoadLink, LoadBirth, LoadKey, LoadValue, Publish, Mark, Replace, Unlink, ConfirmPresent, ConfirmAbsent}
 use Rattle.vbr_machine.specs.declared.knowledge.Holding.{Holding}
 use Rattle.vbr_machine.specs.declared.knowledge.Holding.TheVariants.{Free, Unlinked, InHand}
 use Rattle.vbr_machine.specs.declared.knowledge.Read.{Read}
@@ -86,6 +86,10 @@ reads_learned start know (Publish pred expected s) found stamp r ok = elim (case
 ]
 reads_learned start know (Mark s expected) found stamp r ok = elim (cases_Bool (found == expected)) [
   | inl k ↦ rw k (checked_more start know (reads_won know (Mark s expected)) r (ok.in_shape, tt))
+  | inr k ↦ rw k r
+]
+reads_learned start know (Replace s expected t) found stamp r ok = elim (cases_Bool (found == expected)) [
+  | inl k ↦ let more = checked_more start know (reads_won know (Replace s expected t)) r (ok.in_shape.0, (ok.in_shape.1, (ok.in_shape.1, (ok.in_shape.1, value_won start t (value_in_hand (know.own t)) ok.in_shape.1)))) in rw k (record { checked = more.checked; pending = more.pending })
   | inr k ↦ rw k r
 ]
 reads_learned start know (Unlink pred expected s) found stamp r ok = elim (cases_Bool (found == expected)) [

@@ -23,16 +23,16 @@ use Rattle.vbr_at_table.proofs.Keeping.{keeps_refl}
 use Rattle.vbr_at_table.proofs.ReadSteps.{only}
 
 -- more reads are checked
-more_keeps : (know later : Know) (reads : List Read) → later.epoch ≡ know.epoch → later.checked ≡ know.checked ++ reads → Keeps know later
+pub more_keeps : (know later : Know) (reads : List Read) → later.epoch ≡ know.epoch → later.checked ≡ know.checked ++ reads → Keeps know later
 more_keeps know later reads e c = record { epoch = e; reads = λ r k. record { among = rw c (Contains-append_left know.checked reads r k.among) } }
 
-more_new : (know later : Know) (reads : List Read) → later.checked ≡ know.checked ++ reads → (r : Read) → Contains reads r → Knows later r
+pub more_new : (know later : Know) (reads : List Read) → later.checked ≡ know.checked ++ reads → (r : Read) → Contains reads r → Knows later r
 more_new know later reads c r m = record { among = rw c (Contains-append_right know.checked reads r m) }
 
-won_test : (expected : ℕ) (a b : Know) → cond (expected == expected) a b ≡ a
+pub won_test : (expected : ℕ) (a b : Know) → cond (expected == expected) a b ≡ a
 won_test expected a b = ap (λ (t : Bool). cond t a b) (eq-eqb expected expected refl)
 
-lost_test : (found expected : ℕ) (a b : Know) → found ≢ expected → cond (found == expected) a b ≡ b
+pub lost_test : (found expected : ℕ) (a b : Know) → found ≢ expected → cond (found == expected) a b ≡ b
 lost_test found expected a b other = ap (λ (t : Bool). cond t a b) (ne_eqb found expected other)
 
 -- ---- a mark

@@ -6,8 +6,9 @@ use Rattle.vbr_machine.specs.History.{set_call}
 use Rattle.vbr_machine.specs.Knowledge.{Know}
 use Rattle.vbr_machine.specs.Links.{link_to, marked}
 use Rattle.vbr_machine.specs.Membership.{KeyAt, StandsBefore, StandsBehind}
+use Rattle.vbr_machine.specs.Removals.{IsTakenOut}
 use Rattle.vbr_machine.specs.declared.history.Op.TheVariants.{Insert, Remove}
-use Rattle.vbr_slots.specs.Alone.{IsAlone, IsFresh}
+use Rattle.vbr_slots.specs.Alone.{IsAlone, IsFresh, nodes}
 use Rattle.vbr_slots.specs.Calls.{AddsNone, Made, Quiet, Took}
 use Rattle.vbr_slots.specs.Views.{PassView, Trace, knows}
 use Rattle.vbr_at_table.specs.Counts.{ChangesNone}
@@ -38,12 +39,13 @@ pub record IsGap (p : Trace) (key : ℕ) (pred : Held) : Type 0 where
 
 -- ---- what they tell
 
--- the pass removed the key of the node that was held, whose link is marked now; a pass that was alone leaves all other links
+-- the pass removed the key of the node that was held, whose link is marked now and which is taken out; a pass that was alone leaves all other links
 pub record RemovesKey (p q : Trace) (node : Held) (now : Marked) : Type 0 where
   pub made : (key : ℕ) → KeyAt (knows p) node.at key → Made (set_call p.who Remove key true) p q
   pub at : (held_of now).at ≡ node.at
   pub link : link_of now.word ≡ marked (link_of node.word)
   pub held : HoldsMarked (knows q) now
+  pub out : IsTakenOut (nodes q) (knows q).epoch now.slot
   pub alone : IsAlone p q → MarksAlone p q node
 
 -- another link stood where one was held: no call was made, and no list changed; for a pass that was alone, what is held hadn't stood

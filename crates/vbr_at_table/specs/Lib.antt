@@ -25,4 +25,5 @@ pub mod Reading
 pub mod Answering
 pub mod Exchanges
 pub mod Values
+pub mod Replacing
 pub mod Messages

@@ -10,6 +10,7 @@ use Rattle.vbr_machine.specs.Learning.{present_reply, present_value, value_in_ha
 use Rattle.vbr_machine.specs.Links.{marked}
 use Rattle.vbr_machine.specs.Membership.{KeyAt, Knows}
 use Rattle.vbr_machine.specs.Opened.{payload_kept}
+use Rattle.vbr_machine.specs.Removals.{IsTakenOut}
 use Rattle.vbr_machine.specs.declared.history.Call.{Call}
 use Rattle.vbr_machine.specs.declared.history.Op.{Op}
 use Rattle.vbr_machine.specs.declared.history.Op.TheVariants.{Get, Insert, Remove}
@@ -65,12 +66,13 @@ pub record IsValueRead (p q : PassView) (at : At) (found : ℕ) : Type 0 where
   pub keeps : Keeps (knows p.trace) (knows q.trace)
   pub value : ValueAt (knows q.trace) at found
 
--- the pass removed the entry of the node that was held, whose link is marked now; a pass that was alone leaves all other links
+-- the pass removed the entry of the node that was held, whose link is marked now and which is taken out; a pass that was alone leaves all other links
 pub record RemovesEntry (p q : Trace) (node : Held) (now : Marked) : Type 0 where
   pub made : (key value : ℕ) → KeyAt (knows p) node.at key → (p.start.shape.values ≡ true → ValueAt (knows p) node.at value) → Made (entry_call p.start p.who Remove key true value) p q
   pub at : (held_of now).at ≡ node.at
   pub link : link_of now.word ≡ marked (link_of node.word)
   pub held : HoldsMarked (knows q) now
+  pub out : IsTakenOut (nodes q) (knows q).epoch now.slot
   pub alone : IsAlone p q → MarksAlone p q node
 
 -- it answered by the presence of the entry of a node

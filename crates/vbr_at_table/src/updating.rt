@@ -49,7 +49,7 @@ fn put_value<N: Nodes>(at: &mut AtTable<'_, N>, slot: u32, value: u64)
 // Stores the key of the slot in hand, its value where nodes have values, and the link to what the
 // link of `pred` names.
 #[inline(always)]
-fn fill<N: Nodes>(
+pub(crate) fn fill<N: Nodes>(
     at: &mut AtTable<'_, N>,
     hand: &Hand,
     key: u64,

@@ -13,7 +13,7 @@ use Rattle.vbr_words.specs.declared.place.At.TheVariants.{Head, Slot}
 use Rattle.vbr_words.specs.declared.shape.TheConstants.{MAX_EPOCH}
 use Rattle.vbr_machine.specs.Put.{put}
 use Rattle.vbr_machine.specs.Knowledge.{Know, birth_in, birth_at, birth_of, marked_in, same_at}
-use Rattle.vbr_machine.specs.Acceptance.{MayPublish, next_of_marked}
+use Rattle.vbr_machine.specs.Acceptance.{MayPublish, MayReplace, next_of_marked}
 use Rattle.vbr_machine.specs.Learning.{link_in_hand, reread, read_epoch, with_own}
 use Rattle.vbr_core.specs.WorldInLists.{KeptPass, know_of, FitsRead, FitsHolding}
 use Rattle.vbr_machine.specs.declared.knowledge.Read.{Read}
@@ -95,6 +95,11 @@ next-fits (LinkAt at link ∷ reads) s fits = next_of-if (same_at at (Slot s) &&
 pub ready-fits : (start : Start) (reads : List Read) (pred : At) (expected : Link) (holding : Option Holding) → AllByRecursion FitsRead reads → FitsHolding holding → IsLink expected → MayPublish start reads pred expected holding → IsLink (link_in_hand holding)
 ready-fits start reads pred expected (Some (InHand known)) all fits is ready = let named = birth_of-fits reads expected.slot all in rw ready.link_is (record { slot = is.slot; version = omega (arith, named, fits) })
 ready-fits start reads pred expected holding all fits is ready = absurd ready
+
+-- and so has one that is ready to take the place of a node
+pub in_place-fits : (start : Start) (reads : List Read) (s : ℕ) (expected : Link) (holding : Option Holding) → AllByRecursion FitsRead reads → FitsHolding holding → IsLink expected → MayReplace start reads s expected holding → IsLink (link_in_hand holding)
+in_place-fits start reads s expected (Some (InHand known)) all fits is ready = let named = birth_of-fits reads expected.slot all in rw ready.link_is (record { slot = is.slot; version = omega (arith, named, fits) })
+in_place-fits start reads s expected holding all fits is ready = absurd ready
 
 -- ---- the epoch is read
 

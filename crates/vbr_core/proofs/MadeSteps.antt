@@ -14,7 +14,7 @@ use Rattle.vbr_machine.specs.Machine.{World, found, with_call, after, written}
 use Rattle.vbr_core.specs.Answering.{with_answer, WordsHaveRoom}
 use Rattle.vbr_core.specs.WorldInLists.{KeptPass, KeptWorld, IsWhole, opening_pass, world_of}
 use Rattle.vbr_machine.specs.declared.event.Step.{Step}
-use Rattle.vbr_machine.specs.declared.event.Step.TheVariants.{ReadEpoch, Advance, LoadStamp, StoreStamp, Raise, TakeFlag, StoreBirth, StoreKey, StoreLink, LoadLink, LoadBirth, LoadKey, Publish, Mark, Unlink, ConfirmPresent, ConfirmAbsent, StoreValue, LoadValue}
+use Rattle.vbr_machine.specs.declared.event.Step.TheVariants.{ReadEpoch, Advance, LoadStamp, StoreStamp, Raise, TakeFlag, StoreBirth, StoreKey, StoreLink, LoadLink, LoadBirth, LoadKey, Publish, Mark, Replace, Unlink, ConfirmPresent, ConfirmAbsent, StoreValue, LoadValue}
 use Rattle.vbr_core.proofs.KeptLists.{put_here}
 
 -- a pass that learns nothing leaves the world as it is
@@ -40,6 +40,7 @@ made start w p (LoadValue s) won = refl
 made start w p (Publish (Head b) expected s) won = rw won refl
 made start w p (Publish (Slot t) expected s) won = rw won refl
 made start w p (Mark s expected) won = rw won refl
+made start w p (Replace s expected t) won = rw won refl
 made start w p (Unlink (Head b) expected s) won = rw won refl
 made start w p (Unlink (Slot t) expected s) won = rw won refl
 made start w p (ConfirmPresent op s expected) won = rw won (ap (λ (v : World). with_call v (call_of start p (w.know p) (ConfirmPresent op s expected))) (idle w p (w.know p) refl))
@@ -53,6 +54,7 @@ lost start w p (TakeFlag s) gone = rw gone (idle w p (w.know p) refl)
 lost start w p (Publish (Head b) expected s) gone = rw gone (idle w p (w.know p) refl)
 lost start w p (Publish (Slot t) expected s) gone = rw gone (idle w p (w.know p) refl)
 lost start w p (Mark s expected) gone = rw gone (idle w p (w.know p) refl)
+lost start w p (Replace s expected t) gone = rw gone (idle w p (w.know p) refl)
 lost start w p (Unlink (Head b) expected s) gone = rw gone (idle w p (w.know p) refl)
 lost start w p (Unlink (Slot t) expected s) gone = rw gone (idle w p (w.know p) refl)
 lost start w p (ConfirmPresent op s expected) gone = rw gone (idle w p (w.know p) refl)

@@ -1,15 +1,15 @@
--- How the program makes a step: first its pass learns and its call is kept, and then the words are written. Only contracts of private functions cite this.
+-- How the program makes a step: first its pass learns and its calls are kept, and then the words are written. Only contracts of private functions cite this.
 use Rattle.std.specs.Prelude.{ℕ, ◌<◌, ◌≤◌}
 use Rattle.vbr_machine.specs.Start.{Start}
 use Rattle.vbr_words.specs.declared.shape.TheConstants.{MAX_EPOCH}
 use Rattle.vbr_machine.specs.Machine.{World, with_learning, with_call}
 use Rattle.vbr_machine.specs.declared.event.Step.{Step}
 use Rattle.vbr_machine.specs.declared.event.Step.TheVariants.{Advance, StoreBirth}
-use Rattle.vbr_machine.specs.Making.{call_made}
+use Rattle.vbr_machine.specs.Making.{ahead_made, call_made}
 
--- the pass learns from a step, and its call is kept
+-- the pass learns from a step, and its calls are kept
 abbrev pub with_answer : Start → World → ℕ → Step → World
-with_answer start w p step = with_call (with_learning start w p step) (call_made start w p step)
+with_answer start w p step = with_call (with_call (with_learning start w p step) (ahead_made start w p step)) (call_made start w p step)
 
 -- the words have room for what a step writes
 abbrev pub WordsHaveRoom : Start → ℕ → Step → Type 0

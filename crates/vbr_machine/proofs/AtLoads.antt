@@ -1,5 +1,5 @@
 -- Which keys were in the set when a held place showed an unmarked link that its pass has checked since, in the same epoch: the key of the place was, and a key between the place and what the link names wasn't.
-use Rattle.std.proofs.Common.{◌≡◌, ℕ, ◌≤◌, true, false, max, [], Option, Some, None, refl, arith, sym, ap, subst, ◌∙◌, inl, inr}
+use Rattle.std.proofs.Common.{◌≡◌, ℕ, ◌≤◌, true, false, max, [], Option, Some, None, refl, arith, sym, ap, subst, ◌∙◌, inl, inr, ◌<◌}
 use Rattle.std.specs.Prelude.{◌⊎◌}
 use Rattle.std.proofs.lemmas.Bool.{cases_Bool}
 use Rattle.vbr_machine.specs.Start.{Start}
@@ -22,13 +22,13 @@ use Rattle.vbr_machine.specs.declared.event.Step.TheVariants.{ConfirmPresent}
 use Rattle.vbr_machine.specs.Incarnations.{State, Unborn, InHand, GivenUp, Linked, Marked, Unlinked, Stamped, Incarnations}
 use Rattle.vbr_machine.specs.Images.{birth_shown, slot_shown, link_to_next, link_in_state, link_shown_at}
 use Rattle.vbr_machine.specs.Chronicles.{Before, AtHead, AtNode, IsOpen, BelongsBehind, BelongsBefore, next_of}
-use Rattle.vbr_machine.specs.Sound.{IsInserted, IsListed, Sound, Tells, Grows}
+use Rattle.vbr_machine.specs.Sound.{IsInserted, IsListed, IsOrderedBefore, Sound, Tells, Grows}
 use Rattle.vbr_machine.specs.Notes.{Notes}
-use Rattle.vbr_machine.specs.Removals.{NoneMarked}
+use Rattle.vbr_machine.specs.Removals.{IsTakenOut, NoneMarked}
 use Rattle.vbr_machine.specs.Agreement.{IsHeldIncarnation, IsHeldAt, IsHeldNext, IsGoodLink, IsPair, FitsNotes, Agrees}
 use Rattle.vbr_machine.specs.declared.knowledge.Read.TheVariants.{LinkAt, KeyOf, ValueOf}
-use Rattle.vbr_machine.proofs.Slots.{late_inserted, listed_late}
-use Rattle.vbr_machine.proofs.Lists.{keys_differ, next_listed, no_key_between}
+use Rattle.vbr_machine.proofs.Slots.{late_inserted, listed_late, late_born}
+use Rattle.vbr_machine.proofs.Lists.{next_listed, no_key_between, next_has_key, up_to_next}
 use Rattle.vbr_machine.proofs.HeldReads.{still_last, stays_held, stays_next}
 use Rattle.vbr_machine.proofs.FoundReads.{link_among}
 use Rattle.vbr_machine.proofs.Growth.{grows_after}
@@ -164,7 +164,7 @@ module _ {start : Start} {a b : Incarnations} {know : Know} {notes : Notes} (the
         go (inr f) = f
         go (inl t) = let u = tells.only key t in absurd (none_was_listed key behind (before_then link.slot opened.0 key opened.2 before) u.0 (rw u.1 tt) u.2)
 
-    -- where the key of the place is this, the node there is linked, and no marked node of the key was in a list
+    -- where the key of the place is this, the node there is linked, and no marked node of the key was in a list but one that was replaced
     pub none_marked_here : (key : ℕ) → KeyAt know at key → NoneMarked a key
     none_marked_here key k = go at of held opened.1 k
       where
@@ -173,26 +173,57 @@ module _ {start : Start} {a b : Incarnations} {know : Know} {notes : Notes} (the
         go (Slot s) None h p k d m e = absurd h
         go (Slot s) (Some c) h p k d m e =
             let linked : a.state c ≡ Linked = (pair_open a (Slot s) (Some c) opened.0 p).0 in
-            let same : c ≡ d = keys_differ then c d (rw linked tt) (rw m tt) (key_then s c key h k ∙ sym e) in
-            absurd (let x : Linked ≡ Marked = sym linked ∙ ap a.state same ∙ m in cc)
+            let is = key_then s c key h k in
+            let x = next_has_key then c d linked m (e ∙ sym is) in
+            (x.0, x.1, x.2 ∙ is)
 
     -- where the key lies between the place and what the link names, none was
     pub none_marked_between : (key : ℕ) → StandsBehind start know at key → StandsBefore know key link.slot → NoneMarked a key
-    none_marked_between key behind before d m e = none_was_listed key behind (before_then link.slot opened.0 key opened.2 before) d (rw m tt) e
+    none_marked_between key behind before d m e = absurd (none_was_listed key behind (before_then link.slot opened.0 key opened.2 before) d (rw m tt) e)
 
-    -- what a known marked link of a slot names has a greater key than the slot: so where the link names the same, a node of the slot's key was in no list
-    pub none_marked_skipped : (s key : ℕ) (frozen : Link) → StandsBehind start know at key → Knows know (LinkAt (Slot s) frozen) → frozen.mark ≡ true → frozen.slot ≡ link.slot → Knows know (KeyOf s key) → NoneMarked a key
-    none_marked_skipped s key frozen behind k mark same j d m e = let g = good_link noted (Slot s) frozen k in none_was_listed key behind (go g.0 g.1 g.2 opened.0 opened.2) d (rw m tt) e
+    -- so was none of the key of a slot whose node was removed and not replaced, and whose known marked link names what the link names: that has a greater key
+    pub none_marked_skipped : (s key : ℕ) (frozen : Link) → StandsBehind start know at key → Knows know (LinkAt (Slot s) frozen) → frozen.mark ≡ true → frozen.slot ≡ link.slot → Knows know (KeyOf s key) → IsTakenOut b know.epoch s → NoneMarked a key
+    none_marked_skipped s key frozen behind k mark same j out d m e = let g = good_link noted (Slot s) frozen k in absurd (none_was_listed key behind (go g.0 g.1 g.2 opened.0 opened.2) d (rw m tt) e)
       where
         go : (c n : Option ℕ) → IsGoodLink b know.epoch (Slot s) frozen c n → (o : Option ℕ) → IsHeldNext a know.epoch link.slot o → BelongsBefore a key o
         go None n g o h = absurd g.place
         go (Some c) n g None h = tt
         go (Some c) n g (Some i) h =
             let x : IsHeldNext b know.epoch frozen.slot (Some i) = rw same (stays_next then grown know.epoch link.slot (Some i) low h) in
-            let up = (now.lists.ordered c i ((g.frozen mark).1 ∙ one_next now know.epoch frozen.slot n (Some i) g.next x)).1 in
-            let key_here : b.key c ≡ key = known_key now noted s c key g.place j in
+            let is : out.node ≡ c = one_held now know.epoch s out.node c out.held g.place in
+            let up = out.above i (ap b.next is ∙ (g.frozen mark).1 ∙ one_next now know.epoch frozen.slot n (Some i) g.next x) in
+            let key_here : b.key out.node ≡ key = known_key now noted s out.node key out.held j in
             let key_there : b.key i ≡ a.key i = grown.key i (next_inserted a know.epoch link.slot i h) in
             omega (arith, up, key_here, key_there)
+
+    -- what a known marked link of a slot names stands behind the node of the slot: so where the link names the same, that node was in no list
+    pub skipped_unlisted : (s key c : ℕ) (frozen : Link) → StandsBehind start know at key → Knows know (LinkAt (Slot s) frozen) → frozen.mark ≡ true → frozen.slot ≡ link.slot → Knows know (KeyOf s key) → IsHeldIncarnation b know.epoch s c → IsListed (a.state c) → ⊥
+    skipped_unlisted s key c frozen behind k mark same j held_now listed = let g = good_link noted (Slot s) frozen k in go g.0 g.1 g.2 opened.0 opened.1 opened.2
+      where
+        low_c : c < a.count
+        low_c = late_born then.slots c know.epoch (listed_late (a.state c) know.epoch listed)
+
+        held_then : IsHeldIncarnation a know.epoch s c
+        held_then = record { slot = sym (grown.slot c low_c) ∙ held_now.slot; birth = (let e = grown.birth c low_c in let u = held_now.birth in omega (arith, e, u)); late = listed_late (a.state c) know.epoch listed }
+
+        inserted : IsInserted (a.state c)
+        inserted = late_inserted (a.state c) 0 (listed_late (a.state c) 0 listed)
+
+        not_both : (i n : ℕ) → IsOrderedBefore b.key b.rank c i → n ≡ i → (a.key n < a.key c) ⊎ ((a.key n ≡ a.key c) × (a.rank n ≤ a.rank c)) → b.key c ≡ a.key c → b.rank c ≡ a.rank c → b.key i ≡ a.key i → b.rank i ≡ a.rank i → ⊥
+        not_both i n x e y k r l q = grind arith
+
+        go : (d n : Option ℕ) → IsGoodLink b know.epoch (Slot s) frozen d n → (o : Option ℕ) → IsPair a at of o → IsHeldNext a know.epoch link.slot o → ⊥
+        go None n g o pair h = g.place
+        go (Some d) n g o pair h =
+            let is : d ≡ c = one_held now know.epoch s d c g.place held_now in
+            let p = pair_open a at of o pair in
+            let there : BelongsBehind start a (before_of at of) (a.key c) = rw (key_then s c key held_then j) (behind_then at of key held behind) in
+            let up = up_to_next then (before_of at of) c p.0 there listed in
+            let x : IsHeldNext b know.epoch frozen.slot o = rw same (stays_next then grown know.epoch link.slot o low h) in
+            let follows : b.next c ≡ Some up.0 = ap b.next (sym is) ∙ (g.frozen mark).1 ∙ one_next now know.epoch frozen.slot n o g.next x ∙ sym p.1 ∙ up.1 in
+            let P : Option ℕ → Type 0 = IsHeldNext a know.epoch link.slot in
+            let there_too : IsInserted (a.state up.0) = next_inserted a know.epoch link.slot up.0 (subst P (sym p.1 ∙ up.1) h) in
+            not_both up.0 up.0 (now.lists.ordered c up.0 follows).1 refl up.2 (grown.key c inserted) (grown.rank c inserted) (grown.key up.0 there_too) (grown.rank up.0 there_too)
 
 -- a held place has an incarnation that is held there, if it is a slot
 pub place_held : {a : Incarnations} {know : Know} {notes : Notes} → FitsNotes a know notes → (at : At) → IsHeldPlace know at → (of : Option ℕ) × IsHeldAt a know.epoch at of
@@ -225,16 +256,20 @@ module _ {start : Start} {v w : World} {a b : Incarnations} {early late : ℕ �
   pub absent_at_load : (key : ℕ) → StandsBehind start (w.know p) at key → StandsBefore (w.know p) key link.slot → set_after (opening_keys start) v.calls key ≡ false
   absent_at_load key i j = rw then.calls (no_key_was_there then.sound grown now.sound (now.knows p) low then.tells at there.0 link there.1 shows unmarked known key i j)
 
-  -- no marked node of such a key was in a list then
+  -- no marked node of such a key was in a list then but one that was replaced
   pub none_marked_here_then : (key : ℕ) → KeyAt (w.know p) at key → NoneMarked a key
   none_marked_here_then key k = none_marked_here then.sound grown now.sound (now.knows p) low then.tells at there.0 link there.1 shows unmarked known key k
 
   pub none_marked_between_then : (key : ℕ) → StandsBehind start (w.know p) at key → StandsBefore (w.know p) key link.slot → NoneMarked a key
   none_marked_between_then key i j = none_marked_between then.sound grown now.sound (now.knows p) low then.tells at there.0 link there.1 shows unmarked known key i j
 
-  -- nor one of the key of a slot that stands behind the place, and whose known marked link names what the link names
-  pub none_marked_skipped_then : (s key : ℕ) (frozen : Link) → StandsBehind start (w.know p) at key → Knows (w.know p) (LinkAt (Slot s) frozen) → frozen.mark ≡ true → frozen.slot ≡ link.slot → Knows (w.know p) (KeyOf s key) → NoneMarked a key
-  none_marked_skipped_then s key frozen i k m same j = none_marked_skipped then.sound grown now.sound (now.knows p) low then.tells at there.0 link there.1 shows unmarked known s key frozen i k m same j
+  -- nor one of the key of a slot whose node was removed and not replaced, and whose known marked link names what the link names
+  pub none_marked_skipped_then : (s key : ℕ) (frozen : Link) → StandsBehind start (w.know p) at key → Knows (w.know p) (LinkAt (Slot s) frozen) → frozen.mark ≡ true → frozen.slot ≡ link.slot → Knows (w.know p) (KeyOf s key) → IsTakenOut b (w.know p).epoch s → NoneMarked a key
+  none_marked_skipped_then s key frozen i k m same j out = none_marked_skipped then.sound grown now.sound (now.knows p) low then.tells at there.0 link there.1 shows unmarked known s key frozen i k m same j out
+
+  -- nor was the node of a slot that stands behind the place, and whose known marked link names what the link names
+  pub skipped_unlisted_then : (s key c : ℕ) (frozen : Link) → StandsBehind start (w.know p) at key → Knows (w.know p) (LinkAt (Slot s) frozen) → frozen.mark ≡ true → frozen.slot ≡ link.slot → Knows (w.know p) (KeyOf s key) → IsHeldIncarnation b (w.know p).epoch s c → IsListed (a.state c) → ⊥
+  skipped_unlisted_then s key c frozen i k m same j h l = skipped_unlisted then.sound grown now.sound (now.knows p) low then.tells at there.0 link there.1 shows unmarked known s key c frozen i k m same j h l
 
 -- ---- in one world
 

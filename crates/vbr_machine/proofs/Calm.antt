@@ -12,7 +12,7 @@ use Rattle.vbr_machine.specs.Keys.{Keys}
 use Rattle.vbr_machine.specs.Links.{link_to}
 use Rattle.vbr_machine.specs.Images.{key_shown, link_in_state, link_shown, link_shown_at, link_to_next}
 use Rattle.vbr_machine.specs.Incarnations.{State, InHand, GivenUp, Linked, Marked, Unlinked, Stamped, Incarnations}
-use Rattle.vbr_machine.specs.Chronicles.{Happening, Advances, Gains, Probes, Raises, GivesUp, Bears, Keyed, Valued, Aims, Inserts, Removes, Unlinks, Stamps, Confirms, AtHead, AtNode, Entry, Allowed, IsRetired, IsGivenUp, IsStamped, MayBeBornIn, MayStamp, becomes, incarnations_from, IsLawful, entries_by, unlinked_at}
+use Rattle.vbr_machine.specs.Chronicles.{Happening, Advances, Gains, Probes, Raises, GivesUp, Bears, Keyed, Valued, Aims, Inserts, Removes, Replaces, Unlinks, Stamps, Confirms, AtHead, AtNode, Entry, Allowed, IsRetired, IsGivenUp, IsStamped, MayBeBornIn, MayStamp, becomes, incarnations_from, IsLawful, entries_by, unlinked_at}
 use Rattle.vbr_machine.specs.Disturbances.{changes, counted, disturbances_in, own_changes_in, IsLinkedIn, IsOpenIn}
 use Rattle.vbr_machine.specs.Sound.{Sound, Grows}
 use Rattle.vbr_machine.specs.declared.knowledge.SlotPlace.{SlotPlace}
@@ -82,6 +82,7 @@ epoch_kept start a bucket pass (Valued c value) e = refl
 epoch_kept start a bucket pass (Aims c link) e = refl
 epoch_kept start a bucket pass (Inserts c behind) e = refl
 epoch_kept start a bucket pass (Removes c) e = refl
+epoch_kept start a bucket pass (Replaces old c) e = refl
 epoch_kept start a bucket pass (Unlinks c behind) e = refl
 epoch_kept start a bucket pass (Stamps c stamp) e = refl
 epoch_kept start a bucket pass (Confirms call) e = refl
@@ -109,6 +110,7 @@ first_kept start keys a bucket pass (Aims c link) s h e = refl
 first_kept start keys a bucket pass (Inserts c (AtHead b)) s h e = put_other a.first b (Some c) bucket (λ is. no_eq (bucket_of start.shape (a.key c)) bucket e (h.above ∙ sym is))
 first_kept start keys a bucket pass (Inserts c (AtNode p)) s h e = refl
 first_kept start keys a bucket pass (Removes c) s h e = refl
+first_kept start keys a bucket pass (Replaces old c) s h e = refl
 first_kept start keys a bucket pass (Unlinks c (AtHead b)) s h e = put_other a.first b (a.next c) bucket (λ is. no_eq (bucket_of start.shape (a.key c)) bucket e ((s.lists.first_in b c h.2).1 ∙ sym is))
 first_kept start keys a bucket pass (Unlinks c (AtNode p)) s h e = refl
 first_kept start keys a bucket pass (Stamps c stamp) s h e = refl
@@ -171,6 +173,16 @@ linked_kept start keys a bucket pass s c (Inserts d (AtNode p)) sound h e l =
 linked_kept start keys a bucket pass s c (Removes d) sound h e l =
     let ne : c ≢ d = λ q. no_eq (bucket_of start.shape (a.key d)) bucket e (ap (λ i. bucket_of start.shape (a.key i)) (sym q) ∙ l.of_bucket) in
     (record { last = l.last; linked = put_other a.state d Marked c ne ∙ l.linked; of_bucket = l.of_bucket }, refl)
+linked_kept start keys a bucket pass s c (Replaces old d) sound h e l =
+    let ne : c ≢ d = λ q. (let x : Linked ≡ InHand pass = sym l.linked ∙ ap a.state q ∙ h.in_hand in absurd (cc)) in
+    let apart : c ≢ old = λ q. no_eq (bucket_of start.shape (a.key d)) bucket e (ap (bucket_of start.shape) h.same ∙ ap (λ i. bucket_of start.shape (a.key i)) (sym q) ∙ l.of_bucket) in (
+      record {
+        last = l.last;
+        linked = put_other (put a.state old Marked) d Linked c ne ∙ put_other a.state old Marked c apart ∙ l.linked;
+        of_bucket = l.of_bucket;
+      },
+      put_other (put a.next d (a.next old)) old (Some d) c apart ∙ put_other a.next d (a.next old) c ne,
+    )
 linked_kept start keys a bucket pass s c (Unlinks d (AtHead b)) sound h e l =
     let ne : c ≢ d = λ q. (let x : Linked ≡ Marked = sym l.linked ∙ ap a.state q ∙ h.0 in absurd (cc)) in
     (record { last = l.last; linked = put_other a.state d (Unlinked pass a.epoch) c ne ∙ l.linked; of_bucket = l.of_bucket }, refl)

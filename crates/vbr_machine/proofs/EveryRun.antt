@@ -15,7 +15,7 @@ use Rattle.vbr_machine.specs.Accounts.{happens, incarnations_with, chronicle_fro
 use Rattle.vbr_machine.specs.Agreement.{Agrees}
 use Rattle.vbr_machine.specs.declared.event.Event.{Event}
 use Rattle.vbr_machine.specs.declared.event.Step.{Step}
-use Rattle.vbr_machine.specs.declared.event.Step.TheVariants.{ReadEpoch, Advance, LoadStamp, StoreStamp, Raise, TakeFlag, StoreBirth, StoreKey, StoreLink, LoadLink, LoadBirth, LoadKey, Publish, Mark, Unlink, ConfirmPresent, ConfirmAbsent, StoreValue, LoadValue}
+use Rattle.vbr_machine.specs.declared.event.Step.TheVariants.{ReadEpoch, Advance, LoadStamp, StoreStamp, Raise, TakeFlag, StoreBirth, StoreKey, StoreLink, LoadLink, LoadBirth, LoadKey, Publish, Mark, Replace, Unlink, ConfirmPresent, ConfirmAbsent, StoreValue, LoadValue}
 use Rattle.vbr_machine.proofs.Growth.{grows_after}
 use Rattle.vbr_machine.proofs.Steps.{agrees_at_first}
 use Rattle.vbr_machine.proofs.EpochSteps.{step_read_epoch, step_advance, step_load_stamp}
@@ -25,6 +25,7 @@ use Rattle.vbr_machine.proofs.LoadSteps.{step_load_link, step_load_birth, step_l
 use Rattle.vbr_machine.proofs.ConfirmSteps.{step_confirm_present, step_confirm_absent}
 use Rattle.vbr_machine.proofs.MarkSteps.{step_mark}
 use Rattle.vbr_machine.proofs.Publishing.{step_publish}
+use Rattle.vbr_machine.proofs.Replacing.{step_replace}
 use Rattle.vbr_machine.proofs.Unlinking.{step_unlink}
 
 -- every accepted step adds what is lawful and keeps the agreement
@@ -47,6 +48,7 @@ step_agrees start w a notes p (LoadKey s) g ok = step_load_key start w a notes p
 step_agrees start w a notes p (LoadValue s) g ok = step_load_value start w a notes p s g ok
 step_agrees start w a notes p (Publish pred expected s) g ok = step_publish start w a notes p pred expected s g ok
 step_agrees start w a notes p (Mark s expected) g ok = step_mark start w a notes p s expected g ok
+step_agrees start w a notes p (Replace s expected t) g ok = step_replace start w a notes p s expected t g ok
 step_agrees start w a notes p (Unlink pred expected s) g ok = step_unlink start w a notes p pred expected s g ok
 step_agrees start w a notes p (ConfirmPresent op s expected) g ok = step_confirm_present start w a notes p op s expected g ok
 step_agrees start w a notes p (ConfirmAbsent op key at expected) g ok = step_confirm_absent start w a notes p op key at expected g ok

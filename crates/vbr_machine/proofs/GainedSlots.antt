@@ -9,7 +9,7 @@ use Rattle.vbr_machine.specs.Runs.{Begins, IsRun, NoneOf, world_after}
 use Rattle.vbr_machine.specs.Accounts.{chronicle, chronicle_from, happens, incarnations_after, notes_after}
 use Rattle.vbr_machine.specs.Incarnations.{State, Unborn, InHand, GivenUp, Linked, Marked, Unlinked, Stamped, Incarnations, at_opening}
 use Rattle.vbr_machine.specs.Opened.{opening_keys}
-use Rattle.vbr_machine.specs.Chronicles.{Happening, Advances, Gains, Probes, Raises, GivesUp, Bears, Keyed, Valued, Aims, Inserts, Removes, Unlinks, Stamps, Confirms, Entry, Allowed, MayBeBornIn, becomes, incarnations_from, IsLawful}
+use Rattle.vbr_machine.specs.Chronicles.{Happening, Advances, Gains, Probes, Raises, GivesUp, Bears, Keyed, Valued, Aims, Inserts, Removes, Replaces, Unlinks, Stamps, Confirms, Entry, Allowed, MayBeBornIn, becomes, incarnations_from, IsLawful}
 use Rattle.vbr_machine.specs.Disturbances.{counted}
 use Rattle.vbr_machine.specs.Gains.{gains, gains_in, is_gain}
 use Rattle.vbr_machine.specs.Sound.{PlaceFits, Sound}
@@ -95,6 +95,7 @@ shared_kept start keys a pass s (Valued c value) sound h e shared = shared
 shared_kept start keys a pass s (Aims c link) sound h e shared = shared
 shared_kept start keys a pass s (Inserts c behind) sound h e shared = put_other a.place (a.slot c) _ s (apart sound s shared c (rw h.in_hand tt)) ∙ shared
 shared_kept start keys a pass s (Removes c) sound h e shared = shared
+shared_kept start keys a pass s (Replaces old node) sound h e shared = put_other a.place (a.slot node) _ s (apart sound s shared node (rw h.in_hand tt)) ∙ shared
 shared_kept start keys a pass s (Unlinks c behind) sound h e shared = put_other a.place (a.slot c) _ s (apart sound s shared c (rw h.0 tt)) ∙ shared
 shared_kept start keys a pass s (Stamps c stamp) sound h e shared = shared
 shared_kept start keys a pass s (Confirms call) sound h e shared = shared

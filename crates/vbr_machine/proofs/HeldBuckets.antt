@@ -1,5 +1,5 @@
--- The bucket in which a slot is held: a link that was read led from one key of a bucket to a greater one of the same bucket, and inserted incarnations keep their keys.
-use Rattle.std.proofs.Common.{◌≡◌, ℕ, ◌<◌, Bool, true, false, List, [], ◌∷◌, map, Option, Some, None, refl, arith, sym, subst, ap, ◌∙◌}
+-- The bucket in which a slot is held: a link that was read led from one key of a bucket to one of the same bucket that is no smaller, and inserted incarnations keep their keys.
+use Rattle.std.proofs.Common.{◌≡◌, ℕ, ◌≤◌, Bool, true, false, List, [], ◌∷◌, map, Option, Some, None, refl, arith, sym, subst, ap, ◌∙◌}
 use Rattle.std.specs.Prelude.{◌==◌, if◌then◌else◌}
 use Rattle.std.specs.List.{AllByRecursion}
 use Rattle.vbr_machine.specs.Start.{Start}
@@ -16,7 +16,7 @@ use Rattle.vbr_machine.specs.Sound.{IsInserted, Sound, Grows}
 use Rattle.vbr_machine.specs.Notes.{Note, Notes, note_of, with_read, with_won, confirmed_notes, notes_with}
 use Rattle.vbr_machine.specs.Agreement.{IsHeldIncarnation, IsHeldAt, IsHeldNext, IsGoodLink, IsGoodRead, IsGood, FitsNotes}
 use Rattle.vbr_machine.specs.declared.event.Step.{Step}
-use Rattle.vbr_machine.specs.declared.event.Step.TheVariants.{ReadEpoch, Publish, Mark, Unlink}
+use Rattle.vbr_machine.specs.declared.event.Step.TheVariants.{ReadEpoch, Publish, Mark, Replace, Unlink}
 use Rattle.vbr_machine.specs.declared.knowledge.Read.{Read}
 use Rattle.vbr_machine.specs.declared.knowledge.Read.TheVariants.{LinkAt, BirthOf, KeyOf, ValueOf}
 use Rattle.vbr_machine.proofs.Slots.{late_inserted, listed_late}
@@ -26,10 +26,10 @@ use Rattle.vbr_machine.proofs.KnownReads.{note_of_known, one_held, key_held}
 
 -- ---- notes in order
 
--- the second of two incarnations follows the first in order: it is inserted, in the bucket of the first and above its key, or in the bucket of the head
+-- the second of two incarnations follows the first in order: it is inserted, in the bucket of the first and not below its key, or in the bucket of the head
 abbrev pub FollowsInOrder : Start → Incarnations → At → Option ℕ → Option ℕ → Type 0
 FollowsInOrder start a (Head b) of (Some n) = IsInserted (a.state n) × (bucket_of start.shape (a.key n) ≡ b)
-FollowsInOrder start a (Slot s) (Some c) (Some n) = IsInserted (a.state c) × IsInserted (a.state n) × (bucket_of start.shape (a.key c) ≡ bucket_of start.shape (a.key n)) × (a.key c < a.key n)
+FollowsInOrder start a (Slot s) (Some c) (Some n) = IsInserted (a.state c) × IsInserted (a.state n) × (bucket_of start.shape (a.key c) ≡ bucket_of start.shape (a.key n)) × (a.key c ≤ a.key n)
 FollowsInOrder start a at of names = Unit {0}
 
 -- a read of a link, as one of this incarnation and naming this one, is in order
@@ -88,7 +88,7 @@ ordered_note {start} {a} s (LinkAt (Slot v) link) = go (a.last v) (a.next (last_
   where
     next : (c : ℕ) (n : Option ℕ) → a.next c ≡ n → FollowsInOrder start a (Slot v) (Some c) n
     next c None q = tt
-    next c (Some n) q = let i = s.lists.inserted c n q in let o = s.lists.ordered c n q in (i.0, i.1, o.0, o.1)
+    next c (Some n) q = let i = s.lists.inserted c n q in let o = s.lists.ordered c n q in (i.0, i.1, o.0, (let u = o.1 in grind arith))
 
     go : (l n : Option ℕ) → ((c : ℕ) → l ≡ Some c → a.next c ≡ n) → FollowsInOrder start a (Slot v) l n
     go None None f = tt
@@ -122,6 +122,7 @@ module _ {start : Start} {a : Incarnations} (sound : Sound start a) (notes : Not
   ordered_with w p ReadEpoch = confirmed (w.epoch == (w.know p).epoch)
   ordered_with w p (Publish pred expected s) = let step = Publish pred expected s in if_won (found start w step == expected) (reads_won (w.know p) step)
   ordered_with w p (Mark s expected) = let step = Mark s expected in if_won (found start w step == expected) (reads_won (w.know p) step)
+  ordered_with w p (Replace s expected t) = let step = Replace s expected t in if_won (found start w step == expected) (reads_won (w.know p) step)
   ordered_with w p (Unlink pred expected s) = let step = Unlink pred expected s in if_won (found start w step == expected) (reads_won (w.know p) step)
   ordered_with w p step = with_loaded (read_loaded step (found start w step))
 

@@ -14,7 +14,7 @@ use Rattle.vbr_machine.specs.Knowledge.{Know, same_at, knows_link, names, holds,
 use Rattle.vbr_machine.specs.Acceptance.{Accepts}
 use Rattle.vbr_machine.specs.Learning.{read_epoch, with_pending, with_checked, reads_won, learn, value_in_hand}
 use Rattle.vbr_machine.specs.declared.event.Step.{Step}
-use Rattle.vbr_machine.specs.declared.event.Step.TheVariants.{ReadEpoch, Advance, LoadStamp, StoreStamp, Raise, TakeFlag, StoreBirth, StoreKey, StoreLink, LoadLink, LoadBirth, LoadKey, Publish, Mark, Unlink, ConfirmPresent, ConfirmAbsent, StoreValue, LoadValue}
+use Rattle.vbr_machine.specs.declared.event.Step.TheVariants.{ReadEpoch, Advance, LoadStamp, StoreStamp, Raise, TakeFlag, StoreBirth, StoreKey, StoreLink, LoadLink, LoadBirth, LoadKey, Publish, Mark, Replace, Unlink, ConfirmPresent, ConfirmAbsent, StoreValue, LoadValue}
 use Rattle.vbr_machine.specs.declared.knowledge.Read.{Read}
 use Rattle.vbr_machine.specs.declared.knowledge.Read.TheVariants.{LinkAt, BirthOf, KeyOf, ValueOf}
 use Rattle.vbr_machine.proofs.Searches.{same_at_true}
@@ -137,6 +137,14 @@ held_learned start know (Mark s expected) found stamp r ok = elim (cases_Bool (f
   | inl k ↦
       let reads = reads_won know (Mark s expected) in
       rw k (checked_more know reads r (held_at_more know.checked reads (Slot s) (link_held know.checked know.checked (Slot s) (link_of expected) r.checked ok.held.0), tt))
+  | inr k ↦ rw k r
+]
+held_learned start know (Replace s expected t) found stamp r ok = elim (cases_Bool (found == expected)) [
+  | inl k ↦
+      let reads = reads_won know (Replace s expected t) in
+      let new : holds (know.checked ++ reads) t ≡ true = held_later know.checked reads t (rw (eq-eqb t t refl) refl) in
+      let more = checked_more know reads r (held_at_more know.checked reads (Slot s) (link_held know.checked know.checked (Slot s) (link_of expected) r.checked ok.held.0), (new, (new, (new, of_value (IsOfHeldPlace (know.checked ++ reads)) t (value_in_hand (know.own t)) (λ x _. new))))) in
+      rw k (record { checked = more.checked; pending = more.pending })
   | inr k ↦ rw k r
 ]
 held_learned start know (Unlink pred expected s) found stamp r ok = elim (cases_Bool (found == expected)) [

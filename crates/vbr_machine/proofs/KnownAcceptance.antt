@@ -6,13 +6,13 @@ use Rattle.vbr_words.specs.Words.{link_of}
 use Rattle.vbr_words.specs.declared.link.Link.{Link}
 use Rattle.vbr_words.specs.declared.place.At.{At}
 use Rattle.vbr_words.specs.declared.place.At.TheVariants.{Head, Slot}
-use Rattle.vbr_machine.specs.Links.{link_to}
+use Rattle.vbr_machine.specs.Links.{link_to, marked}
 use Rattle.vbr_words.specs.Buckets.{bucket_of}
 use Rattle.vbr_machine.specs.Opened.{payload_kept}
 use Rattle.vbr_machine.specs.Knowledge.{Know, knows_link, birth_in, key_in, value_in, marked_in, holds, holds_at, birth_at, birth_of}
-use Rattle.vbr_machine.specs.Acceptance.{KnowsKeyAt, KnowsKeyOf, after_turns, LeadsToKey, next_of_marked, HasValue, HasValueFor, HasChecked, IsBehind, IsBefore, LeadsAbove, MayPublish, IsInRange, Accepts}
+use Rattle.vbr_machine.specs.Acceptance.{KnowsKeyAt, KnowsKeyOf, after_turns, LeadsToKey, next_of_marked, HasValue, HasValueFor, HasChecked, IsBehind, IsBefore, LeadsAbove, MayPublish, MayReplace, IsInRange, Accepts}
 use Rattle.vbr_machine.specs.Learning.{link_written, call_of, present_reply, present_value, birth_in_hand}
-use Rattle.vbr_machine.specs.Membership.{Knows, IsHeldSlot, IsHeldPlace, BirthAt, BirthNamed, StandsBehind, StandsBefore, StandsBeforeOn, IsUnlinkLink, WritesLink, KnowsValue, KnowsValueFor, IsKnown, MayPublishKnown, IsInRangeKnown, AcceptsKnown}
+use Rattle.vbr_machine.specs.Membership.{Knows, IsHeldSlot, IsHeldPlace, BirthAt, BirthNamed, StandsBehind, StandsBefore, StandsBeforeOn, IsUnlinkLink, WritesLink, KnowsValue, KnowsValueFor, IsKnown, MayPublishKnown, MayReplaceKnown, IsInRangeKnown, AcceptsKnown}
 use Rattle.vbr_machine.specs.Incarnations.{Incarnations}
 use Rattle.vbr_machine.specs.Sound.{Sound}
 use Rattle.vbr_machine.specs.Notes.{Notes}
@@ -20,7 +20,7 @@ use Rattle.vbr_machine.specs.Agreement.{FitsNotes, Fits}
 use Rattle.vbr_machine.specs.declared.history.Op.{Op}
 use Rattle.vbr_machine.specs.declared.history.Op.TheVariants.{Insert, Remove, Has, Get}
 use Rattle.vbr_machine.specs.declared.event.Step.{Step}
-use Rattle.vbr_machine.specs.declared.event.Step.TheVariants.{StoreLink, LoadLink, LoadBirth, LoadKey, LoadValue, Publish, Mark, Unlink, ConfirmPresent, ConfirmAbsent}
+use Rattle.vbr_machine.specs.declared.event.Step.TheVariants.{StoreLink, LoadLink, LoadBirth, LoadKey, LoadValue, Publish, Mark, Replace, Unlink, ConfirmPresent, ConfirmAbsent}
 use Rattle.vbr_machine.specs.declared.knowledge.Read.TheVariants.{LinkAt, BirthOf, KeyOf, ValueOf}
 use Rattle.vbr_machine.specs.declared.knowledge.Holding.{Holding}
 use Rattle.vbr_machine.specs.declared.knowledge.Holding.TheVariants.{Free, Unlinked, InHand}
@@ -98,6 +98,7 @@ held_known start know (LoadKey s) h = slot_known know s h
 held_known start know (LoadValue s) h = slot_known know s h
 held_known start know (Publish pred expected s) h = (link_known know pred (link_of expected) h.0, (unwrap_or (birth_at know.checked pred) 0, birth_at_known know pred h.1.0))
 held_known start know (Mark s expected) h = (link_known know (Slot s) (link_of expected) h.0, (unwrap_or (key_in know.checked s) 0, key_known know s h.1), values_known start.shape.values know s h.2)
+held_known start know (Replace s expected t) h = (link_known know (Slot s) (link_of expected) h.0, (unwrap_or (birth_in know.checked s) 0, birth_known know s h.1.0), (unwrap_or (value_in know.checked s) 0, value_known know s h.1.2))
 held_known start know (Unlink pred expected s) h = (link_known know pred (link_of expected) h.0, (link_written know (Unlink pred expected s), unlink_known know pred expected s h.1 h.2 h.3))
 held_known start know (ConfirmPresent op s expected) h = (link_known know (Slot s) (link_of expected) h.0, (unwrap_or (key_in know.checked s) 0, key_known know s h.1), value_known_for op know s h.2)
 held_known start know (ConfirmAbsent op key at expected) h = link_known know at (link_of expected) h.0
@@ -115,6 +116,20 @@ ready_known start know pred expected (Some (InHand known)) k n b r = record {
   link_is = r.link_is;
   behind = behind_known know start pred r.key k r.behind;
   before = before_known know r.key expected.slot n r.before;
+  valued = r.valued;
+}
+
+in_place_known : (start : Start) (know : Know) (s : ℕ) (expected : Link) (own : Option Holding) → IsSome (key_in know.checked s) → IsSome (birth_of know.checked expected.slot) → MayReplace start know.checked s expected own → MayReplaceKnown start know s expected own
+in_place_known start know s expected None k b r = absurd r
+in_place_known start know s expected (Some (Free stamp)) k b r = absurd r
+in_place_known start know s expected (Some (Unlinked reread)) k b r = absurd r
+in_place_known start know s expected (Some (InHand known)) k b r = record {
+  key = unwrap_or (key_in know.checked s) 0;
+  key_known = key_known know s k;
+  key_is = r.key_is;
+  named = unwrap_or (birth_of know.checked expected.slot) 0;
+  named_known = birth_named_known know expected.slot b;
+  link_is = r.link_is;
   valued = r.valued;
 }
 
@@ -136,6 +151,7 @@ before_on know key link most m =
 
 range_known : (start : Start) (know : Know) (step : Step) → HasChecked start know step → IsInRange start know step → IsInRangeKnown start know step
 range_known start know (Publish pred expected s) h r = (r.0, ready_known start know pred (link_of expected) (know.own s) h.1.1 h.2.1 h.2.0 r.1)
+range_known start know (Replace s expected t) h r = (r.0, in_place_known start know s (link_of expected) (know.own t) h.1.1 h.2 r.1)
 range_known start know (ConfirmAbsent op key at expected) h r = (r.0, r.1, behind_known know start at key h.1 r.2, before_on know key (link_of expected) start.shape.slots r.3)
 range_known start know step h r = r
 
@@ -192,6 +208,7 @@ module _ {start : Start} {a : Incarnations} {know : Know} {notes : Notes} (sound
   written_is (StoreLink s next) new h = ap (λ n. link_to next (birth_in_hand (know.own s)) n) (birth_named_is next h.0 h.1) ∙ sym h.2
   written_is (Publish pred expected s) new h = ap (λ n. link_to (Some s) n (birth_in_hand (know.own s))) (birth_at_is pred h.0 h.1) ∙ sym h.2
   written_is (Mark s expected) new h = sym h
+  written_is (Replace s expected t) new h = ap (λ n. marked (link_to (Some t) n (birth_in_hand (know.own t)))) (birth_looked_up s h.0 h.1) ∙ sym h.2
   written_is (Unlink pred expected s) new h =
       let e : next_of_marked (marked_in know.checked s) ≡ h.frozen.slot = mark_is s h.frozen h.known h.is_marked in
       let n : unwrap_or (birth_of know.checked (next_of_marked (marked_in know.checked s))) 0 ≡ h.next_birth = ap (λ v. unwrap_or (birth_of know.checked v) 0) e ∙ birth_named_is h.frozen.slot h.next_birth h.next_known in
@@ -263,6 +280,20 @@ module _ {start : Start} {a : Incarnations} {know : Know} {notes : Notes} (sound
     birth_named_there expected.slot r.named r.named_known,
   )
 
+  in_place_is : (s : ℕ) (expected : Link) (own : Option Holding) → MayReplaceKnown start know s expected own → MayReplace start know.checked s expected own × IsSome (key_in know.checked s) × IsSome (birth_of know.checked expected.slot)
+  in_place_is s expected None r = absurd r
+  in_place_is s expected (Some (Free stamp)) r = absurd r
+  in_place_is s expected (Some (Unlinked reread)) r = absurd r
+  in_place_is s expected (Some (InHand known)) r = (
+    record {
+      key_is = r.key_is ∙ ap Some (sym (key_looked_up s r.key r.key_known));
+      link_is = r.link_is ∙ ap (λ birth. Some (link_to expected.slot known.birth birth)) (sym (birth_named_is expected.slot r.named r.named_known));
+      valued = r.valued;
+    },
+    key_there know.checked s r.key r.key_known.among,
+    birth_named_there expected.slot r.named r.named_known,
+  )
+
   -- where a key stands before what known marked links lead to, a walk comes to a checked key, and to one before which the key stands
   leads_to_key : Fits start a → (key : ℕ) (link : Link) → StandsBeforeOn know key link → LeadsToKey start.shape.slots know.checked link.slot
   leads_to_key fits key link on =
@@ -295,6 +326,7 @@ module _ {start : Start} {a : Incarnations} {know : Know} {notes : Notes} (sound
   held_is fits (LoadValue s) k r = held_of_slot s k
   held_is fits (Publish pred expected s) k r = let x = ready_is pred (link_of expected) (know.own s) r.1 in (link_held pred (link_of expected) k.0, (birth_at_there pred k.1.0 k.1.1, x.1), (x.3, x.2))
   held_is fits (Mark s expected) k r = (link_held (Slot s) (link_of expected) k.0, key_there know.checked s k.1.0 k.1.1.among, values_there start.shape.values s k.2)
+  held_is fits (Replace s expected t) k r = let x = in_place_is s (link_of expected) (know.own t) r.1 in (link_held (Slot s) (link_of expected) k.0, (birth_there know.checked s k.1.0 k.1.1.among, x.1, value_there know.checked s k.2.0 k.2.1.among), x.2)
   held_is fits (Unlink pred expected s) k r =
       let u = k.1.1 in (
         link_held pred (link_of expected) k.0,
@@ -308,6 +340,7 @@ module _ {start : Start} {a : Incarnations} {know : Know} {notes : Notes} (sound
 
   range_is : Fits start a → (step : Step) → IsInRangeKnown start know step → IsInRange start know step
   range_is fits (Publish pred expected s) r = (r.0, (ready_is pred (link_of expected) (know.own s) r.1).0)
+  range_is fits (Replace s expected t) r = (r.0, (in_place_is s (link_of expected) (know.own t) r.1).0)
   range_is fits (ConfirmAbsent op key at expected) r = (r.0, r.1, behind_is at key r.2, leads_above fits key (link_of expected) r.3)
   range_is fits step r = r
 

@@ -4,10 +4,10 @@
 pub use Rattle.vbr_machine.proofs.Puts.{put_here, put_other}
 -- What both outcomes of a test leave is left.
 pub use Rattle.vbr_machine.proofs.Branches.{by_both}
--- The lists of the buckets: what follows a listed incarnation is listed, no two stand before the same one, keys are different, and no key lies between neighbours.
+-- The lists of the buckets: what follows a listed incarnation is listed, no two stand before the same one, linked ones have different keys, and no key lies between neighbours.
 pub use Rattle.vbr_machine.proofs.Lists.{keys_differ, next_listed}
 -- Nodes of one list, by their slots, and how many of them stand behind a place: from a place to its successor they are one fewer.
-pub use Rattle.vbr_machine.proofs.ListedNodes.{in_list_from, in_list_is, slot_is_one, stands_in, stands_key, stands_there}
+pub use Rattle.vbr_machine.proofs.ListedNodes.{in_list_from, in_list_is, lower_is, lower_not, next_of_followed, one_fewer, slot_is_one, stands_in, stands_key, stands_rank, stands_there}
 -- The confirming loads.
 pub use Rattle.vbr_machine.proofs.ConfirmSteps.{found_at}
 -- Along every run the world, the incarnations and the notes agree, and the chronicle is lawful.
@@ -32,13 +32,13 @@ pub use Rattle.vbr_machine.proofs.OwnEntries.{others_leave_entries, own_entries-
 pub use Rattle.vbr_machine.proofs.KnownReads.{birth_held, slot_held}
 -- What runs say to the layers above: of what a pass knows by membership, of the keys that were in the set when a link was loaded, and of chains of marked links.
 pub use Rattle.vbr_machine.proofs.RunForms.{absent_at_load, confirmed_call_is, head_unmarked, held_in_bucket, known_accepts, link_held, link_loaded}
-pub use Rattle.vbr_machine.proofs.RunForms.{marked_call_is, none_marked_between, none_marked_here, none_marked_skipped, present_at_load, value_at_load, written_is}
+pub use Rattle.vbr_machine.proofs.RunForms.{marked_call_is, none_marked_between, none_marked_here, none_marked_skipped, present_at_load, value_at_load, written_is, skipped_unlisted}
 -- A key that was passed by behind an unmarked link, along marked ones, was absent at a moment since.
 pub use Rattle.vbr_machine.proofs.MarkedMoments.{absent_at_moments}
--- Removed incarnations: the one that a remove marked has left its list, once no marked one of its key is in a list.
-pub use Rattle.vbr_machine.proofs.Removals.{left_since, marked_left}
+-- Removed incarnations: the one that a remove marked has left its list, once no marked one of its key is in a list but one that was replaced.
+pub use Rattle.vbr_machine.proofs.Removals.{left_since, marked_left, out_on}
 -- What runs say of how many nodes stand behind a place that a pass holds, whose link is still the one that it has checked.
-pub use Rattle.vbr_machine.proofs.ListedRuns.{named_there, one_fewer_behind, raise_epoch, raise_leaves, raise_links, read_leaves, stamp_epoch}
+pub use Rattle.vbr_machine.proofs.ListedRuns.{mark_out, named_there, one_fewer_behind, raise_epoch, raise_leaves, raise_links, read_leaves, stamp_epoch}
 pub use Rattle.vbr_machine.proofs.ListedRuns.{stamp_leaves, stamp_links, unlink_makes, unlink_takes_listed, unlink_takes_one}
 -- A node comes into a list by a publication alone: a step by which its pass makes no call adds none, and neither does a mark.
 pub use Rattle.vbr_machine.proofs.ListedGrowth.{calls_or_adds_none, mark_leaves}

@@ -11,6 +11,7 @@ mod ListedNodes
 mod ListsAfter
 mod InsertedLists
 mod UnlinkedLists
+mod ReplacedLists
 mod OpeningKeys
 mod SoundAfter
 mod ToldCalls
@@ -36,6 +37,9 @@ mod Exchanges
 mod PublishSteps
 mod PublishedNotes
 mod Publishing
+mod ReplaceSteps
+mod ReplacedNotes
+mod Replacing
 mod UnlinkSteps
 mod Unlinking
 mod EveryRun
@@ -78,6 +82,7 @@ mod MovedEpochs
 mod GainedSlots
 mod WorkedLists
 mod WorkedMaps
+mod WorkedReplacements
 mod WorkedChronicles
 mod WorkedRefusals
 mod WorkedLookUps

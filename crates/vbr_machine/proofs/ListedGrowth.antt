@@ -11,11 +11,11 @@ use Rattle.vbr_words.specs.Buckets.{bucket_of}
 use Rattle.vbr_machine.specs.Acceptance.{Accepts}
 use Rattle.vbr_machine.specs.Accounts.{incarnations_after, notes_after, happens, just, entry_of_call, born_in}
 use Rattle.vbr_machine.specs.Calls.{calls_added}
-use Rattle.vbr_machine.specs.Chronicles.{Entry, Advances, Gains, Probes, Keyed, Valued, Aims, Inserts, Raises, Removes, Stamps, Unlinks, Confirms, Allowed, becomes, incarnations_from, IsLawful}
+use Rattle.vbr_machine.specs.Chronicles.{Entry, Advances, Gains, Probes, Keyed, Valued, Aims, Inserts, Raises, Removes, Replaces, Stamps, Unlinks, Confirms, Allowed, becomes, incarnations_from, IsLawful}
 use Rattle.vbr_machine.specs.Images.{key_shown}
 use Rattle.vbr_machine.specs.Incarnations.{Marked, Incarnations, last_in}
 use Rattle.vbr_machine.specs.Opened.{opening_keys}
-use Rattle.vbr_machine.specs.Learning.{call_of, link_written}
+use Rattle.vbr_machine.specs.Learning.{call_ahead, call_of, link_written}
 use Rattle.vbr_machine.specs.Machine.{found}
 use Rattle.vbr_machine.specs.Nodes.{behind, is_behind, is_listed, state_shown}
 use Rattle.vbr_machine.specs.Notes.{before_at}
@@ -24,7 +24,7 @@ use Rattle.vbr_machine.specs.Runs.{IsRun, world_after, know_after}
 use Rattle.vbr_machine.specs.declared.event.Event.{Event}
 use Rattle.vbr_machine.specs.declared.history.Call.{Call}
 use Rattle.vbr_machine.specs.declared.event.Step.{Step}
-use Rattle.vbr_machine.specs.declared.event.Step.TheVariants.{ReadEpoch, Advance, LoadStamp, StoreStamp, Raise, TakeFlag, StoreBirth, StoreKey, StoreLink, LoadLink, LoadBirth, LoadKey, Publish, Mark, Unlink, ConfirmPresent, ConfirmAbsent, LoadValue, StoreValue}
+use Rattle.vbr_machine.specs.declared.event.Step.TheVariants.{ReadEpoch, Advance, LoadStamp, StoreStamp, Raise, TakeFlag, StoreBirth, StoreKey, StoreLink, LoadLink, LoadBirth, LoadKey, Publish, Mark, Replace, Unlink, ConfirmPresent, ConfirmAbsent, LoadValue, StoreValue}
 use Rattle.vbr_machine.proofs.EveryRun.{incarnations_after-snoc, run_agrees, step_agrees}
 use Rattle.vbr_machine.proofs.ListedNodes.{behind_same, count_same, stamps_none, unlinks_add_none}
 use Rattle.vbr_machine.proofs.ListedRuns.{birth_leaves}
@@ -54,7 +54,7 @@ keyed_none start a pass c key bucket h al = count_same (is_behind start (becomes
 
 -- a marking leaves the node in its list
 removes_none : (start : Start) (a : Incarnations) (pass c bucket : ℕ) (at : At) → Allowed start (opening_keys start) a pass (Removes c) → behind start (becomes start a pass (Removes c)) bucket at ≡ behind start a bucket at
-removes_none start a pass c bucket at al = behind_same start a (becomes start a pass (Removes c)) bucket at (λ s. same (a.last s)) refl refl
+removes_none start a pass c bucket at al = behind_same start a (becomes start a pass (Removes c)) bucket at (λ s. same (a.last s)) refl refl refl
   where
     same : (l : Option ℕ) → is_listed (state_shown (becomes start a pass (Removes c)) l) ≡ is_listed (state_shown a l)
     same None = refl
@@ -117,6 +117,12 @@ module _ (start : Start) (passes : ℕ) (run : List Event) (is : IsStart start) 
       marked : (t : Bool) → IsLawful start (opening_keys start) a (if t then just p (Removes (last_in a s)) else []) → AddsNoNode start (incarnations_after start run) bucket h (if t then just p (Removes (last_in a s)) else [])
       marked true l = same (just p (Removes (last_in a s))) (removes_none start a p (last_in a s) bucket (Head h) l.0)
       marked false l = same [] refl
+  one (Replace s expected t) n l = replaced (found start (world_after start run) (Replace s expected t) == expected) n
+    where
+      replaced : (b : Bool) → option_to_list (if b then call_ahead start p (know_after start run p) (Replace s expected t) else None) ++ option_to_list (if b then call_of start p (know_after start run p) (Replace s expected t) else None) ≡ [] →
+          AddsNoNode start (incarnations_after start run) bucket h (if b then just p (Replaces (last_in a s) (last_in a t)) else [])
+      replaced true n = absurd (cc)
+      replaced false n = same [] refl
   one (Unlink pred expected s) n l = either_adds_none start a bucket h (found start (world_after start run) (Unlink pred expected s) == expected) (just p (Unlinks (last_in a s) (before_at a pred))) [] (unlinks_add_none start a p bucket (last_in a s) (before_at a pred) (Head h)) (same [] refl)
   one (ConfirmPresent op s expected) n l = confirmed (found start (world_after start run) (ConfirmPresent op s expected) == expected) (call_of start p (know_after start run p) (ConfirmPresent op s expected))
   one (ConfirmAbsent op key at expected) n l = confirmed (found start (world_after start run) (ConfirmAbsent op key at expected) == expected) (call_of start p (know_after start run p) (ConfirmAbsent op key at expected))

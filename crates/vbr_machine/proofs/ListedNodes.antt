@@ -1,8 +1,7 @@
 -- Nodes of one list, by their slots, and how many of them stand behind a place: from a place to its successor they are one fewer.
 use Rattle.std.proofs.Common.{◌≡◌, ◌≢◌, ℕ, zero, suc, ◌<◌, ◌≤◌, Bool, true, false, Option, Some, None, refl, sym, ap, ◌∙◌, subst, inl, inr, arith}
-use Rattle.std.specs.Prelude.{nat_lt, ◌==◌, ◌&&◌, ◌⊎◌, if◌then◌else◌}
-use Rattle.std.proofs.lemmas.Bool.{and_parts, and_from, and_left, cases_Bool, cases_eq, eq-eqb, eqb-true, lt-ltb}
-use Rattle.std.proofs.lemmas.Bool.Decides.{nat_tests}
+use Rattle.std.specs.Prelude.{◌==◌, ◌&&◌, ◌⊎◌, if◌then◌else◌}
+use Rattle.std.proofs.lemmas.Bool.{and_parts, and_from, and_left, cases_Bool, cases_eq, cases_lt, cases_order, eq-eqb, eqb-true, le-ltb, lt-ltb, ne_eqb}
 use Rattle.vbr_machine.specs.Start.{Start}
 use Rattle.vbr_words.specs.declared.place.At.{At}
 use Rattle.vbr_words.specs.declared.place.At.TheVariants.{Head, Slot}
@@ -17,10 +16,10 @@ use Rattle.vbr_machine.specs.Chronicles.{Before, GivesUp, Bears, Stamps, Unlinks
 use Rattle.vbr_machine.specs.Notes.{before_at}
 use Rattle.vbr_machine.specs.declared.knowledge.SlotPlace.{SlotPlace}
 use Rattle.vbr_machine.specs.declared.knowledge.SlotPlace.TheVariants.{Shared, Own, Hand, Listed}
-use Rattle.vbr_machine.specs.Nodes.{state_shown, state_in, is_listed, key_in_slot, is_in_list, is_there, is_above, is_behind, count_below, behind, Stands, InList}
-use Rattle.vbr_machine.specs.Sound.{IsListed, IsApart, IsFrom, Sound}
+use Rattle.vbr_machine.specs.Nodes.{state_shown, state_in, is_listed, key_in_slot, rank_shown, rank_in_slot, is_lower, is_in_list, is_there, is_above, is_behind, count_below, behind, Stands, InList}
+use Rattle.vbr_machine.specs.Sound.{IsListed, IsOrderedBefore, IsApart, IsFrom, Sound}
 use Rattle.vbr_machine.proofs.Puts.{put_here, put_other}
-use Rattle.vbr_machine.proofs.Lists.{next_listed, keys_differ}
+use Rattle.vbr_machine.proofs.Lists.{next_listed, places_differ}
 use Rattle.vbr_machine.proofs.HeldReads.{same_pair}
 use Rattle.vbr_machine.proofs.Slots.{late_born, listed_late, listed_last, one_late}
 
@@ -74,6 +73,9 @@ stands_listed {a} {s} {c} n = ap (λ l. is_listed (state_shown a l)) n.last ∙ 
 pub stands_key : {a : Incarnations} {s c : ℕ} → Stands a s c → key_in_slot a s ≡ a.key c
 stands_key {a} n = ap (key_shown a) n.last
 
+pub stands_rank : {a : Incarnations} {s c : ℕ} → Stands a s c → rank_in_slot a s ≡ a.rank c
+stands_rank {a} n = ap (rank_shown a) n.last
+
 -- a node in a list stands in its slot
 pub stands_there : {start : Start} {a : Incarnations} → Sound start a → Fits start a → (n : ℕ) → IsListed (a.state n) → (a.slot n < start.shape.slots) × Stands a (a.slot n) n
 stands_there {start} {a} sound fits n l = (fits.slot n (late_born sound.slots n 0 (listed_late (a.state n) 0 l)), record { last = listed_last sound.slots n l; listed = l })
@@ -98,19 +100,73 @@ abbrev pub IsPlaceOf : Start → Incarnations → At → ℕ → Type 0
 IsPlaceOf start a (Head b) bucket = b ≡ bucket
 IsPlaceOf start a (Slot t) bucket = bucket_of start.shape (key_in_slot a t) ≡ bucket
 
--- a node is the next behind a place: each other node of the list that stands behind the place has a greater key than it
+-- a node is the next behind a place: it stands ahead of each other node of the list that stands behind the place
 pub record IsNextOf (start : Start) (a : Incarnations) (bucket : ℕ) (at : At) (n : ℕ) : Type 0 where
   pub listed : IsListed (a.state n)
   pub of_bucket : bucket_of start.shape (a.key n) ≡ bucket
-  pub above : is_above a at (a.key n) ≡ true
-  pub others : (d : ℕ) → IsListed (a.state d) → bucket_of start.shape (a.key d) ≡ bucket → d ≢ n → is_above a at (a.key d) ≡ nat_lt (a.key n) (a.key d)
+  pub above : is_above a at (a.key n) (a.rank n) ≡ true
+  pub others : (d : ℕ) → IsListed (a.state d) → bucket_of start.shape (a.key d) ≡ bucket → d ≢ n → is_above a at (a.key d) (a.rank d) ≡ is_lower (a.key n) (a.rank n) (a.key d) (a.rank d)
 
--- against a linked node and its successor, another is above the one where it is above the other
-others_above : (key : ℕ → ℕ) (c n d : ℕ) (next : Option ℕ) → next ≡ Some n → key c < key n → key n ≢ key d → IsApart key c next d → nat_lt (key c) (key d) ≡ nat_lt (key n) (key d)
-others_above key c n d next q up ne apart = grind (arith, nat_tests)
+-- an incarnation doesn't stand ahead of another
+abbrev pub NotOrderedBefore : (ℕ → ℕ) → (ℕ → ℕ) → ℕ → ℕ → Type 0
+NotOrderedBefore key rank c d = (key d < key c) ⊎ ((key d ≡ key c) × (rank d ≤ rank c))
 
-none_before : (key : ℕ → ℕ) (n d : ℕ) (first : Option ℕ) → first ≡ Some n → key n ≢ key d → IsFrom key first (key d) → true ≡ nat_lt (key n) (key d)
-none_before key n d first q ne from = grind (arith, nat_tests)
+-- the test tells whether it does
+pub lower_is : (key rank : ℕ → ℕ) (c d : ℕ) → IsOrderedBefore key rank c d → is_lower (key c) (rank c) (key d) (rank d) ≡ true
+lower_is key rank c d (inl l) = rw (lt-ltb (key c) (key d) l) refl
+lower_is key rank c d (inr l) = rw (le-ltb (key c) (key d) (let e = l.0 in omega arith), eq-eqb (key c) (key d) l.0, lt-ltb (rank c) (rank d) l.1) refl
+
+pub lower_not : (key rank : ℕ → ℕ) (c d : ℕ) → NotOrderedBefore key rank c d → is_lower (key c) (rank c) (key d) (rank d) ≡ false
+lower_not key rank c d (inl l) = rw (le-ltb (key c) (key d) (omega arith), ne_eqb (key c) (key d) (λ e. omega arith)) refl
+lower_not key rank c d (inr l) = rw (le-ltb (key c) (key d) (let e = l.0 in omega arith), eq-eqb (key c) (key d) (sym l.0), le-ltb (rank c) (rank d) l.1) refl
+
+ahead_or_not : (key rank : ℕ → ℕ) (c d : ℕ) → IsOrderedBefore key rank c d ⊎ NotOrderedBefore key rank c d
+ahead_or_not key rank c d = go (cases_order (key c) (key d)) (cases_lt (rank c) (rank d))
+  where
+    go : (key c ≡ key d) ⊎ ((key c < key d) ⊎ (key d < key c)) → (rank c < rank d) ⊎ (rank d ≤ rank c) → IsOrderedBefore key rank c d ⊎ NotOrderedBefore key rank c d
+    go (inl e) (inl l) = inl (inr (e, l))
+    go (inl e) (inr l) = inr (inr (sym e, l))
+    go (inr (inl l)) r = inl (inl l)
+    go (inr (inr l)) r = inr (inl l)
+
+-- and where it does, the one is ordered before the other
+pub lower_from : (key rank : ℕ → ℕ) (c d : ℕ) → is_lower (key c) (rank c) (key d) (rank d) ≡ true → IsOrderedBefore key rank c d
+lower_from key rank c d e = go (ahead_or_not key rank c d)
+  where
+    go : IsOrderedBefore key rank c d ⊎ NotOrderedBefore key rank c d → IsOrderedBefore key rank c d
+    go (inl o) = o
+    go (inr n) = absurd (let z : true ≡ false = sym e ∙ lower_not key rank c d n in cc)
+
+-- against a listed node and its successor, another is behind the one where it is behind the other
+others_above : (key rank : ℕ → ℕ) (c n d : ℕ) (next : Option ℕ) → next ≡ Some n → IsOrderedBefore key rank c n → (key n ≡ key d → rank n ≡ rank d → ⊥) → IsApart key rank c next d → is_lower (key c) (rank c) (key d) (rank d) ≡ is_lower (key n) (rank n) (key d) (rank d)
+others_above key rank c n d next q up ne apart = go (ahead_or_not key rank n d)
+  where
+    on : IsOrderedBefore key rank n d → IsOrderedBefore key rank c d
+    on (inl l) = inl (grind arith)
+    on (inr l) = elim up [
+      | inl x ↦ inl (let e = l.0 in omega arith)
+      | inr x ↦ inr (x.0 ∙ l.0, (let y = x.1 in let z = l.1 in omega arith))
+    ]
+
+    back : NotOrderedBefore key rank n d → IsApart key rank c next d → NotOrderedBefore key rank c d
+    back h (inl e) = inr (ap key e, (let r : rank d ≡ rank c = ap rank e in omega arith))
+    back h (inr (inl (inl l))) = inl l
+    back h (inr (inl (inr l))) = inr (l.0, (let z = l.1 in omega arith))
+    back h (inr (inr (m, e, from))) = absurd (let is : m ≡ n = (let z = e in cc) in same (rw is at from) h)
+      where
+        same : (key n < key d) ⊎ ((key n ≡ key d) × (rank n ≤ rank d)) → NotOrderedBefore key rank n d → ⊥
+        same u v = grind arith
+
+    go : IsOrderedBefore key rank n d ⊎ NotOrderedBefore key rank n d → is_lower (key c) (rank c) (key d) (rank d) ≡ is_lower (key n) (rank n) (key d) (rank d)
+    go (inl h) = lower_is key rank c d (on h) ∙ sym (lower_is key rank n d h)
+    go (inr h) = lower_not key rank c d (back h apart) ∙ sym (lower_not key rank n d h)
+
+none_before : (key rank : ℕ → ℕ) (n d : ℕ) (first : Option ℕ) → first ≡ Some n → (key n ≡ key d → rank n ≡ rank d → ⊥) → IsFrom key rank first d → true ≡ is_lower (key n) (rank n) (key d) (rank d)
+none_before key rank n d first q ne (m, e, from) = let is : m ≡ n = cc in sym (lower_is key rank n d (ahead (rw is at from)))
+  where
+    ahead : (key n < key d) ⊎ ((key n ≡ key d) × (rank n ≤ rank d)) → IsOrderedBefore key rank n d
+    ahead (inl l) = inl l
+    ahead (inr l) = inr (l.0, (let u = l.1 in let v = ne l.0 in grind arith))
 
 -- this incarnation is in a list, the last of the slot at the place, and has that successor; at a head, that one is the first of the bucket
 abbrev pub IsFollowed : Incarnations → At → Option ℕ → Option ℕ → Type 0
@@ -163,12 +219,13 @@ next_of_followed {start} {a} sound bucket (Head b) of n p is =
       listed = f.0;
       of_bucket = f.1 ∙ is;
       above = refl;
-      others = λ d l e ne. none_before a.key n d (a.first b) p.1 (λ w. ne (sym (keys_differ sound n d f.0 l w)))
-          (let P : ℕ → Type 0 = λ v. IsFrom a.key (a.first v) (a.key d) in subst P (e ∙ sym is) (sound.lists.behind_head d l));
+      others = λ d l e ne. none_before a.key a.rank n d (a.first b) p.1 (λ w r. ne (sym (places_differ sound n d f.0 l w r)))
+          (let P : ℕ → Type 0 = λ v. IsFrom a.key a.rank (a.first v) d in subst P (e ∙ sym is) (sound.lists.behind_head d l));
     }
 next_of_followed {start} {a} sound bucket (Slot t) of n p is =
     let c = p.0 in
     let k : key_in_slot a t ≡ a.key c = ap (key_shown a) p.2 in
+    let r : rank_in_slot a t ≡ a.rank c = ap (rank_shown a) p.2 in
     let lc : IsListed (a.state c) = p.3 in
     let ln : IsListed (a.state n) = next_listed sound c n p.4 lc in
     let o = sound.lists.ordered c n p.4 in
@@ -176,13 +233,13 @@ next_of_followed {start} {a} sound bucket (Slot t) of n p is =
     record {
       listed = ln;
       of_bucket = sym o.0 ∙ bc;
-      above = ap (λ v. nat_lt v (a.key n)) k ∙ lt-ltb (a.key c) (a.key n) o.1;
-      others = λ d l e ne. ap (λ v. nat_lt v (a.key d)) k
-          ∙ others_above a.key c n d (a.next c) p.4 o.1 (λ w. ne (sym (keys_differ sound n d ln l w))) (sound.lists.apart c d lc l (bc ∙ sym e));
+      above = (λ i. is_lower (k i) (r i) (a.key n) (a.rank n)) ∙ lower_is a.key a.rank c n o.1;
+      others = λ d l e ne. (λ i. is_lower (k i) (r i) (a.key d) (a.rank d))
+          ∙ others_above a.key a.rank c n d (a.next c) p.4 o.1 (λ w r. ne (sym (places_differ sound n d ln l w r))) (sound.lists.apart c d lc l (bc ∙ sym e));
     }
 
-not_below_itself : (k : ℕ) → nat_lt k k ≡ false
-not_below_itself k = grind (arith, nat_tests)
+not_below_itself : (k r : ℕ) → is_lower k r k r ≡ false
+not_below_itself k r = lower_not (λ s. k) (λ s. r) 0 0 (inr (refl, omega arith))
 
 -- behind the next there is one node fewer
 pub one_fewer : {start : Start} {a : Incarnations} → Sound start a → Fits start a → (bucket : ℕ) (at : At) (n : ℕ) → IsNextOf start a bucket at n → behind start a bucket at ≡ suc (behind start a bucket (Slot (a.slot n)))
@@ -191,10 +248,10 @@ one_fewer {start} {a} sound fits bucket at n next =
     count_falls (is_behind start a bucket at) (is_behind start a bucket (Slot (a.slot n))) start.shape.slots (a.slot n) there.0 (passes there.1) (fails there.1) (λ s l ne. others s ne there.1)
   where
     passes : Stands a (a.slot n) n → is_behind start a bucket at (a.slot n) ≡ true
-    passes st = and_from _ _ (in_list_is {start = start} (record { stands = st; of_bucket = next.of_bucket })) (ap (is_above a at) (stands_key st) ∙ next.above)
+    passes st = and_from _ _ (in_list_is {start = start} (record { stands = st; of_bucket = next.of_bucket })) ((λ i. is_above a at (stands_key st i) (stands_rank st i)) ∙ next.above)
 
     fails : Stands a (a.slot n) n → is_behind start a bucket (Slot (a.slot n)) (a.slot n) ≡ false
-    fails st = ap (λ b. is_in_list start a bucket (a.slot n) && b) (not_below_itself (key_in_slot a (a.slot n))) ∙ right (is_in_list start a bucket (a.slot n))
+    fails st = ap (λ b. is_in_list start a bucket (a.slot n) && b) (not_below_itself (key_in_slot a (a.slot n)) (rank_in_slot a (a.slot n))) ∙ right (is_in_list start a bucket (a.slot n))
       where
         right : (b : Bool) → (b && false) ≡ false
         right true = refl
@@ -209,25 +266,28 @@ one_fewer {start} {a} sound fits bucket at n next =
             let node = in_list_from start a bucket s inside in
             let other : node.0 ≢ n = λ e. ne (slot_is_one sound s (a.slot n) n (subst (λ (d : ℕ). Stands a s d) e node.1.stands) st) in
             ap (λ b. is_in_list start a bucket s && b)
-            (ap (is_above a at) (stands_key node.1.stands)
+            ((λ i. is_above a at (stands_key node.1.stands i) (stands_rank node.1.stands i))
             ∙ next.others node.0 node.1.stands.listed node.1.of_bucket other
-            ∙ (λ i. nat_lt (sym (stands_key st) i) (sym (stands_key node.1.stands) i)))
+            ∙ (λ i. is_lower (sym (stands_key st) i) (sym (stands_rank st) i) (sym (stands_key node.1.stands) i) (sym (stands_rank node.1.stands) i)))
 
 -- ---- where a node is unlinked, and where none is
 
 -- nodes that are in lists as before stand behind a place as before
-pub behind_same : (start : Start) (a b : Incarnations) (bucket : ℕ) (at : At) → ((s : ℕ) → is_listed (state_in b s) ≡ is_listed (state_in a s)) → b.key ≡ a.key → b.last ≡ a.last → behind start b bucket at ≡ behind start a bucket at
-behind_same start a b bucket at listed key last = count_same (is_behind start b bucket at) (is_behind start a bucket at) start.shape.slots (λ s l. same s)
+pub behind_same : (start : Start) (a b : Incarnations) (bucket : ℕ) (at : At) → ((s : ℕ) → is_listed (state_in b s) ≡ is_listed (state_in a s)) → b.key ≡ a.key → b.rank ≡ a.rank → b.last ≡ a.last → behind start b bucket at ≡ behind start a bucket at
+behind_same start a b bucket at listed key rank last = count_same (is_behind start b bucket at) (is_behind start a bucket at) start.shape.slots (λ s l. same s)
   where
     keys : (s : ℕ) → key_in_slot b s ≡ key_in_slot a s
     keys s = (λ i. key_shown (record a { key = key i }) (last i s))
 
-    above : (at : At) (key : ℕ) → is_above b at key ≡ is_above a at key
-    above (Head h) key = refl
-    above (Slot t) key = ap (λ k. nat_lt k key) (keys t)
+    ranks : (s : ℕ) → rank_in_slot b s ≡ rank_in_slot a s
+    ranks s = (λ i. rank_shown (record a { rank = rank i }) (last i s))
+
+    above : (at : At) (key low : ℕ) → is_above b at key low ≡ is_above a at key low
+    above (Head h) key low = refl
+    above (Slot t) key low = (λ i. is_lower (keys t i) (ranks t i) key low)
 
     same : (s : ℕ) → is_behind start b bucket at s ≡ is_behind start a bucket at s
-    same s = (λ i. (listed s i && (bucket_of start.shape (keys s i) == bucket)) && is_above b at (keys s i)) ∙ ap (λ c. is_in_list start a bucket s && c) (above at (key_in_slot a s))
+    same s = (λ i. (listed s i && (bucket_of start.shape (keys s i) == bucket)) && is_above b at (keys s i) (ranks s i)) ∙ ap (λ c. is_in_list start a bucket s && c) (above at (key_in_slot a s) (rank_in_slot a s))
 
 -- one that is in no list comes into another state in which it is in none
 put_unlisted : (state : ℕ → State) (c : ℕ) (st : State) (j : ℕ) → is_listed (state c) ≡ false → is_listed st ≡ false → is_listed (put state c st j) ≡ is_listed (state j)
@@ -245,18 +305,18 @@ unlisted_shown a b c st (Some d) e x y = ap (λ f. is_listed (f d)) e ∙ put_un
 pub stamps_none : (start : Start) (keys : Keys) (a : Incarnations) (pass c stamp bucket : ℕ) (at : At) → Allowed start keys a pass (Stamps c stamp) → behind start (becomes start a pass (Stamps c stamp)) bucket at ≡ behind start a bucket at
 stamps_none start keys a pass c stamp bucket at h =
     let b = becomes start a pass (Stamps c stamp) in
-    behind_same start a b bucket at (λ s. unlisted_shown a b c (Stamped (unlinked_at (a.state c)) stamp) (a.last s) refl (not_listed (a.state c) h) refl) refl refl
+    behind_same start a b bucket at (λ s. unlisted_shown a b c (Stamped (unlinked_at (a.state c)) stamp) (a.last s) refl (not_listed (a.state c) h) refl) refl refl refl
   where
     not_listed : (st : State) → MayStamp st pass stamp a.epoch → is_listed st ≡ false
     not_listed st h = grind arith
 
 -- behind each place that a node lies behind one node fewer stands once it is unlinked
-pub unlinks_one : {start : Start} {a : Incarnations} → Sound start a → Fits start a → (pass bucket c : ℕ) (at from : At) (of : Option ℕ) → IsFollowed a at of (Some c) → IsPlaceOf start a at bucket → is_above a from (a.key c) ≡ true → behind start a bucket from ≡ suc (behind start (becomes start a pass (Unlinks c (before_at a at))) bucket from)
+pub unlinks_one : {start : Start} {a : Incarnations} → Sound start a → Fits start a → (pass bucket c : ℕ) (at from : At) (of : Option ℕ) → IsFollowed a at of (Some c) → IsPlaceOf start a at bucket → is_above a from (a.key c) (a.rank c) ≡ true → behind start a bucket from ≡ suc (behind start (becomes start a pass (Unlinks c (before_at a at))) bucket from)
 unlinks_one {start} {a} sound fits pass bucket c at from of followed is higher =
     let next = next_of_followed sound bucket at of c followed is in
     let there = stands_there sound fits c next.listed in
     count_falls (is_behind start a bucket from) (is_behind start b bucket from) start.shape.slots (a.slot c) there.0
-    (and_from _ _ (in_list_is {start = start} (record { stands = there.1; of_bucket = next.of_bucket })) (ap (is_above a from) (stands_key there.1) ∙ higher))
+    (and_from _ _ (in_list_is {start = start} (record { stands = there.1; of_bucket = next.of_bucket })) ((λ i. is_above a from (stands_key there.1 i) (stands_rank there.1 i)) ∙ higher))
     (fails there.1)
     (λ s l ne. sym (others s ne))
   where
@@ -267,11 +327,8 @@ unlinks_one {start} {a} sound fits pass bucket c at from of followed is higher =
     fails st = and_left _ _ (and_left _ _ (ap (λ l. is_listed (state_shown b l)) st.last ∙ ap is_listed (put_here a.state c (Unlinked pass a.epoch))))
 
     others : (s : ℕ) → s ≢ a.slot c → is_behind start b bucket from s ≡ is_behind start a bucket from s
-    others s ne = ap (λ x. (is_listed x && (bucket_of start.shape (key_in_slot a s) == bucket)) && is_above a from (key_in_slot a s)) (go (a.last s) refl) ∙ ap (λ f. is_in_list start a bucket s && f) (above from (key_in_slot a s))
+    others s ne = ap (λ x. (is_listed x && (bucket_of start.shape (key_in_slot a s) == bucket)) && is_above a from (key_in_slot a s) (rank_in_slot a s)) (go (a.last s) refl)
       where
-        above : (at2 : At) (key : ℕ) → is_above a at2 key ≡ is_above a at2 key
-        above at2 key = refl
-
         go : (l : Option ℕ) → a.last s ≡ l → state_shown b l ≡ state_shown a l
         go None e = refl
         go (Some d) e = put_other a.state c (Unlinked pass a.epoch) d (λ x. ne (sym (sound.slots.last_born s d e).1 ∙ ap a.slot x))
@@ -307,11 +364,11 @@ unlinks_add_none start a pass bucket c before at = count_le (is_behind start b b
     was s e =
         let x = and_parts _ _ e in
         let y = and_parts _ _ x.0 in
-        and_from _ _ (and_from _ _ (still (a.last s) y.0) y.1) (same at (key_in_slot a s) x.1)
+        and_from _ _ (and_from _ _ (still (a.last s) y.0) y.1) (same at (key_in_slot a s) (rank_in_slot a s) x.1)
       where
-        same : (at2 : At) (key : ℕ) → is_above b at2 key ≡ true → is_above a at2 key ≡ true
-        same (Head h) key e = e
-        same (Slot t) key e = e
+        same : (at2 : At) (key rank : ℕ) → is_above b at2 key rank ≡ true → is_above a at2 key rank ≡ true
+        same (Head h) key rank e = e
+        same (Slot t) key rank e = e
 
 -- ---- links
 
@@ -343,7 +400,7 @@ stamps_links start keys a pass c stamp (Slot s) al = shown (a.last s)
 pub gives_up_none : (start : Start) (keys : Keys) (a : Incarnations) (pass c bucket : ℕ) (at : At) → Allowed start keys a pass (GivesUp c) → behind start (becomes start a pass (GivesUp c)) bucket at ≡ behind start a bucket at
 gives_up_none start keys a pass c bucket at h =
     let b = becomes start a pass (GivesUp c) in
-    behind_same start a b bucket at (λ s. unlisted_shown a b c GivenUp (a.last s) refl (ap is_listed h) refl) refl refl
+    behind_same start a b bucket at (λ s. unlisted_shown a b c GivenUp (a.last s) refl (ap is_listed h) refl) refl refl refl
 
 -- a slot that may be born in shows no node of a list
 free_unlisted : (a : Incarnations) (pass s : ℕ) (place : SlotPlace) (l : Option ℕ) → a.last s ≡ l → MayBeBornIn a pass s place → is_listed (state_shown a l) ≡ false

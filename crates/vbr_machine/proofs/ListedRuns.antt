@@ -14,19 +14,21 @@ use Rattle.vbr_machine.specs.Opened.{opening_keys}
 use Rattle.vbr_machine.specs.Runs.{IsRun, world_after, know_after}
 use Rattle.vbr_machine.specs.Incarnations.{Incarnations, last_in}
 use Rattle.vbr_machine.specs.Images.{link_shown_at, key_shown}
-use Rattle.vbr_machine.specs.Chronicles.{GivesUp, Unlinks, becomes, incarnations_from, IsLawful, next_of}
+use Rattle.vbr_machine.specs.Chronicles.{GivesUp, Removes, Unlinks, becomes, incarnations_from, IsLawful, next_of}
 use Rattle.vbr_machine.specs.Accounts.{incarnations_after, happens, notes_after, just, born_in}
 use Rattle.vbr_machine.specs.Agreement.{IsHeldAt, IsHeldNext, Agrees}
 use Rattle.vbr_machine.specs.Notes.{before_at}
 use Rattle.vbr_machine.specs.Nodes.{behind, is_above, is_listed, is_there, state_in}
+use Rattle.vbr_machine.specs.Removals.{IsTakenOut}
 use Rattle.vbr_machine.specs.Sound.{Sound}
 use Rattle.vbr_machine.specs.declared.event.Event.{Event}
 use Rattle.vbr_machine.specs.declared.event.Step.{Step}
-use Rattle.vbr_machine.specs.declared.event.Step.TheVariants.{StoreStamp, Raise, Unlink}
+use Rattle.vbr_machine.specs.declared.event.Step.TheVariants.{Mark, StoreStamp, Raise, Unlink}
 use Rattle.vbr_machine.specs.declared.knowledge.Read.TheVariants.{LinkAt}
 use Rattle.vbr_machine.proofs.HeldBuckets.{IsOfBucket, place_in_bucket}
 use Rattle.vbr_machine.proofs.KnownReads.{good_link}
 use Rattle.vbr_machine.proofs.EveryRun.{incarnations_after-snoc, run_agrees, step_agrees}
+use Rattle.vbr_machine.proofs.Removals.{marked_out}
 use Rattle.vbr_machine.proofs.RunForms as forms
 use Rattle.vbr_machine.proofs.ListedNodes.{IsFollowed, IsNextOf, IsPlaceOf, next_of_followed, same_followed, stands_listed, stands_there, one_fewer, stamps_none, stamps_links, unlinks_one, bears_none, gives_up_none}
 use Rattle.vbr_machine.proofs.SoundAfter.{sound_kept}
@@ -135,7 +137,7 @@ module _ (start : Start) (passes : ℕ) (run : List Event) (is : IsStart start) 
   -- a won unlinking leaves one node fewer behind each place that the node lies behind
   unlink_takes : (bucket : ℕ) (pred from : At) (expected s : ℕ) → Accepts start (know_after start run p) (Unlink pred expected s) → found start (world_after start run) (Unlink pred expected s) ≡ expected →
       Knows (know_after start run p) (LinkAt pred (link_of expected)) → (link_of expected).mark ≡ false → link_shown_at (incarnations_after start run) pred ≡ link_of expected → HeldIn (know_after start run p) pred bucket →
-      ((of : Option ℕ) → IsFollowed (incarnations_after start run) pred of (Some (last_in (incarnations_after start run) s)) → IsPlaceOf start (incarnations_after start run) pred bucket → is_above (incarnations_after start run) from ((incarnations_after start run).key (last_in (incarnations_after start run) s)) ≡ true) →
+      ((of : Option ℕ) → IsFollowed (incarnations_after start run) pred of (Some (last_in (incarnations_after start run) s)) → IsPlaceOf start (incarnations_after start run) pred bucket → is_above (incarnations_after start run) from ((incarnations_after start run).key (last_in (incarnations_after start run) s)) ((incarnations_after start run).rank (last_in (incarnations_after start run) s)) ≡ true) →
       behind start (incarnations_after start run) bucket from ≡ suc (behind start (incarnations_after start (run ++ (record { pass = p; step = Unlink pred expected s }) ∷ [])) bucket from)
   unlink_takes bucket pred from expected s accepts won known unmarked shown inside above =
       let step = Unlink pred expected s in
@@ -168,6 +170,14 @@ module _ (start : Start) (passes : ℕ) (run : List Event) (is : IsStart start) 
       let step = Unlink pred expected s in
       incarnations_after-snoc start run (record { pass = p; step = step })
       ∙ ap (incarnations_from start b) (if_found (found start (world_after start run) step) expected (just p (Unlinks (last_in b s) (before_at b pred))) [] won)
+
+  -- a law: a node that is marked is taken out
+  pub mark_out : (s expected : ℕ) → Accepts start (know_after start run p) (Mark s expected) → found start (world_after start run) (Mark s expected) ≡ expected → IsTakenOut (incarnations_after start (run ++ (record { pass = p; step = Mark s expected }) ∷ [])) (know_after start run p).epoch s
+  mark_out s expected accepts won =
+      let step = Mark s expected in
+      let P : Incarnations → Type 0 = λ i. IsTakenOut i (know_after start run p).epoch s in
+      subst P (sym (incarnations_after-snoc start run (record { pass = p; step = step }) ∙ ap (incarnations_from start b) (if_found (found start (world_after start run) step) expected (just p (Removes (last_in b s))) [] won)))
+      (marked_out p s expected (run_agrees start passes run is ok) accepts won)
 
   -- a stamp and the return of a slot leave the epoch
   pub stamp_epoch : (s stamp : ℕ) → (incarnations_after start (run ++ (record { pass = p; step = StoreStamp s stamp }) ∷ [])).epoch ≡ (incarnations_after start run).epoch

@@ -7,7 +7,7 @@ use Rattle.vbr_words.specs.declared.place.Place.{Place}
 use Rattle.vbr_machine.specs.Loads.{IsLoad}
 use Rattle.vbr_machine.specs.Machine.{World, found, knows_nothing, word_at, after}
 use Rattle.vbr_machine.specs.declared.event.Step.{Step}
-use Rattle.vbr_machine.specs.declared.event.Step.TheVariants.{ReadEpoch, Advance, LoadStamp, StoreStamp, Raise, TakeFlag, StoreBirth, StoreKey, StoreLink, LoadLink, LoadBirth, LoadKey, Publish, Mark, Unlink, ConfirmPresent, ConfirmAbsent, LoadValue, StoreValue}
+use Rattle.vbr_machine.specs.declared.event.Step.TheVariants.{ReadEpoch, Advance, LoadStamp, StoreStamp, Raise, TakeFlag, StoreBirth, StoreKey, StoreLink, LoadLink, LoadBirth, LoadKey, Publish, Mark, Replace, Unlink, ConfirmPresent, ConfirmAbsent, LoadValue, StoreValue}
 use Rattle.vbr_machine.proofs.Branches.{by_both}
 
 pub loads_leave : (start : Start) (w : World) (p : ℕ) (step : Step) → IsLoad step → (q : Place) → word_at start (after start w p step) q ≡ word_at start w q
@@ -29,4 +29,5 @@ loads_leave start w p (StoreValue s value) load q = let e = load knows_nothing i
 loads_leave start w p (StoreLink s next) load q = let e = load knows_nothing in absurd (cc)
 loads_leave start w p (Publish pred expected s) load q = let e = load knows_nothing in absurd (cc)
 loads_leave start w p (Mark s expected) load q = let e = load knows_nothing in absurd (cc)
+loads_leave start w p (Replace s expected t) load q = let e = load knows_nothing in absurd (cc)
 loads_leave start w p (Unlink pred expected s) load q = let e = load knows_nothing in absurd (cc)

@@ -1,5 +1,5 @@
 -- Behind a known unmarked link that stands at its place, the known marked links lead along nodes that are marked now and still listed: a marked link no longer changes. So a key that lies between the place and the end of these links isn't in the set.
-use Rattle.std.proofs.Common.{◌≡◌, ℕ, ◌≤◌, true, false, [], Option, Some, None, refl, arith, sym, subst, ap, ◌∙◌, inl, inr}
+use Rattle.std.proofs.Common.{◌≡◌, ℕ, ◌<◌, ◌≤◌, true, false, [], Option, Some, None, refl, arith, sym, subst, ap, ◌∙◌, inl, inr}
 use Rattle.std.specs.Prelude.{◌⊎◌}
 use Rattle.std.proofs.lemmas.Bool.{cases_Bool}
 use Rattle.vbr_machine.specs.Start.{Start}
@@ -23,7 +23,7 @@ use Rattle.vbr_machine.specs.Agreement.{IsHeldIncarnation, IsHeldNext, IsGoodLin
 use Rattle.vbr_machine.specs.declared.history.Op.{Op}
 use Rattle.vbr_machine.specs.declared.event.Step.TheVariants.{ConfirmAbsent}
 use Rattle.vbr_machine.specs.declared.knowledge.Read.TheVariants.{LinkAt}
-use Rattle.vbr_machine.proofs.Lists.{next_listed}
+use Rattle.vbr_machine.proofs.Lists.{next_listed, up_to_next}
 use Rattle.vbr_machine.proofs.Growth.{grows_after}
 use Rattle.vbr_machine.proofs.HeldReads.{same_pair}
 use Rattle.vbr_machine.proofs.Shown.{stands}
@@ -42,29 +42,25 @@ listed_removed st l r = grind arith
 
 -- ---- keys
 
--- it is there, of the bucket of d, and its key is no greater than that of d
+-- it is there, of the bucket of d, and d does not stand ahead of it
 pub record IsUpTo (start : Start) (a : Incarnations) (d : ℕ) (n : Option ℕ) : Type 0 where
   pub node : ℕ
   pub is : n ≡ Some node
   pub bucket : bucket_of start.shape (a.key node) ≡ bucket_of start.shape (a.key d)
-  pub key : a.key node ≤ a.key d
+  pub below : (a.key node < a.key d) ⊎ ((a.key node ≡ a.key d) × (a.rank node ≤ a.rank d))
 
 module _ {start : Start} {a : Incarnations} (s : Sound start a) (d : ℕ) (linked : a.state d ≡ Linked) where
   d_listed : IsListed (a.state d)
   d_listed = rw linked tt
 
-  -- behind an open place with a smaller key there is a node up to d
+  -- behind an open place with a smaller key there is a node up to it
   first_up_to : (before : Before) → IsOpen a before → BelongsBehind start a before (a.key d) → IsUpTo start a d (next_of a before)
   first_up_to (AtHead b) o f =
-      let u = s.lists.behind_head d d_listed in
-      let q : a.first b ≡ Some u.0 = ap a.first (sym f) ∙ u.1 in
-      record { node = u.0; is = q; bucket = (s.lists.first_in b u.0 q).1 ∙ sym f; key = u.2 }
-  first_up_to (AtNode c) o f = go (s.lists.apart c d (rw o tt) d_listed (sym f.0))
-    where
-      go : IsApart a.key c (a.next c) d → IsUpTo start a d (a.next c)
-      go (inl e) = absurd (let u = f.1 in let v : a.key d ≡ a.key c = ap a.key e in omega arith)
-      go (inr (inl lt)) = absurd (let u = f.1 in omega arith)
-      go (inr (inr u)) = record { node = u.0; is = u.1; bucket = sym (s.lists.ordered c u.0 u.1).0 ∙ sym f.0; key = u.2 }
+      let u = up_to_next s (AtHead b) d o f d_listed in
+      record { node = u.0; is = u.1; bucket = (s.lists.first_in b u.0 u.1).1 ∙ sym f; below = u.2 }
+  first_up_to (AtNode c) o f =
+      let u = up_to_next s (AtNode c) d o f d_listed in
+      record { node = u.0; is = u.1; bucket = sym (s.lists.ordered c u.0 u.1).0 ∙ sym f.0; below = u.2 }
 
   -- past a marked node there is one too
   past_up_to : (c : ℕ) → a.state c ≡ Marked → IsUpTo start a d (Some c) → IsUpTo start a d (a.next c)
@@ -76,10 +72,10 @@ module _ {start : Start} {a : Incarnations} (s : Sound start a) (d : ℕ) (linke
       b : bucket_of start.shape (a.key c) ≡ bucket_of start.shape (a.key d)
       b = ap (λ i. bucket_of start.shape (a.key i)) (sym e) ∙ h.bucket
 
-      go : IsApart a.key c (a.next c) d → IsUpTo start a d (a.next c)
+      go : IsApart a.key a.rank c (a.next c) d → IsUpTo start a d (a.next c)
       go (inl q) = absurd (let x : Linked ≡ Marked = sym linked ∙ ap a.state q ∙ m in cc)
-      go (inr (inl lt)) = absurd (let u = h.key in let v : a.key h.node ≡ a.key c = ap a.key e in omega arith)
-      go (inr (inr u)) = record { node = u.0; is = u.1; bucket = sym (s.lists.ordered c u.0 u.1).0 ∙ b; key = u.2 }
+      go (inr (inl ahead)) = absurd (let u = h.below in let v : a.key h.node ≡ a.key c = ap a.key e in let w : a.rank h.node ≡ a.rank c = ap a.rank e in grind arith)
+      go (inr (inr u)) = record { node = u.0; is = u.1; bucket = sym (s.lists.ordered c u.0 u.1).0 ∙ b; below = u.2 }
 
   through_up_to : (first n : Option ℕ) → ThroughMarked a first n → IsUpTo start a d first → IsUpTo start a d n
   through_up_to first _ here h = h
@@ -91,7 +87,7 @@ none_through_marked {start} {a} s before key n o f t b d l e = go n (through_up_
   where
     go : (n : Option ℕ) → IsUpTo start a d n → BelongsBefore a key n → ⊥
     go None h b = let q = h.is in cc
-    go (Some m) h b = let q : m ≡ h.node = (let r = h.is in cc) in let u = h.key in let v : a.key m ≡ a.key h.node = ap a.key q in omega arith
+    go (Some m) h b = let q : m ≡ h.node = (let r = h.is in cc) in let u = h.below in let v : a.key m ≡ a.key h.node = ap a.key q in grind arith
 
 -- ---- known marked links
 

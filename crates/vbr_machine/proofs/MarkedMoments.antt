@@ -18,14 +18,14 @@ use Rattle.vbr_machine.specs.Membership.{Knows, LeadsTo, itself, onward, StandsB
 use Rattle.vbr_machine.specs.Moments.{WasShown, WasAbsent}
 use Rattle.vbr_machine.specs.Runs.{Begins, IsRun, world_after, know_after}
 use Rattle.vbr_machine.specs.Incarnations.{State, Unborn, InHand, GivenUp, Linked, Marked, Unlinked, Stamped, Incarnations, last_in}
-use Rattle.vbr_machine.specs.Chronicles.{Happening, Advances, Gains, Probes, Raises, GivesUp, Bears, Keyed, Valued, Aims, Inserts, Removes, Unlinks, Stamps, Confirms, Entry, Allowed, Before, AtHead, AtNode, IsOpen, BelongsBehind, BelongsBefore, becomes, incarnations_from, IsLawful, next_of}
+use Rattle.vbr_machine.specs.Chronicles.{Happening, Advances, Gains, Probes, Raises, GivesUp, Bears, Keyed, Valued, Aims, Inserts, Removes, Replaces, Unlinks, Stamps, Confirms, Entry, Allowed, Before, AtHead, AtNode, IsOpen, BelongsBehind, BelongsBefore, becomes, incarnations_from, IsLawful, next_of}
 use Rattle.vbr_machine.specs.Sound.{IsApart, IsListed, IsRemoved, Sound, Grows}
 use Rattle.vbr_machine.specs.Accounts.{born_in, entry_of_call, happens, incarnations_after, just, notes_after}
 use Rattle.vbr_machine.specs.Agreement.{Agrees, IsGoodLink, IsHeldAt, IsHeldIncarnation, IsHeldNext, IsPair}
 use Rattle.vbr_machine.specs.declared.history.Call.{Call}
 use Rattle.vbr_machine.specs.declared.event.Event.{Event}
 use Rattle.vbr_machine.specs.declared.event.Step.{Step}
-use Rattle.vbr_machine.specs.declared.event.Step.TheVariants.{ReadEpoch, Advance, LoadStamp, StoreStamp, Raise, TakeFlag, StoreBirth, StoreKey, StoreLink, LoadLink, LoadBirth, LoadKey, Publish, Mark, Unlink, ConfirmPresent, ConfirmAbsent, StoreValue, LoadValue}
+use Rattle.vbr_machine.specs.declared.event.Step.TheVariants.{ReadEpoch, Advance, LoadStamp, StoreStamp, Raise, TakeFlag, StoreBirth, StoreKey, StoreLink, LoadLink, LoadBirth, LoadKey, Publish, Mark, Replace, Unlink, ConfirmPresent, ConfirmAbsent, StoreValue, LoadValue}
 use Rattle.vbr_machine.specs.declared.knowledge.Holding.{Holding}
 use Rattle.vbr_machine.specs.declared.knowledge.Holding.TheVariants.{Free, Unlinked as UnlinkedOne, InHand as HandHas}
 use Rattle.vbr_machine.specs.declared.knowledge.Read.TheVariants.{LinkAt}
@@ -33,7 +33,7 @@ use Rattle.vbr_machine.proofs.AtLoads.{before_of, before_then, behind_then, held
 use Rattle.vbr_machine.proofs.EveryRun.{incarnations_after-snoc, run_agrees, run_grows, step_agrees}
 use Rattle.vbr_machine.proofs.HeldReads.{stays_held}
 use Rattle.vbr_machine.proofs.KnownReads.{good_link, one_held}
-use Rattle.vbr_machine.proofs.Lists.{next_listed, no_key_between}
+use Rattle.vbr_machine.proofs.Lists.{lower_rank, next_listed, no_key_between}
 use Rattle.vbr_machine.proofs.RunsGoOn.{begins_refl, begins_run, begins_trans, is_run_after, is_run_before}
 use Rattle.vbr_machine.proofs.Shown.{stands}
 use Rattle.vbr_machine.proofs.Slots.{late_born, late_inserted, listed_late}
@@ -55,6 +55,7 @@ linked_on start a pass (GivesUp d) s h c l = grind (arith, nat_tests)
 linked_on start a pass (Bears v birth) s h c l = let z = s.slots.unborn a.count (omega arith) in grind (arith, nat_tests)
 linked_on start a pass (Inserts d behind) s h c l = grind (arith, nat_tests)
 linked_on start a pass (Removes d) s h c l = grind (arith, nat_tests)
+linked_on start a pass (Replaces old d) s h c l = let x = h.in_hand in let y = h.linked in grind (arith, nat_tests)
 linked_on start a pass (Unlinks d behind) s h c l = grind (arith, nat_tests)
 linked_on start a pass (Stamps d stamp) s h c l = grind (arith, nat_tests)
 
@@ -110,6 +111,7 @@ module _ (start : Start) (a : Incarnations) (s : Sound start a) (c : ℕ) (linke
   step_lists w p (LoadValue v) = nothing
   step_lists w p (Publish pred expected v) = either (found start w (Publish pred expected v) == expected) _ _ (one p (Inserts (last_in a v) (before_at a pred))) nothing
   step_lists w p (Mark v expected) = either (found start w (Mark v expected) == expected) _ _ (one p (Removes (last_in a v))) nothing
+  step_lists w p (Replace v expected t) = either (found start w (Replace v expected t) == expected) _ _ (one p (Replaces (last_in a v) (last_in a t))) nothing
   step_lists w p (Unlink pred expected v) = either (found start w (Unlink pred expected v) == expected) _ _ (one p (Unlinks (last_in a v) (before_at a pred))) nothing
   step_lists w p (ConfirmPresent op v expected) = either (found start w (ConfirmPresent op v expected) == expected) _ _ (answered p (call_of start p (w.know p) (ConfirmPresent op v expected))) nothing
   step_lists w p (ConfirmAbsent op key at expected) = either (found start w (ConfirmAbsent op key at expected) == expected) _ _ (answered p (call_of start p (w.know p) (ConfirmAbsent op key at expected))) nothing
@@ -206,11 +208,24 @@ none_behind_marked : {start : Start} {a : Incarnations} → Sound start a → (c
 none_behind_marked {start} {a} s c key marked bucket low before d linked same =
     go (a.next c) before (s.lists.apart c d (rw marked tt) (rw linked tt) (bucket ∙ ap (bucket_of start.shape) (sym same)))
   where
-    go : (n : Option ℕ) → BelongsBefore a key n → IsApart a.key c n d → ⊥
-    go n b (inl e) = let x : Linked ≡ Marked = sym linked ∙ ap a.state e ∙ marked in cc
-    go n b (inr (inl lt)) = omega (arith, lt, low, same)
+    other : c ≡ d → ⊥
+    other e = let x : Marked ≡ Linked = sym marked ∙ ap a.state e ∙ linked in absurd (cc)
+
+    -- a linked one of its key stands behind it
+    behind_it : a.key d ≡ a.key c → (c ≡ d) ⊎ (a.rank c < a.rank d) → a.rank d < a.rank c → ⊥
+    behind_it e (inl is) lt = other is
+    behind_it e (inr up) lt = omega (arith, up, lt)
+
+    go : (n : Option ℕ) → BelongsBefore a key n → IsApart a.key a.rank c n d → ⊥
+    go n b (inl e) = other (sym e)
+    go n b (inr (inl (inl lt))) = omega (arith, lt, low, same)
+    go n b (inr (inl (inr (e, lt)))) = behind_it e (lower_rank s d c linked (rw marked tt) e) lt
     go None b (inr (inr u)) = let q = u.1 in cc
-    go (Some m) b (inr (inr u)) = let q : m ≡ u.0 = (let r = u.1 in cc) in let v : a.key m ≡ a.key u.0 = ap a.key q in let w = u.2 in omega (arith, v, w, b, same)
+    go (Some m) b (inr (inr u)) = let q : m ≡ u.0 = (let r = u.1 in cc) in let v : a.key m ≡ a.key u.0 = ap a.key q in not_above u.0 u.2 (omega (arith, v, b, same))
+      where
+        not_above : (i : ℕ) → (a.key i < a.key d) ⊎ ((a.key i ≡ a.key d) × (a.rank i ≤ a.rank d)) → a.key d < a.key i → ⊥
+        not_above i (inl lt) up = omega (arith, lt, up)
+        not_above i (inr (e, le)) up = omega (arith, e, up)
 
 module _ (start : Start) (passes : ℕ) (moment run : List Event) (is : IsStart start) (ok : IsRun start passes run) (p : ℕ) (at : At) (link : Link) (was : WasShown start moment run p at link) (key : ℕ) (behind : StandsBehind start (know_after start run p) at key) where
   now : Agrees start (world_after start run) (incarnations_after start run) (notes_after start run)

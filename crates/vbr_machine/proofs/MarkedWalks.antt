@@ -1,4 +1,4 @@
--- Walks along the checked marked links: where they lead in some turns, known marked links lead; and where known marked links lead, they come in no more turns than there are slots, since the keys of the nodes that they pass ascend.
+-- Walks along the checked marked links: where they lead in some turns, known marked links lead; and where known marked links lead, they come in no more turns than there are slots, since the nodes that they pass ascend by key and rank.
 use Rattle.std.proofs.Common.{◌≡◌, ◌≢◌, ℕ, zero, suc, ◌<◌, ◌≤◌, true, false, List, [], ◌∷◌, length, Option, Some, None, refl, arith, sym, subst, ap, ◌∙◌, inl, inr}
 use Rattle.std.specs.Prelude.{◌⊎◌, nat_eq, IsSome}
 use Rattle.std.specs.List.{AllByRecursion, IsDistinct, list_any}
@@ -11,7 +11,7 @@ use Rattle.vbr_machine.specs.Knowledge.{Know, marked_in}
 use Rattle.vbr_machine.specs.Acceptance.{past_slot, past_marked, after_turns}
 use Rattle.vbr_machine.specs.Membership.{Knows, LeadsTo, itself, onward}
 use Rattle.vbr_machine.specs.Incarnations.{Incarnations}
-use Rattle.vbr_machine.specs.Sound.{Sound}
+use Rattle.vbr_machine.specs.Sound.{IsOrderedBefore, Sound}
 use Rattle.vbr_machine.specs.Notes.{Notes}
 use Rattle.vbr_machine.specs.Agreement.{IsHeldIncarnation, IsHeldNext, IsGoodLink, FitsNotes, Fits}
 use Rattle.vbr_machine.specs.declared.knowledge.Read.TheVariants.{LinkAt}
@@ -44,19 +44,26 @@ walk_led know link (suc turns) = led_on know link (after_turns know.checked turn
 
 -- ---- what is led to is walked to
 
--- an incarnation is held at a slot, and its key is below that of what is held at what follows
+-- an incarnation is held at a slot, and stands ahead of what is held at what follows
 pub record IsBelow (a : Incarnations) (epoch : ℕ) (next : Option ℕ) (s : ℕ) : Type 0 where
   pub node : ℕ
   pub held : IsHeldIncarnation a epoch s node
-  pub key : (t d : ℕ) → next ≡ Some t → IsHeldIncarnation a epoch t d → a.key node < a.key d
+  pub ahead : (t d : ℕ) → next ≡ Some t → IsHeldIncarnation a epoch t d → IsOrderedBefore a.key a.rank node d
 
--- the slots that were passed on the way to a link: as many as turns were made, of the shape, and no two the same, since their keys ascend
+-- the slots that were passed on the way to a link: as many as turns were made, of the shape, and no two the same, since they ascend
 pub record Passed (start : Start) (a : Incarnations) (know : Know) (link last : Link) : Type 0 where
   pub slots : List ℕ
   pub comes : after_turns know.checked (length slots) link.slot ≡ last.slot
   pub distinct : IsDistinct nat_eq slots
   pub low : AllByRecursion (λ s. s < start.shape.slots) slots
   pub below : AllByRecursion (IsBelow a know.epoch last.slot) slots
+
+-- what stands ahead of one that stands ahead of another stands ahead of that
+ahead_on : (key rank : ℕ → ℕ) (b c d : ℕ) → IsOrderedBefore key rank b c → IsOrderedBefore key rank c d → IsOrderedBefore key rank b d
+ahead_on key rank b c d (inl x) (inl y) = inl (omega arith)
+ahead_on key rank b c d (inl x) (inr y) = inl (let e = y.0 in omega arith)
+ahead_on key rank b c d (inr x) (inl y) = inl (let e = x.0 in omega arith)
+ahead_on key rank b c d (inr x) (inr y) = inr (x.0 ∙ y.0, (let u = x.1 in let v = y.1 in omega arith))
 
 all_low : (n : ℕ) (slots : List ℕ) → AllByRecursion (λ s. s < n) slots → (q : ℕ) → list_any (nat_eq q) slots ≡ true → q < n
 all_low n [] h q e = absurd (cc)
@@ -76,10 +83,10 @@ module _ {start : Start} {a : Incarnations} {know : Know} {notes : Notes} (sound
       go (Some x) q h = let y = marked_among know.checked s x q in one_mark sound noted s x next (record { among = y.0 }) k y.1 m
 
   -- what is below a slot is below what follows it
-  below_on : (s c : ℕ) (v w : Option ℕ) → v ≡ Some s → IsHeldIncarnation a know.epoch s c → ((t d : ℕ) → w ≡ Some t → IsHeldIncarnation a know.epoch t d → a.key c < a.key d) → (slots : List ℕ) → AllByRecursion (IsBelow a know.epoch v) slots → AllByRecursion (IsBelow a know.epoch w) slots
+  below_on : (s c : ℕ) (v w : Option ℕ) → v ≡ Some s → IsHeldIncarnation a know.epoch s c → ((t d : ℕ) → w ≡ Some t → IsHeldIncarnation a know.epoch t d → IsOrderedBefore a.key a.rank c d) → (slots : List ℕ) → AllByRecursion (IsBelow a know.epoch v) slots → AllByRecursion (IsBelow a know.epoch w) slots
   below_on s c v w q h up [] b = tt
   below_on s c v w q h up (_ ∷ slots) b = (
-    record { node = b.0.node; held = b.0.held; key = λ t d r i. let x = b.0.key s c q h in let y = up t d r i in omega arith },
+    record { node = b.0.node; held = b.0.held; ahead = λ t d r i. ahead_on a.key a.rank b.0.node c d (b.0.ahead s c q h) (up t d r i) },
     below_on s c v w q h up slots b.1,
   )
 
@@ -91,8 +98,8 @@ module _ {start : Start} {a : Incarnations} {know : Know} {notes : Notes} (sound
       differs : s ≢ t
       differs e =
           let P : ℕ → Type 0 = λ i. IsHeldIncarnation a know.epoch i b.0.node in
-          let x = b.0.key s b.0.node q (subst P (sym e) b.0.held) in
-          omega arith
+          let x = b.0.ahead s b.0.node q (subst P (sym e) b.0.held) in
+          grind arith
 
   one_more : (link last : Link) (s : ℕ) (next : Link) → Passed start a know link last → last.slot ≡ Some s → Knows know (LinkAt (Slot s) next) → next.mark ≡ true → Passed start a know link next
   unfolding IsDistinct
@@ -105,7 +112,7 @@ module _ {start : Start} {a : Incarnations} {know : Know} {notes : Notes} (sound
         comes = ap (past_marked know.checked) (p.comes ∙ q) ∙ past_known s next k m;
         distinct = (apart s c last.slot q g.place p.slots p.below, p.distinct);
         low = (rw (← g.place.slot) (fits.slot c (late_born sound.slots c know.epoch g.place.late)), p.low);
-        below = (record { node = c; held = g.place; key = above }, below_on s c last.slot next.slot q g.place above p.slots p.below);
+        below = (record { node = c; held = g.place; ahead = above }, below_on s c last.slot next.slot q g.place above p.slots p.below);
       }
         where
           follows : (t d : ℕ) (v n : Option ℕ) → IsHeldNext a know.epoch v n → v ≡ Some t → IsHeldIncarnation a know.epoch t d → n ≡ Some d
@@ -116,7 +123,7 @@ module _ {start : Start} {a : Incarnations} {know : Know} {notes : Notes} (sound
               let P : ℕ → Type 0 = λ j. IsHeldIncarnation a know.epoch j n in
               ap Some (one_held sound know.epoch t n d (subst P e h) i)
 
-          above : (t d : ℕ) → next.slot ≡ Some t → IsHeldIncarnation a know.epoch t d → a.key c < a.key d
+          above : (t d : ℕ) → next.slot ≡ Some t → IsHeldIncarnation a know.epoch t d → IsOrderedBefore a.key a.rank c d
           above t d r i = (sound.lists.ordered c d ((g.frozen m).1 ∙ follows t d next.slot names g.next r i)).1
 
   passed : (link last : Link) → LeadsTo know link last → Passed start a know link last

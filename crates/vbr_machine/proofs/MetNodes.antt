@@ -1,9 +1,8 @@
 -- The nodes of a bucket that were in its list since an earlier moment: their successors were too, and there are no more of them than were there then, and have come since.
 use Rattle.std.proofs.Common.{◌≡◌, ◌≢◌, ℕ, zero, suc, ◌+◌, ◌<◌, ◌≤◌, Bool, true, false, not, List, [], ◌∷◌, Option, Some, None, refl, sym, ap, ◌∙◌, subst, inl, inr, eq-eqb, arith}
-use Rattle.std.specs.Prelude.{◌==◌, ◌&&◌, ◌⊎◌, nat_lt, if◌then◌else◌}
+use Rattle.std.specs.Prelude.{◌==◌, ◌&&◌, ◌⊎◌, if◌then◌else◌}
 use Rattle.std.specs.List.{AllByRecursion}
-use Rattle.std.proofs.lemmas.Bool.{and_parts, and_from, cases_Bool, cases_eq, eqb-true, lt-ltb, ne_eqb}
-use Rattle.std.proofs.lemmas.Bool.Decides.{nat_tests}
+use Rattle.std.proofs.lemmas.Bool.{and_parts, and_from, cases_Bool, cases_eq, eqb-true, ne_eqb}
 use Rattle.vbr_words.specs.Buckets.{bucket_of}
 use Rattle.vbr_words.specs.declared.place.At.TheVariants.{Head}
 use Rattle.vbr_machine.specs.Start.{Start}
@@ -12,14 +11,14 @@ use Rattle.vbr_machine.specs.Keys.{Keys}
 use Rattle.vbr_machine.specs.Agreement.{Fits}
 use Rattle.vbr_machine.specs.Images.{key_shown}
 use Rattle.vbr_machine.specs.Incarnations.{State, Unborn, InHand, GivenUp, Linked, Marked, Unlinked, Stamped, Incarnations}
-use Rattle.vbr_machine.specs.Chronicles.{Happening, Advances, Gains, Probes, Raises, GivesUp, Bears, Keyed, Valued, Aims, Inserts, Removes, Unlinks, Stamps, Confirms, AtHead, AtNode, Entry, Allowed, MayStamp, becomes, incarnations_from, IsLawful, unlinked_at}
+use Rattle.vbr_machine.specs.Chronicles.{Happening, Advances, Gains, Probes, Raises, GivesUp, Bears, Keyed, Valued, Aims, Inserts, Removes, Replaces, Unlinks, Stamps, Confirms, AtHead, AtNode, Entry, Allowed, MayStamp, becomes, incarnations_from, IsLawful, unlinked_at}
 use Rattle.vbr_machine.specs.Disturbances.{changes, counted, disturbances_in, is_inserted, has_left, is_met, met, is_met_below, met_below}
-use Rattle.vbr_machine.specs.Nodes.{count_below, behind, is_behind}
+use Rattle.vbr_machine.specs.Nodes.{count_below, behind, is_behind, is_lower}
 use Rattle.vbr_machine.specs.Removals.{HasLeft}
-use Rattle.vbr_machine.specs.Sound.{IsInserted, IsListed, Sound, Grows}
+use Rattle.vbr_machine.specs.Sound.{IsInserted, IsListed, IsOrderedBefore, Sound, Grows}
 use Rattle.vbr_machine.proofs.Calm.{NoneBy}
 use Rattle.vbr_machine.proofs.Growth.{inserted_stays}
-use Rattle.vbr_machine.proofs.ListedNodes.{count_falls, in_list_is, stands_there}
+use Rattle.vbr_machine.proofs.ListedNodes.{count_falls, in_list_is, lower_from, lower_is, lower_not, stands_there}
 use Rattle.vbr_machine.proofs.Lists.{next_listed}
 use Rattle.vbr_machine.proofs.Puts.{put_here, put_other}
 use Rattle.vbr_machine.proofs.Removals.{left_stays}
@@ -131,6 +130,28 @@ closed_kept start keys first a pass (Inserts v (AtNode p)) s h x c d e l = go (c
         let z : HasLeft (InHand pass) = subst P (ap a.state (sym w) ∙ h.in_hand) (x.out d l) in
         absurd z
     go (inr ne) = behind_new (cases_eq c v) (sym (put_other inner p (Some v) c ne) ∙ e)
+closed_kept start keys first a pass (Replaces old v) s h x c d e l = go (cases_eq c old)
+  where
+    P : State → Type 0
+    P = HasLeft
+
+    inner : ℕ → Option ℕ
+    inner = put a.next v (a.next old)
+
+    new_one : (c ≡ v) ⊎ (c ≢ v) → inner c ≡ Some d → HasLeft (first.state c)
+    new_one (inl is) q =
+        let y : a.next old ≡ Some d = sym (ap inner is ∙ put_here a.next v (a.next old)) ∙ q in
+        let z : HasLeft Linked = subst P h.linked (x.out old (x.closed old d y l)) in
+        absurd z
+    new_one (inr ne) q = x.closed c d (sym (put_other a.next v (a.next old) c ne) ∙ q) l
+
+    go : (c ≡ old) ⊎ (c ≢ old) → HasLeft (first.state c)
+    go (inl is) =
+        let y : Some v ≡ Some d = sym (ap (put inner old (Some v)) is ∙ put_here inner old (Some v)) ∙ e in
+        let w : v ≡ d = cc in
+        let z : HasLeft (InHand pass) = subst P (ap a.state (sym w) ∙ h.in_hand) (x.out d l) in
+        absurd z
+    go (inr ne) = new_one (cases_eq c v) (sym (put_other inner old (Some v) c ne) ∙ e)
 closed_kept start keys first a pass (Unlinks v (AtNode p)) s h x c d e l = go (cases_eq c p)
   where
     P : State → Type 0
@@ -267,39 +288,46 @@ met_from start first a bucket c e =
 pub met_is : (start : Start) (first a : Incarnations) (bucket c : ℕ) → IsMet start first a bucket c → is_met start first a bucket c ≡ true
 met_is start first a bucket c x = and_from (is_inserted (a.state c) && not (has_left (first.state c))) (bucket_of start.shape (a.key c) == bucket) (and_from (is_inserted (a.state c)) (not (has_left (first.state c))) (inserted_is (a.state c) x.inserted) (left_is (first.state c) x.since)) (eq-eqb (bucket_of start.shape (a.key c)) bucket x.of_bucket)
 
-below_itself : (b : Bool) (k : ℕ) → (b && nat_lt k k) ≡ false
-below_itself b k = grind (arith, nat_tests)
+below_itself : (b : Bool) (key rank : ℕ → ℕ) (c : ℕ) → (b && is_lower (key c) (rank c) (key c) (rank c)) ≡ false
+below_itself b key rank c = fails b (is_lower (key c) (rank c) (key c) (rank c)) (lower_not key rank c c (inr (refl, omega arith)))
+  where
+    fails : (p q : Bool) → q ≡ false → (p && q) ≡ false
+    fails true q e = e
+    fails false q e = refl
 
-lt_from : (j k : ℕ) → nat_lt j k ≡ true → j < k
-lt_from j k e = grind (arith, nat_tests)
+-- the order of lists is transitive
+ordered_on : (key rank : ℕ → ℕ) (b c d : ℕ) → IsOrderedBefore key rank b c → IsOrderedBefore key rank c d → IsOrderedBefore key rank b d
+ordered_on key rank b c d x y = grind arith
 
 module _ (start : Start) (first a : Incarnations) (bucket : ℕ) where
-  -- a node that was there, and those with smaller keys, are fewer than those with keys below a greater one
-  pub one_more_below : (c key : ℕ) → c < a.count → IsMet start first a bucket c → a.key c < key → met_below start first a bucket (a.key c) < met_below start first a bucket key
-  one_more_below c key low x less =
-      count_less (is_met_below start first a bucket (a.key c)) (is_met_below start first a bucket key) a.count c low
-      (below_itself (is_met start first a bucket c) (a.key c))
-      (and_from (is_met start first a bucket c) (nat_lt (a.key c) key) (met_is start first a bucket c x) (lt-ltb (a.key c) key less))
-      (λ s l t. (let parts = and_parts (is_met start first a bucket s) (nat_lt (a.key s) (a.key c)) t in let lt = lt_from (a.key s) (a.key c) parts.1 in and_from (is_met start first a bucket s) (nat_lt (a.key s) key) parts.0 (lt-ltb (a.key s) key (omega (arith, lt, less)))))
+  -- a node that was there, and those that are ordered before it, are fewer than those that are ordered before a later one
+  pub one_more_below : (c d : ℕ) → c < a.count → IsMet start first a bucket c → IsOrderedBefore a.key a.rank c d → met_below start first a bucket (a.key c) (a.rank c) < met_below start first a bucket (a.key d) (a.rank d)
+  one_more_below c d low x less =
+      count_less (is_met_below start first a bucket (a.key c) (a.rank c)) (is_met_below start first a bucket (a.key d) (a.rank d)) a.count c low
+      (below_itself (is_met start first a bucket c) a.key a.rank c)
+      (and_from (is_met start first a bucket c) (is_lower (a.key c) (a.rank c) (a.key d) (a.rank d)) (met_is start first a bucket c x) (lower_is a.key a.rank c d less))
+      (λ s l t.
+      (let parts = and_parts (is_met start first a bucket s) (is_lower (a.key s) (a.rank s) (a.key c) (a.rank c)) t in
+      and_from (is_met start first a bucket s) (is_lower (a.key s) (a.rank s) (a.key d) (a.rank d)) parts.0 (lower_is a.key a.rank s d (ordered_on a.key a.rank s c d (lower_from a.key a.rank s c parts.1) less))))
 
   -- and fewer than all
-  pub one_more_of_all : (c : ℕ) → c < a.count → IsMet start first a bucket c → met_below start first a bucket (a.key c) < met start first a bucket
+  pub one_more_of_all : (c : ℕ) → c < a.count → IsMet start first a bucket c → met_below start first a bucket (a.key c) (a.rank c) < met start first a bucket
   one_more_of_all c low x =
-      count_less (is_met_below start first a bucket (a.key c)) (is_met start first a bucket) a.count c low
-      (below_itself (is_met start first a bucket c) (a.key c))
+      count_less (is_met_below start first a bucket (a.key c) (a.rank c)) (is_met start first a bucket) a.count c low
+      (below_itself (is_met start first a bucket c) a.key a.rank c)
       (met_is start first a bucket c x)
-      (λ s l t. (and_parts (is_met start first a bucket s) (nat_lt (a.key s) (a.key c)) t).0)
+      (λ s l t. (and_parts (is_met start first a bucket s) (is_lower (a.key s) (a.rank s) (a.key c) (a.rank c)) t).0)
 
   module _ {b : Incarnations} (g : Grows a b) where
     stays_met : (c : ℕ) → IsMet start first a bucket c → IsMet start first b bucket c
     stays_met c x = record { inserted = inserted_stays g c x.inserted; since = x.since; of_bucket = ap (bucket_of start.shape) (g.key c x.inserted) ∙ x.of_bucket }
 
     -- as more happens, they don't become fewer
-    pub met_below_grows : (key : ℕ) → met_below start first a bucket key ≤ met_below start first b bucket key
-    met_below_grows key = count_fewer (is_met_below start first a bucket key) (is_met_below start first b bucket key) a.count b.count g.count (λ c l t.
-        (let parts = and_parts (is_met start first a bucket c) (nat_lt (a.key c) key) t in
+    pub met_below_grows : (key rank : ℕ) → met_below start first a bucket key rank ≤ met_below start first b bucket key rank
+    met_below_grows key rank = count_fewer (is_met_below start first a bucket key rank) (is_met_below start first b bucket key rank) a.count b.count g.count (λ c l t.
+        (let parts = and_parts (is_met start first a bucket c) (is_lower (a.key c) (a.rank c) key rank) t in
         let x = met_from start first a bucket c parts.0 in
-        and_from (is_met start first b bucket c) (nat_lt (b.key c) key) (met_is start first b bucket c (stays_met c x)) (ap (λ k. nat_lt k key) (g.key c x.inserted) ∙ parts.1)))
+        and_from (is_met start first b bucket c) (is_lower (b.key c) (b.rank c) key rank) (met_is start first b bucket c (stays_met c x)) ((λ i. is_lower (g.key c x.inserted i) (g.rank c x.inserted i) key rank) ∙ parts.1)))
 
     pub met_grows : met start first a bucket ≤ met start first b bucket
     met_grows = count_fewer (is_met start first a bucket) (is_met start first b bucket) a.count b.count g.count (λ c l t. met_is start first b bucket c (stays_met c (met_from start first a bucket c t)))
@@ -352,14 +380,16 @@ stamped_inserted (Stamped u r) pass stamp epoch m = absurd m
 other_bucket : (x bucket : ℕ) → (x == bucket) ≡ false → x ≢ bucket
 other_bucket x bucket f e = let t : (x == bucket) ≡ true = eq-eqb x bucket e in absurd (cc)
 
--- one more node of a bucket comes into its list by an insert alone
+-- one more node of a bucket comes into its list by an insert or a replacement alone
 comes : Start → Incarnations → ℕ → Happening → Bool
 comes start a bucket (Inserts c behind) = bucket_of start.shape (a.key c) == bucket
+comes start a bucket (Replaces old c) = bucket_of start.shape (a.key c) == bucket
 comes start a bucket _ = false
 
--- whether an event is an insert
+-- whether an event links a node: an insert does, and a replacement
 abbrev pub is_insert : Happening → Bool
 is_insert (Inserts c behind) = true
+is_insert (Replaces old c) = true
 is_insert _ = false
 
 module _ (start : Start) (keys : Keys) (first a : Incarnations) (bucket : ℕ) (s : Sound start a) where
@@ -385,6 +415,21 @@ module _ (start : Start) (keys : Keys) (first a : Incarnations) (bucket : ℕ) (
 
   at_most : (m n k : ℕ) → m ≤ n → m ≤ k + n
   at_most m n k l = omega (arith, l)
+
+  -- where each but one that was there then was there before, they are one more at the most, and none where that one is of another bucket
+  with_one : (b : Incarnations) (c : ℕ) → b.count ≡ a.count → b.key ≡ a.key → ((d : ℕ) → d ≢ c → IsMet start first b bucket d → IsMet start first a bucket d) → met start first b bucket ≤ counted (bucket_of start.shape (a.key c) == bucket) + met start first a bucket
+  with_one b c same keys_same was = go (cases_Bool (bucket_of start.shape (a.key c) == bucket))
+    where
+      go : ((bucket_of start.shape (a.key c) == bucket) ≡ true) ⊎ ((bucket_of start.shape (a.key c) == bucket) ≡ false) → met start first b bucket ≤ counted (bucket_of start.shape (a.key c) == bucket) + met start first a bucket
+      go (inl t) =
+          let x = count_one_more (is_met start first a bucket) (is_met start first b bucket) a.count c (λ d l ne t. met_is start first a bucket d (was d ne (met_from start first b bucket d t))) in
+          let y = ap counted t in
+          let z = ap (count_below (is_met start first b bucket)) same in
+          omega (arith, x, y, z)
+      go (inr f) =
+          let apart = other_bucket (bucket_of start.shape (a.key c)) bucket f in
+          let x = fewer b (λ d x. was d (λ q. apart (ap (λ i. bucket_of start.shape (a.key i)) (sym q) ∙ ap (λ (k : ℕ → ℕ). bucket_of start.shape (k d)) (sym keys_same) ∙ x.of_bucket)) x) in
+          omega (arith, x)
 
   met_with : (pass : ℕ) (what : Happening) → Allowed start keys a pass what → met start first (becomes start a pass what) bucket ≤ counted (comes start a bucket what) + met start first a bucket
   unfolding comes
@@ -412,36 +457,30 @@ module _ (start : Start) (keys : Keys) (first a : Incarnations) (bucket : ℕ) (
         since = x.since;
         of_bucket = ap (bucket_of start.shape) (sym (put_other a.key a.count (key_shown a (a.last v)) d ne)) ∙ x.of_bucket;
       }))
-  met_with pass (Inserts c behind) h = go (cases_Bool (bucket_of start.shape (a.key c) == bucket))
-    where
-      b : Incarnations
-      b = becomes start a pass (Inserts c behind)
+  met_with pass (Inserts c behind) h = with_one (becomes start a pass (Inserts c behind)) c refl refl (λ d ne x. record {
+    inserted = (let P : State → Type 0 = IsInserted in subst P (put_other a.state c Linked d ne) x.inserted);
+    since = x.since;
+    of_bucket = x.of_bucket;
+  })
+  met_with pass (Replaces old c) h = with_one (becomes start a pass (Replaces old c)) c refl refl (λ d ne x. record {
+    inserted = (let P : State → Type 0 = IsInserted in inserted_put a.state old Marked d (λ i. rw h.linked tt) (subst P (put_other (put a.state old Marked) c Linked d ne) x.inserted));
+    since = x.since;
+    of_bucket = x.of_bucket;
+  })
 
-      was : (d : ℕ) → d ≢ c → IsMet start first b bucket d → IsMet start first a bucket d
-      was d ne x = record { inserted = (let P : State → Type 0 = IsInserted in subst P (put_other a.state c Linked d ne) x.inserted); since = x.since; of_bucket = x.of_bucket }
-
-      go : ((bucket_of start.shape (a.key c) == bucket) ≡ true) ⊎ ((bucket_of start.shape (a.key c) == bucket) ≡ false) → met start first b bucket ≤ counted (bucket_of start.shape (a.key c) == bucket) + met start first a bucket
-      go (inl t) =
-          let x = count_one_more (is_met start first a bucket) (is_met start first b bucket) a.count c (λ d l ne t. met_is start first a bucket d (was d ne (met_from start first b bucket d t))) in
-          let y = ap counted t in
-          omega (arith, x, y)
-      go (inr f) =
-          let apart = other_bucket (bucket_of start.shape (a.key c)) bucket f in
-          let x = fewer b (λ d x. was d (λ q. apart (ap (λ i. bucket_of start.shape (a.key i)) (sym q) ∙ x.of_bucket)) x) in
-          omega (arith, x)
-
--- where another pass does it, it disturbs; and the pass itself inserts none
-comes_less : (start : Start) (a : Incarnations) (bucket who pass : ℕ) (what : Happening) → (pass ≡ who → is_insert what ≡ false) → counted (comes start a bucket what) ≤ counted (not (pass == who) && changes start a bucket what)
-unfolding comes
-comes_less start a bucket who pass (Inserts c behind) none = go (cases_eq pass who)
+-- what is of another pass counts
+of_another : (who pass : ℕ) (q : Bool) → (pass ≡ who → ⊥) → counted q ≤ counted (not (pass == who) && q)
+of_another who pass q ne = other (pass == who) q (ne_eqb pass who ne)
   where
     other : (p q : Bool) → p ≡ false → counted q ≤ counted (not p && q)
     other true q e = absurd (cc)
     other false q e = omega arith
 
-    go : (pass ≡ who) ⊎ (pass ≢ who) → counted (bucket_of start.shape (a.key c) == bucket) ≤ counted (not (pass == who) && (bucket_of start.shape (a.key c) == bucket))
-    go (inl is) = absurd (let z : true ≡ false = none is in cc)
-    go (inr ne) = other (pass == who) (bucket_of start.shape (a.key c) == bucket) (ne_eqb pass who ne)
+-- where another pass does it, it disturbs; and the pass itself links none
+comes_less : (start : Start) (a : Incarnations) (bucket who pass : ℕ) (what : Happening) → (pass ≡ who → is_insert what ≡ false) → counted (comes start a bucket what) ≤ counted (not (pass == who) && changes start a bucket what)
+unfolding comes
+comes_less start a bucket who pass (Inserts c behind) none = of_another who pass (bucket_of start.shape (a.key c) == bucket) (λ is. (let z : true ≡ false = none is in cc))
+comes_less start a bucket who pass (Replaces old c) none = of_another who pass (bucket_of start.shape (a.key c) == bucket) (λ is. (let z : true ≡ false = none is in cc))
 comes_less start a bucket who pass Advances none = omega arith
 comes_less start a bucket who pass (Gains v) none = omega arith
 comes_less start a bucket who pass (Probes v) none = omega arith
@@ -456,7 +495,7 @@ comes_less start a bucket who pass (Unlinks c behind) none = omega arith
 comes_less start a bucket who pass (Stamps c stamp) none = omega arith
 comes_less start a bucket who pass (Confirms call) none = omega arith
 
--- a pass inserts nothing by these events
+-- a pass links nothing by these events
 abbrev pub InsertsNone : ℕ → List Entry → Type 0
 InsertsNone who entries = AllByRecursion (λ (entry : Entry). entry.pass ≡ who → is_insert entry.what ≡ false) entries
 
@@ -464,7 +503,7 @@ pub none_inserts : (who : ℕ) (entries : List Entry) → NoneBy who entries →
 none_inserts who [] none = tt
 none_inserts who (entry ∷ entries) none = (λ is. absurd (none.0 is), none_inserts who entries none.1)
 
--- a law of chronicles: each node that comes to be met is an event that disturbs a pass which inserts none itself
+-- a law of chronicles: each node that comes to be met is an event that disturbs a pass which links none itself
 pub met_since : (start : Start) (keys : Keys) (first a : Incarnations) (who bucket : ℕ) (entries : List Entry) → Sound start a → IsLawful start keys a entries → InsertsNone who entries → met start first (incarnations_from start a entries) bucket ≤ met start first a bucket + disturbances_in start who bucket a entries
 met_since start keys first a who bucket [] s l none = omega arith
 met_since start keys first a who bucket (entry ∷ entries) s l none =

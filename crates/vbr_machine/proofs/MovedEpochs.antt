@@ -16,7 +16,7 @@ use Rattle.vbr_machine.specs.Disturbances.{counted, disturbances_in, disturbance
 use Rattle.vbr_machine.specs.declared.history.Call.{Call}
 use Rattle.vbr_machine.specs.declared.event.Event.{Event}
 use Rattle.vbr_machine.specs.declared.event.Step.{Step}
-use Rattle.vbr_machine.specs.declared.event.Step.TheVariants.{ReadEpoch, Advance, LoadStamp, StoreStamp, Raise, TakeFlag, StoreBirth, StoreKey, StoreLink, LoadLink, LoadBirth, LoadKey, Publish, Mark, Unlink, ConfirmPresent, ConfirmAbsent, StoreValue, LoadValue}
+use Rattle.vbr_machine.specs.declared.event.Step.TheVariants.{ReadEpoch, Advance, LoadStamp, StoreStamp, Raise, TakeFlag, StoreBirth, StoreKey, StoreLink, LoadLink, LoadBirth, LoadKey, Publish, Mark, Replace, Unlink, ConfirmPresent, ConfirmAbsent, StoreValue, LoadValue}
 use Rattle.vbr_machine.specs.declared.knowledge.Holding.{Holding}
 use Rattle.vbr_machine.specs.declared.knowledge.Holding.TheVariants.{Free, Unlinked, InHand}
 use Rattle.vbr_machine.proofs.EveryRun.{incarnations-append, incarnations_from-append}
@@ -50,6 +50,7 @@ as_advance (LoadKey s) = inr (λ x. x)
 as_advance (LoadValue s) = inr (λ x. x)
 as_advance (Publish pred expected s) = inr (λ x. x)
 as_advance (Mark s expected) = inr (λ x. x)
+as_advance (Replace s expected t) = inr (λ x. x)
 as_advance (Unlink pred expected s) = inr (λ x. x)
 as_advance (ConfirmPresent op s expected) = inr (λ x. x)
 as_advance (ConfirmAbsent op key at expected) = inr (λ x. x)
@@ -91,6 +92,7 @@ module _ (start : Start) where
   step_stays w a p (LoadValue s) none = refl
   step_stays w a p (Publish pred expected s) none = either_stays a (found start w (Publish pred expected s) == expected) _ _ refl refl
   step_stays w a p (Mark s expected) none = either_stays a (found start w (Mark s expected) == expected) _ _ refl refl
+  step_stays w a p (Replace s expected t) none = either_stays a (found start w (Replace s expected t) == expected) _ _ refl refl
   step_stays w a p (Unlink pred expected s) none = either_stays a (found start w (Unlink pred expected s) == expected) _ _ refl refl
   step_stays w a p (ConfirmPresent op s expected) none = either_stays a (found start w (ConfirmPresent op s expected) == expected) _ _ (answered_stays a p (call_of start p (w.know p) (ConfirmPresent op s expected))) refl
   step_stays w a p (ConfirmAbsent op key at expected) none = either_stays a (found start w (ConfirmAbsent op key at expected) == expected) _ _ (answered_stays a p (call_of start p (w.know p) (ConfirmAbsent op key at expected))) refl

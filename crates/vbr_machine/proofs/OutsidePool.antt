@@ -11,7 +11,7 @@ use Rattle.vbr_machine.specs.Runs.{world_after}
 use Rattle.vbr_machine.specs.Whereabouts.{InSharedPool, number_at}
 use Rattle.vbr_machine.specs.declared.event.Event.{Event}
 use Rattle.vbr_machine.specs.declared.event.Step.{Step}
-use Rattle.vbr_machine.specs.declared.event.Step.TheVariants.{ReadEpoch, Advance, LoadStamp, StoreStamp, Raise, TakeFlag, StoreBirth, StoreKey, StoreLink, LoadLink, LoadBirth, LoadKey, Publish, Mark, Unlink, ConfirmPresent, ConfirmAbsent, StoreValue, LoadValue}
+use Rattle.vbr_machine.specs.declared.event.Step.TheVariants.{ReadEpoch, Advance, LoadStamp, StoreStamp, Raise, TakeFlag, StoreBirth, StoreKey, StoreLink, LoadLink, LoadBirth, LoadKey, Publish, Mark, Replace, Unlink, ConfirmPresent, ConfirmAbsent, StoreValue, LoadValue}
 use Rattle.vbr_machine.specs.declared.knowledge.SlotPlace.{SlotPlace}
 use Rattle.vbr_machine.specs.declared.knowledge.SlotPlace.TheVariants.{Shared, Own, Hand, Listed}
 use Rattle.vbr_machine.proofs.Puts.{put_here, put_other}
@@ -52,6 +52,7 @@ was_or_raised start w p (LoadKey t) s e = inl e
 was_or_raised start w p (LoadValue t) s e = inl e
 was_or_raised start w p (Publish pred expected t) s e = inl (by_test (found start w (Publish pred expected t) == expected) _ w s (put_in w.place t _ s (λ x. cc)) (λ x. x) e)
 was_or_raised start w p (Mark t expected) s e = inl (by_test (found start w (Mark t expected) == expected) _ w s (λ x. x) (λ x. x) e)
+was_or_raised start w p (Replace v expected t) s e = inl (by_test (found start w (Replace v expected t) == expected) _ w s (put_in w.place t _ s (λ x. cc)) (λ x. x) e)
 was_or_raised start w p (Unlink pred expected t) s e = inl (by_test (found start w (Unlink pred expected t) == expected) _ w s (put_in w.place t (Own p) s (λ x. cc)) (λ x. x) e)
 was_or_raised start w p (ConfirmPresent op t expected) s e = inl (by_test (found start w (ConfirmPresent op t expected) == expected) _ w s (λ x. x) (λ x. x) e)
 was_or_raised start w p (ConfirmAbsent op key at expected) s e = inl (by_test (found start w (ConfirmAbsent op key at expected) == expected) _ w s (λ x. x) (λ x. x) e)

@@ -15,7 +15,7 @@ use Rattle.vbr_machine.specs.Accounts.{born_in, entry_of_call, happens, incarnat
 use Rattle.vbr_machine.specs.declared.history.Call.{Call}
 use Rattle.vbr_machine.specs.declared.event.Event.{Event}
 use Rattle.vbr_machine.specs.declared.event.Step.{Step}
-use Rattle.vbr_machine.specs.declared.event.Step.TheVariants.{ReadEpoch, Advance, LoadStamp, StoreStamp, Raise, TakeFlag, StoreBirth, StoreKey, StoreLink, LoadLink, LoadBirth, LoadKey, Publish, Mark, Unlink, ConfirmPresent, ConfirmAbsent, StoreValue, LoadValue}
+use Rattle.vbr_machine.specs.declared.event.Step.TheVariants.{ReadEpoch, Advance, LoadStamp, StoreStamp, Raise, TakeFlag, StoreBirth, StoreKey, StoreLink, LoadLink, LoadBirth, LoadKey, Publish, Mark, Replace, Unlink, ConfirmPresent, ConfirmAbsent, StoreValue, LoadValue}
 use Rattle.vbr_machine.specs.declared.knowledge.Holding.{Holding}
 use Rattle.vbr_machine.specs.declared.knowledge.Holding.TheVariants.{Free, Unlinked, InHand}
 use Rattle.vbr_machine.proofs.EveryRun.{incarnations_from-append}
@@ -56,6 +56,7 @@ happens_by start w a p (LoadKey s) = tt
 happens_by start w a p (LoadValue s) = tt
 happens_by start w a p (Publish pred expected s) = either_by p (found start w (Publish pred expected s) == expected) _ _ (refl, tt) tt
 happens_by start w a p (Mark s expected) = either_by p (found start w (Mark s expected) == expected) _ _ (refl, tt) tt
+happens_by start w a p (Replace s expected t) = either_by p (found start w (Replace s expected t) == expected) _ _ (refl, tt) tt
 happens_by start w a p (Unlink pred expected s) = either_by p (found start w (Unlink pred expected s) == expected) _ _ (refl, tt) tt
 happens_by start w a p (ConfirmPresent op s expected) = either_by p (found start w (ConfirmPresent op s expected) == expected) _ _ (answered_by p (call_of start p (w.know p) (ConfirmPresent op s expected))) tt
 happens_by start w a p (ConfirmAbsent op key at expected) = either_by p (found start w (ConfirmAbsent op key at expected) == expected) _ _ (answered_by p (call_of start p (w.know p) (ConfirmAbsent op key at expected))) tt

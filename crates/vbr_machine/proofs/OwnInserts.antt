@@ -1,11 +1,11 @@
--- A pass that makes no call inserts nothing: each of its inserts is a call.
+-- A pass that makes no call links no node: each of its inserts is a call, and each of its replacements two.
 use Rattle.std.proofs.Common.{◌≡◌, ℕ, ◌+◌, ◌≤◌, Bool, true, false, List, [], ◌∷◌, ◌++◌, length, length-append, refl, sym, ap, ◌∙◌, eq-eqb, arith}
 use Rattle.vbr_machine.specs.Start.{Start, IsStart}
 use Rattle.vbr_machine.specs.History.{calls_by}
 use Rattle.vbr_machine.specs.Runs.{Begins, IsRun}
 use Rattle.vbr_machine.specs.Calls.{own_calls}
 use Rattle.vbr_machine.specs.Incarnations.{Incarnations}
-use Rattle.vbr_machine.specs.Chronicles.{Happening, Advances, Gains, Probes, Raises, GivesUp, Bears, Keyed, Valued, Aims, Inserts, Removes, Unlinks, Stamps, Confirms, Entry, becomes, calls_made, incarnations_from}
+use Rattle.vbr_machine.specs.Chronicles.{Happening, Advances, Gains, Probes, Raises, GivesUp, Bears, Keyed, Valued, Aims, Inserts, Removes, Replaces, Unlinks, Stamps, Confirms, Entry, becomes, calls_made, incarnations_from}
 use Rattle.vbr_machine.specs.Accounts.{incarnations_after}
 use Rattle.vbr_machine.specs.Nodes.{behind}
 use Rattle.vbr_machine.specs.Disturbances.{disturbances, met}
@@ -25,6 +25,7 @@ made_count who a b = let e = ap length (calls_by-append who a b) ∙ length-appe
 one_event : (start : Start) (a : Incarnations) (who pass : ℕ) (what : Happening) → length (calls_by who a.calls) ≤ length (calls_by who (becomes start a pass what).calls)
 one_event start a who pass (Inserts c behind) = made_count who a.calls (calls_made start a pass (Inserts c behind))
 one_event start a who pass (Removes c) = made_count who a.calls (calls_made start a pass (Removes c))
+one_event start a who pass (Replaces old c) = made_count who a.calls (calls_made start a pass (Replaces old c))
 one_event start a who pass (Confirms call) = made_count who a.calls (call ∷ [])
 one_event start a who pass Advances = omega arith
 one_event start a who pass (Gains v) = omega arith
@@ -45,13 +46,18 @@ all_events start a who (entry ∷ entries) =
     let rest = all_events start (becomes start a entry.pass entry.what) who entries in
     omega (arith, one, rest)
 
--- an insert of the pass adds one
+-- an insert of the pass adds one, and a replacement two
 own_insert : (start : Start) (a : Incarnations) (who pass : ℕ) (what : Happening) → pass ≡ who → is_insert what ≡ true → length (calls_by who a.calls) + 1 ≤ length (calls_by who (becomes start a pass what).calls)
 own_insert start a who pass (Inserts c behind) mine is =
     let made = calls_made start a pass (Inserts c behind) in
     let one : length (calls_by who made) ≡ 1 = rw (eq-eqb pass who mine) refl in
     let e = ap length (calls_by-append who a.calls made) ∙ length-append (calls_by who a.calls) (calls_by who made) in
     omega (arith, e, one)
+own_insert start a who pass (Replaces old c) mine is =
+    let made = calls_made start a pass (Replaces old c) in
+    let two : length (calls_by who made) ≡ 2 = rw (eq-eqb pass who mine) refl in
+    let e = ap length (calls_by-append who a.calls made) ∙ length-append (calls_by who a.calls) (calls_by who made) in
+    omega (arith, e, two)
 own_insert start a who pass (Removes c) mine is = absurd (cc)
 own_insert start a who pass (Confirms call) mine is = absurd (cc)
 own_insert start a who pass Advances mine is = absurd (cc)
@@ -66,7 +72,7 @@ own_insert start a who pass (Aims c link) mine is = absurd (cc)
 own_insert start a who pass (Unlinks c behind) mine is = absurd (cc)
 own_insert start a who pass (Stamps c stamp) mine is = absurd (cc)
 
--- so it inserts none where its calls stay
+-- so it links none where its calls stay
 no_call_inserts : (start : Start) (a : Incarnations) (who : ℕ) (entries : List Entry) → length (calls_by who (incarnations_from start a entries).calls) ≤ length (calls_by who a.calls) → InsertsNone who entries
 no_call_inserts start a who [] same = tt
 no_call_inserts start a who (entry ∷ entries) same =

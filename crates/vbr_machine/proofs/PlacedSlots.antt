@@ -4,6 +4,7 @@ use Rattle.std.specs.Prelude.{◌⊎◌}
 use Rattle.std.proofs.lemmas.Bool.{cases_lt}
 use Rattle.vbr_machine.specs.Start.{Start, IsStart}
 use Rattle.vbr_words.specs.declared.link.Link.{Link}
+use Rattle.vbr_words.specs.declared.place.At.TheVariants.{Slot}
 use Rattle.vbr_words.specs.Buckets.{bucket_of}
 use Rattle.vbr_words.proofs.Lemmas.{bucket_of-lt}
 use Rattle.vbr_machine.specs.Machine.{World, after}
@@ -11,9 +12,10 @@ use Rattle.vbr_machine.specs.Runs.{AreAccepted, IsRun, world_after, know_after, 
 use Rattle.vbr_machine.specs.Incarnations.{State, Unborn, InHand, GivenUp, Linked, Marked, Unlinked, Stamped, Incarnations}
 use Rattle.vbr_machine.specs.Images.{slot_shown, link_in_state, link_shown, IsImage}
 use Rattle.vbr_machine.specs.Chronicles.{IsStamped}
-use Rattle.vbr_machine.specs.Sound.{IsListed, IsApart, IsUnused, PlaceFits, Sound}
+use Rattle.vbr_machine.specs.Sound.{IsListed, IsOrderedBefore, IsFrom, IsApart, IsUnused, PlaceFits, Sound}
 use Rattle.vbr_machine.specs.Accounts.{incarnations_after, notes_after}
-use Rattle.vbr_machine.specs.Agreement.{IsNotOf, OwnFits, Agrees}
+use Rattle.vbr_machine.specs.Agreement.{IsNotOf, OwnFits, Fits, Agrees}
+use Rattle.vbr_machine.specs.Nodes.{behind, key_in_slot}
 use Rattle.vbr_machine.specs.SlotPlaces.{LiesInHand, IsReachedFrom, at_once, onward, FitsPlace, ArePlaced}
 use Rattle.vbr_machine.specs.declared.event.Event.{Event}
 use Rattle.vbr_machine.specs.declared.knowledge.Holding.{Holding}
@@ -22,6 +24,7 @@ use Rattle.vbr_machine.specs.declared.knowledge.SlotPlace.{SlotPlace}
 use Rattle.vbr_machine.specs.declared.knowledge.SlotPlace.TheVariants.{Shared, Own, Hand, Listed}
 use Rattle.vbr_machine.proofs.Slots.{listed_last}
 use Rattle.vbr_machine.proofs.Lists.{next_listed}
+use Rattle.vbr_machine.proofs.ListedNodes.{next_of_followed, one_fewer, stands_key, stands_there}
 use Rattle.vbr_machine.proofs.EveryRun.{run_agrees}
 use Rattle.vbr_machine.proofs.RunsGoOn.{others_leave_know}
 
@@ -57,7 +60,7 @@ place_of_listed start place GivenUp key l f = absurd l
 place_of_listed start place (Unlinked q u) key l f = absurd l
 place_of_listed start place (Stamped u r) key l f = absurd l
 
-module _ (start : Start) (w : World) (a : Incarnations) (snd : Sound start a) (i : IsImage w a) where
+module _ (start : Start) (w : World) (a : Incarnations) (snd : Sound start a) (fits : Fits start a) (i : IsImage w a) where
   -- the link of a slot whose last incarnation is listed names the slot of its successor
   link_names : (c : ℕ) → IsListed (a.state c) → (w.link (a.slot c)).slot ≡ slot_shown a (a.next c)
   link_names c l = ap (λ (k : Link). k.slot) (i.link (a.slot c) ∙ ap (link_shown a) (listed_last snd.slots c l)) ∙ names_next a c (a.state c) l
@@ -78,17 +81,24 @@ module _ (start : Start) (w : World) (a : Incarnations) (snd : Sound start a) (i
       let y = slot_of a (a.next x.0) s (sym (link_names x.0 x.2) ∙ named) in
       (y.0, y.2, next_listed snd x.0 y.0 y.1 x.2, sym (snd.lists.ordered x.0 y.0 y.1).0 ∙ x.3)
 
-  -- and from a listed incarnation on, each one of its bucket with a key no smaller is reached
-  reached_on : (turns b c d : ℕ) → IsListed (a.state c) → IsListed (a.state d) → bucket_of start.shape (a.key c) ≡ b → bucket_of start.shape (a.key d) ≡ b → a.key c ≤ a.key d → a.key d < a.key c + turns → IsReachedFrom w b (a.slot c) → IsReachedFrom w b (a.slot d)
+  -- and from a listed incarnation on, each one of its bucket that doesn't stand ahead of it is reached: behind its successor there is one node fewer
+  reached_on : (turns b c d : ℕ) → IsListed (a.state c) → IsListed (a.state d) → bucket_of start.shape (a.key c) ≡ b → bucket_of start.shape (a.key d) ≡ b → IsFrom a.key a.rank (Some c) d → behind start a b (Slot (a.slot c)) < turns → IsReachedFrom w b (a.slot c) → IsReachedFrom w b (a.slot d)
   reached_on zero b c d lc ld bc bd le lt r = absurd (omega arith)
   reached_on (suc turns) b c d lc ld bc bd le lt r = go (snd.lists.apart c d lc ld (bc ∙ sym bd)) (λ n ln bn. reached_on turns b n d ln ld bn bd)
     where
-      go : IsApart a.key c (a.next c) d → ((n : ℕ) → IsListed (a.state n) → bucket_of start.shape (a.key n) ≡ b → a.key n ≤ a.key d → a.key d < a.key n + turns → IsReachedFrom w b (a.slot n) → IsReachedFrom w b (a.slot d)) → IsReachedFrom w b (a.slot d)
+      go : IsApart a.key a.rank c (a.next c) d → ((n : ℕ) → IsListed (a.state n) → bucket_of start.shape (a.key n) ≡ b → IsFrom a.key a.rank (Some n) d → behind start a b (Slot (a.slot n)) < turns → IsReachedFrom w b (a.slot n) → IsReachedFrom w b (a.slot d)) → IsReachedFrom w b (a.slot d)
       go (inl e) on = let P : ℕ → Type 0 = λ n. IsReachedFrom w b (a.slot n) in subst P (sym e) r
-      go (inr (inl less)) on = absurd (omega arith)
+      go (inr (inl ahead)) on = absurd (not_both le.0 (let q = le.1 in cc) le.2 ahead)
+        where
+          not_both : (m : ℕ) → m ≡ c → (a.key m < a.key d) ⊎ ((a.key m ≡ a.key d) × (a.rank m ≤ a.rank d)) → IsOrderedBefore a.key a.rank d c → ⊥
+          not_both m is u v = grind arith
       go (inr (inr (n, e, from))) on =
           let o = snd.lists.ordered c n e in
-          on n (next_listed snd c n e lc) (sym o.0 ∙ bc) from (let up = o.1 in omega arith) (onward (a.slot c) (a.slot n) r (link_names c lc ∙ ap (slot_shown a) e))
+          let at = stands_there snd fits c lc in
+          let place : bucket_of start.shape (key_in_slot a (a.slot c)) ≡ b = ap (bucket_of start.shape) (stands_key at.1) ∙ bc in
+          let next = next_of_followed snd b (Slot (a.slot c)) (Some c) n (c, refl, at.1.last, lc, e) place in
+          let fewer = one_fewer snd fits b (Slot (a.slot c)) n next in
+          on n (next_listed snd c n e lc) (sym o.0 ∙ bc) (n, refl, from) (omega (arith, fewer, lt)) (onward (a.slot c) (a.slot n) r (link_names c lc ∙ ap (slot_shown a) e))
 
   -- each listed incarnation is reached from the head of its bucket
   listed_reached : (d : ℕ) → IsListed (a.state d) → IsReachedFrom w (bucket_of start.shape (a.key d)) (a.slot d)
@@ -96,7 +106,7 @@ module _ (start : Start) (w : World) (a : Incarnations) (snd : Sound start a) (i
       let b = bucket_of start.shape (a.key d) in
       let f = snd.lists.behind_head d ld in
       let x = snd.lists.first_in b f.0 f.1 in
-      reached_on (a.key d + 1) b f.0 d x.0 ld x.1 refl f.2 (omega arith) (at_once (a.slot f.0) (ap (λ (k : Link). k.slot) (i.head b) ∙ ap (slot_shown a) f.1))
+      reached_on (behind start a b (Slot (a.slot f.0)) + 1) b f.0 d x.0 ld x.1 refl (f.0, refl, f.2) (omega arith) (at_once (a.slot f.0) (ap (λ (k : Link). k.slot) (i.head b) ∙ ap (slot_shown a) f.1))
 
 -- ---- one of so many passes
 
@@ -178,12 +188,12 @@ module _ (start : Start) (passes : ℕ) (run : List Event) (is : IsStart start) 
   is_in s (Listed b) (Some c) e l =
       let f = list_state start b (a.state c) (a.key c) (rw e at (g.sound.slots.placed c s l)) in
       let slot = (g.sound.slots.last_born s c l).1 in
-      let r = listed_reached start w a g.sound g.image c f.0 in
+      let r = listed_reached start w a g.sound g.fits g.image c f.0 in
       (rw (← f.1) (bucket_of-lt start.shape (a.key c) is.shape.some_bucket), rw l f, rw (← f.1, ← slot) r)
 
   -- each slot is in exactly one place
   pub are_placed : ArePlaced start passes w a
   are_placed = record {
     each = λ s. (let P : SlotPlace → Type 0 = FitsPlace start passes w a s in subst P (sym (g.image.place s)) (is_in s (a.place s) (a.last s) refl refl));
-    reached = λ b s r. let x = reached_listed start w a g.sound g.image b s r in sym (ap w.place x.1) ∙ listed_place start w a g.sound g.image x.0 x.2 ∙ ap Listed x.3;
+    reached = λ b s r. let x = reached_listed start w a g.sound g.fits g.image b s r in sym (ap w.place x.1) ∙ listed_place start w a g.sound g.fits g.image x.0 x.2 ∙ ap Listed x.3;
   }

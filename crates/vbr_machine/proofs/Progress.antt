@@ -1,4 +1,4 @@
--- What disturbs a pass is an answered update of some pass, the one unlinking behind a remove, or an advance of the epoch.
+-- What disturbs a pass is an answered update of some pass, the one unlinking behind a remove or a replacement, or an advance of the epoch.
 use Rattle.std.proofs.Common.{◌≡◌, ◌≢◌, ℕ, suc, ◌+◌, ◌*◌, ◌<◌, ◌≤◌, Bool, true, false, cond, not, List, [], ◌∷◌, ◌++◌, refl, sym, ap, ◌∙◌, inl, inr, arith}
 use Rattle.std.specs.Prelude.{◌==◌, ◌&&◌, ◌⊎◌}
 use Rattle.std.proofs.lemmas.Bool.{cases_eq}
@@ -9,7 +9,7 @@ use Rattle.vbr_machine.specs.Opened.{has_opening_key, key_count, opening_keys}
 use Rattle.vbr_machine.specs.Runs.{Begins, IsRun}
 use Rattle.vbr_machine.specs.Accounts.{chronicle, incarnations_after}
 use Rattle.vbr_machine.specs.Incarnations.{State, Unborn, InHand, GivenUp, Linked, Marked, Unlinked, Stamped, Incarnations, at_opening, opening_state}
-use Rattle.vbr_machine.specs.Chronicles.{Happening, Advances, Gains, Probes, Raises, GivesUp, Bears, Keyed, Valued, Aims, Inserts, Removes, Unlinks, Stamps, Confirms, Entry, Allowed, MayStamp, becomes, calls_made, incarnations_from, IsLawful, unlinked_at}
+use Rattle.vbr_machine.specs.Chronicles.{Happening, Advances, Gains, Probes, Raises, GivesUp, Bears, Keyed, Valued, Aims, Inserts, Removes, Replaces, Unlinks, Stamps, Confirms, Entry, Allowed, MayStamp, MayTakePlace, becomes, calls_made, incarnations_from, IsLawful, unlinked_at}
 use Rattle.vbr_machine.specs.Disturbances.{changes, counted, disturbances_in, disturbances, how_many, is_removal, is_unlinking, marked_nodes, updates}
 use Rattle.vbr_machine.specs.Nodes.{count_below, is_marked}
 use Rattle.vbr_machine.specs.Sound.{Sound}
@@ -95,6 +95,13 @@ born_one s c (Stamped u r) e x = absurd (no x)
     no (inl z) = cc
     no (inr z) = cc
 
+-- where one is marked that was linked, and one is linked that was in hand
+marked_replaced : {start : Start} {a : Incarnations} → Sound start a → (pass old c : ℕ) → MayTakePlace start a pass old c → count_below (λ d. is_marked (put (put a.state old Marked) c Linked d)) a.count ≡ suc (marked_nodes a)
+marked_replaced {start} {a} s pass old c h =
+    let apart : c ≢ old = λ q. (let x : InHand pass ≡ Linked = sym h.in_hand ∙ ap a.state q ∙ h.linked in absurd (cc)) in
+    marked_put (put a.state old Marked) c Linked a.count (sym (ap is_marked (put_other a.state old Marked c apart ∙ h.in_hand)))
+    ∙ marked_more a.state old Marked a.count (born_one s old Linked h.linked (inl refl)) refl (ap is_marked h.linked)
+
 -- ---- one event
 
 -- an event that changes a list is paid: by an advance, by a call, or by a marked node that is so no more
@@ -126,6 +133,11 @@ pays start keys bucket a pass (Removes c) s h =
     let m = marked_more a.state c Marked a.count (born_one s c Linked h (inl refl)) refl (ap is_marked h) in
     let u = updates-append a.calls (calls_made start a pass (Removes c)) in
     let one = at_most_one (changes start a bucket (Removes c)) in
+    omega (arith, m, u, one)
+pays start keys bucket a pass (Replaces old c) s h =
+    let m = marked_replaced s pass old c h in
+    let u = updates-append a.calls (calls_made start a pass (Replaces old c)) in
+    let one = at_most_one (changes start a bucket (Replaces old c)) in
     omega (arith, m, u, one)
 pays start keys bucket a pass (Unlinks c behind) s h =
     let m = marked_fewer a.state c (Unlinked pass a.epoch) a.count (born_one s c Marked h.0 (inr refl)) refl (ap is_marked h.0) in
@@ -182,6 +194,7 @@ follows start keys a pass (Stamps c stamp) s h = ap (λ n. 0 + n) (marked_put a.
 follows start keys a pass (Bears v birth) s h = ap (λ n. 0 + n) (marked_next a.state (InHand pass) a.count (a.count + 1) (omega arith) refl)
 follows start keys a pass (Inserts c behind) s h = ap (λ n. 0 + n) (marked_put a.state c Linked a.count (sym (ap is_marked h.in_hand)))
 follows start keys a pass (Removes c) s h = let m = marked_more a.state c Marked a.count (born_one s c Linked h (inl refl)) refl (ap is_marked h) in omega (arith, m)
+follows start keys a pass (Replaces old c) s h = let m = marked_replaced s pass old c h in omega (arith, m)
 follows start keys a pass (Unlinks c behind) s h = let m = marked_fewer a.state c (Unlinked pass a.epoch) a.count (born_one s c Marked h.0 (inr refl)) refl (ap is_marked h.0) in omega (arith, m)
 
 all_follow : (start : Start) (keys : Keys) (a : Incarnations) (entries : List Entry) → Sound start a → IsLawful start keys a entries → how_many is_unlinking entries + marked_nodes (incarnations_from start a entries) ≡ how_many is_removal entries + marked_nodes a

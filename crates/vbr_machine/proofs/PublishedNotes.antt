@@ -26,7 +26,7 @@ use Rattle.vbr_machine.proofs.PublishSteps.{ready, own_link, new_link, old_links
 pub pair_as : (a : Incarnations) (at : At) (e : ℕ) (l : Link) (of off names named : Option ℕ) → of ≡ off → names ≡ named → IsGoodLink a e at l off named → IsGoodLink a e at l of names
 pair_as a at e l of off names named o n h = rw (o, n) h
 
-one_as : (a : Incarnations) (s e : ℕ) (values : ℕ → ℕ) (value c : ℕ) (of : Option ℕ) → of ≡ Some c → IsHeldIncarnation a e s c → values c ≡ value → IsOfHeldOne a e s values value of
+pub one_as : (a : Incarnations) (s e : ℕ) (values : ℕ → ℕ) (value c : ℕ) (of : Option ℕ) → of ≡ Some c → IsHeldIncarnation a e s c → values c ≡ value → IsOfHeldOne a e s values value of
 one_as a s e values value c of o h v = rw o (h, v)
 
 last_after : (start : Start) (a : Incarnations) (p c : ℕ) (at : At) → last_at a at ≡ node_at a at → last_at (becomes start a p (Inserts c (before_at a at))) at ≡ node_at a at

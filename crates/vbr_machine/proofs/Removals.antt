@@ -1,5 +1,5 @@
 -- A removed incarnation leaves its list for good, and a remove that was answered yes has marked one of its key.
-use Rattle.std.proofs.Common.{◌≡◌, ◌≢◌, ℕ, ◌+◌, Bool, true, List, [], ◌∷◌, ◌++◌, length, refl, sym, ap, ◌∙◌, subst, append_assoc, append-nil, eq-eqb, inl, inr, arith, length-append}
+use Rattle.std.proofs.Common.{◌≡◌, ◌≢◌, ℕ, ◌+◌, ◌<◌, ◌≤◌, Bool, true, List, [], ◌∷◌, ◌++◌, length, Some, refl, sym, ap, ◌∙◌, subst, append_assoc, append-nil, eq-eqb, inl, inr, arith, length-append}
 use Rattle.std.specs.Prelude.{◌==◌, ◌⊎◌}
 use Rattle.std.specs.List.{Contains}
 use Rattle.std.proofs.lemmas.Bool.{cases_eq, ne_eqb}
@@ -10,20 +10,27 @@ use Rattle.vbr_machine.specs.Start.{Start, IsStart}
 use Rattle.vbr_machine.specs.Keys.{Keys}
 use Rattle.vbr_machine.specs.Opened.{opening_keys}
 use Rattle.vbr_machine.specs.History.{calls_by}
-use Rattle.vbr_machine.specs.Runs.{Begins, IsRun, world_after}
+use Rattle.vbr_machine.specs.Runs.{Begins, IsRun, know_after, world_after}
 use Rattle.vbr_machine.specs.Calls.{own_calls}
-use Rattle.vbr_machine.specs.Machine.{opening}
-use Rattle.vbr_machine.specs.Incarnations.{State, Unborn, InHand, GivenUp, Linked, Marked, Unlinked, Stamped, Incarnations, at_opening}
-use Rattle.vbr_machine.specs.Chronicles.{Happening, Advances, Gains, Probes, Raises, GivesUp, Bears, Keyed, Valued, Aims, Inserts, Removes, Unlinks, Stamps, Confirms, Entry, Allowed, ChangesNothing, becomes, calls_made, incarnations_from, IsLawful, entries_by}
+use Rattle.vbr_machine.specs.Acceptance.{Accepts}
+use Rattle.vbr_machine.specs.Machine.{World, opening, found}
+use Rattle.vbr_machine.specs.Notes.{Notes}
+use Rattle.vbr_machine.specs.Incarnations.{State, Unborn, InHand, GivenUp, Linked, Marked, Unlinked, Stamped, Incarnations, at_opening, last_in, payload_of}
+use Rattle.vbr_machine.specs.Chronicles.{Happening, Advances, Gains, Probes, Raises, GivesUp, Bears, Keyed, Valued, Aims, Inserts, Removes, Replaces, Unlinks, Stamps, Confirms, Entry, Allowed, ChangesNothing, becomes, calls_made, incarnations_from, IsLawful, entries_by}
 use Rattle.vbr_machine.specs.Accounts.{chronicle, chronicle_from, incarnations_after, notes_after, own_entries}
 use Rattle.vbr_machine.specs.Agreement.{Agrees}
 use Rattle.vbr_machine.specs.Sound.{IsInserted, IsRemoved, Sound, Grows}
-use Rattle.vbr_machine.specs.Removals.{HasLeft, HasMarked, MarkedLeft, NoneMarked}
+use Rattle.vbr_machine.specs.Removals.{HasLeft, HasMarked, IsTakenOut, MarkedLeft, NoneMarked}
 use Rattle.vbr_machine.specs.declared.history.Call.{Call}
 use Rattle.vbr_machine.specs.declared.history.Op.{Op}
 use Rattle.vbr_machine.specs.declared.history.Op.TheVariants.{Insert, Remove, Has, Get}
 use Rattle.vbr_machine.specs.declared.event.Event.{Event}
-use Rattle.vbr_machine.proofs.Growth.{grows_after}
+use Rattle.vbr_machine.specs.declared.event.Step.TheVariants.{Mark}
+use Rattle.vbr_words.specs.declared.place.At.TheVariants.{Slot}
+use Rattle.vbr_machine.proofs.Growth.{grows, grows_after}
+use Rattle.vbr_machine.proofs.HeldReads.{stays_held}
+use Rattle.vbr_machine.proofs.Puts.{put_here}
+use Rattle.vbr_machine.proofs.StandingLinks.{link_stands}
 use Rattle.vbr_machine.proofs.SoundAfter.{sound_kept}
 use Rattle.vbr_machine.proofs.EveryRun.{run_agrees, run_grows, runs_agree, incarnations-append}
 use Rattle.vbr_machine.proofs.OwnEntries.{chronicle_from-append}
@@ -45,6 +52,7 @@ left_stays start keys a pass (GivesUp d) s h c l = grind (arith, nat_tests)
 left_stays start keys a pass (Bears v birth) s h c l = let z = s.slots.unborn a.count (omega arith) in grind (arith, nat_tests)
 left_stays start keys a pass (Inserts d behind) s h c l = let z = h.in_hand in grind (arith, nat_tests)
 left_stays start keys a pass (Removes d) s h c l = grind (arith, nat_tests)
+left_stays start keys a pass (Replaces old d) s h c l = let z = h.in_hand in let y = h.linked in grind (arith, nat_tests)
 left_stays start keys a pass (Unlinks d behind) s h c l = grind (arith, nat_tests)
 left_stays start keys a pass (Stamps d stamp) s h c l = grind (arith, nat_tests)
 
@@ -69,12 +77,13 @@ removed_inserted st r = grind arith
 
 -- ---- the mark of a remove that was answered yes
 
--- an incarnation of this key was marked by a pass, by one of these events, and is removed in the end
+-- an incarnation of this key was marked by a pass, by one of these events, and is removed in the end, with a successor of a greater key if it has one
 record IsMarkedBy (b : Incarnations) (entries : List Entry) (who key : ℕ) : Type 0 where
   pub node : ℕ
   pub among : Contains (entries_by who entries) (record { pass = who; what = Removes node })
   pub removed : IsRemoved (b.state node)
   pub of_key : b.key node ≡ key
+  pub above : (n : ℕ) → b.next node ≡ Some n → key < b.key n
 
 no_shorter : (xs : List Call) (call : Call) → xs ≡ xs ++ call ∷ [] → ⊥
 no_shorter xs call e = let n : length xs ≡ length xs + 1 = ap length e ∙ length-append xs (call ∷ []) in omega (arith, n)
@@ -94,6 +103,7 @@ calls_go_on start a (entry ∷ entries) =
     calls_by_one : (what : Happening) → (more : List Call) × ((becomes start a entry.pass what).calls ≡ a.calls ++ more)
     calls_by_one (Inserts c behind) = (calls_made start a entry.pass (Inserts c behind), refl)
     calls_by_one (Removes c) = (calls_made start a entry.pass (Removes c), refl)
+    calls_by_one (Replaces old c) = (calls_made start a entry.pass (Replaces old c), refl)
     calls_by_one (Confirms call) = (calls_made start a entry.pass (Confirms call), refl)
     calls_by_one Advances = none Advances refl
     calls_by_one (Gains v) = none (Gains v) refl
@@ -123,6 +133,16 @@ first_added who before after all more x call one rest mine e =
     let same : x ∷ [] ++ calls_by who more ≡ call ∷ [] = append_cancel_left (calls_by who before) (x ∷ [] ++ calls_by who more) (call ∷ []) (sym split ∙ e) in
     cc
 
+-- two calls of a pass aren't the one call that was added
+no_two : (who : ℕ) (before after all more : List Call) (x y call : Call) → after ≡ (before ++ x ∷ []) ++ y ∷ [] → all ≡ after ++ more → x.who ≡ who → y.who ≡ who → calls_by who all ≡ calls_by who before ++ call ∷ [] → ⊥
+no_two who before after all more x y call two rest mine too e =
+    let split : calls_by who all ≡ calls_by who before ++ (x ∷ y ∷ calls_by who more) = (
+    ap (calls_by who) (rest ∙ ap (λ l. l ++ more) (two ∙ append_assoc before (x ∷ []) (y ∷ [])) ∙ append_assoc before (x ∷ y ∷ []) more)
+    ∙ calls_by-append who before (x ∷ y ∷ more)
+    ∙ ap (λ l. calls_by who before ++ l) (calls_by-append who (x ∷ []) (y ∷ more) ∙ (λ i. one_of who x mine i ++ (calls_by-append who (y ∷ []) more ∙ ap (λ l. l ++ calls_by who more) (one_of who y too)) i))) in
+    let same : x ∷ y ∷ calls_by who more ≡ call ∷ [] = append_cancel_left (calls_by who before) (x ∷ y ∷ calls_by who more) (call ∷ []) (sym split ∙ e) in
+    cc
+
 -- a call of another adds none of the pass's
 other_added : (who : ℕ) (before : List Call) (x : Call) → x.who ≢ who → calls_by who (before ++ x ∷ []) ≡ calls_by who before
 other_added who before x ne = calls_by-append who before (x ∷ []) ∙ ap (λ l. calls_by who before ++ l) (none_of who x ne) ∙ append-nil (calls_by who before)
@@ -135,6 +155,7 @@ module _ (start : Start) (keys : Keys) (who : ℕ) (call : Call) (remove : call.
     among = rw (filter-append (λ (e : Entry). e.pass == who) (entry ∷ []) entries) (Contains-append_right (entries_by who (entry ∷ [])) (entries_by who entries) (record { pass = who; what = Removes x.node }) x.among);
     removed = x.removed;
     of_key = x.of_key;
+    above = x.above;
   }
 
   -- the first of these events marks it, or no call of the pass came of it
@@ -198,6 +219,9 @@ module _ (start : Start) (keys : Keys) (who : ℕ) (call : Call) (remove : call.
       inserted : IsInserted (b.state c)
       inserted = grind (arith, nat_tests)
 
+      was_inserted : (n : ℕ) → IsInserted (a.state n) → IsInserted (b.state n)
+      was_inserted n i = grind (arith, nat_tests)
+
       go : (pass ≡ who) ⊎ (pass ≢ who) → (made : List Call) → made ≡ calls_made start a pass (Removes c) → IsMarkedBy (incarnations_from start b entries) (record { pass = pass; what = Removes c } ∷ entries) who call.key
       go (inl mine) [] is = absurd (cc)
       go (inl mine) (x ∷ xs) is =
@@ -214,12 +238,38 @@ module _ (start : Start) (keys : Keys) (who : ℕ) (call : Call) (remove : call.
             among = rw (filter-append (λ (e : Entry). e.pass == who) (first ∷ []) entries, one) (Contains-append_left (told ∷ []) (entries_by who entries) told (Contains-push [] told));
             removed = (g.removed c marked).0;
             of_key = g.key c inserted ∙ sym key ∙ ap (λ (c : Call). c.key) same;
+            above = λ n q.
+                let next : a.next c ≡ Some n = sym (g.removed c marked).1 ∙ q in
+                let up = s.lists.strict c n next h in
+                let there = was_inserted n (s.lists.inserted c n next).1 in
+                let is : call.key ≡ a.key c = sym (ap (λ (c : Call). c.key) same) ∙ key in
+                let kept = g.key n there in
+                omega (arith, up, is, kept);
           }
       go (inr ne) [] is = absurd (cc)
       go (inr ne) (x ∷ xs) is =
           let none : xs ≡ [] = cc in
           let by : x.who ≡ pass = cc in
           rec (ap (λ l. calls_by who (a.calls ++ l)) (sym is ∙ ap (λ l. x ∷ l) none) ∙ other_added who a.calls x (λ w. ne (sym by ∙ w)))
+  marks_or_later a pass (Replaces old c) entries s h g e rec = go (cases_eq pass who)
+    where
+      b : Incarnations
+      b = becomes start a pass (Replaces old c)
+
+      x : Call
+      x = record { who = pass; op = Remove; key = a.key old; reply = true; value = payload_of start a old }
+
+      y : Call
+      y = record { who = pass; op = Insert; key = a.key c; reply = true; value = payload_of start a c }
+
+      two : b.calls ≡ (a.calls ++ x ∷ []) ++ y ∷ []
+      two = sym (append_assoc a.calls (x ∷ []) (y ∷ []))
+
+      go : (pass ≡ who) ⊎ (pass ≢ who) → IsMarkedBy (incarnations_from start b entries) (record { pass = pass; what = Replaces old c } ∷ entries) who call.key
+      go (inl mine) =
+          let more = calls_go_on start b entries in
+          absurd (no_two who a.calls b.calls (incarnations_from start b entries).calls more.0 x y call two more.1 mine mine e)
+      go (inr ne) = rec (ap (calls_by who) two ∙ other_added who (a.calls ++ x ∷ []) y ne ∙ other_added who a.calls x ne)
 
   mark_among : (a : Incarnations) (entries : List Entry) → Sound start a → IsLawful start keys a entries → calls_by who (incarnations_from start a entries).calls ≡ calls_by who a.calls ++ call ∷ [] → IsMarkedBy (incarnations_from start a entries) entries who call.key
   mark_among a [] s l e = absurd (no_shorter (calls_by who a.calls) call e)
@@ -265,6 +315,7 @@ module _ (start : Start) (passes : ℕ) (is : IsStart start) where
     pub marked : HasMarked start before run pass node
     pub removed : IsRemoved ((incarnations_after start run).state node)
     pub of_key : (incarnations_after start run).key node ≡ key
+    pub above : (n : ℕ) → (incarnations_after start run).next node ≡ Some n → key < (incarnations_after start run).key n
 
   marked_in_runs : (before rest : List Event) (pass : ℕ) (call : Call) → IsRun start passes (before ++ rest) → call.op ≡ Remove → call.reply ≡ true → own_calls start (before ++ rest) pass ≡ own_calls start before pass ++ call ∷ [] → RemoveMarked before (before ++ rest) pass call.key
   marked_in_runs before rest pass call ok op reply calls =
@@ -283,6 +334,7 @@ module _ (start : Start) (passes : ℕ) (is : IsStart start) where
         marked = record { since = entries_by pass (since before rest); adds = own_since before rest pass; among = x.among };
         removed = subst P (sym (made_since before rest)) x.removed;
         of_key = ap (λ (i : Incarnations). i.key x.node) (made_since before rest) ∙ x.of_key;
+        above = (let Q : Incarnations → Type 0 = λ i. (n : ℕ) → i.next x.node ≡ Some n → call.key < i.key n in subst Q (sym (made_since before rest)) x.above);
       }
 
   -- what a pass has marked by a moment it has marked at the end
@@ -295,7 +347,7 @@ module _ (start : Start) (passes : ℕ) (is : IsStart start) where
         among = Contains-append_left x.since more (record { pass = pass; what = Removes node }) x.among;
       }
 
-  -- a remove was answered yes by a moment, and at a later one no marked incarnation of its key is in a list: the one that it marked has left
+  -- a remove was answered yes by a moment, and at a later one no marked incarnation of its key is in a list but one that was replaced: the one that it marked has left
   pub marked_left : (before answered moment run : List Event) (pass : ℕ) (call : Call) → IsRun start passes run → Begins before answered → Begins answered moment → Begins moment run → call.op ≡ Remove → call.reply ≡ true → own_calls start answered pass ≡ own_calls start before pass ++ call ∷ [] → NoneMarked (incarnations_after start moment) call.key → MarkedLeft start before run pass call.key
   marked_left before answered moment run pass call ok first second third op reply calls none =
       let P : List Event → Type 0 = IsRun start passes in
@@ -309,7 +361,13 @@ module _ (start : Start) (passes : ℕ) (is : IsStart start) where
       let h = grown moment run third ok in
       let kept = g.removed y.node y.removed in
       let key : (incarnations_after start moment).key y.node ≡ call.key = g.key y.node (removed_inserted ((incarnations_after start answered).state y.node) y.removed) ∙ y.of_key in
-      let out = removed_left ((incarnations_after start moment).state y.node) kept.0 (λ m. none y.node m key) in
+      let not_replaced : ((n : ℕ) × ((incarnations_after start moment).next y.node ≡ Some n) × ((incarnations_after start moment).key n ≡ call.key)) → ⊥ = (λ r.
+      let next : (incarnations_after start answered).next y.node ≡ Some r.0 = sym kept.1 ∙ r.1 in
+      let up = y.above r.0 next in
+      let same = g.key r.0 ((run_agrees start passes answered is ok_answered).sound.lists.inserted y.node r.0 next).1 in
+      let last = r.2 in
+      omega (arith, up, same, last)) in
+      let out = removed_left ((incarnations_after start moment).state y.node) kept.0 (λ m. not_replaced (none y.node m key)) in
       let R : List Event → Type 0 = λ r. HasLeft ((incarnations_after start r).state y.node) in
       record {
         node = y.node;
@@ -338,3 +396,40 @@ module _ (start : Start) (passes : ℕ) (is : IsStart start) where
         of_key = x.of_key;
         left = x.left;
       }
+
+-- ---- what a pass has marked is out
+
+-- what was taken out of its list stays so
+pub out_stays : {start : Start} {a b : Incarnations} → Sound start a → Grows a b → (epoch s : ℕ) → epoch ≤ a.epoch → IsTakenOut a epoch s → IsTakenOut b epoch s
+out_stays {start} {a} {b} sound g epoch s low out = record {
+  node = out.node;
+  held = stays_held sound g epoch s out.node low out.held;
+  removed = (g.removed out.node out.removed).0;
+  above = λ n q.
+      let next : a.next out.node ≡ Some n = sym (g.removed out.node out.removed).1 ∙ q in
+      let up = out.above n next in
+      let here = g.key out.node (removed_inserted (a.state out.node) out.removed) in
+      let there = g.key n (sound.lists.inserted out.node n next).1 in
+      omega (arith, up, here, there);
+}
+
+-- along a run
+pub out_on : (start : Start) (passes : ℕ) (moment run : List Event) → IsStart start → IsRun start passes run → Begins moment run → (p s : ℕ) → IsTakenOut (incarnations_after start moment) (know_after start moment p).epoch s → IsTakenOut (incarnations_after start run) (know_after start moment p).epoch s
+out_on start passes moment run is ok begins p s out =
+    let P : List Event → Type 0 = IsRun start passes in
+    let Q : List Event → Type 0 = λ r. IsTakenOut (incarnations_after start r) (know_after start moment p).epoch s in
+    let g = run_agrees start passes moment is (begins_run start passes moment run begins ok) in
+    subst Q (sym begins.1) (out_stays g.sound (run_grows start passes moment begins.0 is (subst P begins.1 ok)) (know_after start moment p).epoch s (g.knows p).epoch out)
+
+-- a node that was marked is taken out
+pub marked_out : {start : Start} {w : World} {a : Incarnations} {notes : ℕ → Notes} (p s expected : ℕ) → Agrees start w a notes → Accepts start (w.know p) (Mark s expected) → found start w (Mark s expected) ≡ expected → IsTakenOut (becomes start a p (Removes (last_in a s))) (w.know p).epoch s
+marked_out {start} {w} {a} {notes} p s expected g ok e =
+    let m = link_stands start w a notes p g (Slot s) expected ok.held.0 ok.in_range e in
+    let c = last_in a s in
+    let grown = grows start (opening_keys start) a p (Removes c) g.sound m.is_open in
+    record {
+      node = c;
+      held = stays_held g.sound grown (w.know p).epoch s c (g.knows p).epoch m.held;
+      removed = rw (put_here a.state c Marked) tt;
+      above = λ n q. g.sound.lists.strict c n q m.is_open;
+    }

@@ -22,7 +22,7 @@ use Rattle.vbr_machine.specs.Agreement.{IsHeldIncarnation, IsHeldNext, Agrees}
 use Rattle.vbr_machine.specs.Safety.{ExchangesLink}
 use Rattle.vbr_machine.specs.declared.event.Effect.TheVariants.{Won, Lost}
 use Rattle.vbr_machine.specs.declared.event.Step.{Step}
-use Rattle.vbr_machine.specs.declared.event.Step.TheVariants.{Publish, Mark, Unlink}
+use Rattle.vbr_machine.specs.declared.event.Step.TheVariants.{Publish, Mark, Replace, Unlink}
 use Rattle.vbr_machine.specs.declared.knowledge.Read.{Read}
 use Rattle.vbr_machine.specs.declared.knowledge.Read.TheVariants.{LinkAt, BirthOf, KeyOf, ValueOf}
 use Rattle.vbr_machine.proofs.Puts.{put_here, put_other}
@@ -93,6 +93,12 @@ module _ (start : Start) (w : World) (a : Incarnations) (notes : ℕ → Notes) 
       let ne : last_in a s ≢ last_in a q = λ e. (let x : state.InHand p ≡ state.Linked = sym i ∙ ap a.state e ∙ m.is_open in cc) in
       rw (put_other (put a.next (last_in a s) (a.next (last_in a q))) (last_in a q) (Some (last_in a s)) (last_in a s) ne ∙ put_here a.next (last_in a s) (a.next (last_in a q))) (next_held (Slot q) (link_of expected) k m)
 
+  -- and so does a replacement
+  replacement_next : (s expected t : ℕ) → knows_link (w.know p).checked (Slot s) (link_of expected) ≡ true → LinkStands start a (w.know p).epoch (w.know p).checked (Slot s) (link_of expected) → a.state (last_in a t) ≡ state.InHand p → TakesHeldNext start w a (notes p) p (Replace s expected t)
+  replacement_next s expected t k m i =
+      let ne : last_in a t ≢ last_in a s = λ e. (let x : state.InHand p ≡ state.Linked = sym i ∙ ap a.state e ∙ m.is_open in cc) in
+      rw (put_other (put a.next (last_in a t) (a.next (last_in a s))) (last_in a s) (Some (last_in a t)) (last_in a t) ne ∙ put_here a.next (last_in a t) (a.next (last_in a s))) (next_held (Slot s) (link_of expected) k m)
+
   pub right_exchange : (step : Step) → Accepts start (w.know p) step → ExchangesLink step → effect_of step (found start w step) ≡ Won → IsRightExchange start w a (notes p) p step
   right_exchange (Publish (Head b) expected s) ok x e =
       let t = won (word_of (w.head b) == expected) _ e in
@@ -111,6 +117,12 @@ module _ (start : Start) (w : World) (a : Incarnations) (notes : ℕ → Notes) 
       let m = link_stands start w a notes p g (Slot s) expected ok.held.0 ok.in_range (eqb-true (word_of (w.link s)) expected t) in
       let l = (step_agrees start w a notes p (Mark s expected) g ok).0 in
       record { names = last_behind (Slot s) (link_of expected) ok.held.0 m; lawful = rw t at l; successor = tt }
+  right_exchange (Replace s expected t) ok x e =
+      let y = won (word_of (w.link s) == expected) _ e in
+      let m = link_stands start w a notes p g (Slot s) expected ok.held.0 ok.in_range.0 (eqb-true (word_of (w.link s)) expected y) in
+      let l = (step_agrees start w a notes p (Replace s expected t) g ok).0 in
+      let lawful = (rw y at l) in
+      record { names = (last_behind (Slot s) (link_of expected) ok.held.0 m, last_named (Slot s) (link_of expected) ok.held.0 m); lawful = lawful; successor = replacement_next s expected t ok.held.0 m lawful.0.in_hand }
   right_exchange (Unlink (Head b) expected s) ok x e =
       let t = won (word_of (w.head b) == expected) _ e in
       let m = link_stands start w a notes p g (Head b) expected ok.held.0 ok.in_range.0 (eqb-true (word_of (w.head b)) expected t) in

@@ -20,11 +20,11 @@ use Rattle.vbr_machine.specs.Moments.{WasShown}
 use Rattle.vbr_machine.specs.Membership.{Knows, IsHeldSlot, IsHeldPlace, HeldIn, LeadsTo, KeyAt, StandsBehind, StandsBefore, WritesLink, AcceptsKnown}
 use Rattle.vbr_machine.specs.Incarnations.{Incarnations, at_opening}
 use Rattle.vbr_machine.specs.Chronicles.{incarnations_from}
-use Rattle.vbr_machine.specs.Sound.{Grows}
+use Rattle.vbr_machine.specs.Sound.{IsListed, Grows}
 use Rattle.vbr_machine.specs.Notes.{Notes, no_notes, notes_with}
-use Rattle.vbr_machine.specs.Removals.{NoneMarked}
+use Rattle.vbr_machine.specs.Removals.{IsTakenOut, NoneMarked}
 use Rattle.vbr_machine.specs.Accounts.{happens, incarnations_with, chronicle_from, notes_from, incarnations_after, notes_after}
-use Rattle.vbr_machine.specs.Agreement.{Agrees}
+use Rattle.vbr_machine.specs.Agreement.{IsHeldIncarnation, Agrees}
 use Rattle.vbr_machine.specs.declared.event.Event.{Event}
 use Rattle.vbr_machine.specs.declared.event.Step.{Step}
 use Rattle.vbr_machine.specs.declared.event.Step.TheVariants.{LoadLink, Mark, ConfirmPresent, ConfirmAbsent}
@@ -178,13 +178,19 @@ module _ (start : Start) (passes : ℕ) (moment run : List Event) (is : IsStart 
   pub absent_at_load : (key : ℕ) → StandsBehind start (know_after start run p) at key → StandsBefore (know_after start run p) key link.slot → set_after (opening_keys start) (world_after start moment).calls key ≡ false
   absent_at_load key i j = loads.absent_at_load then (run_agrees start passes run is ok) grown p at link was.epoch was.held was.shown was.known was.unmarked key i j
 
-  -- no marked incarnation of such a key was in a list at that moment
+  -- no marked incarnation of such a key was in a list at that moment but one that was replaced
   pub none_marked_here : (key : ℕ) → KeyAt (know_after start run p) at key → NoneMarked (incarnations_after start moment) key
   none_marked_here key k = loads.none_marked_here_then then (run_agrees start passes run is ok) grown p at link was.epoch was.held was.shown was.known was.unmarked key k
 
   pub none_marked_between : (key : ℕ) → StandsBehind start (know_after start run p) at key → StandsBefore (know_after start run p) key link.slot → NoneMarked (incarnations_after start moment) key
   none_marked_between key i j = loads.none_marked_between_then then (run_agrees start passes run is ok) grown p at link was.epoch was.held was.shown was.known was.unmarked key i j
 
-  -- nor one of the key of a slot that stands behind the place, and whose known marked link names what the link names
-  pub none_marked_skipped : (s key : ℕ) (frozen : Link) → StandsBehind start (know_after start run p) at key → Knows (know_after start run p) (LinkAt (Slot s) frozen) → frozen.mark ≡ true → frozen.slot ≡ link.slot → Knows (know_after start run p) (KeyOf s key) → NoneMarked (incarnations_after start moment) key
-  none_marked_skipped s key frozen i k m same j = loads.none_marked_skipped_then then (run_agrees start passes run is ok) grown p at link was.epoch was.held was.shown was.known was.unmarked s key frozen i k m same j
+  -- nor one of the key of a slot whose incarnation was removed and not replaced, and whose known marked link names what the link names
+  pub none_marked_skipped : (s key : ℕ) (frozen : Link) → StandsBehind start (know_after start run p) at key → Knows (know_after start run p) (LinkAt (Slot s) frozen) → frozen.mark ≡ true → frozen.slot ≡ link.slot → Knows (know_after start run p) (KeyOf s key) →
+      IsTakenOut (incarnations_after start run) (know_after start run p).epoch s → NoneMarked (incarnations_after start moment) key
+  none_marked_skipped s key frozen i k m same j out = loads.none_marked_skipped_then then (run_agrees start passes run is ok) grown p at link was.epoch was.held was.shown was.known was.unmarked s key frozen i k m same j out
+
+  -- nor was the incarnation that is held at a slot that stands behind the place, and whose known marked link names what the link names
+  pub skipped_unlisted : (s key c : ℕ) (frozen : Link) → StandsBehind start (know_after start run p) at key → Knows (know_after start run p) (LinkAt (Slot s) frozen) → frozen.mark ≡ true → frozen.slot ≡ link.slot → Knows (know_after start run p) (KeyOf s key) →
+      IsHeldIncarnation (incarnations_after start run) (know_after start run p).epoch s c → IsListed ((incarnations_after start moment).state c) → ⊥
+  skipped_unlisted s key c frozen i k m same j h l = loads.skipped_unlisted_then then (run_agrees start passes run is ok) grown p at link was.epoch was.held was.shown was.known was.unmarked s key c frozen i k m same j h l

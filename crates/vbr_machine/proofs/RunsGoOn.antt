@@ -11,15 +11,15 @@ use Rattle.vbr_machine.specs.Put.{put}
 use Rattle.vbr_machine.specs.History.{calls_by}
 use Rattle.vbr_machine.specs.Knowledge.{Know}
 use Rattle.vbr_machine.specs.Acceptance.{Accepts}
-use Rattle.vbr_machine.specs.Learning.{learn, call_of, succeeds}
+use Rattle.vbr_machine.specs.Learning.{learn, call_ahead, call_of, succeeds}
 use Rattle.vbr_machine.specs.Machine.{World, opening, found, stamp_shown, after}
-use Rattle.vbr_machine.specs.Making.{call_made}
+use Rattle.vbr_machine.specs.Making.{ahead_made, call_made}
 use Rattle.vbr_machine.specs.Runs.{IsAccepted, world_from, AreAccepted, IsRun, world_after, know_after, NoneOf, Begins, BeginsFor}
 use Rattle.vbr_machine.specs.Calls.{calls_added, own_calls}
 use Rattle.vbr_machine.specs.declared.history.Call.{Call}
 use Rattle.vbr_machine.specs.declared.event.Event.{Event}
 use Rattle.vbr_machine.specs.declared.event.Step.{Step}
-use Rattle.vbr_machine.specs.declared.event.Step.TheVariants.{ReadEpoch, Advance, LoadStamp, StoreStamp, Raise, TakeFlag, StoreBirth, StoreKey, StoreLink, LoadLink, LoadBirth, LoadKey, Publish, Mark, Unlink, ConfirmPresent, ConfirmAbsent, StoreValue, LoadValue}
+use Rattle.vbr_machine.specs.declared.event.Step.TheVariants.{ReadEpoch, Advance, LoadStamp, StoreStamp, Raise, TakeFlag, StoreBirth, StoreKey, StoreLink, LoadLink, LoadBirth, LoadKey, Publish, Mark, Replace, Unlink, ConfirmPresent, ConfirmAbsent, StoreValue, LoadValue}
 use Rattle.vbr_machine.proofs.Puts.{put_here, put_other}
 use Rattle.vbr_machine.proofs.Branches.{by_both}
 
@@ -119,6 +119,7 @@ know_other start w p q (LoadValue s) ne = put_other w.know q _ p ne
 know_other start w p q (Publish (Head b) expected s) ne = by_both (word_of (w.head b) == expected) (λ v. v.know p) _ w (w.know p) (put_other w.know q _ p ne) refl
 know_other start w p q (Publish (Slot t) expected s) ne = by_both (word_of (w.link t) == expected) (λ v. v.know p) _ w (w.know p) (put_other w.know q _ p ne) refl
 know_other start w p q (Mark s expected) ne = by_both (word_of (w.link s) == expected) (λ v. v.know p) _ w (w.know p) (put_other w.know q _ p ne) refl
+know_other start w p q (Replace s expected t) ne = by_both (word_of (w.link s) == expected) (λ v. v.know p) _ w (w.know p) (put_other w.know q _ p ne) refl
 know_other start w p q (Unlink (Head b) expected s) ne = by_both (word_of (w.head b) == expected) (λ v. v.know p) _ w (w.know p) (put_other w.know q _ p ne) refl
 know_other start w p q (Unlink (Slot t) expected s) ne = by_both (word_of (w.link t) == expected) (λ v. v.know p) _ w (w.know p) (put_other w.know q _ p ne) refl
 know_other start w p q (ConfirmPresent op s expected) ne = by_both (word_of (w.link s) == expected) (λ v. v.know p) _ w (w.know p) refl refl
@@ -148,6 +149,7 @@ know_own start w p (LoadValue s) = put_here w.know p _
 know_own start w p (Publish (Head b) expected s) = taught (word_of (w.head b) == expected) _ w p _ refl
 know_own start w p (Publish (Slot t) expected s) = taught (word_of (w.link t) == expected) _ w p _ refl
 know_own start w p (Mark s expected) = taught (word_of (w.link s) == expected) _ w p _ refl
+know_own start w p (Replace s expected t) = taught (word_of (w.link s) == expected) _ w p _ refl
 know_own start w p (Unlink (Head b) expected s) = taught (word_of (w.head b) == expected) _ w p _ refl
 know_own start w p (Unlink (Slot t) expected s) = taught (word_of (w.link t) == expected) _ w p _ refl
 know_own start w p (ConfirmPresent op s expected) = by_both (word_of (w.link s) == expected) (λ v. v.know p) _ w (w.know p) refl refl
@@ -191,6 +193,11 @@ calling : (b : Bool) (x w : World) (call : Call) → x.calls ≡ w.calls ++ call
 calling true x w call e = e
 calling false x w call e = sym (append-nil w.calls)
 
+-- one that makes two calls
+calling_twice : (b : Bool) (x w : World) (first second : Call) → x.calls ≡ (w.calls ++ first ∷ []) ++ second ∷ [] → (cond b x w).calls ≡ w.calls ++ (option_to_list (cond b (Some first) None) ++ option_to_list (cond b (Some second) None))
+calling_twice true x w first second e = e ∙ append_assoc w.calls (first ∷ []) (second ∷ [])
+calling_twice false x w first second e = sym (append-nil w.calls)
+
 -- and one that makes none
 silent : (b : Bool) (x w : World) → x.calls ≡ w.calls → (cond b x w).calls ≡ w.calls ++ option_to_list (cond b None None)
 silent true x w e = e ∙ sym (append-nil w.calls)
@@ -215,6 +222,7 @@ calls_after start w p (LoadValue s) = sym (append-nil w.calls)
 calls_after start w p (Publish (Head b) expected s) = calling (word_of (w.head b) == expected) _ w _ refl
 calls_after start w p (Publish (Slot t) expected s) = calling (word_of (w.link t) == expected) _ w _ refl
 calls_after start w p (Mark s expected) = calling (word_of (w.link s) == expected) _ w _ refl
+calls_after start w p (Replace s expected t) = calling_twice (word_of (w.link s) == expected) _ w _ _ refl
 calls_after start w p (Unlink (Head b) expected s) = silent (word_of (w.head b) == expected) _ w refl
 calls_after start w p (Unlink (Slot t) expected s) = silent (word_of (w.link t) == expected) _ w refl
 calls_after start w p (ConfirmPresent op s expected) = calling (word_of (w.link s) == expected) _ w _ refl
@@ -224,17 +232,22 @@ calls_after start w p (ConfirmAbsent op key (Slot t) expected) = calling (word_o
 pub calls_by-append : (who : ℕ) (xs ys : List Call) → calls_by who (xs ++ ys) ≡ calls_by who xs ++ calls_by who ys
 calls_by-append who xs ys = filter-append (λ call. call.who == who) xs ys
 
--- the call of a step is one of its pass
-called_by : (start : Start) (p : ℕ) (know : Know) (step : Step) → IfSome (call_of start p know step) (λ call. call.who ≡ p)
-called_by start p know (Publish pred expected s) = refl
-called_by start p know (Mark s expected) = refl
-called_by start p know (ConfirmPresent op s expected) = refl
-called_by start p know (ConfirmAbsent op key at expected) = refl
-called_by start p know _ = tt
-
 if_made : (b : Bool) (p : ℕ) (made : Option Call) → IfSome made (λ call. call.who ≡ p) → IfSome (cond b made None) (λ call. call.who ≡ p)
 if_made true p made by = by
 if_made false p made by = tt
+
+-- the calls of a step are those of its pass
+ahead_by : (start : Start) (w : World) (p : ℕ) (step : Step) → IfSome (ahead_made start w p step) (λ call. call.who ≡ p)
+ahead_by start w p (Replace s expected t) = if_made (succeeds (Replace s expected t) (found start w (Replace s expected t))) p (call_ahead start p (w.know p) (Replace s expected t)) refl
+ahead_by start w p _ = tt
+
+called_by : (start : Start) (p : ℕ) (know : Know) (step : Step) → IfSome (call_of start p know step) (λ call. call.who ≡ p)
+called_by start p know (Publish pred expected s) = refl
+called_by start p know (Mark s expected) = refl
+called_by start p know (Replace s expected t) = refl
+called_by start p know (ConfirmPresent op s expected) = refl
+called_by start p know (ConfirmAbsent op key at expected) = refl
+called_by start p know _ = tt
 
 made_by : (start : Start) (w : World) (p : ℕ) (step : Step) → IfSome (call_made start w p step) (λ call. call.who ≡ p)
 made_by start w p step = if_made (succeeds step (found start w step)) p (call_of start p (w.know p) step) (called_by start p (w.know p) step)
@@ -249,10 +262,14 @@ listed_other p who (Some call) ne by = rw (ne_eqb call.who who (λ e. ne (sym by
 
 -- the calls that a step adds are its pass's own
 pub added_own : (start : Start) (w : World) (p : ℕ) (step : Step) → calls_by p (calls_added start w p step) ≡ calls_added start w p step
-added_own start w p step = listed_own p (call_made start w p step) (made_by start w p step)
+added_own start w p step =
+    calls_by-append p (option_to_list (ahead_made start w p step)) (option_to_list (call_made start w p step))
+    ∙ (λ i. listed_own p (ahead_made start w p step) (ahead_by start w p step) i ++ listed_own p (call_made start w p step) (made_by start w p step) i)
 
 pub added_other : (start : Start) (w : World) (p who : ℕ) (step : Step) → p ≢ who → calls_by who (calls_added start w p step) ≡ []
-added_other start w p who step ne = listed_other p who (call_made start w p step) ne (made_by start w p step)
+added_other start w p who step ne =
+    calls_by-append who (option_to_list (ahead_made start w p step)) (option_to_list (call_made start w p step))
+    ∙ (λ i. listed_other p who (ahead_made start w p step) ne (ahead_by start w p step) i ++ listed_other p who (call_made start w p step) ne (made_by start w p step) i)
 
 others_calls : (start : Start) (w : World) (who : ℕ) (events : List Event) → NoneOf who events → calls_by who (world_from start w events).calls ≡ calls_by who w.calls
 others_calls start w who [] none = refl

@@ -17,7 +17,7 @@ use Rattle.vbr_machine.specs.Agreement.{IsNotOf, IsStored, OwnFits, Agrees}
 use Rattle.vbr_machine.specs.Safety.{IsWordOf, IsOwnerRight, IsOver, IsLastOver, BearsAfter, IsSafe}
 use Rattle.vbr_machine.specs.declared.event.Event.{Event}
 use Rattle.vbr_machine.specs.declared.event.Step.{Step}
-use Rattle.vbr_machine.specs.declared.event.Step.TheVariants.{ReadEpoch, Advance, LoadStamp, StoreStamp, Raise, TakeFlag, StoreBirth, StoreKey, StoreLink, LoadLink, LoadBirth, LoadKey, Publish, Mark, Unlink, ConfirmPresent, ConfirmAbsent, StoreValue, LoadValue}
+use Rattle.vbr_machine.specs.declared.event.Step.TheVariants.{ReadEpoch, Advance, LoadStamp, StoreStamp, Raise, TakeFlag, StoreBirth, StoreKey, StoreLink, LoadLink, LoadBirth, LoadKey, Publish, Mark, Replace, Unlink, ConfirmPresent, ConfirmAbsent, StoreValue, LoadValue}
 use Rattle.vbr_machine.specs.declared.knowledge.Holding.{Holding}
 use Rattle.vbr_machine.specs.declared.knowledge.Holding.TheVariants.{Free, Unlinked, InHand}
 use Rattle.vbr_machine.specs.declared.knowledge.SlotPlace.{SlotPlace}
@@ -109,6 +109,7 @@ bears_after start run p (LoadKey s) g ok = tt
 bears_after start run p (LoadValue s) g ok = tt
 bears_after start run p (Publish pred expected s) g ok = tt
 bears_after start run p (Mark s expected) g ok = tt
+bears_after start run p (Replace s expected t) g ok = tt
 bears_after start run p (Unlink pred expected s) g ok = tt
 bears_after start run p (ConfirmPresent op s expected) g ok = tt
 bears_after start run p (ConfirmAbsent op key at expected) g ok = tt

@@ -8,7 +8,7 @@ use Rattle.vbr_words.specs.declared.link.Link.{Link}
 use Rattle.vbr_machine.specs.Put.{put}
 use Rattle.vbr_machine.specs.Keys.{Keys}
 use Rattle.vbr_machine.specs.Incarnations.{State, Unborn, InHand, Stamped, Incarnations}
-use Rattle.vbr_machine.specs.Chronicles.{Happening, Advances, Gains, Probes, Raises, GivesUp, Bears, Keyed, Valued, Aims, Inserts, Removes, Unlinks, Stamps, Confirms, Before, MayBeBornIn, MayStamp, unlinked_at, Allowed, becomes}
+use Rattle.vbr_machine.specs.Chronicles.{Happening, Advances, Gains, Probes, Raises, GivesUp, Bears, Keyed, Valued, Aims, Inserts, Removes, Replaces, Unlinks, Stamps, Confirms, Before, MayBeBornIn, MayStamp, unlinked_at, Allowed, becomes}
 use Rattle.vbr_machine.specs.Sound.{IsPassed, TimesFit, StampFits, SlotsSound}
 use Rattle.vbr_machine.specs.declared.history.Call.{Call}
 use Rattle.vbr_machine.specs.declared.knowledge.SlotPlace.{SlotPlace}
@@ -231,6 +231,24 @@ slots_inserts start keys a pass c behind s h =
       placed = λ i p q. let u = s.placed i p q in let x = s.last_born p i q in grind (arith, nat_tests);
     }
 
+slots_replaces : (start : Start) (keys : Keys) (a : Incarnations) (pass old c : ℕ) → SlotsSound start a → Allowed start keys a pass (Replaces old c) → SlotsSound start (becomes start a pass (Replaces old c))
+slots_replaces start keys a pass old c s h =
+    let held = h.in_hand in
+    let linked = h.linked in
+    let w = live_last s c (rw h.in_hand tt) in
+    record {
+      last_born = s.last_born;
+      has_last = s.has_last;
+      unborn = λ i le. let u = s.unborn i in grind (arith, nat_tests);
+      passed = λ i d lt bd q. let u = s.passed i d in grind (arith, nat_tests);
+      born = s.born;
+      times = λ i. let u = s.times i in grind (arith, nat_tests);
+      stamps = λ i. let u = s.stamps i in grind (arith, nat_tests);
+      links = λ i p q. let u = s.links i p q in grind (arith, nat_tests);
+      unused = λ p q. let u = s.unused p q in grind (arith, nat_tests);
+      placed = λ i p q. let u = s.placed i p q in let x = s.last_born p i q in grind (arith, nat_tests);
+    }
+
 slots_unlinks : (start : Start) (keys : Keys) (a : Incarnations) (pass c : ℕ) (behind : Before) → SlotsSound start a → Allowed start keys a pass (Unlinks c behind) → SlotsSound start (becomes start a pass (Unlinks c behind))
 slots_unlinks start keys a pass c behind s h =
     let marked = h.0 in
@@ -274,6 +292,7 @@ slots_kept start keys a pass (Valued c value) s h = slots_valued start a pass c 
 slots_kept start keys a pass (Aims c link) s h = slots_aims start keys a pass c link s h
 slots_kept start keys a pass (Inserts c behind) s h = slots_inserts start keys a pass c behind s h
 slots_kept start keys a pass (Removes c) s h = slots_removes start keys a pass c s h
+slots_kept start keys a pass (Replaces old c) s h = slots_replaces start keys a pass old c s h
 slots_kept start keys a pass (Unlinks c behind) s h = slots_unlinks start keys a pass c behind s h
 slots_kept start keys a pass (Stamps c stamp) s h = slots_stamps start keys a pass c stamp s h
 slots_kept start keys a pass (Confirms call) s h = slots_answers start a pass call s

@@ -8,13 +8,14 @@ use Rattle.vbr_machine.specs.Keys.{Keys}
 use Rattle.vbr_words.specs.Buckets.{bucket_of}
 use Rattle.vbr_machine.specs.Opened.{key_count, has_opening_key, key_number, key_behind}
 use Rattle.vbr_machine.specs.Incarnations.{Unborn, Linked, Incarnations, opening_state, opening_last, at_opening}
-use Rattle.vbr_machine.specs.Chronicles.{Happening, Advances, Gains, Probes, Raises, GivesUp, Bears, Keyed, Valued, Aims, Inserts, Removes, Unlinks, Stamps, Confirms, AtHead, AtNode, Entry, Allowed, becomes, incarnations_from, IsLawful}
+use Rattle.vbr_machine.specs.Chronicles.{Happening, Advances, Gains, Probes, Raises, GivesUp, Bears, Keyed, Valued, Aims, Inserts, Removes, Replaces, Unlinks, Stamps, Confirms, AtHead, AtNode, Entry, Allowed, becomes, incarnations_from, IsLawful}
 use Rattle.vbr_machine.specs.Sound.{IsListed, TimesFit, StampFits, IsUnused, IsApart, ListsSound, Sound}
 use Rattle.vbr_machine.specs.declared.knowledge.SlotPlace.TheVariants.{Shared, Listed}
 use Rattle.vbr_machine.proofs.OpeningKeys.{opens_with_one_or_none, rises, first_key_is, first_key_up_to, key_behind_is, key_behind_up_to}
 use Rattle.vbr_machine.proofs.SlotsAfter.{slots_kept}
 use Rattle.vbr_machine.proofs.ListsAfter.{lists_advances, lists_gains, lists_raises, lists_gives_up, lists_bears, lists_keyed, lists_valued, lists_aims, lists_removes, lists_stamps, lists_answers}
 use Rattle.vbr_machine.proofs.InsertedLists.{lists_inserts_at_head, lists_inserts_at_node}
+use Rattle.vbr_machine.proofs.ReplacedLists.{lists_replaces}
 use Rattle.vbr_machine.proofs.UnlinkedLists.{lists_unlinks_at_head, lists_unlinks_at_node}
 
 pub lists_kept : (start : Start) (keys : Keys) (a : Incarnations) (pass : ℕ) (what : Happening) → Sound start a → Allowed start keys a pass what → ListsSound start (becomes start a pass what)
@@ -30,6 +31,7 @@ lists_kept start keys a pass (Aims c link) s h = lists_aims start a pass c link 
 lists_kept start keys a pass (Inserts c (AtHead b)) s h = lists_inserts_at_head start a pass c b s h
 lists_kept start keys a pass (Inserts c (AtNode p)) s h = lists_inserts_at_node start a pass c p s h
 lists_kept start keys a pass (Removes c) s h = lists_removes start keys a pass c s h
+lists_kept start keys a pass (Replaces old c) s h = lists_replaces start a pass old c s h
 lists_kept start keys a pass (Unlinks c (AtHead b)) s h = lists_unlinks_at_head start keys a pass c b s h
 lists_kept start keys a pass (Unlinks c (AtNode p)) s h = lists_unlinks_at_node start keys a pass c p s h
 lists_kept start keys a pass (Stamps c stamp) s h = lists_stamps start keys a pass c stamp s h
@@ -87,13 +89,17 @@ rises_to start up c d le low = go (cases_eq c d)
 pub state_at_first : (start : Start) (c : ℕ) → c < key_count start → opening_state start c ≡ Linked
 state_at_first start c low = rw (lt-ltb c (key_count start) low) refl
 
-apart_at_first : (start : Start) → IsStrictlyIncreasing start.keys → (c d : ℕ) → c < key_count start → d < key_count start → bucket_of start.shape (key_number start c) ≡ bucket_of start.shape (key_number start d) → IsApart (key_number start) c (key_behind start c) d
+-- a number that is no greater is smaller, or the same
+below_or_same : (m n : ℕ) → m ≤ n → (m < n) ⊎ ((m ≡ n) × (0 ≤ 0))
+below_or_same m n le = grind arith
+
+apart_at_first : (start : Start) → IsStrictlyIncreasing start.keys → (c d : ℕ) → c < key_count start → d < key_count start → bucket_of start.shape (key_number start c) ≡ bucket_of start.shape (key_number start d) → IsApart (key_number start) (λ i. 0) c (key_behind start c) d
 apart_at_first start up c d low also same = go (cases_eq d c) (cases_lt d c)
   where
-    go : (d ≡ c) ⊎ (d ≢ c) → (d < c) ⊎ (c ≤ d) → IsApart (key_number start) c (key_behind start c) d
+    go : (d ≡ c) ⊎ (d ≢ c) → (d < c) ⊎ (c ≤ d) → IsApart (key_number start) (λ i. 0) c (key_behind start c) d
     go (inl e) order = inl e
-    go (inr ne) (inl less) = inr (inl (rises start.keys up d c less low))
-    go (inr ne) (inr more) = let next = key_behind_up_to start c d (omega arith) also (sym same) in inr (inr (next.0, next.1, rises_to start up next.0 d next.2 also))
+    go (inr ne) (inl less) = inr (inl (inl (rises start.keys up d c less low)))
+    go (inr ne) (inr more) = let next = key_behind_up_to start c d (omega arith) also (sym same) in inr (inr (next.0, next.1, below_or_same (key_number start next.0) (key_number start d) (rises_to start up next.0 d next.2 also)))
 
 pub sound_at_first : (start : Start) → IsStrictlyIncreasing start.keys → Sound start (at_opening start)
 sound_at_first start up = record {
@@ -112,10 +118,11 @@ sound_at_first start up = record {
   lists = record {
     handed = λ c n e q l. let x = key_behind_is start c n q in rw (state_at_first start n x.1) tt;
     inserted = λ c n q. let x = key_behind_is start c n q in (rw (state_at_first start c (let less = x.0 in let low = x.1 in omega (arith, less, low))) tt, rw (state_at_first start n x.1) tt);
-    ordered = λ c n q. let x = key_behind_is start c n q in (sym x.2, rises start.keys up c n x.0 x.1);
+    ordered = λ c n q. let x = key_behind_is start c n q in (sym x.2, inl (rises start.keys up c n x.0 x.1));
+    strict = λ c n q l. let x = key_behind_is start c n q in rises start.keys up c n x.0 x.1;
     first_in = λ b n q. let x = first_key_is start b n q in (rw (state_at_first start n x.0) tt, x.1);
     apart = λ c d l m e. apart_at_first start up c d (listed_at_first start c l) (listed_at_first start d m) e;
-    behind_head = λ d l. let low = listed_at_first start d l in let x = first_key_up_to start d low in (x.0, x.1, rises_to start up x.0 d x.2 low);
+    behind_head = λ d l. let low = listed_at_first start d l in let x = first_key_up_to start d low in (x.0, x.1, below_or_same (key_number start x.0) (key_number start d) (rises_to start up x.0 d x.2 low));
   };
 }
 

@@ -1,5 +1,5 @@
 -- The calls of a lawful chronicle are legal, and the linked incarnations have exactly the keys of the set.
-use Rattle.std.proofs.Common.{◌≡◌, ◌≢◌, ℕ, Bool, true, false, List, [], ◌∷◌, Option, Some, refl, arith, sym, ap, ◌∙◌, inl, inr}
+use Rattle.std.proofs.Common.{◌≡◌, ◌≢◌, ℕ, Bool, true, false, List, [], ◌∷◌, ◌++◌, append_assoc, Option, Some, refl, arith, sym, ap, ◌∙◌, inl, inr}
 use Rattle.std.specs.Prelude.{◌⊎◌}
 use Rattle.std.specs.List.Sorted.{IsStrictlyIncreasing}
 use Rattle.std.proofs.lemmas.Bool.Decides.{nat_tests}
@@ -10,7 +10,7 @@ use Rattle.vbr_machine.specs.Keys.{Keys}
 use Rattle.vbr_machine.specs.Opened.{opening_keys, opening_payloads, payload_kept, value_number}
 use Rattle.vbr_machine.specs.History.{keys_after, set_after, Payloads, payloads_after, values_after}
 use Rattle.vbr_machine.specs.Incarnations.{Linked, Marked, Incarnations, payload_of, at_opening}
-use Rattle.vbr_machine.specs.Chronicles.{Happening, Advances, Gains, Probes, Raises, GivesUp, Bears, Keyed, Valued, Aims, Inserts, Removes, Unlinks, Stamps, Confirms, Before, Entry, MayInsert, ChangesNothing, Allowed, becomes, incarnations_from, IsLawful}
+use Rattle.vbr_machine.specs.Chronicles.{Happening, Advances, Gains, Probes, Raises, GivesUp, Bears, Keyed, Valued, Aims, Inserts, Removes, Replaces, Unlinks, Stamps, Confirms, Before, Entry, MayInsert, MayTakePlace, ChangesNothing, Allowed, becomes, incarnations_from, IsLawful}
 use Rattle.vbr_machine.specs.Sound.{Sound, Tells}
 use Rattle.vbr_machine.specs.declared.history.Call.{Call}
 use Rattle.vbr_machine.specs.declared.history.Op.{Op}
@@ -70,7 +70,7 @@ tells_inserts start a pass c behind s t h = record {
 tells_removes : (start : Start) (a : Incarnations) (pass c : ℕ) → Sound start a → Tells start a → a.state c ≡ Linked → Tells start (becomes start a pass (Removes c))
 tells_removes start a pass c s t h = record {
   legal = IsLegal-push (opening_keys start) a.calls x t.legal (sym (t.there c h));
-  there = λ d l. rw (set_after-push (opening_keys start) a.calls x) (there d l (t.there d) (λ ld e. keys_differ s c d (rw h tt) (rw ld tt) e));
+  there = λ d l. rw (set_after-push (opening_keys start) a.calls x) (there d l (t.there d) (λ ld e. keys_differ s c d h ld e));
   only = λ k l. only k (rw (set_after-push (opening_keys start) a.calls x) at l) (t.only k);
   values = GiveStored-push (opening_payloads start) a.calls x t.values (sym (t.stored c h));
   stored = λ d l. ap (λ (payloads : Payloads). payloads (a.key d)) (values_after-push (opening_payloads start) a.calls x) ∙ t.stored d (still d l);
@@ -87,6 +87,64 @@ tells_removes start a pass c s t h = record {
 
     only : (k : ℕ) → put (set_after (opening_keys start) a.calls) (a.key c) false k ≡ true → (set_after (opening_keys start) a.calls k ≡ true → (d : ℕ) × (a.state d ≡ Linked) × (a.key d ≡ k)) → (d : ℕ) × (put a.state c Marked d ≡ Linked) × (a.key d ≡ k)
     only k l u = let ne : k ≢ a.key c = grind (arith, nat_tests) in let v = u (grind (arith, nat_tests)) in (v.0, let y = v.1 in let z = v.2 in grind (arith, nat_tests), v.2)
+
+-- two calls more at the end
+two_more : (calls : List Call) (x y : Call) → (calls ++ x ∷ []) ++ y ∷ [] ≡ calls ++ x ∷ y ∷ []
+two_more calls x y = append_assoc calls (x ∷ []) (y ∷ [])
+
+tells_replaces : (start : Start) (a : Incarnations) (pass old c : ℕ) → Sound start a → Tells start a → MayTakePlace start a pass old c → Tells start (becomes start a pass (Replaces old c))
+tells_replaces start a pass old c s t h = record {
+  legal = rw (← two_more a.calls x y) (IsLegal-push (opening_keys start) (a.calls ++ x ∷ []) y (IsLegal-push (opening_keys start) a.calls x t.legal (sym (t.there old h.linked))) (rw (set_after-push (opening_keys start) a.calls x, h.same, put_here (set_after (opening_keys start) a.calls) (a.key old) false) refl));
+  there = λ d l. rw keys_now (there d l (t.there d));
+  only = λ k l. only k (rw keys_now at l) (t.only k);
+  values = rw (← two_more a.calls x y) (GiveStored-push (opening_payloads start) (a.calls ++ x ∷ []) y (GiveStored-push (opening_payloads start) a.calls x t.values (sym (t.stored old h.linked))) tt);
+  stored = λ d l. ap (λ (payloads : Payloads). payloads (a.key d)) values_now ∙ stored d l (cases_eq d c);
+}
+  where
+    x : Call
+    x = record { who = pass; op = Remove; key = a.key old; reply = true; value = payload_of start a old }
+
+    y : Call
+    y = record { who = pass; op = Insert; key = a.key c; reply = true; value = payload_of start a c }
+
+    keys_now : set_after (opening_keys start) (a.calls ++ x ∷ y ∷ []) ≡ put (put (set_after (opening_keys start) a.calls) (a.key old) false) (a.key c) true
+    keys_now =
+        ap (set_after (opening_keys start)) (sym (two_more a.calls x y))
+        ∙ set_after-push (opening_keys start) (a.calls ++ x ∷ []) y
+        ∙ ap (λ (keys : Keys). put keys (a.key c) true) (set_after-push (opening_keys start) a.calls x)
+
+    values_now : values_after (opening_payloads start) (a.calls ++ x ∷ y ∷ []) ≡ put (values_after (opening_payloads start) a.calls) (a.key c) (payload_of start a c)
+    values_now =
+        ap (values_after (opening_payloads start)) (sym (two_more a.calls x y))
+        ∙ values_after-push (opening_payloads start) (a.calls ++ x ∷ []) y
+        ∙ ap (λ (payloads : Payloads). put payloads (a.key c) (payload_of start a c)) (values_after-push (opening_payloads start) a.calls x)
+
+    was : (d : ℕ) → d ≢ c → put (put a.state old Marked) c Linked d ≡ Linked → a.state d ≡ Linked
+    was d ne l = grind (arith, nat_tests)
+
+    not_old : (d : ℕ) → d ≢ c → put (put a.state old Marked) c Linked d ≡ Linked → d ≢ old
+    not_old d ne l = grind (arith, nat_tests)
+
+    there : (d : ℕ) → put (put a.state old Marked) c Linked d ≡ Linked → (a.state d ≡ Linked → set_after (opening_keys start) a.calls (a.key d) ≡ true) → put (put (set_after (opening_keys start) a.calls) (a.key old) false) (a.key c) true (a.key d) ≡ true
+    there d l u = let same = h.same in grind (arith, nat_tests)
+
+    only : (k : ℕ) → put (put (set_after (opening_keys start) a.calls) (a.key old) false) (a.key c) true k ≡ true → (set_after (opening_keys start) a.calls k ≡ true → (d : ℕ) × (a.state d ≡ Linked) × (a.key d ≡ k)) → (d : ℕ) × (put (put a.state old Marked) c Linked d ≡ Linked) × (a.key d ≡ k)
+    only k l u = go (cases_eq k (a.key c))
+      where
+        go : (k ≡ a.key c) ⊎ (k ≢ a.key c) → (d : ℕ) × (put (put a.state old Marked) c Linked d ≡ Linked) × (a.key d ≡ k)
+        go (inl e) = (c, put_here (put a.state old Marked) c Linked, sym e)
+        go (inr ne) =
+            let same = h.same in
+            let held = h.in_hand in
+            let v = u (grind (arith, nat_tests)) in
+            (v.0, (let y = v.1 in let z = v.2 in grind (arith, nat_tests)), v.2)
+
+    stored : (d : ℕ) → put (put a.state old Marked) c Linked d ≡ Linked → (d ≡ c) ⊎ (d ≢ c) → put (values_after (opening_payloads start) a.calls) (a.key c) (payload_of start a c) (a.key d) ≡ payload_of start a d
+    stored d l (inl e) = ap (λ i. put (values_after (opening_payloads start) a.calls) (a.key c) (payload_of start a c) (a.key i)) e ∙ put_here (values_after (opening_payloads start) a.calls) (a.key c) (payload_of start a c) ∙ ap (payload_of start a) (sym e)
+    stored d l (inr ne) =
+        let linked = was d ne l in
+        let other : a.key d ≢ a.key c = λ e. not_old d ne l (keys_differ s d old linked h.linked (e ∙ h.same)) in
+        put_other (values_after (opening_payloads start) a.calls) (a.key c) (payload_of start a c) (a.key d) other ∙ t.stored d linked
 
 nothing_changes : (keys : Keys) (op : Op) (key : ℕ) (reply : Bool) → ChangesNothing op reply → keys_after keys op key reply ≡ keys
 nothing_changes keys Insert key true h = absurd (cc)
@@ -124,6 +182,7 @@ tells_kept start a pass (Valued c value) s t h = let z = h.0 in same_calls start
 tells_kept start a pass (Aims c link) s t h = same_calls start a (becomes start a pass (Aims c link)) t refl (λ c e. (e, refl, refl)) (λ c e. (e, refl))
 tells_kept start a pass (Inserts c behind) s t h = tells_inserts start a pass c behind s t h
 tells_kept start a pass (Removes c) s t h = tells_removes start a pass c s t h
+tells_kept start a pass (Replaces old c) s t h = tells_replaces start a pass old c s t h
 tells_kept start a pass (Unlinks c behind) s t h = let m = h.0 in same_calls start a (becomes start a pass (Unlinks c behind)) t refl (λ d e. grind (arith, nat_tests)) (λ d e. grind (arith, nat_tests))
 tells_kept start a pass (Stamps c stamp) s t h = same_calls start a (becomes start a pass (Stamps c stamp)) t refl (λ d e. grind (arith, nat_tests)) (λ d e. grind (arith, nat_tests))
 tells_kept start a pass (Confirms x) s t h = tells_answers start a pass x t h

@@ -14,7 +14,7 @@ use Rattle.vbr_machine.specs.Runs.{Begins, know_after, world_after}
 use Rattle.vbr_machine.specs.Whereabouts.{Unstamped, UnlinksInTurn, is_at, is_unstamped, number_at}
 use Rattle.vbr_machine.specs.declared.event.Event.{Event}
 use Rattle.vbr_machine.specs.declared.event.Step.{Step}
-use Rattle.vbr_machine.specs.declared.event.Step.TheVariants.{ReadEpoch, Advance, LoadStamp, StoreStamp, Raise, TakeFlag, StoreBirth, StoreKey, StoreLink, LoadLink, LoadBirth, LoadKey, Publish, Mark, Unlink, ConfirmPresent, ConfirmAbsent, StoreValue, LoadValue}
+use Rattle.vbr_machine.specs.declared.event.Step.TheVariants.{ReadEpoch, Advance, LoadStamp, StoreStamp, Raise, TakeFlag, StoreBirth, StoreKey, StoreLink, LoadLink, LoadBirth, LoadKey, Publish, Mark, Replace, Unlink, ConfirmPresent, ConfirmAbsent, StoreValue, LoadValue}
 use Rattle.vbr_machine.specs.declared.knowledge.Holding.{Holding}
 use Rattle.vbr_machine.specs.declared.knowledge.Holding.TheVariants as holding
 use Rattle.vbr_machine.proofs.Puts.{put_here, put_other}
@@ -91,6 +91,7 @@ learned_is (LoadKey t) found stamp know s u = inl u
 learned_is (LoadValue t) found stamp know s u = inl u
 learned_is (Publish pred expected t) found stamp know s u = inl (by_test (found == expected) _ know know s (put_no know.own t None s refl) (λ x. x) u)
 learned_is (Mark t expected) found stamp know s u = inl (by_test (found == expected) _ know know s (λ x. x) (λ x. x) u)
+learned_is (Replace v expected t) found stamp know s u = inl (by_test (found == expected) _ know know s (put_no know.own t None s refl) (λ x. x) u)
 learned_is (Unlink pred expected t) found stamp know s u = unlinked_is (found == expected) _ know t s (put_unlinked know.own t s) u
 learned_is (ConfirmPresent op t expected) found stamp know s u = inl u
 learned_is (ConfirmAbsent op key at expected) found stamp know s u = inl u

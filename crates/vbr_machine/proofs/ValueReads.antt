@@ -35,6 +35,11 @@ pub some_value : (known : Option ℕ) (x : ℕ) → IsSome known → unwrap_or k
 some_value None x h e = absurd (cc)
 some_value (Some y) x h e = ap Some e
 
+-- one that is there serves where nodes have values
+pub has_value : (t : Bool) (known : Option ℕ) → IsSome known → HasValue t known
+has_value true known h = h
+has_value false known h = tt
+
 -- where nodes have values, the one that is known
 pub known_kept : (t : Bool) (known : Option ℕ) (x : ℕ) → HasValue t known → (IsSome known → unwrap_or known 0 ≡ x) → (if t then known else None) ≡ (if t then Some x else None)
 known_kept true known x h e = some_value known x h (e h)

@@ -1,4 +1,4 @@
--- A walk along the list of a bucket in one epoch: what a link names there was in the list since the walk began, and has a greater key than what was visited.
+-- A walk along the list of a bucket in one epoch: what a link names there was in the list since the walk began, and is ordered behind what was visited.
 use Rattle.std.proofs.Common.{◌≡◌, ℕ, suc, ◌+◌, ◌<◌, ◌≤◌, false, List, Option, Some, None, refl, sym, ap, ◌∙◌, subst, arith}
 use Rattle.vbr_words.specs.Buckets.{bucket_of}
 use Rattle.vbr_words.specs.declared.link.Link.{Link}
@@ -89,7 +89,7 @@ module _ (start : Start) (passes : ℕ) (first then moment run : List Event) (is
   to_moment = since start passes first moment is ok_moment (begins_trans first then moment a b)
 
   -- what is named at the moment is ahead at the end
-  named_ahead : (epoch bucket visited n : ℕ) → epoch ≤ at_moment.epoch → IsHeldIncarnation at_moment epoch (at_moment.slot n) n → (HasLeft (at_first.state n) → ⊥) → bucket_of start.shape (at_moment.key n) ≡ bucket → visited ≤ met_below start at_first at_moment bucket (at_moment.key n) → IsAhead start at_first at_end epoch bucket visited (at_moment.slot n)
+  named_ahead : (epoch bucket visited n : ℕ) → epoch ≤ at_moment.epoch → IsHeldIncarnation at_moment epoch (at_moment.slot n) n → (HasLeft (at_first.state n) → ⊥) → bucket_of start.shape (at_moment.key n) ≡ bucket → visited ≤ met_below start at_first at_moment bucket (at_moment.key n) (at_moment.rank n) → IsAhead start at_first at_end epoch bucket visited (at_moment.slot n)
   named_ahead epoch bucket visited n low held out of few =
       let g = since_moment.grown in
       let i : IsInserted (at_moment.state n) = late_inserted (at_moment.state n) epoch held.late in
@@ -99,7 +99,7 @@ module _ (start : Start) (passes : ℕ) (first then moment run : List Event) (is
         held = stays_held good.sound g epoch (at_moment.slot n) n low held;
         since = out;
         of_bucket = ap (bucket_of start.shape) k ∙ of;
-        few = (let x = met_below_grows start at_first at_moment bucket g (at_moment.key n) in let y = ap (met_below start at_first at_end bucket) k in omega (arith, few, x, y));
+        few = (let x = met_below_grows start at_first at_moment bucket g (at_moment.key n) (at_moment.rank n) in let y : met_below start at_first at_end bucket (at_end.key n) (at_end.rank n) ≡ met_below start at_first at_end bucket (at_moment.key n) (at_moment.rank n) = (λ j. met_below start at_first at_end bucket (k j) (g.rank n i j)) in omega (arith, few, x, y));
       }
 
   -- a law: the head of a bucket, loaded in the epoch that stands, names a node that no node was visited before, or the end of the list
@@ -155,11 +155,11 @@ module _ (start : Start) (passes : ℕ) (first then moment run : List Event) (is
     born : before.node < at_moment.count
     born = late_born good.sound.slots before.node epoch still_held.late
 
-    few : visited ≤ met_below start at_first at_moment bucket (at_moment.key before.node)
+    few : visited ≤ met_below start at_first at_moment bucket (at_moment.key before.node) (at_moment.rank before.node)
     few =
         let x = before.few in
-        let y = met_below_grows start at_first at_then bucket since_then.grown (at_then.key before.node) in
-        let z = ap (met_below start at_first at_moment bucket) same_key in
+        let y = met_below_grows start at_first at_then bucket since_then.grown (at_then.key before.node) (at_then.rank before.node) in
+        let z : met_below start at_first at_moment bucket (at_moment.key before.node) (at_moment.rank before.node) ≡ met_below start at_first at_moment bucket (at_then.key before.node) (at_then.rank before.node) = (λ j. met_below start at_first at_moment bucket (same_key j) (since_then.grown.rank before.node inserted j)) in
         omega (arith, x, y, z)
 
     -- a law: with it one more was visited, which is no more than were in the list
@@ -183,7 +183,7 @@ module _ (start : Start) (passes : ℕ) (first then moment run : List Event) (is
             let o = good.sound.lists.ordered before.node n e in
             let late = good.sound.lists.handed before.node n epoch e still_held.late in
             let young = good.sound.slots.born n (late_born good.sound.slots n epoch late) in
-            let more = one_more_below start at_first at_moment bucket before.node (at_moment.key n) born is_met o.1 in
+            let more = one_more_below start at_first at_moment bucket before.node n born is_met o.1 in
             named_ahead epoch bucket (suc visited) n (omega (arith, now)) (record { slot = refl; birth = omega (arith, young, now); late = late })
             (λ h. before.since ((out_since to_moment).closed before.node n e h)) (sym o.0 ∙ of_bucket) (omega (arith, few, more))
 
@@ -219,12 +219,13 @@ visited_on start passes first now run is ok b epoch bucket visited (Some s) low 
     let a = incarnations_after start now in
     let e = incarnations_after start run in
     let k : e.key x.node ≡ a.key x.node = y.grown.key x.node (late_inserted (a.state x.node) epoch x.held.late) in
+    let r : e.rank x.node ≡ a.rank x.node = y.grown.rank x.node (late_inserted (a.state x.node) epoch x.held.late) in
     record {
       node = x.node;
       held = stays_held y.sound y.grown epoch s x.node low x.held;
       since = x.since;
       of_bucket = ap (bucket_of start.shape) k ∙ x.of_bucket;
-      few = (let few = x.few in let more = met_below_grows start first a bucket y.grown (a.key x.node) in let same = ap (met_below start first e bucket) k in omega (arith, few, more, same));
+      few = (let few = x.few in let more = met_below_grows start first a bucket y.grown (a.key x.node) (a.rank x.node) in let same : met_below start first e bucket (e.key x.node) (e.rank x.node) ≡ met_below start first e bucket (a.key x.node) (a.rank x.node) = (λ j. met_below start first e bucket (k j) (r j)) in omega (arith, few, more, same));
     }
 
 -- ---- what a pass knows

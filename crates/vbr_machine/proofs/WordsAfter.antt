@@ -21,7 +21,7 @@ use Rattle.vbr_machine.specs.Sound.{IsListed, PlaceFits}
 use Rattle.vbr_machine.specs.Notes.{Notes, before_at}
 use Rattle.vbr_machine.specs.Agreement.{IsHeldNext, OwnFits, Agrees}
 use Rattle.vbr_machine.specs.declared.event.Step.{Step}
-use Rattle.vbr_machine.specs.declared.event.Step.TheVariants.{ReadEpoch, Advance, LoadStamp, StoreStamp, Raise, TakeFlag, StoreBirth, StoreKey, StoreLink, LoadLink, LoadBirth, LoadKey, Publish, Mark, Unlink, ConfirmPresent, ConfirmAbsent, StoreValue, LoadValue}
+use Rattle.vbr_machine.specs.declared.event.Step.TheVariants.{ReadEpoch, Advance, LoadStamp, StoreStamp, Raise, TakeFlag, StoreBirth, StoreKey, StoreLink, LoadLink, LoadBirth, LoadKey, Publish, Mark, Replace, Unlink, ConfirmPresent, ConfirmAbsent, StoreValue, LoadValue}
 use Rattle.vbr_machine.specs.declared.knowledge.Holding.{Holding}
 use Rattle.vbr_machine.specs.declared.knowledge.Holding.TheVariants.{Free, Unlinked, InHand}
 use Rattle.vbr_machine.specs.declared.knowledge.SlotPlace.{SlotPlace}
@@ -55,6 +55,7 @@ place_in start (LoadKey s) here = here
 place_in start (LoadValue s) here = here
 place_in start (Publish pred expected s) here = place_at_in start pred here.0
 place_in start (Mark s expected) here = here
+place_in start (Replace s expected t) here = here.0
 place_in start (Unlink pred expected s) here = place_at_in start pred here.0
 place_in start (ConfirmPresent op s expected) here = here.0
 place_in start (ConfirmAbsent op key at expected) here = place_at_in start at here.0
@@ -97,6 +98,7 @@ word_here start w p (LoadValue s) here = refl
 word_here start w p (Publish (Head b) expected s) here = left (word_of (w.head b) == expected) (λ v. word_of (v.head b)) _ w _ (word_of (w.head b)) (λ t. ap word_of (put_here w.head b (link_written (w.know p) (Publish (Head b) expected s)))) refl
 word_here start w p (Publish (Slot t) expected s) here = left (word_of (w.link t) == expected) (λ v. word_of (v.link t)) _ w _ (word_of (w.link t)) (λ _. ap word_of (put_here w.link t (link_written (w.know p) (Publish (Slot t) expected s)))) refl
 word_here start w p (Mark s expected) here = left (word_of (w.link s) == expected) (λ v. word_of (v.link s)) _ w _ (word_of (w.link s)) (λ t. ap word_of (put_here w.link s (link_written (w.know p) (Mark s expected)))) refl
+word_here start w p (Replace s expected t) here = left (word_of (w.link s) == expected) (λ v. word_of (v.link s)) _ w _ (word_of (w.link s)) (λ _. ap word_of (put_here w.link s (link_written (w.know p) (Replace s expected t)))) refl
 word_here start w p (Unlink (Head b) expected s) here = left (word_of (w.head b) == expected) (λ v. word_of (v.head b)) _ w _ (word_of (w.head b)) (λ t. ap word_of (put_here w.head b (link_written (w.know p) (Unlink (Head b) expected s)))) refl
 word_here start w p (Unlink (Slot t) expected s) here = left (word_of (w.link t) == expected) (λ v. word_of (v.link t)) _ w _ (word_of (w.link t)) (λ _. ap word_of (put_here w.link t (link_written (w.know p) (Unlink (Slot t) expected s)))) refl
 word_here start w p (ConfirmPresent op s expected) here = kept (word_of (w.link s) == expected) (λ v. word_of (v.link s)) _ w (word_of (w.link s)) (λ t. refl) refl
@@ -109,6 +111,7 @@ word_here start w p (ConfirmAbsent op key (Slot s) expected) here = kept (word_o
 abbrev pub MovesUnshared : World → Step → Type 0
 MovesUnshared w (StoreBirth s birth) = is_shared (w.place s) ≡ false
 MovesUnshared w (Publish pred expected s) = is_shared (w.place s) ≡ false
+MovesUnshared w (Replace s expected t) = is_shared (w.place t) ≡ false
 MovesUnshared w (Unlink pred expected s) = word_of (link_at w pred) ≡ expected → is_shared (w.place s) ≡ false
 MovesUnshared w _ = Unit {0}
 
@@ -178,6 +181,7 @@ same_but start w p (LoadValue s) moves = unchanged _ _ w refl refl refl refl ref
 same_but start w p (Publish (Head b) expected s) moves = if_won (word_of (w.head b) == expected) (place.Head b) _ w (λ _. record { epoch = λ _. refl; head = λ i ne. put_other w.head b _ i (λ e. ne (ap place.Head e)); link = λ _ _. refl; birth = λ _ _. refl; stamp = λ _ _. refl; key = λ _ _. refl; value = λ _ _. refl; flag = λ i _. flag_kept w.place s (Listed _) moves i })
 same_but start w p (Publish (Slot t) expected s) moves = if_won (word_of (w.link t) == expected) (place.LinkOf t) _ w (λ _. record { epoch = λ _. refl; head = λ _ _. refl; link = λ i ne. put_other w.link t _ i (λ e. ne (ap place.LinkOf e)); birth = λ _ _. refl; stamp = λ _ _. refl; key = λ _ _. refl; value = λ _ _. refl; flag = λ i _. flag_kept w.place s (Listed _) moves i })
 same_but start w p (Mark s expected) moves = if_won (word_of (w.link s) == expected) (place.LinkOf s) _ w (λ _. record { epoch = λ _. refl; head = λ _ _. refl; link = λ i ne. put_other w.link s _ i (λ e. ne (ap place.LinkOf e)); birth = λ _ _. refl; stamp = λ _ _. refl; key = λ _ _. refl; value = λ _ _. refl; flag = λ _ _. refl })
+same_but start w p (Replace s expected t) moves = if_won (word_of (w.link s) == expected) (place.LinkOf s) _ w (λ _. record { epoch = λ _. refl; head = λ _ _. refl; link = λ i ne. put_other w.link s _ i (λ e. ne (ap place.LinkOf e)); birth = λ _ _. refl; stamp = λ _ _. refl; key = λ _ _. refl; value = λ _ _. refl; flag = λ i _. flag_kept w.place t (Listed _) moves i })
 same_but start w p (Unlink (Head b) expected s) moves = if_won (word_of (w.head b) == expected) (place.Head b) _ w (λ won. record { epoch = λ _. refl; head = λ i ne. put_other w.head b _ i (λ e. ne (ap place.Head e)); link = λ _ _. refl; birth = λ _ _. refl; stamp = λ _ _. refl; key = λ _ _. refl; value = λ _ _. refl; flag = λ i _. flag_kept w.place s (Own p) (moves (eqb-true (word_of (w.head b)) expected won)) i })
 same_but start w p (Unlink (Slot t) expected s) moves = if_won (word_of (w.link t) == expected) (place.LinkOf t) _ w (λ won. record { epoch = λ _. refl; head = λ _ _. refl; link = λ i ne. put_other w.link t _ i (λ e. ne (ap place.LinkOf e)); birth = λ _ _. refl; stamp = λ _ _. refl; key = λ _ _. refl; value = λ _ _. refl; flag = λ i _. flag_kept w.place s (Own p) (moves (eqb-true (word_of (w.link t)) expected won)) i })
 same_but start w p (ConfirmPresent op s expected) moves = if_won (word_of (w.link s) == expected) (place.LinkOf s) _ w (λ _. unchanged _ _ w refl refl refl refl refl refl refl refl)
@@ -227,6 +231,7 @@ next_unshared start w a notes p pred expected s g ok e = ap is_shared (g.image.p
 pub moves_unshared : (start : Start) (w : World) (a : Incarnations) (notes : ℕ → Notes) (p : ℕ) (step : Step) → Agrees start w a notes → Accepts start (w.know p) step → MovesUnshared w step
 moves_unshared start w a notes p (StoreBirth s birth) g ok = ap is_shared (g.image.place s) ∙ bear_unshared a p (w.know p).epoch ((w.know p).own s) (a.place s) (a.last s) (a.stamp s) (g.owns p s) ok.owned
 moves_unshared start w a notes p (Publish pred expected s) g ok = ap is_shared (g.image.place s) ∙ bear_unshared a p (w.know p).epoch ((w.know p).own s) (a.place s) (a.last s) (a.stamp s) (g.owns p s) (may_bear ((w.know p).own s) ok.owned)
+moves_unshared start w a notes p (Replace s expected t) g ok = ap is_shared (g.image.place t) ∙ bear_unshared a p (w.know p).epoch ((w.know p).own t) (a.place t) (a.last t) (a.stamp t) (g.owns p t) (may_bear ((w.know p).own t) ok.owned)
 moves_unshared start w a notes p (Unlink pred expected s) g ok = next_unshared start w a notes p pred expected s g ok
 moves_unshared start w a notes p _ g ok = tt
 

@@ -11,7 +11,7 @@ use Rattle.vbr_machine.specs.Knowledge.{Know, knows_link, birth_in, key_in, valu
 use Rattle.vbr_machine.specs.declared.history.Op.{Op}
 use Rattle.vbr_machine.specs.declared.history.Op.TheVariants.{Insert, Remove, Get}
 use Rattle.vbr_machine.specs.declared.event.Step.{Step}
-use Rattle.vbr_machine.specs.declared.event.Step.TheVariants.{ReadEpoch, Advance, LoadStamp, StoreStamp, Raise, TakeFlag, StoreBirth, StoreKey, StoreValue, StoreLink, LoadLink, LoadBirth, LoadKey, LoadValue, Publish, Mark, Unlink, ConfirmPresent, ConfirmAbsent}
+use Rattle.vbr_machine.specs.declared.event.Step.TheVariants.{ReadEpoch, Advance, LoadStamp, StoreStamp, Raise, TakeFlag, StoreBirth, StoreKey, StoreValue, StoreLink, LoadLink, LoadBirth, LoadKey, LoadValue, Publish, Mark, Replace, Unlink, ConfirmPresent, ConfirmAbsent}
 use Rattle.vbr_machine.specs.declared.knowledge.Read.{Read}
 use Rattle.vbr_machine.specs.declared.knowledge.Unpublished.{Unpublished}
 use Rattle.vbr_machine.specs.declared.knowledge.Holding.{Holding}
@@ -34,7 +34,7 @@ abbrev pub IsOpIn : Start → Op → Type 0
 IsOpIn start Get = start.shape.values ≡ true
 IsOpIn start _ = Unit {0}
 
--- the slots and places that the step's fields name are those of the shape, and a value is stored, loaded or asked for only where nodes have values
+-- the slots and places that the step's fields name are those of the shape, and a value is stored, loaded, replaced or asked for only where nodes have values
 abbrev pub IsInShape : Start → Step → Type 0
 IsInShape start ReadEpoch = Unit {0}
 IsInShape start (Advance from) = Unit {0}
@@ -52,6 +52,7 @@ IsInShape start (LoadKey s) = s < start.shape.slots
 IsInShape start (LoadValue s) = (s < start.shape.slots) × (start.shape.values ≡ true)
 IsInShape start (Publish pred expected s) = IsAtIn start pred × (s < start.shape.slots)
 IsInShape start (Mark s expected) = s < start.shape.slots
+IsInShape start (Replace s expected t) = (s < start.shape.slots) × (t < start.shape.slots) × (start.shape.values ≡ true)
 IsInShape start (Unlink pred expected s) = IsAtIn start pred × (s < start.shape.slots)
 IsInShape start (ConfirmPresent op s expected) = (s < start.shape.slots) × IsOpIn start op
 IsInShape start (ConfirmAbsent op key at expected) = IsAtIn start at × IsOpIn start op
@@ -89,6 +90,7 @@ IsOwned know (StoreKey s key) = IsInHand (know.own s)
 IsOwned know (StoreValue s value) = IsInHand (know.own s)
 IsOwned know (StoreLink s next) = IsInHand (know.own s)
 IsOwned know (Publish pred expected s) = IsInHand (know.own s)
+IsOwned know (Replace s expected t) = IsInHand (know.own t)
 IsOwned know _ = Unit {0}
 
 -- ---- what the pass has checked
@@ -156,6 +158,10 @@ HasChecked start know (Publish pred expected s) =
     × (IsSome (birth_at know.checked pred) × KnowsKeyAt know.checked pred)
     × (IsSome (birth_of know.checked (link_of expected).slot) × KnowsKeyOf know.checked (link_of expected).slot)
 HasChecked start know (Mark s expected) = IsTrue (knows_link know.checked (Slot s) (link_of expected)) × IsSome (key_in know.checked s) × HasValue start.shape.values (value_in know.checked s)
+HasChecked start know (Replace s expected t) =
+    IsTrue (knows_link know.checked (Slot s) (link_of expected))
+    × (IsSome (birth_in know.checked s) × IsSome (key_in know.checked s) × IsSome (value_in know.checked s))
+    × IsSome (birth_of know.checked (link_of expected).slot)
 HasChecked start know (Unlink pred expected s) =
     IsTrue (knows_link know.checked pred (link_of expected))
     × IsSome (marked_in know.checked s)
@@ -209,6 +215,17 @@ abbrev pub MayPublish : Start → List Read → At → Link → Option Holding �
 MayPublish start reads pred expected (Some (InHand known)) = IsReady start reads pred expected known
 MayPublish start reads pred expected _ = ⊥
 
+-- what is in hand is ready to take the place of the node of a slot: its key, which is that node's, its link, which names what the expected link names, and its value were stored since its birth
+pub record IsReadyInPlace (start : Start) (reads : List Read) (s : ℕ) (expected : Link) (known : Unpublished) : Type 0 where
+  pub key_is : known.key ≡ Some (unwrap_or (key_in reads s) 0)
+  pub link_is : known.link ≡ Some (link_to expected.slot known.birth (unwrap_or (birth_of reads expected.slot) 0))
+  pub valued : HasValue start.shape.values known.value
+
+-- a slot in hand that is ready so
+abbrev pub MayReplace : Start → List Read → ℕ → Link → Option Holding → Type 0
+MayReplace start reads s expected (Some (InHand known)) = IsReadyInPlace start reads s expected known
+MayReplace start reads s expected _ = ⊥
+
 -- the step's numbers are in range
 abbrev pub IsInRange : Start → Know → Step → Type 0
 IsInRange start know (Advance from) = 1 ≤ from
@@ -216,6 +233,7 @@ IsInRange start know (StoreStamp s stamp) = IsReread (know.own s) × (stamp ≡ 
 IsInRange start know (StoreBirth s birth) = (birth ≡ know.epoch) × (stamp_in (know.own s) < birth)
 IsInRange start know (Publish pred expected s) = ((link_of expected).mark ≡ false) × MayPublish start know.checked pred (link_of expected) (know.own s)
 IsInRange start know (Mark s expected) = (link_of expected).mark ≡ false
+IsInRange start know (Replace s expected t) = ((link_of expected).mark ≡ false) × MayReplace start know.checked s (link_of expected) (know.own t)
 IsInRange start know (Unlink pred expected s) = ((link_of expected).mark ≡ false) × ((link_of expected).slot ≡ Some s)
 IsInRange start know (ConfirmPresent op s expected) = ((link_of expected).mark ≡ false) × (op ≢ Remove)
 IsInRange start know (ConfirmAbsent op key at expected) =

@@ -7,12 +7,12 @@ use Rattle.vbr_machine.specs.Opened.{opening_keys}
 use Rattle.vbr_machine.specs.Learning.{succeeds, link_written, call_of}
 use Rattle.vbr_machine.specs.Machine.{World, opening, found, after}
 use Rattle.vbr_machine.specs.Incarnations.{Incarnations, at_opening, last_in}
-use Rattle.vbr_machine.specs.Chronicles.{Happening, Advances, Gains, Probes, Raises, GivesUp, Bears, Keyed, Valued, Aims, Inserts, Removes, Unlinks, Stamps, Confirms, Entry, IsLawful, incarnations_from, entries_by}
+use Rattle.vbr_machine.specs.Chronicles.{Happening, Advances, Gains, Probes, Raises, GivesUp, Bears, Keyed, Valued, Aims, Inserts, Removes, Replaces, Unlinks, Stamps, Confirms, Entry, IsLawful, incarnations_from, entries_by}
 use Rattle.vbr_machine.specs.Notes.{Notes, no_notes, before_at, notes_with, NamesLast, HoldsNext}
 use Rattle.vbr_machine.specs.declared.history.Call.{Call}
 use Rattle.vbr_machine.specs.declared.event.Event.{Event}
 use Rattle.vbr_machine.specs.declared.event.Step.{Step}
-use Rattle.vbr_machine.specs.declared.event.Step.TheVariants.{Advance, StoreStamp, Raise, TakeFlag, StoreBirth, StoreKey, StoreValue, StoreLink, Publish, Mark, Unlink}
+use Rattle.vbr_machine.specs.declared.event.Step.TheVariants.{Advance, StoreStamp, Raise, TakeFlag, StoreBirth, StoreKey, StoreValue, StoreLink, Publish, Mark, Replace, Unlink}
 use Rattle.vbr_machine.specs.declared.knowledge.Holding.{Holding}
 use Rattle.vbr_machine.specs.declared.knowledge.Holding.TheVariants.{InHand}
 
@@ -42,6 +42,7 @@ happens_if_found start w a pass (StoreValue s value) = just pass (Valued (last_i
 happens_if_found start w a pass (StoreLink s next) = just pass (Aims (last_in a s) (link_written (w.know pass) (StoreLink s next)))
 happens_if_found start w a pass (Publish pred expected s) = just pass (Inserts (last_in a s) (before_at a pred))
 happens_if_found start w a pass (Mark s expected) = just pass (Removes (last_in a s))
+happens_if_found start w a pass (Replace s expected t) = just pass (Replaces (last_in a s) (last_in a t))
 happens_if_found start w a pass (Unlink pred expected s) = just pass (Unlinks (last_in a s) (before_at a pred))
 happens_if_found start w a pass step = entry_of_call pass (call_of start pass (w.know pass) step)
 
@@ -91,11 +92,14 @@ own_entries start run pass = entries_by pass (chronicle start run)
 
 -- ---- what is to hold along a run
 
--- a publication gives its incarnation the successor that the pass holds: the one at the slot that the expected link names
+-- a publication and a replacement give their incarnation the successor that the pass holds: the one at the slot that the expected link names
 abbrev pub TakesHeldNext : Start → World → Incarnations → Notes → ℕ → Step → Type 0
 TakesHeldNext start w a notes pass (Publish pred expected s) =
     let published = incarnations_from start a (happens_if_found start w a pass (Publish pred expected s)) in
     HoldsNext notes.checked (link_of expected).slot (published.next (last_in a s))
+TakesHeldNext start w a notes pass (Replace s expected t) =
+    let published = incarnations_from start a (happens_if_found start w a pass (Replace s expected t)) in
+    HoldsNext notes.checked (link_of expected).slot (published.next (last_in a t))
 TakesHeldNext start w a notes pass step = Unit {0}
 
 -- an exchange that finds its word is right: the incarnations that it names are the last of their slots, what it adds to the chronicle is lawful for them, and a publication's successor is the one held

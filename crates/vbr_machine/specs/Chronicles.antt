@@ -20,7 +20,7 @@ pub data Before : Type 0 where
   AtHead : (bucket : ℕ) → Before
   AtNode : (node : ℕ) → Before
 
--- what happens: the epoch advances; a pass gains, probes or raises a slot; an incarnation is given up, born, keyed, valued, aimed, linked, marked, unlinked or stamped; a call that changes nothing is answered
+-- what happens: the epoch advances; a pass gains, probes or raises a slot; an incarnation is given up, born, keyed, valued, aimed, linked, marked, replaced by another, unlinked or stamped; a call that changes nothing is answered
 pub data Happening : Type 0 where
   Advances : Happening
   Gains : (slot : ℕ) → Happening
@@ -33,6 +33,7 @@ pub data Happening : Type 0 where
   Aims : (node : ℕ) → (link : Link) → Happening
   Inserts : (node : ℕ) → (behind : Before) → Happening
   Removes : (node : ℕ) → Happening
+  Replaces : (old : ℕ) → (node : ℕ) → Happening
   Unlinks : (node : ℕ) → (behind : Before) → Happening
   Stamps : (node : ℕ) → (stamp : ℕ) → Happening
   Confirms : (call : Call) → Happening
@@ -96,6 +97,16 @@ pub record MayInsert (start : Start) (a : Incarnations) (pass node : ℕ) (behin
   pub below : BelongsBefore a (a.key node) (next_of a behind)
   pub valued : start.shape.values ≡ true → a.is_valued node ≡ true
 
+-- an incarnation may be linked in place of a linked one that has its key
+pub record MayTakePlace (start : Start) (a : Incarnations) (pass old node : ℕ) : Type 0 where
+  pub in_hand : a.state node ≡ InHand pass
+  pub keyed : a.is_keyed node ≡ true
+  pub aimed : a.is_aimed node ≡ true
+  pub linked : a.state old ≡ Linked
+  pub link : a.link node ≡ link_to_next a (a.birth node) (a.next old)
+  pub same : a.key node ≡ a.key old
+  pub valued : start.shape.values ≡ true → a.is_valued node ≡ true
+
 -- an incarnation that the pass unlinked may be stamped with an epoch since then
 abbrev pub MayStamp : State → ℕ → ℕ → ℕ → Type 0
 MayStamp (Unlinked by at) pass stamp epoch = (by ≡ pass) × (at ≤ stamp) × (stamp ≤ epoch)
@@ -120,6 +131,7 @@ Allowed start keys a pass (Valued c value) = (a.state c ≡ InHand pass) × (sta
 Allowed start keys a pass (Aims c link) = (a.state c ≡ InHand pass) × (link.mark ≡ false) × (a.birth c ≤ link.version)
 Allowed start keys a pass (Inserts c behind) = MayInsert start a pass c behind
 Allowed start keys a pass (Removes c) = a.state c ≡ Linked
+Allowed start keys a pass (Replaces old c) = MayTakePlace start a pass old c
 Allowed start keys a pass (Unlinks c behind) = (a.state c ≡ Marked) × IsOpen a behind × (next_of a behind ≡ Some c)
 Allowed start keys a pass (Stamps c stamp) = MayStamp (a.state c) pass stamp a.epoch
 Allowed start keys a pass (Confirms call) =
@@ -132,6 +144,8 @@ Allowed start keys a pass (Confirms call) =
 abbrev pub calls_made : Start → Incarnations → ℕ → Happening → List Call
 calls_made start a pass (Inserts c behind) = record { who = pass; op = Insert; key = a.key c; reply = true; value = payload_of start a c } ∷ []
 calls_made start a pass (Removes c) = record { who = pass; op = Remove; key = a.key c; reply = true; value = payload_of start a c } ∷ []
+calls_made start a pass (Replaces old c) =
+    record { who = pass; op = Remove; key = a.key old; reply = true; value = payload_of start a old } ∷ record { who = pass; op = Insert; key = a.key c; reply = true; value = payload_of start a c } ∷ []
 calls_made start a pass (Confirms call) = call ∷ []
 calls_made start a pass _ = []
 
@@ -186,6 +200,14 @@ becomes start a pass (Inserts c behind) =
       calls = a.calls ++ calls_made start a pass (Inserts c behind);
     }
 becomes start a pass (Removes c) = record a { state = put a.state c Marked; calls = a.calls ++ calls_made start a pass (Removes c) }
+becomes start a pass (Replaces old c) =
+    record a {
+      next = put (put a.next c (a.next old)) old (Some c);
+      rank = put a.rank c (a.rank old + 1);
+      state = put (put a.state old Marked) c Linked;
+      place = put a.place (a.slot c) (Listed (bucket_of start.shape (a.key c)));
+      calls = a.calls ++ calls_made start a pass (Replaces old c);
+    }
 becomes start a pass (Unlinks c behind) =
     record a {
       first = first_with a.first behind (a.next c);

@@ -1,5 +1,5 @@
 -- What disturbs a pass at the list of one bucket, and the nodes that it can meet there.
-use Rattle.std.specs.Prelude.{◌≡◌, ℕ, ◌+◌, ◌==◌, ◌&&◌, not, nat_lt, Bool, true, false, List, [], ◌∷◌, Option, Some, None, ◌≤◌}
+use Rattle.std.specs.Prelude.{◌≡◌, ℕ, ◌+◌, ◌==◌, ◌&&◌, not, Bool, true, false, List, [], ◌∷◌, Option, Some, None, ◌≤◌}
 use Rattle.vbr_words.specs.Buckets.{bucket_of}
 use Rattle.vbr_words.specs.declared.place.At.{At}
 use Rattle.vbr_words.specs.declared.place.At.TheVariants.{Head, Slot}
@@ -7,9 +7,9 @@ use Rattle.vbr_machine.specs.Agreement.{IsHeldIncarnation}
 use Rattle.vbr_machine.specs.Removals.{HasLeft}
 use Rattle.vbr_machine.specs.Start.{Start}
 use Rattle.vbr_machine.specs.Accounts.{chronicle}
-use Rattle.vbr_machine.specs.Chronicles.{Happening, Advances, Inserts, Removes, Unlinks, Entry, becomes}
+use Rattle.vbr_machine.specs.Chronicles.{Happening, Advances, Inserts, Removes, Replaces, Unlinks, Entry, becomes}
 use Rattle.vbr_machine.specs.Incarnations.{State, Linked, Marked, Unlinked, Stamped, Incarnations, at_opening}
-use Rattle.vbr_machine.specs.Nodes.{count_below, is_marked}
+use Rattle.vbr_machine.specs.Nodes.{count_below, is_lower, is_marked}
 use Rattle.vbr_machine.specs.declared.event.Event.{Event}
 use Rattle.vbr_machine.specs.declared.history.Call.{Call}
 use Rattle.vbr_machine.specs.declared.history.Op.{Op}
@@ -17,11 +17,12 @@ use Rattle.vbr_machine.specs.declared.history.Op.TheVariants.{Insert, Remove}
 
 -- ---- disturbances
 
--- whether an event changes the list of a bucket, or moves the epoch: an advance does, and an insert, a mark or an unlinking of a node of the bucket
+-- whether an event changes the list of a bucket, or moves the epoch: an advance does, and an insert, a mark, a replacement or an unlinking of a node of the bucket
 abbrev pub changes : Start → Incarnations → ℕ → Happening → Bool
 changes start a bucket Advances = true
 changes start a bucket (Inserts c behind) = bucket_of start.shape (a.key c) == bucket
 changes start a bucket (Removes c) = bucket_of start.shape (a.key c) == bucket
+changes start a bucket (Replaces old c) = bucket_of start.shape (a.key c) == bucket
 changes start a bucket (Unlinks c behind) = bucket_of start.shape (a.key c) == bucket
 changes start a bucket _ = false
 
@@ -82,12 +83,12 @@ is_met start before now bucket c = (is_inserted (now.state c) && not (has_left (
 abbrev pub met : Start → Incarnations → Incarnations → ℕ → ℕ
 met start before now bucket = count_below (is_met start before now bucket) now.count
 
--- and how many of them have a key below one
-abbrev pub is_met_below : Start → Incarnations → Incarnations → ℕ → ℕ → ℕ → Bool
-is_met_below start before now bucket key c = is_met start before now bucket c && nat_lt (now.key c) key
+-- and how many of them are ordered before a key with a rank
+abbrev pub is_met_below : Start → Incarnations → Incarnations → ℕ → ℕ → ℕ → ℕ → Bool
+is_met_below start before now bucket key rank c = is_met start before now bucket c && is_lower (now.key c) (now.rank c) key rank
 
-abbrev pub met_below : Start → Incarnations → Incarnations → ℕ → ℕ → ℕ
-met_below start before now bucket key = count_below (is_met_below start before now bucket key) now.count
+abbrev pub met_below : Start → Incarnations → Incarnations → ℕ → ℕ → ℕ → ℕ
+met_below start before now bucket key rank = count_below (is_met_below start before now bucket key rank) now.count
 
 -- ---- places
 
@@ -102,13 +103,13 @@ abbrev pub IsOpenIn : Start → Incarnations → ℕ → At → Type 0
 IsOpenIn start a bucket (Head b) = b ≡ bucket
 IsOpenIn start a bucket (Slot s) = (c : ℕ) × IsLinkedIn start a bucket s c
 
--- a node of the bucket is held at a slot, which was in the list since an earlier moment; and so many nodes with smaller keys were, at the least
+-- a node of the bucket is held at a slot, which was in the list since an earlier moment; and so many nodes that are ordered before it were, at the least
 pub record IsAhead (start : Start) (before now : Incarnations) (epoch bucket visited s : ℕ) : Type 0 where
   pub node : ℕ
   pub held : IsHeldIncarnation now epoch s node
   pub since : HasLeft (before.state node) → ⊥
   pub of_bucket : bucket_of start.shape (now.key node) ≡ bucket
-  pub few : visited ≤ met_below start before now bucket (now.key node)
+  pub few : visited ≤ met_below start before now bucket (now.key node) (now.rank node)
 
 -- so many nodes were visited before what a link names, all of which were in the list since an earlier moment; at the end of the list too
 abbrev pub HasVisited : Start → Incarnations → Incarnations → ℕ → ℕ → ℕ → Option ℕ → Type 0
@@ -132,13 +133,14 @@ updates (call ∷ calls) = counted (is_update call.op && call.reply) + updates c
 abbrev pub marked_nodes : Incarnations → ℕ
 marked_nodes a = count_below (λ c. is_marked (a.state c)) a.count
 
--- whether an event is an unlinking, or a removal
+-- whether an event is an unlinking, or a removal, as a replacement is of the node that it replaces
 abbrev pub is_unlinking : Happening → Bool
 is_unlinking (Unlinks c behind) = true
 is_unlinking _ = false
 
 abbrev pub is_removal : Happening → Bool
 is_removal (Removes c) = true
+is_removal (Replaces old c) = true
 is_removal _ = false
 
 -- how many of these events are of a kind

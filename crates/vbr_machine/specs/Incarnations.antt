@@ -30,6 +30,7 @@ pub record Incarnations : Type 0 where
   pub link : ℕ → Link  -- its link until it is linked
   pub is_aimed : ℕ → Bool  -- whether its link was stored since its birth
   pub next : ℕ → Option ℕ  -- its successor
+  pub rank : ℕ → ℕ  -- how many incarnations of its key were replaced, one after the other, before it
   pub state : ℕ → State
   pub first : ℕ → Option ℕ  -- the first incarnation in the list of a bucket
   pub last : ℕ → Option ℕ  -- the last incarnation that was born in a slot
@@ -60,6 +61,7 @@ at_opening start =
       link = λ c. opening_link;
       is_aimed = has_opening_key start;
       next = key_behind start;
+      rank = λ c. 0;
       state = opening_state start;
       first = first_key start;
       last = opening_last start;

@@ -7,14 +7,14 @@ use Rattle.vbr_words.specs.declared.link.Link.{Link}
 use Rattle.vbr_words.specs.declared.place.At.TheVariants.{Slot}
 use Rattle.vbr_machine.specs.Put.{put}
 use Rattle.vbr_machine.specs.Links.{opening_link, link_to, marked}
-use Rattle.vbr_machine.specs.Knowledge.{Know, key_in, value_in, marked_in, birth_at, birth_of}
+use Rattle.vbr_machine.specs.Knowledge.{Know, birth_in, key_in, value_in, marked_in, birth_at, birth_of}
 use Rattle.vbr_machine.specs.Acceptance.{stamp_in, next_of_marked}
 use Rattle.vbr_machine.specs.Opened.{payload_kept}
 use Rattle.vbr_machine.specs.declared.history.Call.{Call}
 use Rattle.vbr_machine.specs.declared.history.Op.{Op}
 use Rattle.vbr_machine.specs.declared.history.Op.TheVariants.{Insert, Remove, Has, Get}
 use Rattle.vbr_machine.specs.declared.event.Step.{Step}
-use Rattle.vbr_machine.specs.declared.event.Step.TheVariants.{ReadEpoch, Advance, StoreStamp, Raise, TakeFlag, StoreBirth, StoreKey, StoreValue, StoreLink, LoadLink, LoadBirth, LoadKey, LoadValue, Publish, Mark, Unlink, ConfirmPresent, ConfirmAbsent}
+use Rattle.vbr_machine.specs.declared.event.Step.TheVariants.{ReadEpoch, Advance, StoreStamp, Raise, TakeFlag, StoreBirth, StoreKey, StoreValue, StoreLink, LoadLink, LoadBirth, LoadKey, LoadValue, Publish, Mark, Replace, Unlink, ConfirmPresent, ConfirmAbsent}
 use Rattle.vbr_machine.specs.declared.event.Effect.{Effect}
 use Rattle.vbr_machine.specs.declared.event.Effect.TheVariants.{Value, Done, Won, Lost, Answered}
 use Rattle.vbr_machine.specs.declared.knowledge.Read.{Read}
@@ -31,6 +31,7 @@ succeeds (Advance from) found = found == from
 succeeds (TakeFlag s) found = has_flag found s
 succeeds (Publish pred expected s) found = found == expected
 succeeds (Mark s expected) found = found == expected
+succeeds (Replace s expected t) found = found == expected
 succeeds (Unlink pred expected s) found = found == expected
 succeeds (ConfirmPresent op s expected) found = found == expected
 succeeds (ConfirmAbsent op key at expected) found = found == expected
@@ -54,6 +55,7 @@ effect_where_it_succeeds (StoreValue s value) found = Done
 effect_where_it_succeeds (StoreLink s next) found = Done
 effect_where_it_succeeds (Publish pred expected s) found = Won
 effect_where_it_succeeds (Mark s expected) found = Won
+effect_where_it_succeeds (Replace s expected t) found = Won
 effect_where_it_succeeds (Unlink pred expected s) found = Won
 effect_where_it_succeeds (ConfirmPresent op s expected) found = Answered (present_reply op)
 effect_where_it_succeeds (ConfirmAbsent op key at expected) found = Answered false
@@ -111,14 +113,16 @@ abbrev pub link_written : Know → Step → Link
 link_written know (StoreLink s next) = link_to next (birth_in_hand (know.own s)) (unwrap_or (birth_of know.checked next) 0)
 link_written know (Publish pred expected s) = link_to (Some s) (unwrap_or (birth_at know.checked pred) 0) (birth_in_hand (know.own s))
 link_written know (Mark s expected) = marked (link_of expected)
+link_written know (Replace s expected t) = marked (link_to (Some t) (unwrap_or (birth_in know.checked s) 0) (birth_in_hand (know.own t)))
 link_written know (Unlink pred expected s) =
     let next = next_of_marked (marked_in know.checked s) in
     link_to next (unwrap_or (birth_at know.checked pred) 0) (unwrap_or (birth_of know.checked next) 0)
 link_written know _ = opening_link
 
--- the key of the slot that a step publishes
+-- the key of the slot that a step links
 abbrev pub key_written : Know → Step → ℕ
 key_written know (Publish pred expected s) = key_in_hand (know.own s)
+key_written know (Replace s expected t) = key_in_hand (know.own t)
 key_written know _ = 0
 
 -- ---- what is learned
@@ -165,6 +169,8 @@ abbrev pub reads_won : Know → Step → List Read
 reads_won know (Publish pred expected s) =
     LinkAt pred (link_written know (Publish pred expected s)) ∷ BirthOf s (birth_in_hand (know.own s)) ∷ KeyOf s (key_in_hand (know.own s)) ∷ LinkAt (Slot s) (link_in_hand (know.own s)) ∷ value_read s (value_in_hand (know.own s))
 reads_won know (Mark s expected) = LinkAt (Slot s) (link_written know (Mark s expected)) ∷ []
+reads_won know (Replace s expected t) =
+    LinkAt (Slot s) (link_written know (Replace s expected t)) ∷ BirthOf t (birth_in_hand (know.own t)) ∷ KeyOf t (key_in_hand (know.own t)) ∷ LinkAt (Slot t) (link_in_hand (know.own t)) ∷ value_read t (value_in_hand (know.own t))
 reads_won know (Unlink pred expected s) = LinkAt pred (link_written know (Unlink pred expected s)) ∷ []
 reads_won know _ = []
 
@@ -185,6 +191,8 @@ learn (LoadValue s) found stamp know = with_pending know (ValueOf s found)
 learn (Publish pred expected s) found stamp know =
     if succeeds (Publish pred expected s) found then with_own (with_checked know (reads_won know (Publish pred expected s))) s None else know
 learn (Mark s expected) found stamp know = if succeeds (Mark s expected) found then with_checked know (reads_won know (Mark s expected)) else know
+learn (Replace s expected t) found stamp know =
+    if succeeds (Replace s expected t) found then with_own (with_checked know (reads_won know (Replace s expected t))) t None else know
 learn (Unlink pred expected s) found stamp know =
     if succeeds (Unlink pred expected s) found then with_own (with_checked know (reads_won know (Unlink pred expected s))) s (Some (Unlinked false)) else know
 learn _ found stamp know = know
@@ -196,10 +204,16 @@ abbrev pub present_value : Op → Option ℕ → Option ℕ
 present_value Get value = value
 present_value _ value = None
 
+-- the call that a step that succeeds makes ahead of its own: a replacement takes its key out first
+abbrev pub call_ahead : Start → ℕ → Know → Step → Option Call
+call_ahead start pass know (Replace s expected t) = Some (record { who = pass; op = Remove; key = unwrap_or (key_in know.checked s) 0; reply = true; value = payload_kept start (value_in know.checked s) })
+call_ahead start pass know _ = None
+
 -- the call of a step that succeeds, if it is one that makes a call
 abbrev pub call_of : Start → ℕ → Know → Step → Option Call
 call_of start pass know (Publish pred expected s) = Some (record { who = pass; op = Insert; key = key_in_hand (know.own s); reply = true; value = payload_kept start (value_in_hand (know.own s)) })
 call_of start pass know (Mark s expected) = Some (record { who = pass; op = Remove; key = unwrap_or (key_in know.checked s) 0; reply = true; value = payload_kept start (value_in know.checked s) })
+call_of start pass know (Replace s expected t) = Some (record { who = pass; op = Insert; key = key_in_hand (know.own t); reply = true; value = payload_kept start (value_in_hand (know.own t)) })
 call_of start pass know (ConfirmPresent op s expected) =
     Some (record { who = pass; op = op; key = unwrap_or (key_in know.checked s) 0; reply = present_reply op; value = present_value op (value_in know.checked s) })
 call_of start pass know (ConfirmAbsent op key at expected) = Some (record { who = pass; op = op; key = key; reply = false; value = None })

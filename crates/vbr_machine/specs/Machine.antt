@@ -14,10 +14,10 @@ use Rattle.vbr_machine.specs.Put.{put}
 use Rattle.vbr_machine.specs.Knowledge.{Know}
 use Rattle.vbr_words.specs.Buckets.{bucket_of}
 use Rattle.vbr_machine.specs.Opened.{key_count, key_number, value_number, opening_birth, first_key, link_to_key, link_at_opening, opening_place}
-use Rattle.vbr_machine.specs.Learning.{succeeds, link_written, key_written, learn, call_of}
+use Rattle.vbr_machine.specs.Learning.{succeeds, link_written, key_written, learn, call_ahead, call_of}
 use Rattle.vbr_machine.specs.declared.history.Call.{Call}
 use Rattle.vbr_machine.specs.declared.event.Step.{Step}
-use Rattle.vbr_machine.specs.declared.event.Step.TheVariants.{ReadEpoch, Advance, LoadStamp, StoreStamp, Raise, TakeFlag, StoreBirth, StoreKey, StoreValue, StoreLink, LoadLink, LoadBirth, LoadKey, LoadValue, Publish, Mark, Unlink, ConfirmPresent, ConfirmAbsent}
+use Rattle.vbr_machine.specs.declared.event.Step.TheVariants.{ReadEpoch, Advance, LoadStamp, StoreStamp, Raise, TakeFlag, StoreBirth, StoreKey, StoreValue, StoreLink, LoadLink, LoadBirth, LoadKey, LoadValue, Publish, Mark, Replace, Unlink, ConfirmPresent, ConfirmAbsent}
 use Rattle.vbr_machine.specs.declared.knowledge.SlotPlace.{SlotPlace}
 use Rattle.vbr_machine.specs.declared.knowledge.SlotPlace.TheVariants.{Shared, Own, Hand, Listed}
 
@@ -108,6 +108,7 @@ place_of_step (LoadKey s) = place.Key s
 place_of_step (LoadValue s) = place.Value s
 place_of_step (Publish pred expected s) = places.place_of pred
 place_of_step (Mark s expected) = place.LinkOf s
+place_of_step (Replace s expected t) = place.LinkOf s
 place_of_step (Unlink pred expected s) = places.place_of pred
 place_of_step (ConfirmPresent op s expected) = place.LinkOf s
 place_of_step (ConfirmAbsent op key at expected) = places.place_of at
@@ -132,6 +133,7 @@ access_of know (StoreValue s value) = Store value
 access_of know (StoreLink s next) = Store (word_of (link_written know (StoreLink s next)))
 access_of know (Publish pred expected s) = Exchange expected (word_of (link_written know (Publish pred expected s)))
 access_of know (Mark s expected) = Exchange expected (word_of (link_written know (Mark s expected)))
+access_of know (Replace s expected t) = Exchange expected (word_of (link_written know (Replace s expected t)))
 access_of know (Unlink pred expected s) = Exchange expected (word_of (link_written know (Unlink pred expected s)))
 access_of know _ = Load
 
@@ -184,6 +186,7 @@ written start p (StoreValue s new) link key w = record w { value = put w.value s
 written start p (StoreLink s next) link key w = with_link_at w (Slot s) link
 written start p (Publish pred expected s) link key w = record (with_link_at w pred link) { place = put w.place s (Listed (bucket_of start.shape key)) }
 written start p (Mark s expected) link key w = with_link_at w (Slot s) link
+written start p (Replace s expected t) link key w = record (with_link_at w (Slot s) link) { place = put w.place t (Listed (bucket_of start.shape key)) }
 written start p (Unlink pred expected s) link key w = record (with_link_at w pred link) { place = put w.place s (Own p) }
 written start p _ link key w = w
 
@@ -195,9 +198,9 @@ learned start w p (ConfirmPresent op s expected) = w
 learned start w p (ConfirmAbsent op key at expected) = w
 learned start w p step = with_learning start w p step
 
--- the world after an accepted step of a pass: where the step succeeds, its pass has learned, the words and places are written, and its call is made; else nothing has changed
+-- the world after an accepted step of a pass: where the step succeeds, its pass has learned, the words and places are written, and its calls are made; else nothing has changed
 abbrev pub after : Start → World → ℕ → Step → World
 after start w p step =
     if succeeds step (found start w step)
-    then with_call (written start p step (link_written (w.know p) step) (key_written (w.know p) step) (learned start w p step)) (call_of start p (w.know p) step)
+    then with_call (with_call (written start p step (link_written (w.know p) step) (key_written (w.know p) step) (learned start w p step)) (call_ahead start p (w.know p) step)) (call_of start p (w.know p) step)
     else w

@@ -2,13 +2,14 @@
 use Rattle.std.specs.Prelude.{ℕ, ◌-◌, ◌==◌, nat_lt, Bool, Option, Some, None, if◌then◌else◌}
 use Rattle.vbr_machine.specs.Start.{Start}
 use Rattle.vbr_words.specs.Flags.{has_flag}
-use Rattle.vbr_machine.specs.Learning.{succeeds, call_of}
+use Rattle.vbr_machine.specs.Learning.{succeeds, call_ahead, call_of}
 use Rattle.vbr_machine.specs.Put.{put}
 use Rattle.vbr_machine.specs.Links.{opening_link, link_to}
 use Rattle.vbr_words.specs.Buckets.{bucket_of}
 use Rattle.vbr_machine.specs.Opened.{key_count, key_number, value_number, opening_birth, first_from, link_to_key, link_at_opening, opening_place}
 use Rattle.vbr_machine.specs.Machine.{World, opening, counted, found}
 use Rattle.vbr_machine.specs.declared.event.Step.{Step}
+use Rattle.vbr_machine.specs.declared.event.Step.TheVariants.{Replace}
 use Rattle.vbr_machine.specs.declared.event.Effect.{Effect}
 use Rattle.vbr_machine.specs.declared.event.Effect.TheVariants.{Won, Lost, Answered}
 use Rattle.vbr_machine.specs.declared.history.Call.{Call}
@@ -59,6 +60,11 @@ taken s found = if has_flag found s then Won else Lost found
 -- the answer of a confirming load
 abbrev pub confirmed : Bool → ℕ → ℕ → Effect
 confirmed reply expected found = if found == expected then Answered reply else Lost found
+
+-- the call that a pass makes with a step ahead of its own
+abbrev pub ahead_made : Start → World → ℕ → Step → Option Call
+ahead_made start w p (Replace s expected t) = if succeeds (Replace s expected t) (found start w (Replace s expected t)) then call_ahead start p (w.know p) (Replace s expected t) else None
+ahead_made start w p step = None
 
 -- the call that a pass makes with a step, if it makes one
 abbrev pub call_made : Start → World → ℕ → Step → Option Call

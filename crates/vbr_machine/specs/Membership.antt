@@ -14,7 +14,7 @@ use Rattle.vbr_machine.specs.Learning.{birth_in_hand}
 use Rattle.vbr_machine.specs.declared.history.Op.{Op}
 use Rattle.vbr_machine.specs.declared.history.Op.TheVariants.{Insert, Get}
 use Rattle.vbr_machine.specs.declared.event.Step.{Step}
-use Rattle.vbr_machine.specs.declared.event.Step.TheVariants.{StoreLink, LoadLink, LoadBirth, LoadKey, LoadValue, Publish, Mark, Unlink, ConfirmPresent, ConfirmAbsent}
+use Rattle.vbr_machine.specs.declared.event.Step.TheVariants.{StoreLink, LoadLink, LoadBirth, LoadKey, LoadValue, Publish, Mark, Replace, Unlink, ConfirmPresent, ConfirmAbsent}
 use Rattle.vbr_machine.specs.declared.knowledge.Read.{Read}
 use Rattle.vbr_machine.specs.declared.knowledge.Read.TheVariants.{LinkAt, BirthOf, KeyOf, ValueOf}
 use Rattle.vbr_machine.specs.declared.knowledge.Unpublished.{Unpublished}
@@ -100,6 +100,7 @@ abbrev pub WritesLink : Know → Step → Link → Type 0
 WritesLink know (StoreLink s next) new = (birth : ℕ) × BirthNamed know next birth × (new ≡ link_to next (birth_in_hand (know.own s)) birth)
 WritesLink know (Publish pred expected s) new = (birth : ℕ) × BirthAt know pred birth × (new ≡ link_to (Some s) birth (birth_in_hand (know.own s)))
 WritesLink know (Mark s expected) new = new ≡ marked (link_of expected)
+WritesLink know (Replace s expected t) new = (birth : ℕ) × Knows know (BirthOf s birth) × (new ≡ marked (link_to (Some t) birth (birth_in_hand (know.own t))))
 WritesLink know (Unlink pred expected s) new = IsUnlinkLink know pred s new
 WritesLink know _ new = ⊥
 
@@ -129,6 +130,7 @@ IsKnown start know (LoadKey s) = IsHeldSlot know s
 IsKnown start know (LoadValue s) = IsHeldSlot know s
 IsKnown start know (Publish pred expected s) = Knows know (LinkAt pred (link_of expected)) × ((birth : ℕ) × BirthAt know pred birth)
 IsKnown start know (Mark s expected) = Knows know (LinkAt (Slot s) (link_of expected)) × ((key : ℕ) × Knows know (KeyOf s key)) × KnowsValue start.shape.values know s
+IsKnown start know (Replace s expected t) = Knows know (LinkAt (Slot s) (link_of expected)) × ((birth : ℕ) × Knows know (BirthOf s birth)) × ((value : ℕ) × Knows know (ValueOf s value))
 IsKnown start know (Unlink pred expected s) = Knows know (LinkAt pred (link_of expected)) × ((new : Link) × IsUnlinkLink know pred s new)
 IsKnown start know (ConfirmPresent op s expected) = Knows know (LinkAt (Slot s) (link_of expected)) × ((key : ℕ) × Knows know (KeyOf s key)) × KnowsValueFor op know s
 IsKnown start know (ConfirmAbsent op key at expected) = Knows know (LinkAt at (link_of expected))
@@ -150,9 +152,25 @@ abbrev pub MayPublishKnown : Start → Know → At → Link → Option Holding �
 MayPublishKnown start know pred expected (Some (InHand known)) = IsReadyKnown start know pred expected known
 MayPublishKnown start know pred expected _ = ⊥
 
+-- what is in hand is ready to take the place of the node of a slot: its key, which is known of the slot, its link, which names what the expected link names, by a birth that is known of that, and its value were stored since its birth
+pub record IsReadyInPlaceKnown (start : Start) (know : Know) (s : ℕ) (expected : Link) (known : Unpublished) : Type 0 where
+  pub key : ℕ
+  pub key_known : Knows know (KeyOf s key)
+  pub key_is : known.key ≡ Some key
+  pub named : ℕ
+  pub named_known : BirthNamed know expected.slot named
+  pub link_is : known.link ≡ Some (link_to expected.slot known.birth named)
+  pub valued : HasValue start.shape.values known.value
+
+-- a slot in hand that is ready so
+abbrev pub MayReplaceKnown : Start → Know → ℕ → Link → Option Holding → Type 0
+MayReplaceKnown start know s expected (Some (InHand known)) = IsReadyInPlaceKnown start know s expected known
+MayReplaceKnown start know s expected _ = ⊥
+
 -- the step's numbers are in range
 abbrev pub IsInRangeKnown : Start → Know → Step → Type 0
 IsInRangeKnown start know (Publish pred expected s) = ((link_of expected).mark ≡ false) × MayPublishKnown start know pred (link_of expected) (know.own s)
+IsInRangeKnown start know (Replace s expected t) = ((link_of expected).mark ≡ false) × MayReplaceKnown start know s (link_of expected) (know.own t)
 IsInRangeKnown start know (ConfirmAbsent op key at expected) =
     ((link_of expected).mark ≡ false) × (op ≢ Insert) × StandsBehind start know at key × StandsBeforeOn know key (link_of expected)
 IsInRangeKnown start know step = IsInRange start know step

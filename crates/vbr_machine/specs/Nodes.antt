@@ -1,5 +1,5 @@
 -- The nodes of lists, counted by slots: each slot has at most one, its last incarnation.
-use Rattle.std.specs.Prelude.{ℕ, zero, suc, Bool, true, false, ◌==◌, ◌&&◌, Option, Some, None, nat_lt, List, if◌then◌else◌, ◌≡◌}
+use Rattle.std.specs.Prelude.{ℕ, zero, suc, Bool, true, false, ◌==◌, ◌&&◌, ◌||◌, Option, Some, None, nat_lt, List, if◌then◌else◌, ◌≡◌}
 use Rattle.vbr_machine.specs.Start.{Start}
 use Rattle.vbr_words.specs.declared.place.At.{At}
 use Rattle.vbr_words.specs.declared.place.At.TheVariants.{Head, Slot}
@@ -35,6 +35,11 @@ is_listed Linked = true
 is_listed Marked = true
 is_listed _ = false
 
+-- the rank of an incarnation, 0 for none
+abbrev pub rank_shown : Incarnations → Option ℕ → ℕ
+rank_shown a None = 0
+rank_shown a (Some c) = a.rank c
+
 -- the key of the last incarnation of a slot
 abbrev pub key_in_slot : Incarnations → ℕ → ℕ
 key_in_slot a s = key_shown a (a.last s)
@@ -53,14 +58,22 @@ abbrev pub count_below : (ℕ → Bool) → ℕ → ℕ
 count_below test zero = 0
 count_below test (suc s) = if test s then suc (count_below test s) else count_below test s
 
--- whether a key lies behind a place: behind a head each does, and behind a slot one that is above the key of its last incarnation
-abbrev pub is_above : Incarnations → At → ℕ → Bool
-is_above a (Head b) key = true
-is_above a (Slot t) key = nat_lt (key_in_slot a t) key
+-- the rank of the last incarnation of a slot
+abbrev pub rank_in_slot : Incarnations → ℕ → ℕ
+rank_in_slot a s = rank_shown a (a.last s)
+
+-- whether a key and a rank are below others: the key is, or it is the same and the rank is
+abbrev pub is_lower : ℕ → ℕ → ℕ → ℕ → Bool
+is_lower key rank other_key other_rank = nat_lt key other_key || (key == other_key && nat_lt rank other_rank)
+
+-- whether a key with a rank lies behind a place: behind a head each does, and behind a slot one that is above the key and rank of its last incarnation
+abbrev pub is_above : Incarnations → At → ℕ → ℕ → Bool
+is_above a (Head b) key rank = true
+is_above a (Slot t) key rank = is_lower (key_in_slot a t) (rank_in_slot a t) key rank
 
 -- whether the node of a slot stands in the list of a bucket, behind a place
 abbrev pub is_behind : Start → Incarnations → ℕ → At → ℕ → Bool
-is_behind start a bucket at s = is_in_list start a bucket s && is_above a at (key_in_slot a s)
+is_behind start a bucket at s = is_in_list start a bucket s && is_above a at (key_in_slot a s) (rank_in_slot a s)
 
 -- how many nodes, linked or marked, stand in the list of a bucket behind a place
 abbrev pub behind : Start → Incarnations → ℕ → At → ℕ

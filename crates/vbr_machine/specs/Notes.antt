@@ -10,7 +10,7 @@ use Rattle.vbr_machine.specs.Incarnations.{Incarnations, last_in}
 use Rattle.vbr_machine.specs.Images.{birth_shown, key_shown, value_shown, link_shown_at}
 use Rattle.vbr_machine.specs.Chronicles.{Before, AtHead, AtNode, next_of}
 use Rattle.vbr_machine.specs.declared.event.Step.{Step}
-use Rattle.vbr_machine.specs.declared.event.Step.TheVariants.{ReadEpoch, Publish, Mark, Unlink}
+use Rattle.vbr_machine.specs.declared.event.Step.TheVariants.{ReadEpoch, Publish, Mark, Replace, Unlink}
 use Rattle.vbr_machine.specs.declared.knowledge.Read.{Read}
 use Rattle.vbr_machine.specs.declared.knowledge.Read.TheVariants.{LinkAt, BirthOf, KeyOf, ValueOf}
 
@@ -88,6 +88,9 @@ notes_with start w a pass (Publish pred expected s) notes =
 notes_with start w a pass (Mark s expected) notes =
     let step = Mark s expected in
     if succeeds step (found start w step) then with_won a notes (reads_won (w.know pass) step) else notes
+notes_with start w a pass (Replace s expected t) notes =
+    let step = Replace s expected t in
+    if succeeds step (found start w step) then with_won a notes (reads_won (w.know pass) step) else notes
 notes_with start w a pass (Unlink pred expected s) notes =
     let step = Unlink pred expected s in
     if succeeds step (found start w step) then with_won a notes (reads_won (w.know pass) step) else notes
@@ -157,10 +160,11 @@ abbrev pub HoldsLastNext : Incarnations → List Note → Option ℕ → Type 0
 HoldsLastNext a checked None = Unit {0}
 HoldsLastNext a checked (Some s) = HoldsLast a checked s
 
--- the incarnations that an exchange on a link names are the last of their slots: those held behind and at what the expected link names, and for a mark the one held at its slot
+-- the incarnations that an exchange on a link names are the last of their slots: those held behind and at what the expected link names, and for a mark or a replacement the one held at its slot
 abbrev pub NamesLast : Incarnations → List Note → Step → Type 0
 NamesLast a checked (Publish pred expected s) = HoldsLastAt a checked pred × HoldsLastNext a checked (link_of expected).slot
 NamesLast a checked (Mark s expected) = HoldsLast a checked s
+NamesLast a checked (Replace s expected t) = HoldsLast a checked s × HoldsLastNext a checked (link_of expected).slot
 NamesLast a checked (Unlink pred expected s) = HoldsLastAt a checked pred × HoldsLastNext a checked (link_of expected).slot
 NamesLast a checked step = Unit {0}
 

@@ -1,10 +1,12 @@
 -- Removed incarnations: which pass marked them, and that they are in no list any more.
-use Rattle.std.specs.Prelude.{◌≡◌, ℕ, List, ◌++◌}
+use Rattle.std.specs.Prelude.{◌≡◌, ℕ, ◌<◌, List, ◌++◌, Some}
 use Rattle.std.specs.List.{Contains}
 use Rattle.vbr_machine.specs.Start.{Start}
 use Rattle.vbr_machine.specs.Accounts.{incarnations_after, own_entries}
+use Rattle.vbr_machine.specs.Agreement.{IsHeldIncarnation}
 use Rattle.vbr_machine.specs.Chronicles.{Entry, Removes}
 use Rattle.vbr_machine.specs.Incarnations.{State, Marked, Unlinked, Stamped, Incarnations}
+use Rattle.vbr_machine.specs.Sound.{IsRemoved}
 use Rattle.vbr_machine.specs.declared.event.Event.{Event}
 
 -- out of all lists, after it was in one: unlinked, and perhaps stamped since
@@ -26,6 +28,13 @@ pub record MarkedLeft (start : Start) (before run : List Event) (pass key : ℕ)
   pub of_key : (incarnations_after start run).key node ≡ key
   pub left : HasLeft ((incarnations_after start run).state node)
 
--- no marked incarnation of this key is in a list
+-- no marked incarnation of this key is in a list but where it was replaced: then its successor has the key too
 abbrev pub NoneMarked : Incarnations → ℕ → Type 0
-NoneMarked a key = (node : ℕ) → a.state node ≡ Marked → a.key node ≡ key → ⊥
+NoneMarked a key = (node : ℕ) → a.state node ≡ Marked → a.key node ≡ key → (next : ℕ) × (a.next node ≡ Some next) × (a.key next ≡ key)
+
+-- the incarnation that is held at a slot was removed, and not replaced: if it has a successor, that has a greater key
+pub record IsTakenOut (a : Incarnations) (epoch s : ℕ) : Type 0 where
+  pub node : ℕ
+  pub held : IsHeldIncarnation a epoch s node
+  pub removed : IsRemoved (a.state node)
+  pub above : (n : ℕ) → a.next node ≡ Some n → a.key node < a.key n

@@ -20,7 +20,7 @@ use Rattle.vbr_machine.specs.SlotPlaces.{ArePlaced}
 use Rattle.vbr_machine.specs.declared.event.Event.{Event}
 use Rattle.vbr_machine.specs.declared.event.Effect.TheVariants.{Won}
 use Rattle.vbr_machine.specs.declared.event.Step.{Step}
-use Rattle.vbr_machine.specs.declared.event.Step.TheVariants.{StoreBirth, Publish, Mark, Unlink}
+use Rattle.vbr_machine.specs.declared.event.Step.TheVariants.{StoreBirth, Publish, Mark, Replace, Unlink}
 use Rattle.vbr_machine.specs.declared.knowledge.Unpublished.{Unpublished}
 use Rattle.vbr_machine.specs.declared.knowledge.Holding.{Holding}
 use Rattle.vbr_machine.specs.declared.knowledge.Holding.TheVariants.{Free, Unlinked, InHand}
@@ -54,6 +54,7 @@ IsOwnerRight w pass s (Some (InHand known)) = (w.place s ≡ Hand pass) × HasWo
 abbrev pub ExchangesLink : Step → Type 0
 ExchangesLink (Publish pred expected s) = Unit {0}
 ExchangesLink (Mark s expected) = Unit {0}
+ExchangesLink (Replace s expected t) = Unit {0}
 ExchangesLink (Unlink pred expected s) = Unit {0}
 ExchangesLink _ = ⊥
 

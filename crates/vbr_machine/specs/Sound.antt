@@ -91,22 +91,27 @@ pub record SlotsSound (start : Start) (a : Incarnations) : Type 0 where
   pub unused : (s : ℕ) → a.last s ≡ None → IsUnused (a.place s)
   pub placed : (c s : ℕ) → a.last s ≡ Some c → PlaceFits start (a.place s) (a.state c) (a.key c)
 
--- there is a successor, and its key is no greater than this key
-abbrev pub IsFrom : (ℕ → ℕ) → Option ℕ → ℕ → Type 0
-IsFrom keys next key = (n : ℕ) × (next ≡ Some n) × (keys n ≤ key)
+-- an incarnation stands ahead of another in the order of lists: it has a smaller key, or the same key and a smaller rank
+abbrev pub IsOrderedBefore : (ℕ → ℕ) → (ℕ → ℕ) → ℕ → ℕ → Type 0
+IsOrderedBefore keys ranks c d = (keys c < keys d) ⊎ ((keys c ≡ keys d) × (ranks c < ranks d))
 
--- against an incarnation c and its successor, d is c itself, has a smaller key than c, or a key no less than that of the successor; so it is not between them
-abbrev pub IsApart : (ℕ → ℕ) → ℕ → Option ℕ → ℕ → Type 0
-IsApart keys c next d = (d ≡ c) ⊎ ((keys d < keys c) ⊎ IsFrom keys next (keys d))
+-- there is a successor, and this incarnation doesn't stand ahead of it
+abbrev pub IsFrom : (ℕ → ℕ) → (ℕ → ℕ) → Option ℕ → ℕ → Type 0
+IsFrom keys ranks next d = (n : ℕ) × (next ≡ Some n) × ((keys n < keys d) ⊎ ((keys n ≡ keys d) × (ranks n ≤ ranks d)))
 
--- the lists of the buckets after a lawful chronicle: each begins with the first of its bucket, and its keys are strictly ascending
+-- against an incarnation c and its successor, d is c itself, stands ahead of c, or not ahead of the successor; so it is not between them
+abbrev pub IsApart : (ℕ → ℕ) → (ℕ → ℕ) → ℕ → Option ℕ → ℕ → Type 0
+IsApart keys ranks c next d = (d ≡ c) ⊎ (IsOrderedBefore keys ranks d c ⊎ IsFrom keys ranks next d)
+
+-- the lists of the buckets after a lawful chronicle: each begins with the first of its bucket, and is strictly ascending by key and rank; what is linked has a smaller key than its successor
 pub record ListsSound (start : Start) (a : Incarnations) : Type 0 where
   pub handed : (c n e : ℕ) → a.next c ≡ Some n → IsLate (a.state c) e → IsLate (a.state n) e  -- what is late for an epoch has a successor that is late for it
   pub inserted : (c n : ℕ) → a.next c ≡ Some n → IsInserted (a.state c) × IsInserted (a.state n)
-  pub ordered : (c n : ℕ) → a.next c ≡ Some n → (bucket_of start.shape (a.key c) ≡ bucket_of start.shape (a.key n)) × (a.key c < a.key n)
+  pub ordered : (c n : ℕ) → a.next c ≡ Some n → (bucket_of start.shape (a.key c) ≡ bucket_of start.shape (a.key n)) × IsOrderedBefore a.key a.rank c n
+  pub strict : (c n : ℕ) → a.next c ≡ Some n → a.state c ≡ Linked → a.key c < a.key n
   pub first_in : (b n : ℕ) → a.first b ≡ Some n → IsListed (a.state n) × (bucket_of start.shape (a.key n) ≡ b)
-  pub apart : (c d : ℕ) → IsListed (a.state c) → IsListed (a.state d) → bucket_of start.shape (a.key c) ≡ bucket_of start.shape (a.key d) → IsApart a.key c (a.next c) d
-  pub behind_head : (d : ℕ) → IsListed (a.state d) → IsFrom a.key (a.first (bucket_of start.shape (a.key d))) (a.key d)
+  pub apart : (c d : ℕ) → IsListed (a.state c) → IsListed (a.state d) → bucket_of start.shape (a.key c) ≡ bucket_of start.shape (a.key d) → IsApart a.key a.rank c (a.next c) d
+  pub behind_head : (d : ℕ) → IsListed (a.state d) → IsFrom a.key a.rank (a.first (bucket_of start.shape (a.key d))) d
 
 -- the invariant of the incarnations after a lawful chronicle
 pub record Sound (start : Start) (a : Incarnations) : Type 0 where
@@ -125,7 +130,7 @@ pub record Tells (start : Start) (a : Incarnations) : Type 0 where
 
 -- ---- what stays
 
--- incarnations b come after a: what was born keeps its slot and its birth, what was inserted its key and its value, what was late stays late, and what was removed keeps its successor
+-- incarnations b come after a: what was born keeps its slot and its birth, what was inserted its key, its value and its rank, what was late stays late, and what was removed keeps its successor
 pub record Grows (a b : Incarnations) : Type 0 where
   pub epoch : a.epoch ≤ b.epoch
   pub count : a.count ≤ b.count
@@ -133,5 +138,6 @@ pub record Grows (a b : Incarnations) : Type 0 where
   pub birth : (c : ℕ) → c < a.count → b.birth c ≡ a.birth c
   pub key : (c : ℕ) → IsInserted (a.state c) → b.key c ≡ a.key c
   pub value : (c : ℕ) → IsInserted (a.state c) → b.value c ≡ a.value c
+  pub rank : (c : ℕ) → IsInserted (a.state c) → b.rank c ≡ a.rank c
   pub late : (c e : ℕ) → e ≤ a.epoch → IsLate (a.state c) e → IsLate (b.state c) e
   pub removed : (c : ℕ) → IsRemoved (a.state c) → IsRemoved (b.state c) × (b.next c ≡ a.next c)

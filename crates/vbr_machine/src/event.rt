@@ -87,6 +87,13 @@ pub enum Step {
         slot: u32,
         expected: u64,
     },
+    /// Marks a node, if its link word is `expected`, and links the incarnation in hand, which has its
+    /// key, in its place: a remove and an insert in one step, where nodes have values.
+    Replace {
+        slot: u32,
+        expected: u64,
+        new: u32,
+    },
     /// Unlinks a marked node behind `pred`, if the word there is `expected`.
     Unlink {
         pred: At,

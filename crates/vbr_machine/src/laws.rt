@@ -23,14 +23,14 @@ ghost use Rattle.vbr_machine.specs.Membership.{Knows, HeldIn, LeadsTo, KeyAt, St
 ghost use Rattle.vbr_machine.specs.Moments.{WasAbsent, WasShown};
 ghost use Rattle.vbr_machine.specs.Incarnations.{Incarnations, IsLate, Unlinked, at_opening};
 ghost use Rattle.vbr_machine.specs.Chronicles.{Entry, IsLawful, incarnations_from};
-ghost use Rattle.vbr_machine.specs.Sound.{Grows, Sound, Tells};
+ghost use Rattle.vbr_machine.specs.Sound.{IsListed, Grows, Sound, Tells};
 ghost use Rattle.vbr_machine.specs.Images.{link_shown_at};
 ghost use Rattle.vbr_machine.specs.Notes.{Note, IsHeldBy, IsAmong};
 ghost use Rattle.vbr_machine.specs.Accounts.{chronicle, incarnations_after, notes_after};
 ghost use Rattle.vbr_machine.specs.Disturbances.{disturbances, how_many, is_removal, is_unlinking, marked_nodes, updates};
-ghost use Rattle.vbr_machine.specs.Agreement.{IsGoodLink, IsLastOf, IsPair};
+ghost use Rattle.vbr_machine.specs.Agreement.{IsGoodLink, IsLastOf, IsPair, IsHeldIncarnation};
 ghost use Rattle.vbr_machine.specs.Calls.{own_calls};
-ghost use Rattle.vbr_machine.specs.Removals.{MarkedLeft, NoneMarked};
+ghost use Rattle.vbr_machine.specs.Removals.{IsTakenOut, MarkedLeft, NoneMarked};
 ghost use Rattle.vbr_machine.specs.Runs.{Begins, IsAccepted, IsRun, NoneOf, know_after, world_after};
 ghost use Rattle.vbr_machine.specs.Nodes.{state_in};
 ghost use Rattle.vbr_machine.specs.Safety.{IsSafe};
@@ -241,9 +241,10 @@ pub fn absent_at_load()
         set_after (opening_keys start) (world_after start moment).calls key ≡ false }
 {}
 
-/// A law: in the same cases no marked incarnation of the key was in a list at that moment. Nor was
-/// one of the key of a slot that stands behind the place, and whose known marked link names what the
-/// link names: it is unlinked.
+/// A law: in the same cases no marked incarnation of the key was in a list at that moment but one
+/// that was replaced. Let the known marked link of a slot that stands behind the place name what the
+/// link names. Then the incarnation that is held at the slot was in no list: it is unlinked; and if
+/// it was removed, and not replaced, no marked incarnation of its key was.
 pub fn none_marked_at_load()
     ensures here { (start : Start) (passes : ℕ) (moment run : List Event)
         (pass : ℕ) (at : At) (link : Link) (key : ℕ) → IsStart start → IsRun start passes run →
@@ -263,12 +264,22 @@ pub fn none_marked_at_load()
         StandsBehind start (know_after start run pass) at key →
         Knows (know_after start run pass) (LinkAt (Slot s) frozen) → frozen.mark ≡ true →
         frozen.slot ≡ link.slot → Knows (know_after start run pass) (KeyOf s key) →
+        IsTakenOut (incarnations_after start run) (know_after start run pass).epoch s →
         NoneMarked (incarnations_after start moment) key }
+    ensures unlisted { (start : Start) (passes : ℕ) (moment run : List Event)
+        (pass : ℕ) (at : At) (link frozen : Link) (s key node : ℕ) →
+        IsStart start → IsRun start passes run →
+        WasShown start moment run pass at link →
+        StandsBehind start (know_after start run pass) at key →
+        Knows (know_after start run pass) (LinkAt (Slot s) frozen) → frozen.mark ≡ true →
+        frozen.slot ≡ link.slot → Knows (know_after start run pass) (KeyOf s key) →
+        IsHeldIncarnation (incarnations_after start run) (know_after start run pass).epoch s node →
+        ¬ (IsListed ((incarnations_after start moment).state node)) }
 {}
 
 /// A law: let a remove of a pass be answered yes between two moments of a run, and let no marked
-/// incarnation of its key be in a list at a later moment. Then the incarnation that it marked has
-/// left all lists at the end.
+/// incarnation of its key be in a list at a later moment but one that was replaced. Then the
+/// incarnation that it marked has left all lists at the end.
 pub fn removed_has_left()
     ensures { (start : Start) (passes : ℕ) (before answered moment run : List Event) (pass : ℕ)
         (call : Call) → IsStart start → IsRun start passes run → Begins before answered →

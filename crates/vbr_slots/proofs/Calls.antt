@@ -9,8 +9,10 @@ use Rattle.vbr_machine.specs.Machine.{World, found}
 use Rattle.vbr_machine.specs.Loads.{IsLoad, OnlyLoadsOf}
 use Rattle.vbr_machine.specs.Runs.{IsRun, Begins, NoneOf, world_after}
 use Rattle.vbr_machine.specs.Calls.{calls_added, own_calls}
+use Rattle.vbr_machine.specs.Making.{ahead_made}
 use Rattle.vbr_machine.specs.declared.event.Event.{Event}
 use Rattle.vbr_machine.specs.declared.event.Step.{Step}
+use Rattle.vbr_machine.specs.declared.event.Step.TheVariants.{Replace}
 use Rattle.vbr_machine.specs.declared.history.Call.{Call}
 use Rattle.vbr_machine.specs.Incarnations.{Incarnations}
 use Rattle.vbr_machine.specs.Chronicles.{Confirms}
@@ -112,9 +114,14 @@ either_none : (b : Bool) (made : Option Call) → made ≡ None → option_to_li
 either_none true made e = ap option_to_list e
 either_none false made e = refl
 
+-- a kind of step that makes no call makes none ahead of it
+none_ahead : (start : Start) (w : World) (who : ℕ) (step : Step) → ((know : Know) → call_of start who know step ≡ None) → ahead_made start w who step ≡ None
+none_ahead start w who (Replace s expected t) none = let e = none (w.know who) in absurd (cc)
+none_ahead start w who _ none = refl
+
 -- a kind of step that makes no call adds none
 pub adds_none : (start : Start) (w : World) (who : ℕ) (step : Step) → ((know : Know) → call_of start who know step ≡ None) → calls_added start w who step ≡ []
-adds_none start w who step none = either_none (succeeds step (found start w step)) (call_of start who (w.know who) step) (none (w.know who))
+adds_none start w who step none = (λ i. option_to_list (none_ahead start w who step none i) ++ either_none (succeeds step (found start w step)) (call_of start who (w.know who) step) (none (w.know who)) i)
 
 -- and is quiet
 pub did_quiet : {step : Step} {p q : Trace} {r : ℕ} → Did step p q r → ((know : Know) → call_of p.start p.who know step ≡ None) → Quiet p q

@@ -3,10 +3,10 @@ use Rattle.std.proofs.Common.{◌≡◌, ℕ, ◌+◌, Bool, true, false, sym, a
 use Rattle.std.specs.Bool.{MatchBool}
 use Rattle.std.specs.Prelude.{Result, Ok, Err, OnOk, IfErr}
 use Rattle.vbr_machine.specs.declared.event.Step.{Step}
-use Rattle.vbr_machine.specs.declared.event.Step.TheVariants.{Publish}
+use Rattle.vbr_machine.specs.declared.event.Step.TheVariants.{Publish, Replace}
 use Rattle.vbr_words.specs.declared.place.At.{At}
 use Rattle.vbr_slots.specs.Calls.{Took}
-use Rattle.vbr_slots.specs.Expected.{Finds, FindsOther, Publishes}
+use Rattle.vbr_slots.specs.Expected.{Finds, FindsOther, Publishes, ReplacesNode}
 use Rattle.vbr_slots.specs.OwnSlots.{MissesFlag, TakesFlag}
 use Rattle.vbr_slots.specs.Reads.{Reads, ReadsNode}
 use Rattle.vbr_slots.specs.Views.{PassView, Trace, counted_steps, steps_of}
@@ -25,6 +25,10 @@ expects_took step p q expected (Err found) finds other = did_took other.did
 pub publishes_took : (pred : At) (expected slot : ℕ) (p q : PassView) (answer : Result (Unit {0}) ℕ) → OnOk answer (Publishes pred expected slot p q) → IfErr answer (FindsOther (Publish pred expected slot) p q expected) → Took p.trace q.trace 1
 publishes_took pred expected slot p q (Ok done) publishes other = did_took publishes.did
 publishes_took pred expected slot p q (Err found) publishes other = did_took other.did
+
+pub replaces_took : (slot expected new : ℕ) (p q : PassView) (answer : Result (Unit {0}) ℕ) → OnOk answer (ReplacesNode slot expected new p q) → IfErr answer (FindsOther (Replace slot expected new) p q expected) → Took p.trace q.trace 1
+replaces_took slot expected new p q (Ok done) replaces other = did_took replaces.did
+replaces_took slot expected new p q (Err found) replaces other = did_took other.did
 
 pub flag_took : (slot : ℕ) (p q : PassView) (answer : Result (Unit {0}) ℕ) → OnOk answer (TakesFlag slot p q) → IfErr answer (MissesFlag slot p q) → Took p.trace q.trace 1
 flag_took slot p q (Ok done) takes misses = did_took takes.did

@@ -9,7 +9,7 @@ use Rattle.vbr_machine.specs.Knowledge.{Know}
 use Rattle.vbr_machine.specs.Learning.{learn, read_epoch}
 use Rattle.vbr_machine.specs.Machine.{Access, Load, Store, Exchange, FetchOr, FetchAnd, access_of}
 use Rattle.vbr_machine.specs.declared.event.Step.{Step}
-use Rattle.vbr_machine.specs.declared.event.Step.TheVariants.{ReadEpoch, Advance, LoadStamp, StoreStamp, Raise, TakeFlag, StoreBirth, StoreKey, StoreLink, LoadLink, LoadBirth, LoadKey, Publish, Mark, Unlink, ConfirmPresent, ConfirmAbsent, StoreValue, LoadValue}
+use Rattle.vbr_machine.specs.declared.event.Step.TheVariants.{ReadEpoch, Advance, LoadStamp, StoreStamp, Raise, TakeFlag, StoreBirth, StoreKey, StoreLink, LoadLink, LoadBirth, LoadKey, Publish, Mark, Replace, Unlink, ConfirmPresent, ConfirmAbsent, StoreValue, LoadValue}
 use Rattle.vbr_slots.specs.Rule.{Shows}
 use Rattle.vbr_slots.specs.Views.{epoch_after}
 
@@ -49,6 +49,7 @@ blind_if know (LoadKey s) r n is = absurd is
 blind_if know (LoadValue s) r n is = absurd is
 blind_if know (Publish pred expected s) r n is = absurd is
 blind_if know (Mark s expected) r n is = absurd is
+blind_if know (Replace s expected t) r n is = absurd is
 blind_if know (Unlink pred expected s) r n is = absurd is
 blind_if know (ConfirmPresent op s expected) r n is = absurd is
 blind_if know (ConfirmAbsent op key at expected) r n is = absurd is
@@ -82,6 +83,7 @@ epoch_learned (LoadKey s) r stamp know = refl
 epoch_learned (LoadValue s) r stamp know = refl
 epoch_learned (Publish pred expected s) r stamp know = either_way (r == expected) (λ (k : Know). k.epoch) _ know know.epoch refl refl
 epoch_learned (Mark s expected) r stamp know = either_way (r == expected) (λ (k : Know). k.epoch) _ know know.epoch refl refl
+epoch_learned (Replace s expected t) r stamp know = either_way (r == expected) (λ (k : Know). k.epoch) _ know know.epoch refl refl
 epoch_learned (Unlink pred expected s) r stamp know = either_way (r == expected) (λ (k : Know). k.epoch) _ know know.epoch refl refl
 epoch_learned (ConfirmPresent op s expected) r stamp know = refl
 epoch_learned (ConfirmAbsent op key at expected) r stamp know = refl

@@ -1,10 +1,10 @@
-//! The steps that exchange a link word: insert, remove and unlink (Michael 2002), each on the whole
+//! The steps that exchange a link word: insert, remove, replace and unlink (Michael 2002), each on the whole
 //! word with its version (Sheffi, Herlihy and Petrank 2021).
-ghost use Rattle.std.specs.Prelude.{◌≡◌, ◌<◌, Some, OnOk, IfErr};
+ghost use Rattle.std.specs.Prelude.{◌≡◌, ◌<◌, true, Some, OnOk, IfErr};
 ghost use Rattle.vbr_machine.specs.Acceptance.{IsAtIn};
-ghost use Rattle.vbr_machine.specs.declared.event.Step.TheVariants.{Publish, Mark, Unlink};
+ghost use Rattle.vbr_machine.specs.declared.event.Step.TheVariants.{Publish, Mark, Replace, Unlink};
 ghost use Rattle.vbr_slots.specs.Asked.{IsChecked, IsWritten};
-ghost use Rattle.vbr_slots.specs.Expected.{Finds, FindsOther, Publishes};
+ghost use Rattle.vbr_slots.specs.Expected.{Finds, FindsOther, Publishes, ReplacesNode};
 ghost use Rattle.vbr_slots.specs.Views.{IsOf};
 
 use crate::pass::{Pass, steps_after};
@@ -52,6 +52,33 @@ impl<N: Nodes> Slots<N> {
     {
         pass.steps = steps_after(pass.steps, 1);
         self.at(&mut pass.stepper).mark(slot, expected)
+    }
+
+    /// Marks a node and links the incarnation in hand in its place, in one step, if its link word is
+    /// `expected`: it becomes `word`, nothing is in hand any more, and the pass has replaced the value
+    /// of the key. Else the word that was found comes back, and nothing changes.
+    #[inline]
+    pub fn replace(
+        &self,
+        pass: &mut Pass,
+        slot: u32,
+        expected: u64,
+        new: u32,
+        word: u64,
+    ) -> Result<(), u64>
+        requires own { IsOf pass.old.trace self.now }
+        requires in_hand { pass.old.hand ≡ Some new }
+        requires slot { slot < self.now.start.shape.slots }
+        requires values { self.now.start.shape.values ≡ true }
+        requires checked { IsChecked self.now pass.old.trace (Replace slot expected new) }
+        requires word { IsWritten pass.old.trace (Replace slot expected new) word }
+        ensures found { OnOk result (ReplacesNode slot expected new pass.old pass.new) }
+        ensures other { IfErr result
+            (FindsOther (Replace slot expected new) pass.old pass.new expected) }
+    {
+        pass.steps = steps_after(pass.steps, 1);
+        self.at(&mut pass.stepper)
+            .replace(slot, expected, new, word)
     }
 
     /// Unlinks a marked node behind `pred`, in one step, if the word there is `expected`: it

@@ -3,7 +3,7 @@ ghost use Rattle.std.specs.Prelude.{◌≡◌, ◌≢◌, ◌<◌, true, length,
 ghost use Rattle.vbr_words.specs.Words.{link_of};
 ghost use Rattle.vbr_machine.specs.Acceptance.{IsInShape};
 ghost use Rattle.vbr_machine.specs.Learning.{link_written, succeeds, key_written};
-ghost use Rattle.vbr_machine.specs.Making.{call_made};
+ghost use Rattle.vbr_machine.specs.Making.{ahead_made, call_made};
 ghost use Rattle.vbr_core.specs.Answering.{WordsHaveRoom};
 ghost use Rattle.vbr_machine.specs.Machine as machine;
 ghost use Rattle.vbr_core.specs.WorldInLists.{world_of};
@@ -57,7 +57,7 @@ impl Lists {
         pass.link_written(&self.start, event.step)
     }
 
-    // The key of the slot that a step publishes.
+    // The key of the slot that a step links.
     pub(super) fn key_written(&self, event: Event) -> u64
         requires pass { event.pass < length self.now.passes }
         requires in_shape { IsInShape self.now.start event.step }
@@ -68,7 +68,26 @@ impl Lists {
                 let pass = &self.passes[event.pass as usize];
                 pass.key_in_hand(slot)
             }
+            Step::Replace { new, .. } => {
+                let pass = &self.passes[event.pass as usize];
+                pass.key_in_hand(new)
+            }
             _ => 0,
+        }
+    }
+
+    // The call that a pass makes with a step ahead of its own, if it makes one.
+    pub(super) fn ahead_made(&self, event: Event, found: u64) -> Option<Call>
+        requires pass { event.pass < length self.now.passes }
+        requires found { found ≡ found_in self.now event.step }
+        ensures { result ≡ ahead_made self.now.start (world_of self.now) event.pass event.step }
+    {
+        match event.step {
+            Step::Replace { expected, .. } if found == expected => {
+                let pass = &self.passes[event.pass as usize];
+                pass.call_ahead(event.pass, &self.start, event.step)
+            }
+            _ => None,
         }
     }
 

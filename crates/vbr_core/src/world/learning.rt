@@ -1,7 +1,9 @@
-// What a pass learns from its step, and the call that the step makes.
-ghost use Rattle.std.specs.Prelude.{◌≡◌, ◌<◌, length, OnOk, OnErr};
+// What a pass learns from its step, and the calls that the step makes.
+ghost use Rattle.std.specs.Prelude.{◌≡◌, ◌<◌, length, Some, None, OnOk, OnErr};
 ghost use Rattle.vbr_machine.specs.Acceptance.{Accepts};
 ghost use Rattle.vbr_machine.specs.Learning.{learn};
+ghost use Rattle.vbr_machine.specs.Machine.{stamp_shown};
+ghost use Rattle.vbr_machine.specs.Making.{ahead_made, call_made};
 ghost use Rattle.vbr_core.specs.Growth.{NeedsMemory, ReadsMore};
 ghost use Rattle.vbr_core.specs.WorldInLists.{world_of};
 ghost use Rattle.vbr_core.specs.KeptSteps.{IsAcceptedIn, KeepsStart, found_in};
@@ -12,10 +14,10 @@ use crate::world::lists::Lists;
 use crate::world::passes::PassState;
 use crate::world::start::Start;
 use std::alloc::AllocError;
-use vbr_machine::Event;
+use vbr_machine::{Call, Event};
 
 impl Lists {
-    // The pass learns from an accepted step, and the call of a step that succeeds is kept. All
+    // The pass learns from an accepted step, and the calls of a step that succeeds are kept. All
     // memory is taken before anything changes, and it lacks only where a list gets longer.
     pub(super) fn learn(&mut self, event: Event, found: u64) -> Result<(), AllocError>
         requires accepted { IsAcceptedIn self.old event }
@@ -33,13 +35,69 @@ impl Lists {
                 learn_at(&mut self.passes, &self.start, event, found, stamp)?;
                 Ok(())
             }
-            Some(call) => {
-                self.calls.reserve(1)?;
-                learn_at(&mut self.passes, &self.start, event, found, stamp)?;
-                self.calls.push_reserved(call);
-                Ok(())
-            }
+            Some(call) => match self.ahead_made(event, found) {
+                None => self.learn_once(event, found, stamp, call),
+                Some(ahead) => self.learn_twice(event, found, stamp, ahead, call),
+            },
         }
+    }
+
+    // As `learn`, of a step that makes one call.
+    fn learn_once(
+        &mut self,
+        event: Event,
+        found: u64,
+        stamp: u64,
+        call: Call,
+    ) -> Result<(), AllocError>
+        requires accepted { IsAcceptedIn self.old event }
+        requires found { found ≡ found_in self.old event.step }
+        requires stamp { stamp ≡ stamp_shown (world_of self.old) event.step }
+        requires ahead { ahead_made self.old.start (world_of self.old) event.pass event.step
+            ≡ None }
+        requires call { call_made self.old.start (world_of self.old) event.pass event.step
+            ≡ Some call }
+        ensures learned { OnOk result (world_of self.new
+            ≡ with_answer self.old.start (world_of self.old) event.pass event.step) }
+        ensures refused { OnErr result (self.new ≡ self.old) }
+        ensures grows { OnErr result (NeedsMemory self.old.start (world_of self.old) event) }
+        ensures epoch { self.new.epoch ≡ self.old.epoch }
+        ensures stays { KeepsStart self.old self.new }
+    {
+        self.calls.reserve(1)?;
+        learn_at(&mut self.passes, &self.start, event, found, stamp)?;
+        self.calls.push_reserved(call);
+        Ok(())
+    }
+
+    // As `learn`, of a step that makes two calls.
+    fn learn_twice(
+        &mut self,
+        event: Event,
+        found: u64,
+        stamp: u64,
+        first: Call,
+        second: Call,
+    ) -> Result<(), AllocError>
+        requires accepted { IsAcceptedIn self.old event }
+        requires found { found ≡ found_in self.old event.step }
+        requires stamp { stamp ≡ stamp_shown (world_of self.old) event.step }
+        requires first { ahead_made self.old.start (world_of self.old) event.pass event.step
+            ≡ Some first }
+        requires second { call_made self.old.start (world_of self.old) event.pass event.step
+            ≡ Some second }
+        ensures learned { OnOk result (world_of self.new
+            ≡ with_answer self.old.start (world_of self.old) event.pass event.step) }
+        ensures refused { OnErr result (self.new ≡ self.old) }
+        ensures grows { OnErr result (NeedsMemory self.old.start (world_of self.old) event) }
+        ensures epoch { self.new.epoch ≡ self.old.epoch }
+        ensures stays { KeepsStart self.old self.new }
+    {
+        self.calls.reserve(2)?;
+        learn_at(&mut self.passes, &self.start, event, found, stamp)?;
+        self.calls.push_reserved(first);
+        self.calls.push_reserved(second);
+        Ok(())
     }
 }
 

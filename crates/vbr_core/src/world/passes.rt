@@ -4,9 +4,9 @@ ghost use Rattle.vbr_words.specs.Words.{IsLink, word_of, link_of};
 ghost use Rattle.vbr_words.specs.declared.link.TheConstants.{MAX_SLOTS};
 ghost use Rattle.vbr_words.specs.declared.shape.TheConstants.{MAX_EPOCH};
 ghost use Rattle.vbr_machine.specs.Links.{link_to, marked};
-ghost use Rattle.vbr_machine.specs.Knowledge.{knows_link, marked_in, birth_at, birth_of, key_in, value_in};
-ghost use Rattle.vbr_machine.specs.Acceptance.{IsInShape, IsOwned, HasChecked, IsInRange, Accepts, KnowsKeyAt, KnowsKeyOf, LeadsToKey, HasValue, HasValueFor, stamp_in, MayPublish, IsBehind, IsBefore, LeadsAbove, next_of_marked};
-ghost use Rattle.vbr_machine.specs.Learning.{key_in_hand, value_in_hand, link_written, present_value, call_of};
+ghost use Rattle.vbr_machine.specs.Knowledge.{knows_link, marked_in, birth_in, birth_at, birth_of, key_in, value_in};
+ghost use Rattle.vbr_machine.specs.Acceptance.{IsInShape, IsOwned, HasChecked, IsInRange, Accepts, KnowsKeyAt, KnowsKeyOf, LeadsToKey, HasValue, HasValueFor, stamp_in, MayPublish, MayReplace, IsBehind, IsBefore, LeadsAbove, next_of_marked};
+ghost use Rattle.vbr_machine.specs.Learning.{key_in_hand, value_in_hand, link_written, present_value, call_ahead, call_of};
 ghost use Rattle.vbr_machine.specs.Opened.{payload_kept};
 ghost use Rattle.vbr_machine.specs.Machine.{knows_nothing};
 ghost use Rattle.vbr_core.specs.WorldInLists.{know_of, FitsHolding};
@@ -145,6 +145,7 @@ impl PassState {
             | Step::StoreValue { slot, .. }
             | Step::StoreLink { slot, .. }
             | Step::Publish { slot, .. } => holdings::is_in_hand(self.holding(slot)),
+            Step::Replace { new, .. } => holdings::is_in_hand(self.holding(new)),
             _ => true,
         }
     }
@@ -174,6 +175,18 @@ impl PassState {
             Op::Get => reads::value_in(&self.checked, slot).is_some(),
             Op::Insert | Op::Remove | Op::Has => true,
         }
+    }
+
+    // Whether the link that a node was read with, and its birth, its key and its value, are checked.
+    fn holds_whole(&self, slot: u32, expected: u64) -> bool
+        ensures { IsTrue result
+            ↔ (IsTrue (knows_link self.now.checked (At.Slot slot) (link_of expected))
+            × (IsSome (birth_in self.now.checked slot) × IsSome (key_in self.now.checked slot)
+            × IsSome (value_in self.now.checked slot))) }
+    {
+        self.holds_node(slot, expected)
+            && reads::birth_at(&self.checked, At::Slot(slot)).is_some()
+            && reads::value_in(&self.checked, slot).is_some()
     }
 
     // Whether the link that a place was read with, and the keys on both sides, are checked.
@@ -238,6 +251,10 @@ impl PassState {
             Step::Mark { slot, expected } => {
                 self.holds_node(slot, expected) && self.holds_value(start, slot)
             }
+            Step::Replace { slot, expected, .. } => {
+                self.holds_whole(slot, expected)
+                    && reads::birth_of(&self.checked, decode(expected).slot).is_some()
+            }
             Step::Unlink {
                 pred,
                 expected,
@@ -280,6 +297,36 @@ impl PassState {
                     && link.version == version_of(birth, named_birth)
                     && self.is_between(start, pred, key, expected.slot)
                     && (!start.has_values() || value.is_some())
+            }
+            _ => false,
+        }
+    }
+
+    // Whether a slot is in hand and ready to take the place of a node, before what its link names.
+    fn is_ready_in_place(&self, start: &Start, slot: u32, expected: Link, new: u32) -> bool
+        requires { new < length self.now.own }
+        ensures { IsTrue result
+            ↔ MayReplace start.now self.now.checked slot expected
+            (slice_index_or self.now.own new None) }
+    {
+        match self.own[new as usize] {
+            Some(
+                Holding::InHand(
+                    Unpublished {
+                        birth,
+                        key: Some(key),
+                        value,
+                        link: Some(link),
+                        ..
+                    },
+                ),
+            ) => {
+                let named_birth = reads::birth_of(&self.checked, expected.slot).unwrap_or(0);
+                key == self.key_in(slot)
+                    && link.slot == expected.slot
+                    && !link.mark
+                    && link.version == version_of(birth, named_birth)
+                    && (value.is_some() || !start.has_values())
             }
             _ => false,
         }
@@ -328,6 +375,14 @@ impl PassState {
                 !link.mark && self.is_ready(start, pred, link, slot)
             }
             Step::Mark { expected, .. } => !decode(expected).mark,
+            Step::Replace {
+                slot,
+                expected,
+                new,
+            } => {
+                let link = decode(expected);
+                !link.mark && self.is_ready_in_place(start, slot, link, new)
+            }
             Step::Unlink { expected, slot, .. } => {
                 let link = decode(expected);
                 !link.mark && link.slot == Some(slot)
@@ -366,6 +421,10 @@ impl PassState {
                 link_to(Some(slot), self.birth_at(pred), birth)
             }
             Step::Mark { expected, .. } => marked(decode(expected)),
+            Step::Replace { slot, new, .. } => {
+                let birth = holdings::birth_in_hand(self.holding(new));
+                marked(link_to(Some(new), self.birth_at(At::Slot(slot)), birth))
+            }
             Step::Unlink { pred, slot, .. } => {
                 let next = self.next_of_marked(slot);
                 link_to(next, self.birth_at(pred), self.birth_of(next))
@@ -392,7 +451,8 @@ impl PassState {
         holdings::key_in_hand(self.holding(slot))
     }
 
-    // The value of a slot in hand that a publication tells: none where nodes have no values.
+    // The value of a slot in hand that a publication or a replacement tells: none where nodes have no
+    // values.
     fn value_stored(&self, start: &Start, slot: u32) -> Option<u64>
         requires { slot < length self.now.own }
         ensures { result ≡ payload_kept start.now (value_in_hand ((know_of self.now).own slot)) }
@@ -404,7 +464,7 @@ impl PassState {
         }
     }
 
-    // The value of a node that a removal tells: none where nodes have no values.
+    // The value of a node that a removal or a replacement tells: none where nodes have no values.
     fn value_removed(&self, start: &Start, slot: u32) -> Option<u64>
         ensures { result ≡ payload_kept start.now (value_in self.now.checked slot) }
     {
@@ -432,6 +492,22 @@ impl PassState {
         reads::key_in(&self.checked, slot).unwrap_or(0)
     }
 
+    // The call that the step makes ahead of its own, if it makes one where it succeeds.
+    pub fn call_ahead(&self, who: u32, start: &Start, step: Step) -> Option<Call>
+        ensures { result ≡ call_ahead start.now who (know_of self.now) step }
+    {
+        match step {
+            Step::Replace { slot, .. } => Some(Call {
+                who,
+                op: Op::Remove,
+                key: self.key_in(slot),
+                reply: true,
+                value: self.value_removed(start, slot),
+            }),
+            _ => None,
+        }
+    }
+
     // The call of the step, if it makes one where it succeeds.
     pub fn call(&self, who: u32, start: &Start, step: Step) -> Option<Call>
         requires slots { length self.now.own ≡ start.now.shape.slots }
@@ -446,6 +522,10 @@ impl PassState {
             Step::Mark { slot, .. } => {
                 let value = self.value_removed(start, slot);
                 (Op::Remove, self.key_in(slot), true, value)
+            }
+            Step::Replace { new, .. } => {
+                let value = self.value_stored(start, new);
+                (Op::Insert, self.key_in_hand(new), true, value)
             }
             Step::ConfirmPresent { op, slot, .. } => {
                 let value = self.present_value(op, slot);

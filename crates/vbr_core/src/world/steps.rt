@@ -62,6 +62,9 @@ pub fn is_in_shape(start: &Start, step: Step) -> bool
         Step::LoadValue { slot } => slot < start.slots() && start.has_values(),
         Step::Publish { pred, slot, .. } => is_at_in(start, pred) && slot < start.slots(),
         Step::Mark { slot, .. } => slot < start.slots(),
+        Step::Replace { slot, new, .. } => {
+            slot < start.slots() && new < start.slots() && start.has_values()
+        }
         Step::Unlink { pred, slot, .. } => is_at_in(start, pred) && slot < start.slots(),
         Step::ConfirmPresent { op, slot, .. } => slot < start.slots() && is_op_in(start, op),
         Step::ConfirmAbsent { op, at, .. } => is_at_in(start, at) && is_op_in(start, op),
@@ -100,7 +103,7 @@ pub fn place_of_step(step: Step) -> Place
         Step::StoreKey { slot, .. } | Step::LoadKey { slot } => Place::Key(slot),
         Step::StoreValue { slot, .. } | Step::LoadValue { slot } => Place::Value(slot),
         Step::StoreLink { slot, .. } | Step::Mark { slot, .. } => Place::LinkOf(slot),
-        Step::ConfirmPresent { slot, .. } => Place::LinkOf(slot),
+        Step::Replace { slot, .. } | Step::ConfirmPresent { slot, .. } => Place::LinkOf(slot),
         Step::LoadLink { at } | Step::ConfirmAbsent { at, .. } => place_of_at(at),
         Step::Publish { pred, .. } | Step::Unlink { pred, .. } => place_of_at(pred),
     }
@@ -115,6 +118,7 @@ pub fn succeeds(step: Step, found: u64) -> bool
         Step::TakeFlag { slot } => has_flag(found, slot),
         Step::Publish { expected, .. } => found == expected,
         Step::Mark { expected, .. } => found == expected,
+        Step::Replace { expected, .. } => found == expected,
         Step::Unlink { expected, .. } => found == expected,
         Step::ConfirmPresent { expected, .. } => found == expected,
         Step::ConfirmAbsent { expected, .. } => found == expected,
@@ -176,6 +180,7 @@ pub fn effect_of(step: Step, found: u64) -> Effect
         Step::TakeFlag { slot } => taken(slot, found),
         Step::Publish { expected, .. } => exchanged(expected, found),
         Step::Mark { expected, .. } => exchanged(expected, found),
+        Step::Replace { expected, .. } => exchanged(expected, found),
         Step::Unlink { expected, .. } => exchanged(expected, found),
         Step::ConfirmPresent { op, expected, .. } => confirmed(present_reply(op), expected, found),
         Step::ConfirmAbsent { expected, .. } => confirmed(false, expected, found),

@@ -167,6 +167,7 @@ impl Lists {
             Step::StoreLink { slot, .. } => self.store_link(slot, link),
             Step::Publish { pred, slot, .. } => self.publish(pred, link, slot, key),
             Step::Mark { slot, .. } => self.mark(slot, link),
+            Step::Replace { slot, new, .. } => self.publish(At::Slot(slot), link, new, key),
             Step::Unlink { pred, slot, .. } => self.unlink(event.pass, pred, link, slot),
             Step::ReadEpoch | Step::LoadStamp { .. } | Step::LoadLink { .. } => {}
             Step::LoadBirth { .. } | Step::LoadKey { .. } | Step::LoadValue { .. } => {}

@@ -1,11 +1,11 @@
-//! The steps that exchange a link word: insert, remove and unlink (Michael 2002), each on the whole
+//! The steps that exchange a link word: insert, remove, replace and unlink (Michael 2002), each on the whole
 //! word with its version (Sheffi, Herlihy and Petrank 2021).
-ghost use Rattle.std.specs.Prelude.{◌≡◌, ◌<◌, Some, OnOk, IfErr};
+ghost use Rattle.std.specs.Prelude.{◌≡◌, ◌<◌, true, Some, OnOk, IfErr};
 ghost use Rattle.vbr_machine.specs.Acceptance.{IsAtIn};
-ghost use Rattle.vbr_machine.specs.declared.event.Step.TheVariants.{Publish, Mark, Unlink};
+ghost use Rattle.vbr_machine.specs.declared.event.Step.TheVariants.{Publish, Mark, Replace, Unlink};
 ghost use Rattle.vbr_slots.specs.Asked.{IsChecked, IsWritten};
 ghost use Rattle.vbr_slots.specs.AtTables.{IsSameTable, pass_of, trace_of};
-ghost use Rattle.vbr_slots.specs.Expected.{Finds, FindsOther, Publishes};
+ghost use Rattle.vbr_slots.specs.Expected.{Finds, FindsOther, Publishes, ReplacesNode};
 
 use crate::at_table::AtTable;
 use crate::stepping::place_of_link;
@@ -63,6 +63,38 @@ impl<N: Nodes> AtTable<'_, N> {
             found if found == expected => Ok(()),
             found => Err(found),
         }
+    }
+
+    /// As [`crate::Slots::replace`].
+    #[inline]
+    pub fn replace(&mut self, slot: u32, expected: u64, new: u32, word: u64) -> Result<(), u64>
+        requires in_hand { (pass_of self.old).hand ≡ Some new }
+        requires slot { slot < self.old.slots.now.start.shape.slots }
+        requires values { self.old.slots.now.start.shape.values ≡ true }
+        requires checked { IsChecked self.old.slots.now (trace_of self.old)
+            (Replace slot expected new) }
+        requires word { IsWritten (trace_of self.old) (Replace slot expected new) word }
+        ensures table { IsSameTable self.old self.new }
+        ensures found { OnOk result
+            (ReplacesNode slot expected new (pass_of self.old) (pass_of self.new)) }
+        ensures other { IfErr result
+            (FindsOther (Replace slot expected new)
+            (pass_of self.old) (pass_of self.new) expected) }
+    {
+        let (slots, stepper) = (self.slots, &mut *self.stepper);
+        let step = Step::Replace {
+            slot,
+            expected,
+            new,
+        };
+        let place = Place::LinkOf(slot);
+        let kept = stepper.hand.take();
+        let found = slots.exchange(&mut stepper.runner, step, place, expected, word);
+        if found == expected {
+            return Ok(());
+        }
+        stepper.hand = kept;
+        Err(found)
     }
 
     /// As [`crate::Slots::unlink`].

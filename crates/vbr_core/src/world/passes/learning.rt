@@ -3,7 +3,7 @@ ghost use Rattle.std.specs.Prelude.{◌≡◌, ◌<◌, ◌≤◌, length, slice
 ghost use Rattle.std.specs.List.{AllByRecursion};
 ghost use Rattle.vbr_words.specs.Words.{IsLink, link_of};
 ghost use Rattle.vbr_words.specs.declared.shape.TheConstants.{MAX_EPOCH};
-ghost use Rattle.vbr_machine.specs.Acceptance.{Accepts, stamp_in, MayPublish};
+ghost use Rattle.vbr_machine.specs.Acceptance.{Accepts, stamp_in, MayPublish, MayReplace};
 ghost use Rattle.vbr_machine.specs.Learning.{newborn, with_key, with_value, with_link, link_in_hand, learn, with_own, with_checked, with_pending, read_epoch};
 ghost use Rattle.vbr_core.specs.Growth.{ReadsMore};
 ghost use Rattle.vbr_core.specs.WorldInLists.{know_of, FitsRead, FitsHolding};
@@ -251,6 +251,62 @@ impl PassState {
         Ok(())
     }
 
+    // The link of a slot in hand that is ready to take the place of a node.
+    fn link_in_place(&self, start: &Start, slot: u32, expected: u64, new: u32) -> Link
+        requires new { new < length self.now.own }
+        requires ready { MayReplace start.now self.now.checked slot (link_of expected)
+            (slice_index_or self.now.own new None) }
+        ensures link { result ≡ link_in_hand (slice_index_or self.now.own new None) }
+        ensures fits { IsLink result }
+    {
+        holdings::link_in_hand(self.own[new as usize])
+    }
+
+    // The replacement of a node by a slot in hand has succeeded.
+    fn learn_replace(
+        &mut self,
+        start: &Start,
+        slot: u32,
+        expected: u64,
+        new: u32,
+    ) -> Result<(), AllocError>
+        requires slots { length self.old.own ≡ start.now.shape.slots }
+        requires accepted { Accepts start.now (know_of self.old) (Step.Replace slot expected new) }
+        ensures learned { OnOk result
+            (Learns self.old self.new (learn (Step.Replace slot expected new) expected 0)) }
+        ensures refused { OnErr result (self.new ≡ self.old) }
+    {
+        let link = self.new_link(
+            start,
+            Step::Replace {
+                slot,
+                expected,
+                new,
+            },
+        );
+        let holding = self.holding(new);
+        let link_in_hand = self.link_in_place(start, slot, expected, new);
+        let birth = holdings::birth_in_hand(holding);
+        let key = holdings::key_in_hand(holding);
+        match holdings::value_in_hand(holding) {
+            None => self.add_checked(&[
+                Read::LinkAt(At::Slot(slot), link),
+                Read::BirthOf(new, birth),
+                Read::KeyOf(new, key),
+                Read::LinkAt(At::Slot(new), link_in_hand),
+            ])?,
+            Some(value) => self.add_checked(&[
+                Read::LinkAt(At::Slot(slot), link),
+                Read::BirthOf(new, birth),
+                Read::KeyOf(new, key),
+                Read::LinkAt(At::Slot(new), link_in_hand),
+                Read::ValueOf(new, value),
+            ])?,
+        }
+        self.put(new, None);
+        Ok(())
+    }
+
     // The removal of a node has succeeded.
     fn learn_mark(&mut self, start: &Start, slot: u32, expected: u64) -> Result<(), AllocError>
         requires slots { length self.old.own ≡ start.now.shape.slots }
@@ -332,6 +388,13 @@ impl PassState {
             }
             Step::Mark { slot, expected } if found == expected => {
                 self.learn_mark(start, slot, expected)?;
+            }
+            Step::Replace {
+                slot,
+                expected,
+                new,
+            } if found == expected => {
+                self.learn_replace(start, slot, expected, new)?;
             }
             Step::Unlink {
                 pred,

@@ -1,0 +1,215 @@
+-- A node that is replaced by the one in hand.
+use Rattle.std.proofs.Common.{◌≡◌, ◌≢◌, ℕ, ◌<◌, true, false, List, [], ◌∷◌, ◌++◌, Option, Some, None, refl, sym, ap, ◌∙◌, subst, cond, option_to_list, eq-eqb, inl, inr, ⊎_elim, arith}
+use Rattle.std.specs.Prelude.{unwrap_or}
+use Rattle.std.specs.List.{Contains}
+use Rattle.std.proofs.lemmas.Bool.{cases_eq}
+use Rattle.vbr_machine.specs.Start.{Start, IsStart}
+use Rattle.vbr_words.specs.Words.{link_of}
+use Rattle.vbr_words.specs.declared.link.Link.{Link}
+use Rattle.vbr_words.specs.declared.place.At.{At}
+use Rattle.vbr_words.specs.declared.place.At.TheVariants.{Head, Slot}
+use Rattle.vbr_machine.specs.Acceptance.{IsAtIn, IsInHand, MayBear, Accepts}
+use Rattle.vbr_machine.specs.Images.{link_shown_at}
+use Rattle.vbr_machine.specs.Knowledge.{Know}
+use Rattle.vbr_machine.specs.Learning.{call_ahead, call_of, key_in_hand, link_in_hand, link_written, birth_in_hand, reads_won, value_in_hand, value_read, with_checked, with_own}
+use Rattle.vbr_machine.specs.Links.{link_to, marked}
+use Rattle.vbr_machine.specs.Machine.{found}
+use Rattle.vbr_machine.specs.Membership.{BirthAt, BirthNamed, KeyAt, Knows, MayReplaceKnown}
+use Rattle.vbr_machine.specs.Opened.{payload_kept}
+use Rattle.vbr_machine.specs.Put.{put}
+use Rattle.vbr_machine.specs.Runs.{IsRun, world_after}
+use Rattle.vbr_machine.specs.declared.event.Step.TheVariants.{Replace}
+use Rattle.vbr_machine.specs.declared.history.Call.{Call}
+use Rattle.vbr_machine.specs.declared.history.Op.TheVariants.{Insert, Remove}
+use Rattle.vbr_machine.specs.declared.knowledge.Holding.{Holding}
+use Rattle.vbr_machine.specs.declared.knowledge.Read.TheVariants.{BirthOf, KeyOf, LinkAt, ValueOf}
+use Rattle.vbr_machine.proofs.Lemmas.{begins_trans, known_accepts, marked_call_is, others_leave_know, put_here, put_other, written_is}
+use Rattle.vbr_slots.specs.Alone.{IsAlone, nodes}
+use Rattle.vbr_slots.specs.Calls.{Quiet, made_by}
+use Rattle.vbr_slots.specs.PassLaw.{PassLaw}
+use Rattle.vbr_slots.specs.Views.{Did, PassView, Trace, knows}
+use Rattle.vbr_slots.proofs.Lemmas.{alone_first, alone_then, did_calls, did_moment, did_run, did_same, did_seen, found_now, quiet_on, run_was, same_on, stands_found}
+use Rattle.vbr_at_table.specs.Alone.{StandsNow}
+use Rattle.vbr_at_table.specs.Counts.{ChangesNone}
+use Rattle.vbr_at_table.specs.Exchanges.{LosesExchange}
+use Rattle.vbr_at_table.specs.Held.{IsFilled, IsHeld}
+use Rattle.vbr_at_table.specs.Keeping.{Keeps}
+use Rattle.vbr_at_table.specs.KeptSlots.{HasFree, HasSlot, TakesNoSlot}
+use Rattle.vbr_at_table.specs.Moments.{WasFound}
+use Rattle.vbr_at_table.specs.Replacing.{MadeTwo, ReplacesEntry}
+use Rattle.vbr_at_table.specs.Values.{ValueAt, entry_call}
+use Rattle.vbr_at_table.specs.declared.held.Held.{Held}
+use Rattle.vbr_at_table.specs.declared.rollback.Rollback.TheVariants.{LostExchange}
+use Rattle.vbr_at_table.proofs.Accepted.{place_in}
+use Rattle.vbr_at_table.proofs.Advancing.{did_stamps, grows_same, same_advances, same_flags}
+use Rattle.vbr_at_table.proofs.InTurn.{did_turn}
+use Rattle.vbr_at_table.proofs.Keeping.{held_kept, keeps_on, keeps_refl}
+use Rattle.vbr_at_table.proofs.ExchangeCalls.{run_after}
+use Rattle.vbr_at_table.proofs.MadeCalls.{failed, other, replace_adds_none}
+use Rattle.vbr_at_table.proofs.Moments.{found_after, lost, won}
+use Rattle.vbr_at_table.proofs.NoValues.{kept_same, value_asked}
+use Rattle.vbr_at_table.proofs.Unchanged.{unchanged_by_none, unchanged_on}
+use Rattle.vbr_at_table.proofs.WonExchanges.{lost_test, more_keeps, more_new, won_test}
+
+-- ---- the step is accepted
+
+module _ (p : PassView) (sound : PassLaw p) (node : Held) (s t key birth next : ℕ) (h : IsHeld (knows p.trace) node) (at : node.at ≡ Slot s) (f : IsFilled ((knows p.trace).own t) birth key (link_to (link_of node.word).slot birth next)) where
+  in_hand : IsInHand ((knows p.trace).own t)
+  in_hand = let P : Option Holding → Type 0 = IsInHand in subst P (sym f.holding_is) tt
+
+  pub replace_accepted : (value old : ℕ) → p.trace.start.shape.values ≡ true → value_in_hand ((knows p.trace).own t) ≡ Some value → (link_of node.word).mark ≡ false → t < p.trace.start.shape.slots → BirthNamed (knows p.trace) (link_of node.word).slot next → KeyAt (knows p.trace) node.at key → ValueAt (knows p.trace) node.at old → Accepts p.trace.start (knows p.trace) (Replace s node.word t)
+  replace_accepted value old has valued unmarked low named k v =
+      let P : Option Holding → Type 0 = MayReplaceKnown p.trace.start (knows p.trace) s (link_of node.word) in
+      let I : At → Type 0 = IsAtIn p.trace.start in
+      let L : At → Type 0 = λ i. Knows (knows p.trace) (LinkAt i (link_of node.word)) in
+      let B : At → Type 0 = λ i. BirthAt (knows p.trace) i node.birth in
+      let K : At → Type 0 = λ i. KeyAt (knows p.trace) i key in
+      let V : At → Type 0 = λ i. ValueAt (knows p.trace) i old in
+      known_accepts p.trace.start p.trace.passes p.trace.seen sound.start sound.is_run p.trace.who (Replace s node.word t) (record {
+        in_shape = (subst I at (place_in p sound node h), low, has);
+        owned = in_hand;
+        known = (subst L at h.link, (node.birth, subst B at h.birth), (old, subst V at v));
+        in_range = (
+          unmarked,
+          subst P (sym f.holding_is) (record {
+            key = key;
+            key_known = subst K at k;
+            key_is = f.key_is;
+            named = next;
+            named_known = named;
+            link_is = f.link_is ∙ ap (λ (b : ℕ). Some (link_to (link_of node.word).slot b next)) (sym f.birth_is);
+            valued = value_asked p.trace.start.shape.values f.known.value value (λ w. sym (ap value_in_hand f.holding_is) ∙ valued);
+          }),
+        );
+        below_last = tt;
+      })
+
+  -- and the link that it writes
+  pub replace_writes : link_written (knows p.trace) (Replace s node.word t) ≡ marked (link_to (Some t) node.birth birth)
+  replace_writes =
+      let B : At → Type 0 = λ i. BirthAt (knows p.trace) i node.birth in
+      written_is p.trace.start p.trace.passes p.trace.seen sound.start sound.is_run p.trace.who (Replace s node.word t) (marked (link_to (Some t) node.birth (birth_in_hand ((knows p.trace).own t)))) (node.birth, subst B at h.birth, refl)
+      ∙ ap (λ (o : Option Holding). marked (link_to (Some t) node.birth (birth_in_hand o))) f.holding_is
+      ∙ ap (λ (b : ℕ). marked (link_to (Some t) node.birth b)) f.birth_is
+
+-- ---- its calls
+
+-- a step that succeeds makes both
+both_made : {s expected t : ℕ} {p q : Trace} → Did (Replace s expected t) p q expected → (first second : Call) → call_ahead p.start p.who (knows p) (Replace s expected t) ≡ Some first → call_of p.start p.who (knows p) (Replace s expected t) ≡ Some second → MadeTwo first second p q
+both_made {s} {expected} {t} {p} {q} d first second a b =
+    let w = world_after p.start (p.seen ++ d.rest) in
+    let test = eq-eqb (found p.start w (Replace s expected t)) expected (won expected _ d.shows.answers) in
+    let same = others_leave_know p.start p.seen d.rest p.who d.none in
+    let ahead = ap (λ (k : Know). call_ahead p.start p.who k (Replace s expected t)) same ∙ a in
+    let then = ap (λ (k : Know). call_of p.start p.who k (Replace s expected t)) same ∙ b in
+    record {
+      same = did_same d;
+      seen = did_seen d;
+      is_run = did_run d;
+      calls = did_calls d ∙ ap (λ l. made_by p ++ l)
+          ((λ i. option_to_list (cond (test i) (call_ahead p.start p.who (w.know p.who) (Replace s expected t)) None) ++ option_to_list (cond (test i) (call_of p.start p.who (w.know p.who) (Replace s expected t)) None))
+          ∙ (λ i. option_to_list (ahead i) ++ option_to_list (then i)));
+    }
+
+pub replace_made : {q : Trace} {s expected t birth key value old : ℕ} {link : Link} (p : Trace) → IsStart p.start → IsRun p.start p.passes p.seen → p.start.shape.values ≡ true → IsFilled ((knows p).own t) birth key link → value_in_hand ((knows p).own t) ≡ Some value → Knows (knows p) (KeyOf s key) → Knows (knows p) (ValueOf s old) → Did (Replace s expected t) p q expected
+    → MadeTwo (entry_call p.start p.who Remove key true old) (entry_call p.start p.who Insert key true value) p q
+replace_made {q} {s} {expected} {t} {birth} {key} {value} {old} {link} p start run has f valued k v d =
+    both_made d _ _ (marked_call_is p.start p.passes p.seen start run p.who s expected key old k (λ w. v))
+    (ap (λ (o : Option Holding). Some (record { who = p.who; op = Insert; key = key_in_hand o; reply = true; value = payload_kept p.start (value_in_hand o) })) f.holding_is
+    ∙ ap (λ (o : Option ℕ). Some (record { who = p.who; op = Insert; key = unwrap_or o 0; reply = true; value = payload_kept p.start f.known.value })) f.key_is
+    ∙ ap (λ (u : Option ℕ). Some (record { who = p.who; op = Insert; key = key; reply = true; value = u })) (kept_same p.start.shape.values f.known.value value (λ w. sym (ap value_in_hand f.holding_is) ∙ valued)))
+
+pub two_on : {first second : Call} {p q r : Trace} → Quiet p q → MadeTwo first second q r → MadeTwo first second p r
+two_on {first} {second} {p} {q} {r} a b = record { same = same_on a.same b.same; seen = begins_trans p.seen q.seen r.seen a.seen b.seen; is_run = b.is_run; calls = b.calls ∙ ap (λ l. l ++ first ∷ second ∷ []) a.calls }
+
+-- ---- what it teaches
+
+first_in : {X : Type 0} (x : X) (rest : List X) → Contains (x ∷ rest) x
+first_in x rest = (0, omega arith, refl)
+
+module _ {p q : Trace} {s expected t : ℕ} (d : Did (Replace s expected t) p q expected) where
+  pub replace_learned : knows q ≡ with_own (with_checked (knows p) (reads_won (knows p) (Replace s expected t))) t None
+  replace_learned = d.know ∙ won_test expected _ (knows p)
+
+  pub replace_keeps : Keeps (knows p) (knows q)
+  replace_keeps = more_keeps (knows p) (knows q) _ (ap (λ (k : Know). k.epoch) replace_learned) (ap (λ (k : Know). k.checked) replace_learned)
+
+  pub replace_known : Knows (knows q) (LinkAt (Slot s) (link_written (knows p) (Replace s expected t)))
+  replace_known = more_new (knows p) (knows q) (reads_won (knows p) (Replace s expected t)) (ap (λ (k : Know). k.checked) replace_learned) (LinkAt (Slot s) (link_written (knows p) (Replace s expected t))) (first_in _ (BirthOf t (birth_in_hand ((knows p).own t)) ∷ KeyOf t (key_in_hand ((knows p).own t)) ∷ LinkAt (Slot t) (link_in_hand ((knows p).own t)) ∷ value_read t (value_in_hand ((knows p).own t))))
+
+-- ---- the slots of the pass
+
+-- the slot that takes the place goes out of the hand, and the others stay
+free_kept : (p q : PassView) {s expected slot : ℕ} → Did (Replace s expected slot) p.trace q.trace expected → p.hand ≡ Some slot → q.pool ≡ p.pool → HasFree p q
+free_kept p q {s} {expected} {slot} d hand pool i h =
+    let may : MayBear (put (knows p.trace).own slot None i) = subst (λ (k : Know). MayBear (k.own i)) (replace_learned d) h.0 in
+    ⊎_elim (λ (is : i ≡ slot). absurd (subst MayBear (ap (put (knows p.trace).own slot None) is ∙ put_here (knows p.trace).own slot None) may))
+    (λ (other : i ≢ slot). stays other (h.1 (subst MayBear (put_other (knows p.trace).own slot None i other) may))) (cases_eq i slot)
+  where
+    stays : i ≢ slot → HasSlot p i → HasSlot q i
+    stays other (inl c) = inl (subst (λ (l : List ℕ). Contains l i) (sym pool) c)
+    stays other (inr e) = let same : i ≡ slot = cc in absurd (other same)
+
+pub replace_none : (p q : PassView) {s expected slot : ℕ} → Did (Replace s expected slot) p.trace q.trace expected → p.hand ≡ Some slot → q.pool ≡ p.pool → TakesNoSlot p q
+replace_none p q d hand pool = record { count = same_advances d refl; kept = record { free = free_kept p q d hand pool; stamped = did_stamps d refl; turn = did_turn d }; grows = grows_same p q pool; shared = inl (same_flags d refl) }
+
+-- ---- a lost one
+
+pub replace_failed : {s expected t word : ℕ} {p q : Trace} → Did (Replace s expected t) p q word → word ≢ expected → Quiet p q
+replace_failed {s} {expected} {t} {word} d ne = failed d (other expected word _ ne (lost expected word _ ne d.shows.answers))
+
+pub replace_lost_keeps : {p q : Trace} {s expected t word : ℕ} → Did (Replace s expected t) p q word → word ≢ expected → Keeps (knows p) (knows q)
+replace_lost_keeps {p} {q} {s} {expected} {t} {word} d ne = rw (d.know ∙ lost_test word expected _ (knows p) ne) (keeps_refl (knows p))
+
+replace_found : {s expected t word : ℕ} {p q : Trace} → Did (Replace s expected t) p q word → word ≢ expected → WasFound p q (Slot s) word
+replace_found {s} {expected} {t} {word} {p} d ne = record { moment = p.seen ++ d.rest; within = did_moment d; found = lost expected word _ ne d.shows.answers }
+
+replace_wins : {p q : Trace} {r : ℕ} → IsStart p.start → IsAlone p q → (s expected t : ℕ) → Did (Replace s expected t) p q r → r ≢ expected → link_shown_at (nodes p) (Slot s) ≡ link_of expected → ⊥
+replace_wins {p} {q} {r} is alone s expected t d ne stands =
+    ne (sym (lost expected r _ ne d.shows.answers) ∙ found_now d alone ∙ stands_found p (Slot s) expected is (run_was d alone) stands)
+
+pub replace_lost : {p q r : Trace} {s t word : ℕ} (node : Held) → node.at ≡ Slot s → IsStart q.start → Quiet p q → ChangesNone p q → Keeps (knows p) (knows q) → (IsAlone p q → StandsNow p node → StandsNow q node) → Did (Replace s node.word t) q r word → word ≢ node.word → LosesExchange p r node (LostExchange word)
+replace_lost {p} {q} {r} {s} {t} {word} node at start fill same keeps stands d ne = record {
+  quiet = quiet_on fill (replace_failed d ne);
+  lost = (ne, found_after fill (let P : At → Type 0 = λ i. WasFound q r i word in subst P (sym at) (replace_found d ne)), keeps_on keeps (replace_lost_keeps d ne));
+  unchanged = unchanged_on same (unchanged_by_none start (run_after start d) (did_same d) (did_seen d) (replace_adds_none d ne));
+  wins = λ alone stood.
+      let P : At → Type 0 = λ i. link_shown_at (nodes q) i ≡ link_of node.word in
+      replace_wins start (alone_then fill.same.who fill.seen (did_seen d) alone) s node.word t d ne (subst P at (stands (alone_first fill.seen (did_seen d) alone) stood));
+}
+
+-- ---- a won one, after what filled the hand
+
+module _ (p q r : PassView) (node : Held) (s t key birth next value word : ℕ) (law : PassLaw q) (fill : Quiet p.trace q.trace) (keeps : Keeps (knows p.trace) (knows q.trace)) (h : IsHeld (knows q.trace) node) (at : node.at ≡ Slot s) (f : IsFilled ((knows q.trace).own t) birth key (link_to (link_of node.word).slot birth next)) where
+  pub replace_told : q.trace.start.shape.values ≡ true → value_in_hand ((knows q.trace).own t) ≡ Some value → KeyAt (knows p.trace) node.at key → link_of word ≡ marked (link_to (Some t) node.birth birth) → Did (Replace s node.word t) q.trace r.trace node.word → r.hand ≡ None
+      → ReplacesEntry p r node key value (record { slot = s; birth = node.birth; word = word; epoch = node.epoch })
+  replace_told has valued k link d spent =
+      let K : At → Type 0 = λ i. KeyAt (knows p.trace) i key in
+      let B : At → Type 0 = λ i. BirthAt (knows r.trace) i node.birth in
+      let L : Link → Type 0 = λ l. Knows (knows r.trace) (LinkAt (Slot s) l) in
+      let now = held_kept node (replace_keeps d) h in
+      record {
+        made = λ old v.
+            let V : At → Type 0 = λ i. ValueAt (knows p.trace) i old in
+            let C : ℕ → Start → Type 0 = λ who start. MadeTwo (entry_call start who Remove key true old) (entry_call start who Insert key true value) p.trace r.trace in
+            let one : C q.trace.who q.trace.start = two_on fill (replace_made q.trace law.start law.is_run has f valued (keeps.reads (KeyOf s key) (subst K at k)) (keeps.reads (ValueOf s old) (subst V at v)) d) in
+            let D : Start → Type 0 = C q.trace.who in
+            let E : ℕ → Type 0 = λ who. C who p.trace.start in
+            subst E fill.same.who (subst D fill.same.start one);
+        at = sym at;
+        held = record {
+          held = record { epoch = now.epoch; link = subst L (replace_writes q law node s t key birth next h at f ∙ sym link) (replace_known d); birth = subst B at now.birth };
+          mark = ap (λ (l : Link). l.mark) link;
+        };
+        spent = spent;
+      }
+
+-- ---- what was known stays known
+
+pub key_on : {know later : Know} (i : At) (key : ℕ) → Keeps know later → KeyAt know i key → KeyAt later i key
+key_on (Head b) key keeps k = k
+key_on (Slot s) key keeps k = keeps.reads (KeyOf s key) k
+
+pub value_on : {know later : Know} (i : At) (value : ℕ) → Keeps know later → ValueAt know i value → ValueAt later i value
+value_on (Head b) value keeps v = v
+value_on (Slot s) value keeps v = keeps.reads (ValueOf s value) v

@@ -1,0 +1,133 @@
+-- Worked runs with replacements, computed: one that is won, with a reader that stands on the old node and goes on to the new one, and unlinks the old one; one that is lost to a mark, and one that is lost to an insert behind the node; and what is refused.
+use Rattle.std.proofs.Common.{◌≡◌, true, false, List, [], ◌∷◌, ◌++◌, Some, None, refl, rules, tests}
+use Rattle.vbr_machine.specs.Start.{Start, empty_start}
+use Rattle.vbr_words.specs.Flags.{has_flag, first_bits, flag_word}
+use Rattle.vbr_words.specs.Words.{word_of, link_of}
+use Rattle.vbr_words.specs.declared.place.At.TheVariants.{Head, Slot}
+use Rattle.vbr_words.specs.declared.place.Place.TheVariants as place
+use Rattle.vbr_words.specs.Buckets.{bucket_of}
+use Rattle.vbr_machine.specs.Accounts.{chronicle, incarnations_after}
+use Rattle.vbr_machine.specs.Chronicles.{Gains, Bears, Keyed, Valued, Aims, Inserts, Replaces, Unlinks, Confirms, AtHead}
+use Rattle.vbr_machine.specs.Incarnations.{Linked, Unlinked}
+use Rattle.vbr_machine.specs.Machine.{opening, word_at}
+use Rattle.vbr_machine.specs.Runs.{IsRun, Refuses, world_after}
+use Rattle.vbr_machine.specs.declared.history.Op.TheVariants.{Insert, Remove, Get}
+use Rattle.vbr_machine.specs.declared.event.Event.{Event}
+use Rattle.vbr_machine.specs.declared.event.Step.TheVariants.{ReadEpoch, TakeFlag, StoreBirth, StoreKey, StoreValue, StoreLink, LoadLink, LoadBirth, LoadKey, LoadValue, Publish, Mark, Replace, Unlink, ConfirmPresent}
+use Rattle.vbr_machine.specs.declared.event.Effect.TheVariants.{Value, Done, Won, Lost, Answered}
+use Rattle.vbr_machine.specs.declared.event.CoreRefusal.TheVariants.{NotOwned, NotHeld, OutOfRange}
+use Rattle.vbr_machine.proofs.WorkedLists.{by, effects_from}
+
+abbrev map_of_three : Start
+map_of_three = empty_start (record { slots = 3; buckets = 1; spread = false; last_epoch = 10; values = true })
+
+-- a pass inserts 7 with 107
+abbrev inserted : List Event
+inserted = by 0 ReadEpoch ∷ by 0 (TakeFlag 0) ∷ by 0 (StoreBirth 0 1) ∷ by 0 (StoreKey 0 7) ∷ by 0 (LoadLink (Head 0)) ∷ by 0 ReadEpoch ∷ by 0 (StoreLink 0 None) ∷ by 0 (StoreValue 0 107) ∷ by 0 (Publish (Head 0) 0 0) ∷ []
+
+-- another one finds the node, and reads it
+abbrev read_by_another : List Event
+read_by_another = by 1 ReadEpoch ∷ by 1 (LoadLink (Head 0)) ∷ by 1 ReadEpoch ∷ by 1 (LoadKey 0) ∷ by 1 (LoadValue 0) ∷ by 1 (LoadLink (Slot 0)) ∷ by 1 ReadEpoch ∷ []
+
+-- ---- a replacement that is won
+
+-- the first one puts 207 in its place
+abbrev replaced : List Event
+replaced = inserted ++ read_by_another ++ by 0 (TakeFlag 1) ∷ by 0 (StoreBirth 1 1) ∷ by 0 (StoreKey 1 7) ∷ by 0 (StoreValue 1 207) ∷ by 0 (StoreLink 1 None) ∷ by 0 (Replace 0 33554432 1) ∷ []
+
+-- and the other, which stands on the old node, goes on to the new one, and unlinks the old one
+abbrev replaced_run : List Event
+replaced_run = replaced ++ by 1 (ConfirmPresent Get 0 33554432) ∷ by 1 (LoadLink (Slot 0)) ∷ by 1 ReadEpoch ∷ by 1 (LoadKey 1) ∷ by 1 (LoadValue 1) ∷ by 1 (LoadLink (Slot 1)) ∷ by 1 (LoadBirth 1) ∷ by 1 ReadEpoch ∷ by 1 (ConfirmPresent Get 1 33554432) ∷ by 1 (Unlink (Head 0) 33554433 0) ∷ []
+
+pub replaced_run_accepted : IsRun map_of_three 2 replaced_run
+unfolding bucket_of link_of word_of has_flag first_bits flag_word
+replaced_run_accepted = search (rules, tests)
+
+pub replaced_run_effects : effects_from map_of_three (opening map_of_three) replaced_run
+    ≡ (Value 1) ∷ Won ∷ Done ∷ Done ∷ (Value 0) ∷ (Value 1) ∷ Done ∷ Done ∷ Won ∷ (Value 1) ∷ (Value 33554433) ∷ (Value 1) ∷ (Value 7) ∷ (Value 107) ∷ (Value 33554432) ∷ (Value 1) ∷ Won ∷ Done ∷ Done ∷ Done ∷ Done ∷ Won
+    ∷ (Lost 50331650) ∷ (Value 50331650) ∷ (Value 1) ∷ (Value 7) ∷ (Value 207) ∷ (Value 33554432) ∷ (Value 1) ∷ (Value 1) ∷ (Answered true) ∷ Won ∷ []
+unfolding bucket_of link_of word_of has_flag first_bits flag_word
+replaced_run_effects = refl
+
+-- one step made two calls
+pub replaced_run_calls : (world_after map_of_three replaced_run).calls
+    ≡ record { who = 0; op = Insert; key = 7; reply = true; value = Some 107 } ∷ record { who = 0; op = Remove; key = 7; reply = true; value = Some 107 } ∷ record { who = 0; op = Insert; key = 7; reply = true; value = Some 207 } ∷ record { who = 1; op = Get; key = 7; reply = true; value = Some 207 } ∷ []
+unfolding bucket_of link_of word_of has_flag first_bits flag_word
+replaced_run_calls = refl
+
+-- the head names the new node
+pub replaced_run_head : word_at map_of_three (world_after map_of_three replaced_run) (place.Head 0) ≡ 33554434
+unfolding bucket_of link_of word_of has_flag first_bits flag_word
+replaced_run_head = refl
+
+-- one event of the chronicle tells of the replacement
+pub replaced_run_chronicle : chronicle map_of_three replaced_run
+    ≡ record { pass = 0; what = Gains 0 } ∷ record { pass = 0; what = Bears 0 1 } ∷ record { pass = 0; what = Keyed 0 7 } ∷ record { pass = 0; what = Aims 0 (record { slot = None; mark = false; version = 1 }) } ∷ record { pass = 0; what = Valued 0 107 } ∷ record { pass = 0; what = Inserts 0 (AtHead 0) }
+    ∷ record { pass = 0; what = Gains 1 } ∷ record { pass = 0; what = Bears 1 1 } ∷ record { pass = 0; what = Keyed 1 7 } ∷ record { pass = 0; what = Valued 1 207 } ∷ record { pass = 0; what = Aims 1 (record { slot = None; mark = false; version = 1 }) } ∷ record { pass = 0; what = Replaces 0 1 }
+    ∷ record { pass = 1; what = Confirms (record { who = 1; op = Get; key = 7; reply = true; value = Some 207 }) } ∷ record { pass = 1; what = Unlinks 0 (AtHead 0) } ∷ []
+unfolding bucket_of link_of word_of has_flag first_bits flag_word
+replaced_run_chronicle = refl
+
+pub replaced_run_old : (incarnations_after map_of_three replaced_run).state 0 ≡ Unlinked 1 1
+unfolding bucket_of link_of word_of has_flag first_bits flag_word
+replaced_run_old = refl
+
+pub replaced_run_new : (incarnations_after map_of_three replaced_run).state 1 ≡ Linked
+unfolding bucket_of link_of word_of has_flag first_bits flag_word
+replaced_run_new = refl
+
+pub replaced_run_rank : (incarnations_after map_of_three replaced_run).rank 1 ≡ 1
+unfolding bucket_of link_of word_of has_flag first_bits flag_word
+replaced_run_rank = refl
+
+-- ---- replacements that are lost
+
+-- the other has a node in hand that is ready to take the place
+abbrev ready : List Event
+ready = inserted ++ read_by_another ++ by 1 (LoadBirth 0) ∷ by 1 ReadEpoch ∷ by 1 (TakeFlag 1) ∷ by 1 (StoreBirth 1 1) ∷ by 1 (StoreKey 1 7) ∷ by 1 (StoreValue 1 207) ∷ by 1 (StoreLink 1 None) ∷ []
+
+-- to a mark
+abbrev lost_to_a_mark : List Event
+lost_to_a_mark = by 0 (Mark 0 33554432) ∷ by 1 (Replace 0 33554432 1) ∷ []
+
+pub lost_to_a_mark_accepted : IsRun map_of_three 2 (ready ++ lost_to_a_mark)
+unfolding bucket_of link_of word_of has_flag first_bits flag_word
+lost_to_a_mark_accepted = search (rules, tests)
+
+pub lost_to_a_mark_effects : effects_from map_of_three (world_after map_of_three ready) lost_to_a_mark ≡ Won ∷ (Lost 50331648) ∷ []
+unfolding bucket_of link_of word_of has_flag first_bits flag_word
+lost_to_a_mark_effects = refl
+
+-- to an insert of 9 behind the node
+abbrev lost_to_an_insert : List Event
+lost_to_an_insert = by 0 (TakeFlag 2) ∷ by 0 (StoreBirth 2 1) ∷ by 0 (StoreKey 2 9) ∷ by 0 (StoreValue 2 109) ∷ by 0 (StoreLink 2 None) ∷ by 0 (Publish (Slot 0) 33554432 2) ∷ by 1 (Replace 0 33554432 1) ∷ []
+
+pub lost_to_an_insert_accepted : IsRun map_of_three 2 (ready ++ lost_to_an_insert)
+unfolding bucket_of link_of word_of has_flag first_bits flag_word
+lost_to_an_insert_accepted = search (rules, tests)
+
+pub lost_to_an_insert_effects : effects_from map_of_three (world_after map_of_three ready) lost_to_an_insert ≡ Won ∷ Done ∷ Done ∷ Done ∷ Done ∷ Won ∷ (Lost 33554435) ∷ []
+unfolding bucket_of link_of word_of has_flag first_bits flag_word
+lost_to_an_insert_effects = refl
+
+-- ---- what is refused
+
+pub replaced_without_its_birth : Refuses map_of_three 2 (world_after map_of_three (inserted ++ read_by_another ++ by 1 (TakeFlag 1) ∷ by 1 (StoreBirth 1 1) ∷ by 1 (StoreKey 1 7) ∷ by 1 (StoreValue 1 207) ∷ by 1 (StoreLink 1 None) ∷ [])) (by 1 (Replace 0 33554432 1)) NotHeld
+unfolding bucket_of link_of word_of has_flag first_bits flag_word
+replaced_without_its_birth = search (rules, tests)
+
+pub replaced_by_another_key : Refuses map_of_three 2 (world_after map_of_three (ready ++ by 1 (StoreKey 1 8) ∷ [])) (by 1 (Replace 0 33554432 1)) OutOfRange
+unfolding bucket_of link_of word_of has_flag first_bits flag_word
+replaced_by_another_key = search (rules, tests)
+
+pub replaced_without_a_value : Refuses map_of_three 2 (world_after map_of_three (inserted ++ read_by_another ++ by 1 (LoadBirth 0) ∷ by 1 ReadEpoch ∷ by 1 (TakeFlag 1) ∷ by 1 (StoreBirth 1 1) ∷ by 1 (StoreKey 1 7) ∷ by 1 (StoreLink 1 None) ∷ [])) (by 1 (Replace 0 33554432 1)) OutOfRange
+unfolding bucket_of link_of word_of has_flag first_bits flag_word
+replaced_without_a_value = search (rules, tests)
+
+pub replaced_by_nothing_in_hand : Refuses map_of_three 2 (world_after map_of_three ready) (by 1 (Replace 0 33554432 2)) NotOwned
+unfolding bucket_of link_of word_of has_flag first_bits flag_word
+replaced_by_nothing_in_hand = search (rules, tests)
+
+pub replaced_in_a_set : Refuses (empty_start (record { slots = 3; buckets = 1; spread = false; last_epoch = 10; values = false })) 2 (opening (empty_start (record { slots = 3; buckets = 1; spread = false; last_epoch = 10; values = false }))) (by 0 (Replace 0 33554432 1)) OutOfRange
+unfolding bucket_of link_of word_of has_flag first_bits flag_word
+replaced_in_a_set = search (rules, tests)
