@@ -21,10 +21,10 @@ pub mod looking_up;
 pub mod next;
 pub mod refusal;
 pub mod removing;
-mod seek;
 mod seeking;
 mod traversal;
 mod valuing;
+mod visiting;
 
 pub use cursor::Cursor;
 pub use finding::find;
