@@ -13,12 +13,13 @@ use Rattle.vbr_machine.specs.Knowledge.{Know}
 use Rattle.vbr_machine.specs.Machine.{link_at}
 use Rattle.vbr_machine.specs.Membership.{Knows, IsHeldPlace, KeyAt, StandsBehind, StandsBefore}
 use Rattle.vbr_machine.specs.Moments.{WasShown}
-use Rattle.vbr_machine.specs.Removals.{MarkedLeft, NoneMarked}
+use Rattle.vbr_machine.specs.Removals.{IsTakenOut, MarkedLeft, NoneMarked}
 use Rattle.vbr_machine.specs.Runs.{IsRun, know_after, world_after}
 use Rattle.vbr_machine.specs.declared.event.Event.{Event}
 use Rattle.vbr_machine.specs.declared.history.Op.TheVariants.{Remove}
 use Rattle.vbr_machine.specs.declared.knowledge.Read.TheVariants.{LinkAt, KeyOf}
-use Rattle.vbr_machine.proofs.Lemmas.{left_since, marked_left, none_marked_between, none_marked_here, none_marked_skipped}
+use Rattle.vbr_machine.proofs.Lemmas.{left_since, marked_left, none_marked_between, none_marked_here, none_marked_skipped, out_on}
+use Rattle.vbr_slots.specs.Alone.{nodes}
 use Rattle.vbr_slots.specs.Calls.{IsSame, Made, Quiet}
 use Rattle.vbr_slots.specs.Views.{Trace, knows}
 use Rattle.vbr_slots.proofs.Lemmas.{moment_after, moment_before}
@@ -68,9 +69,9 @@ module _ {p q : Trace} (held : Held) (start : IsStart p.start) (same : IsSame p 
   clear_between : (key : ℕ) → StandsBehind q.start (knows q) held.at key → StandsBefore (knows q) key (link_of held.word).slot → WasClear p q key
   clear_between key i j = clear_then key (none_marked_between q.start q.passes read.stood.moment q.seen shape_now read.stood.within.is_run q.who held.at (link_of held.word) was_shown key i j)
 
-  -- of the key of a slot whose marked link names the same
-  pub clear_skipped : (s key : ℕ) (frozen : Link) → StandsBehind q.start (knows q) held.at key → Knows (knows q) (LinkAt (Slot s) frozen) → frozen.mark ≡ true → frozen.slot ≡ (link_of held.word).slot → Knows (knows q) (KeyOf s key) → WasClear p q key
-  clear_skipped s key frozen i k m e j = clear_then key (none_marked_skipped q.start q.passes read.stood.moment q.seen shape_now read.stood.within.is_run q.who held.at (link_of held.word) was_shown s key frozen i k m e j)
+  -- of the key of a slot that was taken out, and whose marked link names the same
+  pub clear_skipped : (s key : ℕ) (frozen : Link) → StandsBehind q.start (knows q) held.at key → Knows (knows q) (LinkAt (Slot s) frozen) → frozen.mark ≡ true → frozen.slot ≡ (link_of held.word).slot → Knows (knows q) (KeyOf s key) → IsTakenOut (nodes q) (knows q).epoch s → WasClear p q key
+  clear_skipped s key frozen i k m e j out = clear_then key (none_marked_skipped q.start q.passes read.stood.moment q.seen shape_now read.stood.within.is_run q.who held.at (link_of held.word) was_shown s key frozen i k m e j out)
 
 -- ---- where a traversal has come to the key
 
@@ -104,6 +105,22 @@ clear_since {p} {q} {r} {key} a x = record {
   within = moment_after a.seen x.within;
   none = let P : Start → Type 0 = λ s. NoneMarked (incarnations_after s x.moment) key in subst P a.same.start x.none;
 }
+
+-- what was taken out stays so
+pub out_kept : (p q : Trace) (s : ℕ) → IsStart p.start → IsRun p.start p.passes p.seen → Quiet p q → (knows q).epoch ≡ (knows p).epoch → IsTakenOut (nodes p) (knows p).epoch s → IsTakenOut (nodes q) (knows q).epoch s
+out_kept p q s start ok a epoch out = subst R (sym epoch) (subst S (sym a.same.start) (out_on p.start p.passes p.seen q.seen start run a.seen p.who s out))
+  where
+    R : ℕ → Type 0
+    R e = IsTakenOut (nodes q) e s
+
+    S : Start → Type 0
+    S x = IsTakenOut (incarnations_after x q.seen) (knows p).epoch s
+
+    run : IsRun p.start p.passes q.seen
+    run =
+        let P : Start → Type 0 = λ x. IsRun x p.passes q.seen in
+        let Q : ℕ → Type 0 = λ n. IsRun q.start n q.seen in
+        subst P a.same.start (subst Q a.same.passes (a.is_run ok))
 
 -- ---- the node that a remove has marked
 

@@ -8,7 +8,8 @@ use Rattle.vbr_machine.specs.Images.{link_shown_at}
 use Rattle.vbr_machine.specs.Runs.{Begins}
 use Rattle.vbr_machine.specs.declared.event.Event.{Event}
 use Rattle.vbr_machine.specs.Membership.{HeldIn, KeyAt, StandsBehind}
-use Rattle.vbr_slots.specs.Alone.{IsAlone, IsFresh, ahead}
+use Rattle.vbr_machine.specs.Removals.{IsTakenOut}
+use Rattle.vbr_slots.specs.Alone.{IsAlone, IsFresh, ahead, nodes}
 use Rattle.vbr_slots.specs.Views.{PassView, Trace, knows}
 use Rattle.vbr_at_table.specs.Alone.{StandsNow}
 use Rattle.vbr_at_table.specs.Held.{IsHeld, HoldsMarked, Names}
@@ -63,10 +64,10 @@ pub record IsLostPlace (p q : PassView) (pred : Held) : Type 0 where
 abbrev pub HelpsNone : PassView → PassView → Held → Rollback → Type 0
 HelpsNone p q pred rollback = IsLostPlace p q pred
 
--- the marked node was unlinked and retired, so no marked node of its key was in a list; where the epoch stayed, that helped, and alone it stays; and alone fewer nodes are in each list that the place is held in
+-- the marked node was unlinked and retired, so no marked node of its key was in a list but one that was replaced, where it was taken out; where the epoch stayed, that helped, and alone it stays; and alone fewer nodes are in each list that the place is held in
 pub record Retires (p q : PassView) (pred : Held) (gone : Marked) (place : Held) : Type 0 where
   pub helps : place.epoch ≡ (knows q.trace).epoch → Helps p q pred gone place
   pub late : place.epoch ≢ (knows q.trace).epoch → MovesOn p.trace q.trace
   pub stays : IsFresh p.trace → StandsNow p.trace pred → IsAlone p.trace q.trace → place.epoch ≡ (knows q.trace).epoch
   pub fewer : StandsNow p.trace pred → IsAlone p.trace q.trace → (bucket h : ℕ) → HeldIn (knows p.trace) pred.at bucket → ahead q.trace bucket (Head h) < ahead p.trace bucket (Head h)
-  pub clear : (key : ℕ) → KeyAt (knows p.trace) (Slot gone.slot) key → StandsBehind p.trace.start (knows p.trace) pred.at key → WasClear p.trace q.trace key
+  pub clear : (key : ℕ) → KeyAt (knows p.trace) (Slot gone.slot) key → StandsBehind p.trace.start (knows p.trace) pred.at key → IsTakenOut (nodes p.trace) (knows p.trace).epoch gone.slot → WasClear p.trace q.trace key

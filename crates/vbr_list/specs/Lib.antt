@@ -20,4 +20,5 @@ pub mod Cursors
 pub mod Seeking
 pub mod Inserting
 pub mod Removing
+pub mod Replacing
 pub mod Messages

@@ -5,8 +5,9 @@ use Rattle.vbr_words.specs.declared.nodes.Nodes.{Ghosts}
 use Rattle.vbr_words.specs.declared.place.At.TheVariants.{Slot}
 use Rattle.vbr_words.specs.Buckets.{bucket_of}
 use Rattle.vbr_machine.specs.Membership.{HeldIn, KeyAt, StandsBehind}
+use Rattle.vbr_machine.specs.Removals.{IsTakenOut}
 use Rattle.vbr_machine.specs.declared.history.Op.TheVariants.{Remove}
-use Rattle.vbr_slots.specs.Alone.{IsFresh}
+use Rattle.vbr_slots.specs.Alone.{IsFresh, nodes}
 use Rattle.vbr_slots.specs.Calls.{Quiet}
 use Rattle.vbr_slots.specs.Views.{knows}
 use Rattle.vbr_at_table.specs.Alone.{StandsNow}
@@ -21,12 +22,13 @@ use Rattle.vbr_list.specs.Walking.{LosesFound}
 use Rattle.vbr_list.specs.declared.call.PendingCall.{PendingCall}
 use Rattle.vbr_list.specs.declared.found.Found.{Found}
 
--- the node of the call's key is held by its marked link, behind a place before the key
+-- the node of the call's key is held by its marked link, taken out, behind a place before the key
 pub record IsMarkedFor {N : Type 0} {kind : Ghosts N} (c : PendingCall N kind) (pred : Held) (gone : Marked) : Type 0 where
   pub may : MayHelp (trace_in c) pred gone
   pub key : KeyAt (knows (trace_in c)) (Slot gone.slot) c.key
   pub inside : HeldIn (knows (trace_in c)) pred.at (bucket_of (trace_in c).start.shape c.key)
   pub behind : StandsBehind (trace_in c).start (knows (trace_in c)) pred.at c.key
+  pub out : IsTakenOut (nodes (trace_in c)) (knows (trace_in c)).epoch gone.slot
 
 -- at a moment no marked node of the key was in a list, unless the budget has no room for one more piece
 abbrev pub Clears : {N : Type 0} {kind : Ghosts N} → PendingCall N kind → PendingCall N kind → Type 0

@@ -46,7 +46,7 @@ impl<N: Nodes> PendingCall<'_, N> {
     }
 
     // Takes a slot with what is left of the budget.
-    fn provide(&mut self) -> Result<Hand, Refusal>
+    pub(crate) fn provide(&mut self) -> Result<Hand, Refusal>
         requires empty_hand { (pass_in self.old).hand ≡ None }
         ensures prepares { Prepares self.old self.new }
         ensures quiet { Quiet (trace_in self.old) (trace_in self.new) }

@@ -12,7 +12,7 @@ use Rattle.vbr_at_table.proofs.Lemmas.{counts_on, behind_kept}
 use Rattle.vbr_at_table.specs.Retiring.{is_kept}
 use Rattle.vbr_at_table.specs.Keeping.{KeepsUnlinked}
 use Rattle.vbr_list.specs.Pieces.{Goes}
-use Rattle.vbr_list.proofs.Clearing.{clear_before, clear_skipped}
+use Rattle.vbr_list.proofs.Clearing.{clear_before, clear_skipped, out_kept}
 use Rattle.vbr_list.proofs.Disturbing.{loses_place, moved_late, opened, run_at}
 use Rattle.vbr_at_table.proofs.Lemmas.{unchanged_by_none}
 use Rattle.vbr_list.proofs.Going.{counts_step, took_same}
@@ -62,12 +62,13 @@ returns-in-Ok-clause-unlinks g c =
           let u = (won.alone (first_of a b alone) stands).listed bucket h inside in
           let l = (c.retire.ensures.retires.alone (then_of a b alone)).0.count bucket (Head h) in
           omega (arith, u, l);
-      clear = λ key k behind.
+      clear = λ key k behind out.
           let P : At → Type 0 = λ t. StandsBehind q.trace.start (knows q.trace) t key in
           let Q : Start → Type 0 = λ s. StandsBehind s (knows q.trace) c.args.pred.now.at key in
           clear_before (clear_skipped c.in-Ok.place c.law.ensures.start a.same won.read won.still c.args.marked.slot key (link_of c.args.marked.word)
           (subst P (sym won.at) (subst Q (sym a.same.start) (behind_kept p.trace.start c.args.pred.now.at key won.keeps behind)))
-          (won.keeps.reads _ c.requires.may.marked.held.link) c.requires.may.marked.mark (sym won.next) (won.keeps.reads (KeyOf c.args.marked.slot key) k)) b;
+          (won.keeps.reads _ c.requires.may.marked.held.link) c.requires.may.marked.mark (sym won.next) (won.keeps.reads (KeyOf c.args.marked.slot key) k)
+          (out_kept p.trace q.trace c.args.marked.slot c.law.ensures.start c.law.ensures.is_run a won.keeps.epoch out)) b;
     }
 
 pub returns-in-Err-clause-lost : goal.returns-in-Err-clause-lost

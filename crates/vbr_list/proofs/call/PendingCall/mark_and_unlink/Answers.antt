@@ -72,6 +72,7 @@ unlink_marked-requires-clause-marked g c =
       key = subst P (sym removed.at) (key_kept c.in-Some.cur.at c.args.self.now.key mark.keeps there);
       inside = pred.inside;
       behind = pred.behind;
+      out = removed.out;
     }
 
 pub returns-in_err-value-clause-settles : goal.returns-in_err-value-clause-settles

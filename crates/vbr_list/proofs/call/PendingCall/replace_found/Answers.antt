@@ -1,0 +1,137 @@
+use Rattle.std.proofs.Common.{◌≡◌, ℕ, ◌+◌, ◌<◌, Bool, true, List, length, rules, arith, sym, ap, ◌∙◌, subst}
+use Rattle.vbr_machine.specs.Start.{Start}
+use Rattle.vbr_machine.specs.Learning.{birth_in_hand}
+use Rattle.vbr_machine.specs.declared.history.Op.TheVariants.{Insert, Remove}
+use Rattle.vbr_slots.specs.Views.{PassView, knows}
+use Rattle.vbr_slots.specs.declared.pass.TheConstants.{POOL}
+use Rattle.vbr_slots.proofs.Lemmas.{quiet_on}
+use Rattle.vbr_at_table.specs.CallSteps.{steps_to_birth}
+use Rattle.vbr_at_table.specs.Hands.{HandView}
+use Rattle.vbr_at_table.specs.Replacing.{MadeTwo}
+use Rattle.vbr_at_table.specs.Values.{entry_call, steps_to_update, steps_to_value}
+use Rattle.vbr_at_table.proofs.Lemmas.{counts_on, held_kept, key_on, none_on, two_on, value_on}
+use Rattle.vbr_list.specs.Inserting.{HasHandAndRoom}
+use Rattle.vbr_list.specs.Pieces.{KeepsHand}
+use Rattle.vbr_list.proofs.Going.{counts_step, goes_counted, goes_on, goes_read, took_same}
+use Rattle.vbr_list.proofs.Moments.{key_found}
+use Rattle.vbr_list.proofs.ValueReads.{cur_is, slot_at}
+use Rattle.vbr_list.proofs.call.PendingCall.replace_found.Goals as goal
+
+-- a hand that stays is one still
+hand_kept : {p q : PassView} (hand : HandView) → KeepsHand p q → HasHandAndRoom p hand → HasHandAndRoom q hand
+hand_kept hand keeps h = record { is = record { slot = keeps.hand ∙ h.is.slot; birth = ap birth_in_hand (keeps.in_hand hand.slot h.is.slot) ∙ h.is.birth }; room = keeps.room h.room }
+
+pub value_of-read-requires-clause-values : goal.value_of-read-requires-clause-values
+value_of-read-requires-clause-values g c = ap (λ (d : Start). d.shape.values) (sym c.args.self.now.at.own.1) ∙ c.requires.values
+
+pub value_of-read-requires-clause-held : goal.value_of-read-requires-clause-held
+value_of-read-requires-clause-held g c =
+    let f = c.args.found.now in
+    (cur_is (knows c.args.self.now.at.stepper.now.trace) c.args.self.now.key f.pred c.in-Some.cur f.cur f.present c.requires.locates.end c.in-Some.is).held
+
+pub value_of-read-requires-clause-slot : goal.value_of-read-requires-clause-slot
+value_of-read-requires-clause-slot g c =
+    let f = c.args.found.now in
+    slot_at (cur_is (knows c.args.self.now.at.stepper.now.trace) c.args.self.now.key f.pred c.in-Some.cur f.cur f.present c.requires.locates.end c.in-Some.is)
+
+pub birth_after-named-requires : goal.birth_after-named-requires
+birth_after-named-requires g c =
+    let f = c.args.found.now in
+    let y = cur_is (knows c.args.self.now.at.stepper.now.trace) c.args.self.now.key f.pred c.in-Some.cur f.cur f.present c.requires.locates.end c.in-Some.is in
+    record { held = held_kept c.in-Some.cur c.in-Ok.ensures.value.keeps y.held }
+
+pub replace_entry-requires-clause-node : goal.replace_entry-requires-clause-node
+replace_entry-requires-clause-node g c =
+    let f = c.args.found.now in
+    let know = knows c.args.self.now.at.stepper.now.trace in
+    let y = cur_is know c.args.self.now.key f.pred c.in-Some.cur f.cur f.present c.requires.locates.end c.in-Some.is in
+    let there = key_found know c.args.self.now.key f.pred c.in-Some.cur f.cur f.present c.requires.locates.end c.in-Some.is c.requires.present in
+    let one = c.in-Ok.ensures.value.keeps in
+    let two = c.in-Ok-named.ensures.birth.keeps in
+    let key = key_on c.in-Some.cur.at c.args.self.now.key two (key_on c.in-Some.cur.at c.args.self.now.key one there) in
+    record {
+      has_values = search rules;
+      present = record { held = held_kept c.in-Some.cur two (held_kept c.in-Some.cur one y.held); key = (c.args.self.now.key, key); unmarked = y.unmarked };
+      key_is = key;
+      valued = λ has. (c.in-Ok.old, value_on c.in-Some.cur.at c.in-Ok.old two c.in-Ok.ensures.value.value);
+      birth = c.in-Ok-named.ensures.birth.birth;
+    }
+
+pub returns-in_default-named-clause-tries : goal.returns-in_default-named-clause-tries
+returns-in_default-named-clause-tries g c =
+    let used = c.args.self.now.used in
+    let n = c.steps_to_birth.result in
+    let one = goes_read used c.value_of-read.ensures.reads in
+    let two = goes_counted (used + 2) n (steps_to_birth c.in-Some.cur.word) c.steps_to_birth.ensures.is c.birth_after-named.ensures.reads in
+    let both = goes_on one two in
+    let few = c.steps_to_birth.ensures.few in
+    record { call = search rules; counts = both.counts; used = (omega arith, omega (arith, few)); takes_no_slot = both.hand.takes_no_slot }
+
+pub returns-in_default-named-clause-back : goal.returns-in_default-named-clause-back
+returns-in_default-named-clause-back g c =
+    let used = c.args.self.now.used in
+    let n = c.steps_to_birth.result in
+    let one = goes_read used c.value_of-read.ensures.reads in
+    let two = goes_counted (used + 2) n (steps_to_birth c.in-Some.cur.word) c.steps_to_birth.ensures.is c.birth_after-named.ensures.reads in
+    let both = goes_on one two in
+    record { quiet = both.quiet; hand = hand_kept c.args.hand both.hand c.requires.hand }
+
+pub returns-in-Ok-replace_entry-clause-tries : goal.returns-in-Ok-replace_entry-clause-tries
+returns-in-Ok-replace_entry-clause-tries g c =
+    let used = c.args.self.now.used in
+    let n = c.steps_to_birth.result in
+    let one = goes_read used c.value_of-read.ensures.reads in
+    let two = goes_counted (used + 2) n (steps_to_birth c.in-Some.cur.word) c.steps_to_birth.ensures.is c.birth_after-named.ensures.reads in
+    let both = goes_on one two in
+    let few = c.steps_to_birth.ensures.few in
+    let start = c.birth_after-named.new.at.stepper.now.trace.start in
+    let has : start.shape.values ≡ true = ap (λ (d : Start). d.shape.values) both.quiet.same.start ∙ c.requires.values in
+    let four : 4 ≡ steps_to_update start = ap (λ (b : Bool). 1 + steps_to_value b + 1 + 1) (sym has) in
+    record {
+      call = search rules;
+      counts = counts_on both.counts (counts_step (used + 2 + n) 4 (took_same 4 (steps_to_update start) four c.replace_entry.ensures.stores.took));
+      used = (omega arith, omega (arith, few));
+      takes_no_slot = none_on both.hand.takes_no_slot c.replace_entry.ensures.stores.takes_no_slot;
+    }
+
+pub returns-in-Err-clause-tries : goal.returns-in-Err-clause-tries
+returns-in-Err-clause-tries g c =
+    let used = c.args.self.now.used in
+    let n = c.steps_to_birth.result in
+    let one = goes_read used c.value_of-read.ensures.reads in
+    let two = goes_counted (used + 2) n (steps_to_birth c.in-Some.cur.word) c.steps_to_birth.ensures.is c.birth_after-named.ensures.reads in
+    let both = goes_on one two in
+    let few = c.steps_to_birth.ensures.few in
+    let start = c.birth_after-named.new.at.stepper.now.trace.start in
+    let has : start.shape.values ≡ true = ap (λ (d : Start). d.shape.values) both.quiet.same.start ∙ c.requires.values in
+    let four : 4 ≡ steps_to_update start = ap (λ (b : Bool). 1 + steps_to_value b + 1 + 1) (sym has) in
+    record {
+      call = search rules;
+      counts = counts_on both.counts (counts_step (used + 2 + n) 4 (took_same 4 (steps_to_update start) four c.replace_entry.ensures.stores.took));
+      used = (omega arith, omega (arith, few));
+      takes_no_slot = none_on both.hand.takes_no_slot c.replace_entry.ensures.stores.takes_no_slot;
+    }
+
+pub returns-in-Ok-replace_entry-clause-replaced : goal.returns-in-Ok-replace_entry-clause-replaced
+returns-in-Ok-replace_entry-clause-replaced g c =
+    let p = c.args.self.now.at.stepper.now.trace in
+    let q = c.birth_after-named.new.at.stepper.now.trace in
+    let r = c.replace_entry.new.at.stepper.now.trace in
+    let quiet = quiet_on c.value_of-read.ensures.reads.quiet c.birth_after-named.ensures.reads.quiet in
+    let told = c.in-Ok-replace_entry.ensures.replaced in
+    let C : ℕ → Start → Type 0 = λ who start. MadeTwo (entry_call start who Remove c.args.self.now.key true c.in-Ok.old) (entry_call start who Insert c.args.self.now.key true c.args.value) p r in
+    let all : C q.who q.start = two_on quiet (told.made c.in-Ok.old (value_on c.in-Some.cur.at c.in-Ok.old c.in-Ok-named.ensures.birth.keeps c.in-Ok.ensures.value.value)) in
+    let D : Start → Type 0 = C q.who in
+    let E : ℕ → Type 0 = λ who. C who p.start in
+    record { made = subst E quiet.same.who (subst D quiet.same.start all); held = told.held; spent = told.spent }
+
+pub returns-in-Err-clause-back : goal.returns-in-Err-clause-back
+returns-in-Err-clause-back g c =
+    let one = goes_read 0 c.value_of-read.ensures.reads in
+    let two = goes_read 0 c.birth_after-named.ensures.reads in
+    let lost = c.in-Err.ensures.lost in
+    let P : List ℕ → Type 0 = λ l. length l < POOL in
+    record {
+      quiet = quiet_on (quiet_on one.quiet two.quiet) lost.exchange.quiet;
+      hand = record { is = lost.hand; room = subst P (sym c.replace_entry.ensures.stores.pool) (two.hand.room (one.hand.room c.requires.hand.room)) };
+    }

@@ -1,0 +1,107 @@
+use Rattle.std.proofs.Common.{◌≡◌, ℕ, true, false, rules, Option, Some, None, ap, sym, subst, ◌∙◌, arith}
+use Rattle.vbr_words.specs.declared.nodes.Nodes.{Ghosts}
+use Rattle.vbr_machine.specs.Start.{Start}
+use Rattle.vbr_machine.specs.History.{set_call}
+use Rattle.vbr_machine.specs.declared.history.Op.TheVariants.{Insert, Remove}
+use Rattle.vbr_slots.specs.Calls.{Made, Quiet}
+use Rattle.vbr_slots.specs.Views.{Trace}
+use Rattle.vbr_slots.proofs.Lemmas.{quiet_on}
+use Rattle.vbr_at_table.specs.Replacing.{MadeTwo}
+use Rattle.vbr_at_table.specs.Values.{entry_call}
+use Rattle.vbr_at_table.specs.declared.held.Marked.{Marked}
+use Rattle.vbr_at_table.proofs.Lemmas.{none_back, none_on, two_on}
+use Rattle.vbr_list.specs.Pieces.{pass_in, trace_in}
+use Rattle.vbr_list.specs.Replacing.{ReplaceAnswers}
+use Rattle.vbr_list.specs.declared.call.PendingCall.{PendingCall}
+use Rattle.vbr_list.proofs.Going.{call_on, within_call}
+use Rattle.vbr_list.proofs.Preparing.{made_since, within_on, within_same}
+use Rattle.vbr_list.proofs.call.PendingCall.replace_with.Goals as goal
+
+-- an answer leaves the hand empty
+spent_of : {N : Type 0} {kind : Ghosts N} (value : ℕ) (c d : PendingCall N kind) (answer : Option (ℕ × Marked)) → ReplaceAnswers value c d answer → (pass_in d).hand ≡ None
+spent_of value c d None x = x.spent
+spent_of value c d (Some told) x = x.spent
+
+-- an answer after what made no call
+answers_since : {N : Type 0} {kind : Ghosts N} (value : ℕ) (b c d : PendingCall N kind) → c.key ≡ b.key → Quiet (trace_in b) (trace_in c) → (answer : Option (ℕ × Marked)) → ReplaceAnswers value c d answer → ReplaceAnswers value b d answer
+answers_since value b c d key quiet None x =
+    let P : ℕ → Type 0 = λ k. Made (set_call (trace_in c).who Remove k false) (trace_in c) (trace_in d) in
+    record { made = made_since quiet (subst P key x.made); spent = x.spent }
+answers_since value b c d key quiet (Some told) x =
+    let C : ℕ → Start → ℕ → Type 0 = λ who start k. MadeTwo (entry_call start who Remove k true told.0) (entry_call start who Insert k true value) (trace_in b) (trace_in d) in
+    let all : C (trace_in c).who (trace_in c).start c.key = two_on quiet x.made in
+    let K : ℕ → Type 0 = C (trace_in c).who (trace_in c).start in
+    let D : Start → Type 0 = λ start. C (trace_in c).who start b.key in
+    let E : ℕ → Type 0 = λ who. C who (trace_in b).start b.key in
+    record { made = subst E quiet.same.who (subst D quiet.same.start (subst K key all)); held = x.held; spent = x.spent }
+
+pub loop-found-preserved : goal.loop-found-preserved
+loop-found-preserved g c =
+    let s = c.search.ensures.goes in
+    let back = c.in-Err.ensures.back in
+    let more = c.settle_replace.ensures.tries in
+    let fits = c.if-not-affords.ensures in
+    let begun = call_on c.loop-found.invariant.0 s.call in
+    let same = call_on begun more.call in (
+      same,
+      quiet_on c.loop-found.invariant.1 (quiet_on s.goes.quiet back.quiet),
+      within_on (within_on c.loop-found.invariant.2 s.goes.counts s.more (within_call begun)) more.counts (omega arith) (within_call same),
+      none_on (none_on c.loop-found.invariant.3 s.goes.hand.takes_no_slot) more.takes_no_slot,
+      back.hand,
+    )
+
+pub settle_replace-requires-clause-values : goal.settle_replace-requires-clause-values
+settle_replace-requires-clause-values g c = ap (λ (d : Start). d.shape.values) (quiet_on c.loop-found.invariant.1 c.search.ensures.goes.goes.quiet).same.start ∙ c.requires.values
+
+pub returns-in_default-clause-links : goal.returns-in_default-clause-links
+returns-in_default-clause-links g c =
+    let s = c.search.ensures.goes in
+    let begun = call_on c.loop-found.invariant.0 s.call in
+    record {
+      call = search rules;
+      counts = within_same c.give_back.ensures.back.trace (within_on c.loop-found.invariant.2 s.goes.counts s.more (within_call begun));
+      takes_no_slot = none_on (none_on c.loop-found.invariant.3 s.goes.hand.takes_no_slot) (none_back c.search.new.self.at.stepper.now c.give_back.new.at.stepper.now c.loop-found.hand.slot c.give_back.ensures.back.trace c.give_back.ensures.back.pool c.give_back.ensures.back.kept);
+      spent = search rules;
+    }
+
+pub returns-then-not-affords-clause-links : goal.returns-then-not-affords-clause-links
+returns-then-not-affords-clause-links g c =
+    let s = c.search.ensures.goes in
+    let begun = call_on c.loop-found.invariant.0 s.call in
+    record {
+      call = search rules;
+      counts = within_same c.give_back-then-not-affords.ensures.back.trace (within_on c.loop-found.invariant.2 s.goes.counts s.more (within_call begun));
+      takes_no_slot = none_on (none_on c.loop-found.invariant.3 s.goes.hand.takes_no_slot) (none_back c.search.new.self.at.stepper.now c.give_back-then-not-affords.new.at.stepper.now c.loop-found.hand.slot c.give_back-then-not-affords.ensures.back.trace c.give_back-then-not-affords.ensures.back.pool c.give_back-then-not-affords.ensures.back.kept);
+      spent = search rules;
+    }
+
+pub returns-in-Ok-clause-links : goal.returns-in-Ok-clause-links
+returns-in-Ok-clause-links g c =
+    let s = c.search.ensures.goes in
+    let more = c.settle_replace.ensures.tries in
+    let begun = call_on c.loop-found.invariant.0 s.call in
+    let same = call_on begun more.call in
+    let fits = c.if-not-affords.ensures in
+    record {
+      call = same;
+      counts = within_on (within_on c.loop-found.invariant.2 s.goes.counts s.more (within_call begun)) more.counts (omega arith) (within_call same);
+      takes_no_slot = none_on (none_on c.loop-found.invariant.3 s.goes.hand.takes_no_slot) more.takes_no_slot;
+      spent = spent_of c.args.value c.search.new.self c.settle_replace.new.self c.in-Ok.answer c.in-Ok.ensures.answers;
+    }
+
+pub returns-in_default-clause-refused : goal.returns-in_default-clause-refused
+returns-in_default-clause-refused g c =
+    let quiet = quiet_on c.loop-found.invariant.1 c.search.ensures.goes.goes.quiet in
+    let Q : Trace → Type 0 = λ t. Quiet c.args.self.now.at.stepper.now.trace t in
+    record { quiet = subst Q (sym c.give_back.ensures.back.trace) quiet; hand = search rules }
+
+pub returns-then-not-affords-clause-refused : goal.returns-then-not-affords-clause-refused
+returns-then-not-affords-clause-refused g c =
+    let quiet = quiet_on c.loop-found.invariant.1 c.search.ensures.goes.goes.quiet in
+    let Q : Trace → Type 0 = λ t. Quiet c.args.self.now.at.stepper.now.trace t in
+    record { quiet = subst Q (sym c.give_back-then-not-affords.ensures.back.trace) quiet; hand = search rules }
+
+pub returns-in-Ok-clause-answers : goal.returns-in-Ok-clause-answers
+returns-in-Ok-clause-answers g c =
+    let quiet = quiet_on c.loop-found.invariant.1 c.search.ensures.goes.goes.quiet in
+    answers_since c.args.value c.args.self.now c.search.new.self c.settle_replace.new.self (call_on c.loop-found.invariant.0 c.search.ensures.goes.call).key quiet c.in-Ok.answer c.in-Ok.ensures.answers

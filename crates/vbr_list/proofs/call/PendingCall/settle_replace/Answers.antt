@@ -1,0 +1,18 @@
+use Rattle.std.proofs.Common.{rules, arith, sym, subst}
+use Rattle.vbr_slots.specs.Views.{Trace}
+use Rattle.vbr_at_table.specs.Steps.{CountsSteps}
+use Rattle.vbr_at_table.proofs.Lemmas.{none_back, none_on}
+use Rattle.vbr_list.proofs.Going.{counts_step}
+use Rattle.vbr_list.proofs.call.PendingCall.settle_replace.Goals as goal
+
+pub returns-clause-tries : goal.returns-clause-tries
+returns-clause-tries g c =
+    let d = c.answer_absent.ensures in
+    let back = c.give_back.ensures.back in
+    let used = c.args.self.now.used in
+    record {
+      call = search rules;
+      counts = subst (λ (q : Trace). CountsSteps c.args.self.now.at.stepper.now.trace q used c.answer_absent.new.self.used) (sym back.trace) (rw d.used (counts_step used 1 d.keeps.took));
+      used = (omega arith, omega arith);
+      takes_no_slot = none_on d.keeps.takes_no_slot (none_back c.answer_absent.new.self.at.stepper.now c.give_back.new.at.stepper.now c.args.hand.slot back.trace back.pool back.kept);
+    }

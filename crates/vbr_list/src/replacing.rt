@@ -1,0 +1,231 @@
+//! Replacing the value of a key.
+ghost use Rattle.std.specs.Prelude.{◌≡◌, ◌+◌, ◌≤◌, true, false, None, IfOk, IfErr};
+ghost use Rattle.vbr_machine.specs.declared.history.Op.TheVariants.{Remove};
+ghost use Rattle.vbr_slots.specs.AtTables.{IsSameTable, pass_of, trace_of};
+ghost use Rattle.vbr_slots.specs.Calls.{Quiet, Took};
+ghost use Rattle.vbr_slots.specs.Views.{IsOf};
+ghost use Rattle.vbr_at_table.specs.Answering.{KeepsIn};
+ghost use Rattle.vbr_at_table.specs.CallSteps.{steps_to_birth};
+ghost use Rattle.vbr_list.specs.Inserting.{HasHandAndRoom, Links, Prepares};
+ghost use Rattle.vbr_list.specs.Pieces.{HasRoom, IsSameCall, Replies, pass_in, trace_in};
+ghost use Rattle.vbr_list.specs.Replacing.{CallsReplace, IsReady, MakesNone, MayReplaceNode, ReplaceAnswers, Replaces, ReplacesNone};
+ghost use Rattle.vbr_list.specs.Traversing.{LocatesFor};
+
+use crate::call::PendingCall;
+use crate::found::Found;
+use crate::refusal::Refusal;
+use vbr_at_table::budget::affords;
+use vbr_at_table::{
+    Hand, Marked, Rollback, birth_after, confirm_absent_entry, give_back, replace_entry, value_of,
+};
+use vbr_machine::Op;
+use vbr_slots::{AtTable, Pass, Slots};
+use vbr_words::{Entries, Nodes, decode};
+
+// How many steps it takes to read the birth of what a link names, by the link's word.
+#[inline(always)]
+fn steps_to_birth(word: u64) -> u32
+    ensures is { result ≡ steps_to_birth word }
+    ensures few { result ≤ 2 }
+{
+    if decode(word).slot.is_some() { 2 } else { 0 }
+}
+
+impl<N: Nodes> PendingCall<'_, N> {
+    // Replaces the node that was found by the slot in hand, which gets the value, in eight steps at
+    // most, and gives the value that was there; the node is marked then. Else the hand comes back.
+    #[inline]
+    fn replace_found(
+        &mut self,
+        found: &Found,
+        value: u64,
+        hand: Hand,
+    ) -> Result<(u64, Marked), Hand>
+        requires values { (trace_in self.old).start.shape.values ≡ true }
+        requires locates { LocatesFor self.old found.now }
+        requires present { found.now.present ≡ true }
+        requires hand { HasHandAndRoom (pass_in self.old) hand }
+        requires room { HasRoom self.old }
+        ensures tries { MayReplaceNode self.old self.new }
+        ensures replaced { IfOk result (Replaces value self.old self.new) }
+        ensures back { IfErr result (ReplacesNone self.old self.new) }
+    {
+        let Some(cur) = &found.cur else {
+            unreachable!()
+        };
+        let read = value_of(&mut self.at, cur);
+        self.used += 2;
+        let Ok(old) = read else {
+            return Err(hand);
+        };
+        let named = birth_after(&mut self.at, cur);
+        self.used += steps_to_birth(cur.word);
+        let Ok(birth) = named else {
+            return Err(hand);
+        };
+        self.used += 4;
+        match replace_entry(&mut self.at, cur, birth, self.key, value, hand) {
+            Ok(marked) => Ok((old, marked)),
+            Err((back, _)) => Err(back),
+        }
+    }
+
+    // Answers no, in one step, if the link of the place before the key is as it was read.
+    #[inline]
+    fn answer_absent(&mut self, found: &Found) -> Result<(), Rollback>
+        requires locates { LocatesFor self.old found.now }
+        requires absent { found.now.present ≡ false }
+        requires room { HasRoom self.old }
+        ensures call { IsSameCall self.old self.new }
+        ensures keeps { KeepsIn (pass_in self.old) (pass_in self.new) 1 }
+        ensures used { self.new.used ≡ self.old.used + 1 }
+        ensures made { IfOk result (λ _. Replies Remove self.old self.new false) }
+        ensures quiet { IfErr result (λ _. Quiet (trace_in self.old) (trace_in self.new)) }
+    {
+        self.used += 1;
+        confirm_absent_entry(&mut self.at, Op::Remove, self.key, &found.pred)
+    }
+
+    // Looks for the key without a hand: a hand, once the key was found present; or none, and the answer
+    // is no.
+    fn ready(&mut self) -> Result<Option<Hand>, Refusal>
+        requires empty_hand { (pass_in self.old).hand ≡ None }
+        ensures prepares { Prepares self.old self.new }
+        ensures is { IfOk result (IsReady self.old self.new) }
+        ensures refused { IfErr result (λ _. MakesNone self.old self.new) }
+    {
+        self.at.law();
+        loop {
+            let Some(found) = self.search() else {
+                return Err(Refusal::OutOfSteps { used: self.used });
+            };
+            if found.present {
+                let hand = self.provide()?;
+                return Ok(Some(hand));
+            }
+            if !affords(self.budget, self.used) {
+                return Err(Refusal::OutOfSteps { used: self.used });
+            }
+            if self.answer_absent(&found).is_ok() {
+                return Ok(None);
+            }
+        }
+    }
+
+    // Answers by what was found, with a slot in hand; else the hand comes back.
+    #[inline]
+    fn settle_replace(
+        &mut self,
+        found: &Found,
+        value: u64,
+        hand: Hand,
+    ) -> Result<Option<(u64, Marked)>, Hand>
+        requires values { (trace_in self.old).start.shape.values ≡ true }
+        requires locates { LocatesFor self.old found.now }
+        requires hand { HasHandAndRoom (pass_in self.old) hand }
+        requires room { HasRoom self.old }
+        ensures tries { MayReplaceNode self.old self.new }
+        ensures answers { IfOk result (ReplaceAnswers value self.old self.new) }
+        ensures back { IfErr result (ReplacesNone self.old self.new) }
+    {
+        if found.present {
+            return match self.replace_found(found, value, hand) {
+                Ok(told) => Ok(Some(told)),
+                Err(back) => Err(back),
+            };
+        }
+        if self.answer_absent(found).is_err() {
+            return Err(hand);
+        }
+        give_back(&mut self.at, hand);
+        Ok(None)
+    }
+
+    // Replaces the value of the key by the slot in hand, or answers no where the key has gone
+    // meanwhile. The hand is spent.
+    fn replace_with(&mut self, value: u64, mut hand: Hand) -> Result<Option<(u64, Marked)>, Refusal>
+        requires values { (trace_in self.old).start.shape.values ≡ true }
+        requires hand { HasHandAndRoom (pass_in self.old) hand }
+        ensures links { Links self.old self.new }
+        ensures answers { IfOk result (ReplaceAnswers value self.old self.new) }
+        ensures refused { IfErr result (λ _. MakesNone self.old self.new) }
+    {
+        loop {
+            let Some(found) = self.search() else {
+                give_back(&mut self.at, hand);
+                return Err(Refusal::OutOfSteps { used: self.used });
+            };
+            if !affords(self.budget, self.used) {
+                give_back(&mut self.at, hand);
+                return Err(Refusal::OutOfSteps { used: self.used });
+            }
+            match self.settle_replace(&found, value, hand) {
+                Ok(answer) => return Ok(answer),
+                Err(back) => hand = back,
+            }
+        }
+    }
+}
+
+/// Gives a key that is there another value, in at most `budget` steps, and gives the value that it
+/// had; none where the key is absent, and then it stays so. The answer's point is one step, which is
+/// two calls in the history, next to each other: the key is removed with the value that it had, and
+/// inserted with the new one. No call of another pass finds it absent between. It takes a slot once it
+/// has found the key present, and traverses anew with it; a slot that is left over goes back to the
+/// own pool. The node that it replaced is marked, and left to those that meet it.
+///
+/// Its refusals are OutOfSteps, and, where the key was present, NoSlot and EpochSpent: then no call
+/// was made, and the value stays.
+pub fn replace(
+    slots: &Slots<Entries>,
+    pass: &mut Pass,
+    key: u64,
+    value: u64,
+    budget: u32,
+) -> Result<Option<u64>, Refusal>
+    requires own { IsOf pass.old.trace slots.now }
+    requires empty_hand { pass.old.hand ≡ None }
+    ensures { CallsReplace pass.old pass.new key value budget result }
+{
+    pass.during(
+        |stepper|
+            requires own { IsOf stepper.old.trace slots.now }
+            requires empty_hand { stepper.old.hand ≡ None }
+        { replace_value(&mut AtTable { slots, stepper }, key, value, budget) },
+    )
+}
+
+// As `replace`, where no step is counted; and how many steps were made.
+fn replace_value(
+    at: &mut AtTable<'_, Entries>,
+    key: u64,
+    value: u64,
+    budget: u32,
+) -> (Result<Option<u64>, Refusal>, u32)
+    requires empty_hand { (pass_of at.old).hand ≡ None }
+    ensures table { IsSameTable at.old at.new }
+    ensures took { Took (trace_of at.old) (trace_of at.new) result.1 }
+    ensures calls { CallsReplace (pass_of at.old) (pass_of at.new) key value budget result.0 }
+{
+    at.law();
+    at.slots.kind();
+    let mut call = PendingCall {
+        at: AtTable {
+            slots: at.slots,
+            stepper: at.stepper,
+        },
+        key,
+        bucket: at.slots.shape().bucket_of(key),
+        budget,
+        used: 0,
+    };
+    match call.ready() {
+        Err(refusal) => (Err(refusal), call.used),
+        Ok(None) => (Ok(None), call.used),
+        Ok(Some(hand)) => match call.replace_with(value, hand) {
+            Err(refusal) => (Err(refusal), call.used),
+            Ok(None) => (Ok(None), call.used),
+            Ok(Some((old, _))) => (Ok(Some(old)), call.used),
+        },
+    }
+}
