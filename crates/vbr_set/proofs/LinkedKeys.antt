@@ -100,7 +100,7 @@ apart : {start : Start} {a : Incarnations} → Sound start a → (s t : ℕ) →
 apart {start} {a} sound s t ls lt e =
     let c = linked_in a s ls in
     let d = linked_in a t lt in
-    let same = keys_differ sound c.0 d.0 c.1.stands.listed d.1.stands.listed (sym (stands_key c.1.stands) ∙ e ∙ stands_key d.1.stands) in
+    let same = keys_differ sound c.0 d.0 c.1.linked d.1.linked (sym (stands_key c.1.stands) ∙ e ∙ stands_key d.1.stands) in
     sym ((sound.slots.last_born s c.0 c.1.stands.last).1) ∙ ap a.slot same ∙ (sound.slots.last_born t d.0 d.1.stands.last).1
 
 pub distinct : {start : Start} {a : Incarnations} → Sound start a → (n : ℕ) → IsDistinct nat_eq (linked_keys a n)

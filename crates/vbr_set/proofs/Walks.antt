@@ -1,8 +1,7 @@
 -- A walk along the list of a bucket: the slots noted so far are those whose nodes stand before the one that is reached.
-use Rattle.std.proofs.Common.{◌≡◌, ◌≢◌, ℕ, ◌-◌, ◌^◌, ◌<◌, Bool, true, false, List, length, set, Option, Some, None, refl, sym, ap, ◌∙◌, subst, inl, inr, arith, get_or-set_other, get_or-set_same}
-use Rattle.std.specs.Prelude.{slice_index, nat_lt, ◌&&◌, ◌||◌, ◌⊎◌}
+use Rattle.std.proofs.Common.{◌≡◌, ◌≢◌, ℕ, zero, suc, ◌<◌, ◌≤◌, Bool, true, false, List, length, set, Option, Some, None, refl, sym, ap, ◌∙◌, subst, inl, inr, arith, get_or-set_other, get_or-set_same}
+use Rattle.std.specs.Prelude.{slice_index, nat_lt, ◌&&◌, ◌||◌, ◌⊎◌, if◌then◌else◌}
 use Rattle.std.proofs.lemmas.Bool.{and_from, and_left, cases_Bool, cases_eq, lt-ltb}
-use Rattle.std.proofs.lemmas.Bool.Decides.{nat_tests}
 use Rattle.vbr_words.specs.Dimensions.{Dimensions}
 use Rattle.vbr_machine.specs.Start.{Start}
 use Rattle.vbr_words.specs.Places.{index_of}
@@ -16,17 +15,17 @@ use Rattle.vbr_machine.specs.Accounts.{incarnations_after}
 use Rattle.vbr_machine.specs.Agreement.{Fits}
 use Rattle.vbr_machine.specs.Images.{slot_shown}
 use Rattle.vbr_machine.specs.Incarnations.{Incarnations}
-use Rattle.vbr_machine.specs.Sound.{IsApart, IsFrom, IsListed, Sound}
+use Rattle.vbr_machine.specs.Sound.{IsOrderedBefore, IsApart, IsFrom, IsListed, Sound}
 use Rattle.vbr_machine.specs.declared.event.Event.{Event}
-use Rattle.vbr_machine.proofs.Lemmas.{in_list_from, in_list_is, next_listed, slot_is_one, stands_key, stands_there}
-use Rattle.vbr_machine.specs.Nodes.{state_in, is_in_list, is_listed, key_in_slot, Stands, InList}
+use Rattle.vbr_machine.proofs.Lemmas.{in_list_from, in_list_is, lower_is, lower_not, next_listed, next_of_followed, one_fewer, slot_is_one, stands_key, stands_rank, stands_there}
+use Rattle.vbr_machine.specs.Nodes.{state_in, behind, count_below, is_behind, is_in_list, is_listed, is_lower, key_in_slot, rank_in_slot, Stands, InList}
 use Rattle.vbr_set.specs.Walking.{AreAfter, NotesList, NotesLists, is_noted}
-use Rattle.vbr_set.proofs.ShownNodes.{agrees, key_read, link_read, next_of_node}
+use Rattle.vbr_set.proofs.ShownNodes.{agrees, link_read, next_of_node}
 
 -- whether the node of a slot stands before the node that is reached, or there is none any more
 abbrev pub is_before : Incarnations → ℕ → Option ℕ → Bool
 is_before a s None = true
-is_before a s (Some t) = nat_lt (key_in_slot a s) (key_in_slot a t)
+is_before a s (Some t) = is_lower (key_in_slot a s) (rank_in_slot a s) (key_in_slot a t) (rank_in_slot a t)
 
 -- the slot that is reached has a node of the list
 abbrev pub IsNextNode : Start → Incarnations → ℕ → Option ℕ → Type 0
@@ -42,10 +41,15 @@ pub record Walked (start : Start) (a : Incarnations) (bucket : ℕ) (before now 
 pub walked_as : {start : Start} {a : Incarnations} {bucket : ℕ} {before now : List Bool} {m n : Option ℕ} → m ≡ n → Walked start a bucket before now m → Walked start a bucket before now n
 walked_as {start} {a} {bucket} {before} {now} is walked = subst (λ (next : Option ℕ). Walked start a bucket before now next) is walked
 
--- how far the walk still goes: keys ascend along it
+-- how many turns a walk makes from a slot, of a number at most
+abbrev pub turns : Dimensions → List ℕ → ℕ → Option ℕ → ℕ
+turns shape words zero next = 0
+turns shape words (suc n) None = 0
+turns shape words (suc n) (Some t) = suc (turns shape words n (link_of (slice_index words (index_of shape (place.LinkOf t)))).slot)
+
+-- how far the walk still goes: it meets each slot once at most
 abbrev pub left : Dimensions → List ℕ → Option ℕ → ℕ
-left shape words None = 0
-left shape words (Some t) = 2 ^ 64 - slice_index words (index_of shape (place.Key t))
+left shape words next = turns shape words (suc shape.slots) next
 
 -- ---- nodes of one list
 
@@ -55,33 +59,55 @@ in_list_there {start} sound fits bucket n l is =
     let there = stands_there sound fits n l in
     (there.0, in_list_is {start = start} (record { stands = there.1; of_bucket = is }))
 
--- ---- keys along a list
+-- ---- the order along a list
 
--- whether a key is below that of a successor, or there is none
+-- whether a node stands ahead of a successor, or there is none
 abbrev below_next : Incarnations → ℕ → Option ℕ → Bool
-below_next a key None = true
-below_next a key (Some n) = nat_lt key (a.key n)
+below_next a d None = true
+below_next a d (Some n) = is_lower (a.key d) (a.rank d) (a.key n) (a.rank n)
 
 -- the same of the slot of the successor
-before_next : {start : Start} {a : Incarnations} → Sound start a → Fits start a → (s d : ℕ) (next : Option ℕ) → Stands a s d → ((n : ℕ) → next ≡ Some n → IsListed (a.state n)) → is_before a s (slot_shown a next) ≡ below_next a (a.key d) next
+before_next : {start : Start} {a : Incarnations} → Sound start a → Fits start a → (s d : ℕ) (next : Option ℕ) → Stands a s d → ((n : ℕ) → next ≡ Some n → IsListed (a.state n)) → is_before a s (slot_shown a next) ≡ below_next a d next
 before_next sound fits s d None stands l = refl
 before_next {start} {a} sound fits s d (Some n) stands l =
     let there = stands_there sound fits n (l n refl) in
-    (λ i. nat_lt (stands_key stands i) (stands_key there.1 i))
+    (λ i. is_lower (stands_key stands i) (stands_rank stands i) (stands_key there.1 i) (stands_rank there.1 i))
+
+-- the order is one of all of a list
+through : (a : Incarnations) (d c n : ℕ) → IsOrderedBefore a.key a.rank d c → IsOrderedBefore a.key a.rank c n → IsOrderedBefore a.key a.rank d n
+through a d c n (inl l) (inl m) = inl (omega (arith, l, m))
+through a d c n (inl l) (inr m) = inl (let e = m.0 in omega (arith, l, e))
+through a d c n (inr l) (inl m) = inl (let e = l.0 in omega (arith, e, m))
+through a d c n (inr l) (inr m) = inr (l.0 ∙ m.0, (let x = l.1 in let y = m.1 in omega (arith, x, y)))
+
+not_ahead : (a : Incarnations) (c n d : ℕ) → IsOrderedBefore a.key a.rank c n → (a.key n < a.key d) ⊎ ((a.key n ≡ a.key d) × (a.rank n ≤ a.rank d)) → (a.key c < a.key d) ⊎ ((a.key c ≡ a.key d) × (a.rank c ≤ a.rank d))
+not_ahead a c n d (inl l) (inl m) = inl (omega (arith, l, m))
+not_ahead a c n d (inl l) (inr m) = inl (let e = m.0 in omega (arith, l, e))
+not_ahead a c n d (inr l) (inl m) = inl (let e = l.0 in omega (arith, e, m))
+not_ahead a c n d (inr l) (inr m) = inr (l.0 ∙ m.0, (let x = l.1 in let y = m.1 in omega (arith, x, y)))
 
 -- no other node of the list stands between a node and its successor
-apart_keys : (a : Incarnations) (c d : ℕ) (next : Option ℕ) → d ≢ c → IsApart a.key c next d → ((n : ℕ) → next ≡ Some n → a.key c < a.key n) → nat_lt (a.key d) (a.key c) ≡ below_next a (a.key d) next
-apart_keys a c d None ne apart up = grind (arith, nat_tests)
-apart_keys a c d (Some m) ne apart up = let u = up m refl in grind (arith, nat_tests)
+apart_nodes : (a : Incarnations) (c d : ℕ) (next : Option ℕ) → d ≢ c → IsApart a.key a.rank c next d → ((n : ℕ) → next ≡ Some n → IsOrderedBefore a.key a.rank c n) → is_lower (a.key d) (a.rank d) (a.key c) (a.rank c) ≡ below_next a d next
+apart_nodes a c d next ne (inl e) up = absurd (ne e)
+apart_nodes a c d None ne (inr (inl l)) up = lower_is a.key a.rank d c l
+apart_nodes a c d (Some n) ne (inr (inl l)) up = lower_is a.key a.rank d c l ∙ sym (lower_is a.key a.rank d n (through a d c n l (up n refl)))
+apart_nodes a c d None ne (inr (inr (m, e, from))) up = absurd (cc)
+apart_nodes a c d (Some n) ne (inr (inr (m, e, from))) up =
+    let is : m ≡ n = (let z = e in cc) in
+    let P : ℕ → Type 0 = λ v. (a.key v < a.key d) ⊎ ((a.key v ≡ a.key d) × (a.rank v ≤ a.rank d)) in
+    lower_not a.key a.rank d c (not_ahead a c n d (up n refl) (subst P is from)) ∙ sym (lower_not a.key a.rank d n (subst P is from))
 
-below_own : (a : Incarnations) (c : ℕ) (next : Option ℕ) → ((n : ℕ) → next ≡ Some n → a.key c < a.key n) → below_next a (a.key c) next ≡ true
+below_own : (a : Incarnations) (c : ℕ) (next : Option ℕ) → ((n : ℕ) → next ≡ Some n → IsOrderedBefore a.key a.rank c n) → below_next a c next ≡ true
 below_own a c None up = refl
-below_own a c (Some n) up = lt-ltb (a.key c) (a.key n) (up n refl)
+below_own a c (Some n) up = lower_is a.key a.rank c n (up n refl)
 
--- the first of a list has no greater key than any of its nodes
-none_before_first : (a : Incarnations) (key : ℕ) (first : Option ℕ) → IsFrom a.key first key → below_next a key first ≡ false
-none_before_first a key None from = grind arith
-none_before_first a key (Some m) from = grind (arith, nat_tests)
+-- no node of a list stands ahead of its first
+none_before_first : (a : Incarnations) (d : ℕ) (first : Option ℕ) → IsFrom a.key a.rank first d → below_next a d first ≡ false
+none_before_first a d None (m, e, from) = absurd (cc)
+none_before_first a d (Some n) (m, e, from) =
+    let is : m ≡ n = (let z = e in cc) in
+    let P : ℕ → Type 0 = λ v. (a.key v < a.key d) ⊎ ((a.key v ≡ a.key d) × (a.rank v ≤ a.rank d)) in
+    lower_not a.key a.rank d n (subst P is from)
 
 -- ---- tests
 
@@ -107,10 +133,10 @@ first_notes {start} {a} sound fits bucket s first is = go (cases_Bool (is_in_lis
     go (inr outside) = and_left _ _ outside
     go (inl inside) =
         let node = in_list_from start a bucket s inside in
-        let from = subst (λ (f : Option ℕ). IsFrom a.key f (a.key node.0)) (ap a.first node.1.of_bucket ∙ is) (sound.lists.behind_head node.0 node.1.stands.listed) in
+        let from = subst (λ (f : Option ℕ). IsFrom a.key a.rank f node.0) (ap a.first node.1.of_bucket ∙ is) (sound.lists.behind_head node.0 node.1.stands.listed) in
         ap (λ b. b && is_before a s (slot_shown a first)) inside
         ∙ before_next sound fits s node.0 first node.1.stands (λ n q. (sound.lists.first_in bucket n (is ∙ q)).0)
-        ∙ none_before_first a (a.key node.0) first from
+        ∙ none_before_first a node.0 first from
 
 first_reached : {start : Start} {a : Incarnations} → Sound start a → Fits start a → (bucket : ℕ) (first : Option ℕ) → a.first bucket ≡ first → IsNextNode start a bucket (slot_shown a first)
 first_reached sound fits bucket None is = tt
@@ -129,7 +155,7 @@ walk_first {start} {words} {run} x bucket notes low =
 
 -- what follows a node of a list
 module _ {start : Start} {a : Incarnations} (sound : Sound start a) (fits : Fits start a) (bucket t c : ℕ) (here : InList start a bucket t c) where
-  up : (n : ℕ) → a.next c ≡ Some n → a.key c < a.key n
+  up : (n : ℕ) → a.next c ≡ Some n → IsOrderedBefore a.key a.rank c n
   up n q = (sound.lists.ordered c n q).1
 
   follows : (n : ℕ) → a.next c ≡ Some n → IsListed (a.state n)
@@ -151,8 +177,8 @@ module _ {start : Start} {a : Incarnations} (sound : Sound start a) (fits : Fits
           let node = in_list_from start a bucket s inside in
           let other : node.0 ≢ c = λ e. ne (slot_is_one sound s t c (subst (λ (d : ℕ). Stands a s d) e node.1.stands) here.stands) in
           ap (λ b. is_in_list start a bucket s && b)
-          ((λ i. nat_lt (stands_key node.1.stands i) (stands_key here.stands i))
-          ∙ apart_keys a c node.0 (a.next c) other (sound.lists.apart c node.0 here.stands.listed node.1.stands.listed (here.of_bucket ∙ sym node.1.of_bucket)) up
+          ((λ i. is_lower (stands_key node.1.stands i) (stands_rank node.1.stands i) (stands_key here.stands i) (stands_rank here.stands i))
+          ∙ apart_nodes a c node.0 (a.next c) other (sound.lists.apart c node.0 here.stands.listed node.1.stands.listed (here.of_bucket ∙ sym node.1.of_bucket)) up
           ∙ sym (before_next sound fits s node.0 (a.next c) node.1.stands follows))
 
   next_walked : (before now : List Bool) → length now ≡ start.shape.slots → Walked start a bucket before now (Some t) → Walked start a bucket before (set now t true) (slot_shown a (a.next c))
@@ -177,24 +203,71 @@ walk_next {start} {words} {run} x bucket before now t room walked =
 pub walk_ends : (start : Start) (a : Incarnations) (bucket : ℕ) (before now : List Bool) → Walked start a bucket before now None → NotesList start a bucket before now
 walk_ends start a bucket before now walked s low = walked.notes s low ∙ ap (λ b. is_noted before s || b) (and_true (is_in_list start a bucket s))
 
-pub walk_nearer : {start : Start} {words : List ℕ} {run : List Event} → AreAfter start words run → (bucket : ℕ) (before now : List Bool) (t : ℕ) → ((i : ℕ) → slice_index words i < 2 ^ 64) → Walked start (incarnations_after start run) bucket before now (Some t)
-    → left start.shape words (link_of (slice_index words (index_of start.shape (place.LinkOf t)))).slot < left start.shape words (Some t)
-walk_nearer {start} {words} {run} x bucket before now t fit walked =
-    let a = incarnations_after start run in
-    let node = in_list_from start a bucket t walked.reached.1 in
-    subst (λ (next : Option ℕ). left start.shape words next < left start.shape words (Some t)) (sym (ap (λ (l : Link). l.slot) (link_read x (Slot t) walked.reached.0) ∙ next_of_node node.1.stands)) (go node.0 node.1 (a.next node.0) refl)
+-- ---- the walk ends
+
+no_turns : (shape : Dimensions) (words : List ℕ) (n : ℕ) → turns shape words n None ≡ 0
+no_turns shape words zero = refl
+no_turns shape words (suc n) = refl
+
+count_most : (test : ℕ → Bool) (n : ℕ) → count_below test n ≤ n
+count_most test zero = omega arith
+count_most test (suc n) = go (test n) (count_most test n)
   where
-    go : (c : ℕ) → InList start (incarnations_after start run) bucket t c → (next : Option ℕ) → (incarnations_after start run).next c ≡ next → left start.shape words (slot_shown (incarnations_after start run) next) < left start.shape words (Some t)
-    go c here None q = let f = fit (index_of start.shape (place.Key t)) in omega arith
-    go c here (Some n) q =
-        let a = incarnations_after start run in
-        let g = agrees x in
-        let order = (g.sound.lists.ordered c n q).1 in
-        let there = stands_there g.sound g.fits n (next_listed g.sound c n q here.stands.listed) in
-        let key_here = key_read x t walked.reached.0 ∙ stands_key here.stands in
-        let key_there = key_read x (a.slot n) there.0 ∙ stands_key there.1 in
-        let f = fit (index_of start.shape (place.Key t)) in
-        omega arith
+    go : (b : Bool) → count_below test n ≤ n → (if b then suc (count_below test n) else count_below test n) ≤ suc n
+    go true l = omega (arith, l)
+    go false l = omega (arith, l)
+
+module _ {start : Start} {words : List ℕ} {run : List Event} (x : AreAfter start words run) (bucket : ℕ) where
+  abbrev after : Incarnations
+  after = incarnations_after start run
+
+  named : (t c : ℕ) → t < start.shape.slots → InList start after bucket t c → (link_of (slice_index words (index_of start.shape (place.LinkOf t)))).slot ≡ slot_shown after (after.next c)
+  named t c low here = ap (λ (l : Link). l.slot) (link_read x (Slot t) low) ∙ next_of_node here.stands
+
+  -- the successor is in the list, and has one node fewer behind it
+  next_there : (t c m : ℕ) → InList start after bucket t c → after.next c ≡ Some m → (after.slot m < start.shape.slots) × InList start after bucket (after.slot m) m
+  next_there t c m here q =
+      let g = agrees x in
+      let there = stands_there g.sound g.fits m (next_listed g.sound c m q here.stands.listed) in
+      (there.0, record { stands = there.1; of_bucket = sym ((g.sound.lists.ordered c m q).0) ∙ here.of_bucket })
+
+  next_fewer : (t c m : ℕ) → InList start after bucket t c → after.next c ≡ Some m → behind start after bucket (Slot t) ≡ suc (behind start after bucket (Slot (after.slot m)))
+  next_fewer t c m here q =
+      let g = agrees x in
+      one_fewer g.sound g.fits bucket (Slot t) m (next_of_followed g.sound bucket (Slot t) (Some c) m (c, refl, here.stands.last, here.stands.listed, q) (ap (bucket_of start.shape) (stands_key here.stands) ∙ here.of_bucket))
+
+  -- once the number is above that of the nodes behind, a greater one makes no more turns
+  enough : (n t c : ℕ) → t < start.shape.slots → InList start after bucket t c → behind start after bucket (Slot t) < n → turns start.shape words (suc n) (Some t) ≡ turns start.shape words n (Some t)
+  enough zero t c low here few = absurd (omega (arith, few))
+  enough (suc n) t c low here few = ap suc (subst P (sym (named t c low here)) (go (λ m low here few. enough n (after.slot m) m low here few) (after.next c) refl))
+    where
+      P : Option ℕ → Type 0
+      P next = turns start.shape words (suc n) next ≡ turns start.shape words n next
+
+      go : ((m : ℕ) → after.slot m < start.shape.slots → InList start after bucket (after.slot m) m → behind start after bucket (Slot (after.slot m)) < n → P (Some (after.slot m))) → (next : Option ℕ) → after.next c ≡ next → P (slot_shown after next)
+      go earlier None q = sym (no_turns start.shape words n)
+      go earlier (Some m) q = let there = next_there t c m here q in let fewer = next_fewer t c m here q in earlier m there.0 there.1 (omega (arith, few, fewer))
+
+  nearer : (t c : ℕ) → t < start.shape.slots → InList start after bucket t c → left start.shape words (link_of (slice_index words (index_of start.shape (place.LinkOf t)))).slot < left start.shape words (Some t)
+  nearer t c low here = subst Q (sym (named t c low here)) (go (after.next c) refl)
+    where
+      Q : Option ℕ → Type 0
+      Q next = turns start.shape words (suc start.shape.slots) next < suc (turns start.shape words start.shape.slots next)
+
+      go : (next : Option ℕ) → after.next c ≡ next → Q (slot_shown after next)
+      go None q = omega arith
+      go (Some m) q =
+          let there = next_there t c m here q in
+          let fewer = next_fewer t c m here q in
+          let most = count_most (is_behind start after bucket (Slot t)) start.shape.slots in
+          let same = enough start.shape.slots (after.slot m) m there.0 there.1 (omega (arith, fewer, most)) in
+          omega (arith, same)
+
+pub walk_nearer : {start : Start} {words : List ℕ} {run : List Event} → AreAfter start words run → (bucket : ℕ) (before now : List Bool) (t : ℕ) → Walked start (incarnations_after start run) bucket before now (Some t)
+    → left start.shape words (link_of (slice_index words (index_of start.shape (place.LinkOf t)))).slot < left start.shape words (Some t)
+walk_nearer {start} {words} {run} x bucket before now t walked =
+    let node = in_list_from start (incarnations_after start run) bucket t walked.reached.1 in
+    nearer x bucket t node.0 walked.reached.0 node.1
 
 -- ---- all lists
 

@@ -9,7 +9,7 @@ use Rattle.vbr_machine.specs.Runs.{IsRun, AreAccepted, world_from, world_after, 
 use Rattle.vbr_machine.specs.Calls.{own_calls, calls_added}
 use Rattle.vbr_machine.specs.declared.event.Event.{Event}
 use Rattle.vbr_machine.specs.declared.event.Step.{Step}
-use Rattle.vbr_machine.specs.declared.event.Step.TheVariants.{ReadEpoch, Advance, LoadStamp, StoreStamp, Raise, TakeFlag, StoreBirth, StoreKey, StoreValue, StoreLink, LoadLink, LoadBirth, LoadKey, LoadValue, Publish, Mark, Unlink, ConfirmPresent, ConfirmAbsent}
+use Rattle.vbr_machine.specs.declared.event.Step.TheVariants.{ReadEpoch, Advance, LoadStamp, StoreStamp, Raise, TakeFlag, StoreBirth, StoreKey, StoreValue, StoreLink, LoadLink, LoadBirth, LoadKey, LoadValue, Publish, Mark, Replace, Unlink, ConfirmPresent, ConfirmAbsent}
 use Rattle.vbr_machine.specs.declared.history.Call.{Call}
 use Rattle.vbr_machine.proofs.Lemmas.{calls_after, others_leave_calls, world_after-append}
 
@@ -68,6 +68,7 @@ epoch_after start w p (LoadValue s) = omega arith
 epoch_after start w p (Publish (Head b) expected s) = kept (word_of (w.head b) == expected) _ w refl
 epoch_after start w p (Publish (Slot t) expected s) = kept (word_of (w.link t) == expected) _ w refl
 epoch_after start w p (Mark s expected) = kept (word_of (w.link s) == expected) _ w refl
+epoch_after start w p (Replace s expected t) = kept (word_of (w.link s) == expected) _ w refl
 epoch_after start w p (Unlink (Head b) expected s) = kept (word_of (w.head b) == expected) _ w refl
 epoch_after start w p (Unlink (Slot t) expected s) = kept (word_of (w.link t) == expected) _ w refl
 epoch_after start w p (ConfirmPresent op s expected) = kept (word_of (w.link s) == expected) _ w refl

@@ -2,13 +2,12 @@
 ghost use Rattle.std.specs.Prelude.{◌≡◌, ◌<◌, length, Some, None, OnOk, OnErr};
 ghost use Rattle.vbr_machine.specs.Acceptance.{Accepts};
 ghost use Rattle.vbr_machine.specs.Learning.{learn};
-ghost use Rattle.vbr_machine.specs.Machine.{stamp_shown};
 ghost use Rattle.vbr_machine.specs.Making.{ahead_made, call_made};
 ghost use Rattle.vbr_core.specs.Growth.{NeedsMemory, ReadsMore};
 ghost use Rattle.vbr_core.specs.WorldInLists.{world_of};
 ghost use Rattle.vbr_core.specs.KeptSteps.{IsAcceptedIn, KeepsStart, found_in};
 ghost use Rattle.vbr_core.specs.KeptLearning.{HasRoom, HaveSlots, LearnsAt, known_by};
-ghost use Rattle.vbr_core.specs.Answering.{with_answer};
+ghost use Rattle.vbr_core.specs.Answering.{IsAnswered, with_answer};
 
 use crate::world::lists::Lists;
 use crate::world::passes::PassState;
@@ -50,9 +49,7 @@ impl Lists {
         stamp: u64,
         call: Call,
     ) -> Result<(), AllocError>
-        requires accepted { IsAcceptedIn self.old event }
-        requires found { found ≡ found_in self.old event.step }
-        requires stamp { stamp ≡ stamp_shown (world_of self.old) event.step }
+        requires step { IsAnswered self.old event found stamp }
         requires ahead { ahead_made self.old.start (world_of self.old) event.pass event.step
             ≡ None }
         requires call { call_made self.old.start (world_of self.old) event.pass event.step
@@ -79,9 +76,7 @@ impl Lists {
         first: Call,
         second: Call,
     ) -> Result<(), AllocError>
-        requires accepted { IsAcceptedIn self.old event }
-        requires found { found ≡ found_in self.old event.step }
-        requires stamp { stamp ≡ stamp_shown (world_of self.old) event.step }
+        requires step { IsAnswered self.old event found stamp }
         requires first { ahead_made self.old.start (world_of self.old) event.pass event.step
             ≡ Some first }
         requires second { call_made self.old.start (world_of self.old) event.pass event.step

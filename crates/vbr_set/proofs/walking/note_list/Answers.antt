@@ -22,7 +22,7 @@ loop-next-smaller c =
     let words = c.args.words.now in
     let walked = walked_as c.in-Some.is (c.loop-next.invariant c.requires.run.0 c.requires.run.1 c.requires.run.2) in
     subst (λ (x : Option ℕ × Option ℕ). left shape words x.0 < left shape words x.1) (λ i. (sym c.next_at-next-in-Some.ensures i, sym c.in-Some.is i))
-    (walk_nearer c.requires.run.2 c.args.bucket c.args.notes.now c.loop-next.notes c.in-Some.slot (λ i. let fit = c.type_inv.words i in omega arith) walked)
+    (walk_nearer c.requires.run.2 c.args.bucket c.args.notes.now c.loop-next.notes c.in-Some.slot walked)
 
 pub loop-next-preserved : goal.loop-next-preserved
 loop-next-preserved c = λ opened run x.
