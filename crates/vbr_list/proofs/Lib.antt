@@ -18,5 +18,6 @@ mod Preparing
 mod Sufficing
 mod LonePasses
 mod Told
+mod Marks
 mod ValueReads
 pub mod Lemmas
