@@ -43,7 +43,7 @@ use Rattle.vbr_at_table.specs.declared.rollback.Rollback.TheVariants.{EpochMoved
 use Rattle.vbr_at_table.proofs.AloneExchanges.{publish_wins, unlink_wins, unlinked_alone, unlinks_after, written_stands}
 use Rattle.vbr_at_table.proofs.Keeping.{held_kept, keeps_on, marked_kept}
 use Rattle.vbr_at_table.proofs.MadeCalls.{mark_made, publish_adds_none, publish_failed, unlink_adds_none}
-use Rattle.vbr_at_table.proofs.MarkedLinks.{marked_alone}
+use Rattle.vbr_at_table.proofs.MarkedLinks.{marked_alone, marked_leaves}
 use Rattle.vbr_at_table.proofs.Moments.{found_after, publish_found, unlink_found, won}
 use Rattle.vbr_at_table.specs.Counts.{ChangesNone}
 use Rattle.vbr_at_table.proofs.Unchanged.{unchanged_by_none, unchanged_on}
@@ -80,6 +80,7 @@ mark_told {p} {q} {s} {word} node start is_run held at d link =
       link = link;
       held = record { held = record { epoch = h.epoch; link = subst L (sym link) (mark_known d); birth = subst B at h.birth }; mark = ap (λ (l : Link). l.mark) link };
       out = mark_takes_out d start;
+      leaves = marked_leaves node start at d;
       alone = λ alone. marked_alone node start at d alone;
     }
 
@@ -93,6 +94,7 @@ key_removed {p} {q} bare removed = record {
   link = removed.link;
   held = removed.held;
   out = removed.out;
+  leaves = removed.leaves;
   alone = removed.alone;
 }
 

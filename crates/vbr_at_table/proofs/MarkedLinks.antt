@@ -1,5 +1,5 @@
 -- A mark leaves the epoch, the link of each other place than its node's, and as many nodes in each list.
-use Rattle.std.proofs.Common.{◌≡◌, ◌≢◌, ℕ, refl, sym, ap, ◌∙◌}
+use Rattle.std.proofs.Common.{◌≡◌, ◌≢◌, ℕ, [], ◌∷◌, ◌++◌, refl, sym, subst, ap, ◌∙◌}
 use Rattle.std.specs.Prelude.{◌==◌}
 use Rattle.vbr_machine.specs.Start.{Start, IsStart}
 use Rattle.vbr_words.specs.Words.{link_of}
@@ -12,13 +12,14 @@ use Rattle.vbr_machine.specs.Links.{marked}
 use Rattle.vbr_machine.specs.Machine.{World, after, found, link_at}
 use Rattle.vbr_machine.specs.Nodes.{behind}
 use Rattle.vbr_machine.specs.Notes.{Notes}
-use Rattle.vbr_machine.specs.Runs.{world_after}
+use Rattle.vbr_machine.specs.Runs.{IsRun, world_after}
 use Rattle.vbr_machine.specs.declared.event.Step.TheVariants.{Mark}
-use Rattle.vbr_machine.proofs.Lemmas.{by_both, mark_leaves, put_other, run_agrees, world_after-snoc}
+use Rattle.vbr_machine.proofs.Lemmas.{by_both, is_run_before, mark_leaves, others_leave_entries, own_unchanged, put_other, run_agrees, since, world_after-snoc}
 use Rattle.vbr_slots.specs.Alone.{IsAlone}
 use Rattle.vbr_slots.specs.Views.{Trace, Did, event_of}
 use Rattle.vbr_slots.proofs.Lemmas.{accepted_now, did_run, nodes_next, run_was, seen_next}
 use Rattle.vbr_at_table.specs.Alone.{MarksAlone}
+use Rattle.vbr_at_table.specs.Marks.{LeavesOthers}
 use Rattle.vbr_at_table.specs.declared.held.Held.{Held}
 use Rattle.vbr_at_table.proofs.AloneReads.{shape_on}
 
@@ -49,4 +50,23 @@ marked_alone {p} {q} {s} node is at d alone =
       others = λ place other.
           link_is now place ∙ ap (λ (v : World). link_at v place) next ∙ link_left p.start w p.who s node.word place (λ e. other (e ∙ sym at)) ∙ sym (link_is before place);
       listed = λ bucket h. (λ i. behind (d.same.1 i) (nodes_next d alone i) bucket (Head h)) ∙ mark_leaves p.start p.passes p.seen is (run_was d alone) p.who bucket h s node.word (accepted_now d alone);
+    }
+
+-- whatever others did before
+pub marked_leaves : {p q : Trace} {s r : ℕ} (node : Held) → IsStart p.start → node.at ≡ Slot s → Did (Mark s node.word) p q r → LeavesOthers p q node
+marked_leaves {p} {q} {s} node is at d =
+    let moment = p.seen ++ d.rest in
+    let event = event_of p.who (Mark s node.word) in
+    let ok : IsRun p.start p.passes (moment ++ event ∷ []) = subst (IsRun p.start p.passes) d.seen d.is_run in
+    let ok_moment = is_run_before p.start p.passes moment (event ∷ []) ok in
+    let before = run_agrees p.start p.passes moment is ok_moment in
+    let now = run_agrees p.start p.passes q.seen is d.is_run in
+    let w = world_after p.start moment in
+    let next : world_after p.start q.seen ≡ after p.start w p.who (Mark s node.word) = ap (world_after p.start) d.seen ∙ world_after-snoc p.start moment event in
+    record {
+      moment = moment;
+      from = (d.rest, refl);
+      to = (event ∷ [], d.seen);
+      own = λ bucket. own_unchanged (since p.start p.passes p.seen moment is ok_moment (d.rest, refl)) p.who bucket (others_leave_entries p.start p.seen d.rest p.who d.none);
+      links = λ place other. link_is now place ∙ ap (λ (v : World). link_at v place) next ∙ link_left p.start w p.who s node.word place (λ e. other (e ∙ sym at)) ∙ sym (link_is before place);
     }

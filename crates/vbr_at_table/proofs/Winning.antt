@@ -26,9 +26,8 @@ use Rattle.vbr_at_table.proofs.Advancing.{same_advances, same_flags, none_given,
 use Rattle.vbr_at_table.proofs.Counting.{counts_one, counts_on, took_all}
 use Rattle.vbr_at_table.proofs.Shown.{came, missed, missed_before, missed_after}
 
--- so many probes were made on a way once round the slots: from the first slot of the word of the flag that was tried last up to the last one, and then, up to that first one, from slot 0 on;
--- and each slot before the next one to be probed was outside the shared pool
-pub record Winning (p q : PassView) (budget used start next end : ℕ) : Type 0 where
+-- so many probes were made, and none won, on a way that begins with the first slot of the word of the flag that was tried last
+pub record Tried (p q : PassView) (budget used start : ℕ) : Type 0 where
   pub quiet : Quiet p.trace q.trace
   pub pool : KeepsPool p q
   pub none : TakesNoSlot p q
@@ -36,10 +35,15 @@ pub record Winning (p q : PassView) (budget used start next end : ℕ) : Type 0 
   pub within : used ≤ budget
   pub begins : start ≡ 64 * word_of_flag (last_tried p.trace)
   pub low : start < p.trace.start.shape.slots
+  pub opens : IsStart p.trace.start
+
+-- they were made once round the slots: from that first slot up to the last one, and then, up to that first one, from slot 0 on;
+-- and each slot before the next one to be probed was outside the shared pool
+pub record Winning (p q : PassView) (budget used start next end : ℕ) : Type 0 where
+  pub tried : Tried p q budget used start
   pub turn : ((end ≡ p.trace.start.shape.slots) × (start ≤ next) × (next < p.trace.start.shape.slots)) ⊎ (end ≡ start)
   pub ahead : (slot : ℕ) → slot < p.trace.start.shape.slots → start ≤ slot → slot < next → WasOutside p.trace q.trace slot
   pub round : end ≡ start → (slot : ℕ) → slot < p.trace.start.shape.slots → (start ≤ slot) ⊎ (slot < next) → WasOutside p.trace q.trace slot
-  pub opens : IsStart p.trace.start
   pub first : end ≡ p.trace.start.shape.slots → Probed q.trace (word_of_flag start + gained_by_now p.trace) 0 used next
   pub second : end ≡ start → Probed q.trace (word_of_flag start + gained_by_now p.trace) (flag_words p.trace.start.shape.slots) used next
 
@@ -47,16 +51,30 @@ pub record Winning (p q : PassView) (budget used start next end : ℕ) : Type 0 
 next_low : (word slot next : ℕ) → IsNextFlag word slot next → next ≤ 64 * (slot / 64 + 1)
 next_low word slot next is = ⊎_elim (λ (here : (word_of_flag next ≡ word_of_flag slot) × (has_flag word next ≡ true)). (let same = here.0 in omega arith)) (λ (past : (word ≡ 0) × (next ≡ 64 * (slot / 64 + 1))). (let e = past.1 in omega arith)) is.place
 
--- one more flag was lost, which told of all slots of its word
-module _ {p q r : PassView} {budget used start slot end next n : ℕ} (at : Winning p q budget used start slot end) (below : slot < end) (room : used + PIECE ≤ budget) (d : Did (TakeFlag slot) q.trace r.trace n) (lost : has_flag n slot ≡ false) (then : IsNextFlag n slot next) (stays : KeepsPool q r) where
+-- one more flag was lost
+module _ {p q r : PassView} {budget used start slot n : ℕ} (at : Tried p q budget used start) (room : used + PIECE ≤ budget) (d : Did (TakeFlag slot) q.trace r.trace n) (lost : has_flag n slot ≡ false) (stays : KeepsPool q r) where
   lost_flag : (a b : Know) → cond (has_flag n slot) a b ≡ b
   lost_flag a b = ap (λ (t : Bool). cond t a b) lost
 
-  more : Quiet q.trace r.trace
-  more = did_quiet d (λ know. refl)
-
   none_lost : TakesNoSlot p r
   none_lost = none_on at.none (none_known (same_advances d refl) (same_flags d refl) stays (did_turn d) (d.know ∙ lost_flag _ (knows q.trace)))
+
+  pub win_tried : Tried p r budget (used + 1) start
+  win_tried = record {
+    quiet = quiet_on at.quiet (did_quiet d (λ know. refl));
+    pool = (stays.0 ∙ at.pool.0, stays.1 ∙ at.pool.1);
+    none = none_lost;
+    counts = counts_on at.counts (counts_one used d);
+    within = omega arith;
+    begins = at.begins;
+    low = at.low;
+    opens = at.opens;
+  }
+
+-- it told of all slots of its word
+module _ {p q r : PassView} {budget used start slot end next n : ℕ} (at : Winning p q budget used start slot end) (below : slot < end) (room : used + PIECE ≤ budget) (d : Did (TakeFlag slot) q.trace r.trace n) (lost : has_flag n slot ≡ false) (then : IsNextFlag n slot next) (stays : KeepsPool q r) where
+  more : Quiet q.trace r.trace
+  more = did_quiet d (λ know. refl)
 
   still : {s : ℕ} → WasOutside p.trace q.trace s → WasOutside p.trace r.trace s
   still w = missed_before w more
@@ -66,7 +84,7 @@ module _ {p q r : PassView} {budget used start slot end next n : ℕ} (at : Winn
   told s in_shape from less =
       let past = next_low n slot next then in
       let same : s / 64 ≡ slot / 64 = omega (arith, past, from, less) in
-      missed_after at.quiet (missed d lost s (subst (λ (start : Start). s < start.shape.slots) (sym at.quiet.same.start) in_shape) same (then.before s same less))
+      missed_after at.tried.quiet (missed d lost s (subst (λ (start : Start). s < start.shape.slots) (sym at.tried.quiet.same.start) in_shape) same (then.before s same less))
 
   ahead_next : (s : ℕ) → s < p.trace.start.shape.slots → start ≤ s → s < next → WasOutside p.trace r.trace s
   ahead_next s in_shape from less = ⊎_elim (λ (earlier : s < slot). still (at.ahead s in_shape from earlier)) (λ (later : slot ≤ s). told s in_shape later less) (cases_lt s slot)
@@ -77,26 +95,19 @@ module _ {p q r : PassView} {budget used start slot end next n : ℕ} (at : Winn
 
   slot_low : slot < q.trace.start.shape.slots
   slot_low =
-      let same : q.trace.start.shape.slots ≡ p.trace.start.shape.slots = ap (λ (start : Start). start.shape.slots) at.quiet.same.start in
-      ⊎_elim (λ (first : (end ≡ p.trace.start.shape.slots) × (start ≤ slot) × (slot < p.trace.start.shape.slots)). (let less = first.2 in omega (arith, same, less))) (λ (over : end ≡ start). (let less = at.low in omega (arith, same, over, less, below))) at.turn
+      let same : q.trace.start.shape.slots ≡ p.trace.start.shape.slots = ap (λ (start : Start). start.shape.slots) at.tried.quiet.same.start in
+      ⊎_elim (λ (first : (end ≡ p.trace.start.shape.slots) × (start ≤ slot) × (slot < p.trace.start.shape.slots)). (let less = first.2 in omega (arith, same, less))) (λ (over : end ≡ start). (let less = at.tried.low in omega (arith, same, over, less, below))) at.turn
 
   opens_here : IsStart q.trace.start
-  opens_here = subst IsStart (sym at.quiet.same.start) at.opens
+  opens_here = subst IsStart (sym at.tried.quiet.same.start) at.tried.opens
 
   -- the search goes on there, if that is a slot
   pub win_next : next < p.trace.start.shape.slots → Winning p r budget (used + 1) start next end
   win_next in_shape = record {
-    quiet = quiet_on at.quiet more;
-    pool = (stays.0 ∙ at.pool.0, stays.1 ∙ at.pool.1);
-    none = none_lost;
-    counts = counts_on at.counts (counts_one used d);
-    within = omega arith;
-    begins = at.begins;
-    low = at.low;
-    turn = ⊎_elim (λ (first : (end ≡ p.trace.start.shape.slots) × (start ≤ slot) × (slot < p.trace.start.shape.slots)). inl (first.0, ⊎_elim (λ (here : (word_of_flag next ≡ word_of_flag slot) × (has_flag n next ≡ true)). (let same = here.0 in let b = at.begins in let f = first.1 in omega (arith, same, b, f))) (λ (past : (n ≡ 0) × (next ≡ 64 * (slot / 64 + 1))). (let e = past.1 in let f = first.1 in omega (arith, e, f))) then.place, in_shape)) (λ (over : end ≡ start). inr over) at.turn;
+    tried = win_tried at.tried room d lost stays;
+    turn = ⊎_elim (λ (first : (end ≡ p.trace.start.shape.slots) × (start ≤ slot) × (slot < p.trace.start.shape.slots)). inl (first.0, ⊎_elim (λ (here : (word_of_flag next ≡ word_of_flag slot) × (has_flag n next ≡ true)). (let same = here.0 in let b = at.tried.begins in let f = first.1 in omega (arith, same, b, f))) (λ (past : (n ≡ 0) × (next ≡ 64 * (slot / 64 + 1))). (let e = past.1 in let f = first.1 in omega (arith, e, f))) then.place, in_shape)) (λ (over : end ≡ start). inr over) at.turn;
     ahead = ahead_next;
     round = round_next;
-    opens = at.opens;
     first = λ is. probed_next opens_here d slot_low lost (word_of_flag start + gained_by_now p.trace) 0 used next (at.first is) then;
     second = λ over. probed_next opens_here d slot_low lost (word_of_flag start + gained_by_now p.trace) (flag_words p.trace.start.shape.slots) used next (at.second over) then;
   }
@@ -104,24 +115,17 @@ module _ {p q r : PassView} {budget used start slot end next n : ℕ} (at : Winn
   -- or with slot 0, if there is none behind the last one
   pub win_round : p.trace.start.shape.slots ≤ next → Winning p r budget (used + 1) start 0 start
   win_round past = record {
-    quiet = quiet_on at.quiet more;
-    pool = (stays.0 ∙ at.pool.0, stays.1 ∙ at.pool.1);
-    none = none_lost;
-    counts = counts_on at.counts (counts_one used d);
-    within = omega arith;
-    begins = at.begins;
-    low = at.low;
+    tried = win_tried at.tried room d lost stays;
     turn = inr refl;
     ahead = λ s in_shape from less. absurd (omega (arith, less));
     round = λ over s in_shape which. ⊎_elim (λ (from : start ≤ s). ahead_next s in_shape from (omega (arith, in_shape, past))) (λ (less : s < 0). absurd (omega (arith, less))) which;
-    opens = at.opens;
-    first = λ is. absurd (omega (arith, is, at.low));
+    first = λ is. absurd (omega (arith, is, at.tried.low));
     second = λ over. inl few;
   }
     where
       -- this was no second turn, since that ends before the first slot of a word
       first : (end ≡ p.trace.start.shape.slots) × (start ≤ slot) × (slot < p.trace.start.shape.slots)
-      first = ⊎_elim (λ (first : (end ≡ p.trace.start.shape.slots) × (start ≤ slot) × (slot < p.trace.start.shape.slots)). first) (λ (over : end ≡ start). (let low = next_low n slot next then in let b = at.begins in let l = at.low in absurd (omega (arith, low, b, l, over, below, past)))) at.turn
+      first = ⊎_elim (λ (first : (end ≡ p.trace.start.shape.slots) × (start ≤ slot) × (slot < p.trace.start.shape.slots)). first) (λ (over : end ≡ start). (let low = next_low n slot next then in let b = at.tried.begins in let l = at.tried.low in absurd (omega (arith, low, b, l, over, below, past)))) at.turn
 
       few : word_of_flag start + gained_by_now p.trace + (used + 1) ≤ flag_words p.trace.start.shape.slots + word_of_flag 0 + gained_by_now r.trace
       few = let lost_first = probed_lost opens_here d slot_low lost (word_of_flag start + gained_by_now p.trace) 0 used (at.first first.0) in let low = first.2 in omega (arith, lost_first, low)
@@ -129,10 +133,10 @@ module _ {p q r : PassView} {budget used start slot end next n : ℕ} (at : Winn
 -- no more probes were made than there are flag words, and one for each slot that others took out of the shared pool; and one more that won
 few : {p q : PassView} {budget used start slot end : ℕ} → Winning p q budget used start slot end → slot < end → used ≤ flag_words p.trace.start.shape.slots + gained p.trace q.trace
 few {p} {q} {used = used} {start = start} {slot = slot} {end = end} at below =
-    let same = gained_same at.quiet.same in
+    let same = gained_same at.tried.quiet.same in
     ⊎_elim
     (λ (first : (end ≡ p.trace.start.shape.slots) × (start ≤ slot) × (slot < p.trace.start.shape.slots)). (let most = probed_few q.trace (word_of_flag start + gained_by_now p.trace) 0 used slot (at.first first.0) in let low = first.2 in omega (arith, most, low, same)))
-    (λ (over : end ≡ start). (let most = probed_few q.trace (word_of_flag start + gained_by_now p.trace) (flag_words p.trace.start.shape.slots) used slot (at.second over) in let b = at.begins in omega (arith, most, b, over, below, same))) at.turn
+    (λ (over : end ≡ start). (let most = probed_few q.trace (word_of_flag start + gained_by_now p.trace) (flag_words p.trace.start.shape.slots) used slot (at.second over) in let b = at.tried.begins in omega (arith, most, b, over, below, same))) at.turn
 
 win_few : {p q : PassView} {t : Trace} {budget used start slot end n : ℕ} → Winning p q budget used start slot end → slot < end → Did (TakeFlag slot) q.trace t n → used + 1 ≤ flag_words p.trace.start.shape.slots + 1 + gained p.trace t
 win_few {p} {q} {t} at below d = let most = few at below in let more = gained_on p.trace q.trace t (did_seen d) in omega (arith, most, more)
@@ -141,11 +145,11 @@ win_few {p} {q} {t} at below d = let most = few at below in let more = gained_on
 pub win_done : {p q r t : PassView} {budget used start slot end n : ℕ} → Winning p q budget used start slot end → slot < end → p.pool ≡ [] → p.hand ≡ None → used + PIECE ≤ budget → Did (TakeFlag slot) q.trace r.trace n → has_flag n slot ≡ true → KeepsPool q r → t.trace ≡ r.trace → t.pool ≡ r.pool ++ slot ∷ [] → t.hand ≡ hand_without slot r.hand →
     HasSlots p t budget (used + 1)
 win_done {p} {q} {r} {t} {budget} {used} {start} {slot} {end} at below empty no_hand room d set stays same pool hand =
-    let one : t.pool ≡ slot ∷ [] = pool ∙ ap (λ (l : List ℕ). l ++ slot ∷ []) (stays.0 ∙ at.pool.0 ∙ empty) in
+    let one : t.pool ≡ slot ∷ [] = pool ∙ ap (λ (l : List ℕ). l ++ slot ∷ []) (stays.0 ∙ at.tried.pool.0 ∙ empty) in
     record {
-      uses = record { counts = subst (λ (x : Trace). CountsSteps p.trace x 0 (used + 1)) (sym same) (counts_on at.counts (counts_one used d)); within = omega arith; at_most = omega arith };
-      hand = hand ∙ ap (hand_without slot) (stays.1 ∙ at.pool.1 ∙ no_hand);
-      won = inr (empty, slot, one, subst (λ (x : Trace). CameByFlag p.trace x slot) (sym same) (came at.quiet d set (λ s in_shape before. missed_before (first s in_shape before) (did_quiet d (λ know. refl)))));
+      uses = record { counts = subst (λ (x : Trace). CountsSteps p.trace x 0 (used + 1)) (sym same) (counts_on at.tried.counts (counts_one used d)); within = omega arith; at_most = omega arith };
+      hand = hand ∙ ap (hand_without slot) (stays.1 ∙ at.tried.pool.1 ∙ no_hand);
+      won = inr (empty, slot, one, subst (λ (x : Trace). CameByFlag p.trace x slot) (sym same) (came at.tried.quiet d set (λ s in_shape before. missed_before (first s in_shape before) (did_quiet d (λ know. refl)))));
       some = λ none. not_empty slot (sym one ∙ none);
       room = (let e = ap length one in omega (arith, e));
       few = λ empty. subst (λ (x : Trace). used + 1 ≤ flag_words p.trace.start.shape.slots + 1 + gained p.trace x) (sym same) (win_few at below d);
@@ -155,34 +159,34 @@ win_done {p} {q} {r} {t} {budget} {used} {start} {slot} {end} at below empty no_
     not_empty s e = absurd (cc)
 
     first : (s : ℕ) → s < p.trace.start.shape.slots → ComesBefore (word_of_flag (last_tried p.trace)) s slot → WasOutside p.trace q.trace s
-    first s in_shape (inl here) = let b = at.begins in let from = here.0 in at.ahead s in_shape (omega (arith, b, from)) here.1
+    first s in_shape (inl here) = let b = at.tried.begins in let from = here.0 in at.ahead s in_shape (omega (arith, b, from)) here.1
     first s in_shape (inr past) = ⊎_elim
-        (λ (first : (end ≡ p.trace.start.shape.slots) × (start ≤ slot) × (slot < p.trace.start.shape.slots)). (let b = at.begins in let f = first.1 in let early = past.0 in absurd (omega (arith, b, f, early))))
-        (λ (over : end ≡ start). at.round over s in_shape (⊎_elim (λ (from : 64 * word_of_flag (last_tried p.trace) ≤ s). (let b = at.begins in inl (omega (arith, b, from)))) (λ (less : s < slot). inr less) past.1)) at.turn
+        (λ (first : (end ≡ p.trace.start.shape.slots) × (start ≤ slot) × (slot < p.trace.start.shape.slots)). (let b = at.tried.begins in let f = first.1 in let early = past.0 in absurd (omega (arith, b, f, early))))
+        (λ (over : end ≡ start). at.round over s in_shape (⊎_elim (λ (from : 64 * word_of_flag (last_tried p.trace) ≤ s). (let b = at.tried.begins in inl (omega (arith, b, from)))) (λ (less : s < slot). inr less) past.1)) at.turn
 
 -- the slot is all that the pass could take
 win_none : {p q r t : PassView} {budget used start slot end n : ℕ} → Winning p q budget used start slot end → Did (TakeFlag slot) q.trace r.trace n → has_flag n slot ≡ true → KeepsPool q r → t.trace ≡ r.trace → t.pool ≡ r.pool ++ slot ∷ [] → t.hand ≡ hand_without slot r.hand → TakesNoSlot p t
-win_none {q = q} {slot = slot} {n = n} at d set stays same pool hand = none_on at.none (none_given d refl refl refl (λ s other m. subst MayBear (ap (λ (k : Know). k.own s) (d.know ∙ won_flag _ (knows q.trace)) ∙ put_other (knows q.trace).own _ _ s other) m) stays same pool hand)
+win_none {q = q} {slot = slot} {n = n} at d set stays same pool hand = none_on at.tried.none (none_given d refl refl refl (λ s other m. subst MayBear (ap (λ (k : Know). k.own s) (d.know ∙ won_flag _ (knows q.trace)) ∙ put_other (knows q.trace).own _ _ s other) m) stays same pool hand)
   where
     won_flag : (a b : Know) → cond (has_flag n slot) a b ≡ a
     won_flag a b = ap (λ (t : Bool). cond t a b) set
 
 pub win_probes : {p q r t : PassView} {budget used start slot end n : ℕ} → Winning p q budget used start slot end → Did (TakeFlag slot) q.trace r.trace n → has_flag n slot ≡ true → KeepsPool q r → t.trace ≡ r.trace → t.pool ≡ r.pool ++ slot ∷ [] → t.hand ≡ hand_without slot r.hand → Probes p t
 win_probes {p} at d set stays same pool hand = record {
-  quiet = subst (Quiet p.trace) (sym same) (quiet_on at.quiet (did_quiet d (λ know. refl)));
+  quiet = subst (Quiet p.trace) (sym same) (quiet_on at.tried.quiet (did_quiet d (λ know. refl)));
   takes_no_slot = win_none at d set stays same pool hand;
 }
 
 -- or none was won: for want of steps, or once round
 pub unwon_probes : {p q : PassView} {budget used start slot end : ℕ} → Winning p q budget used start slot end → Probes p q
-unwon_probes at = record { quiet = at.quiet; takes_no_slot = at.none }
+unwon_probes at = record { quiet = at.tried.quiet; takes_no_slot = at.tried.none }
 
 pub win_short : {p q : PassView} {budget used start slot end : ℕ} → Winning p q budget used start slot end → slot < end → p.pool ≡ [] → budget < used + PIECE → WinsNone p q budget (OutOfSteps used, used)
 win_short at below empty short = record {
-  uses = record { counts = at.counts; within = at.within; at_most = (let w = at.within in omega (arith, w)) };
+  uses = record { counts = at.tried.counts; within = at.tried.within; at_most = (let w = at.tried.within in omega (arith, w)) };
   empty = empty;
-  pool = at.pool;
-  why = record { took = took_all at.counts; within = at.within; short = short };
+  pool = at.tried.pool;
+  why = record { took = took_all at.tried.counts; within = at.tried.within; short = short };
   enough = (let most = few at below in omega (arith, most, short));
 }
 
@@ -190,12 +194,12 @@ pub win_no_slot : {p q : PassView} {budget used start slot end : ℕ} → Winnin
 win_no_slot {p} {q} {start = start} {slot = slot} {end = end} at behind empty =
     let over : end ≡ start = ⊎_elim (λ (first : (end ≡ p.trace.start.shape.slots) × (start ≤ slot) × (slot < p.trace.start.shape.slots)). (let e = first.0 in let low = first.2 in absurd (omega (arith, e, low, behind)))) (λ (over : end ≡ start). over) at.turn in
     record {
-      uses = record { counts = at.counts; within = at.within; at_most = (let w = at.within in omega (arith, w)) };
+      uses = record { counts = at.tried.counts; within = at.tried.within; at_most = (let w = at.tried.within in omega (arith, w)) };
       empty = empty;
-      pool = at.pool;
+      pool = at.tried.pool;
       why = record {
         empty = empty;
-        still = at.pool.0 ∙ empty;
+        still = at.tried.pool.0 ∙ empty;
         outside = λ s in_shape. at.round over s in_shape (⊎_elim (λ (earlier : s < start). inr (omega (arith, earlier, behind, over))) (λ (later : start ≤ s). inl later) (cases_lt s start));
       };
       enough = tt;

@@ -17,6 +17,7 @@ use Rattle.vbr_at_table.specs.KeptSlots.{TakesNoSlot}
 use Rattle.vbr_at_table.specs.Alone.{MarksAlone, StandsNow, UnlinksAlone}
 use Rattle.vbr_at_table.specs.Held.{IsFilled, IsHeld, HoldsMarked, held_of}
 use Rattle.vbr_at_table.specs.Keeping.{Keeps, KeepsOwn, KeepsUnlinked}
+use Rattle.vbr_at_table.specs.Marks.{LeavesOthers}
 use Rattle.vbr_at_table.specs.Moments.{IsRead}
 use Rattle.vbr_at_table.specs.Rollbacks.{FreshIfMoved, IsLost, IsMovedOrLost}
 use Rattle.vbr_at_table.specs.declared.held.Held.{Held}
@@ -39,13 +40,14 @@ pub record IsGap (p : Trace) (key : ℕ) (pred : Held) : Type 0 where
 
 -- ---- what they tell
 
--- the pass removed the key of the node that was held, whose link is marked now and which is taken out; a pass that was alone leaves all other links
+-- the pass removed the key of the node that was held, whose link is marked now and which is taken out; the mark leaves all other links, and so does a pass that was alone
 pub record RemovesKey (p q : Trace) (node : Held) (now : Marked) : Type 0 where
   pub made : (key : ℕ) → KeyAt (knows p) node.at key → Made (set_call p.who Remove key true) p q
   pub at : (held_of now).at ≡ node.at
   pub link : link_of now.word ≡ marked (link_of node.word)
   pub held : HoldsMarked (knows q) now
   pub out : IsTakenOut (nodes q) (knows q).epoch now.slot
+  pub leaves : LeavesOthers p q node
   pub alone : IsAlone p q → MarksAlone p q node
 
 -- another link stood where one was held: no call was made, and no list changed; for a pass that was alone, what is held hadn't stood

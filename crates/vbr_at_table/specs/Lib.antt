@@ -23,6 +23,7 @@ pub mod CallSteps
 pub mod LookUps
 pub mod Reading
 pub mod Answering
+pub mod Marks
 pub mod Exchanges
 pub mod Values
 pub mod Replacing

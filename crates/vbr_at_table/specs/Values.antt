@@ -25,6 +25,7 @@ use Rattle.vbr_at_table.specs.Counts.{ChangesNone}
 use Rattle.vbr_at_table.specs.Hands.{HandView}
 use Rattle.vbr_at_table.specs.Exchanges.{FillsHand}
 use Rattle.vbr_at_table.specs.Held.{HoldsMarked, held_of}
+use Rattle.vbr_at_table.specs.Marks.{LeavesOthers}
 use Rattle.vbr_at_table.specs.Keeping.{Keeps}
 use Rattle.vbr_at_table.specs.declared.held.Held.{Held}
 use Rattle.vbr_at_table.specs.declared.held.Marked.{Marked}
@@ -66,13 +67,14 @@ pub record IsValueRead (p q : PassView) (at : At) (found : ℕ) : Type 0 where
   pub keeps : Keeps (knows p.trace) (knows q.trace)
   pub value : ValueAt (knows q.trace) at found
 
--- the pass removed the entry of the node that was held, whose link is marked now and which is taken out; a pass that was alone leaves all other links
+-- the pass removed the entry of the node that was held, whose link is marked now and which is taken out; the mark leaves all other links, and so does a pass that was alone
 pub record RemovesEntry (p q : Trace) (node : Held) (now : Marked) : Type 0 where
   pub made : (key value : ℕ) → KeyAt (knows p) node.at key → (p.start.shape.values ≡ true → ValueAt (knows p) node.at value) → Made (entry_call p.start p.who Remove key true value) p q
   pub at : (held_of now).at ≡ node.at
   pub link : link_of now.word ≡ marked (link_of node.word)
   pub held : HoldsMarked (knows q) now
   pub out : IsTakenOut (nodes q) (knows q).epoch now.slot
+  pub leaves : LeavesOthers p q node
   pub alone : IsAlone p q → MarksAlone p q node
 
 -- it answered by the presence of the entry of a node

@@ -17,5 +17,6 @@ mod Preparing
 mod Sufficing
 mod LonePasses
 mod Told
+mod Marks
 mod ValueReads
 pub mod Lemmas

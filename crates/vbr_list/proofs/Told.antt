@@ -127,5 +127,5 @@ look_up_yes {p = p} {q = q} (Ok given) x same = record {
 look_up_yes (Err refusal) x same = record { only_loads = x.only_loads; adds = tt; adds_none = x.adds_none; takes_no_slot = x.takes_no_slot; refused = x.refused; within = x.within; disturbed_within = x.disturbed_within; costs = tt; disturbed_costs = tt }
 
 pub remove_yes : {p q : PassView} {key budget : ℕ} (answer : Result (Option ℕ) Refusal) → SparesRemove is_some p q key budget answer → SparesRemove (λ removed. removed) p q key budget (is_yes answer)
-remove_yes (Ok given) x = record { takes_no_slot = x.takes_no_slot; unlists = x.unlists; refused = tt; within = tt; disturbed_within = tt; costs = x.costs; fewer = x.fewer }
-remove_yes (Err refusal) x = record { takes_no_slot = x.takes_no_slot; unlists = tt; refused = x.refused; within = x.within; disturbed_within = x.disturbed_within; costs = tt; fewer = tt }
+remove_yes (Ok given) x = record { takes_no_slot = x.takes_no_slot; unlists = x.unlists; refused = tt; within = tt; disturbed_within = tt; costs = x.costs; disturbed_costs = x.disturbed_costs; fewer = x.fewer }
+remove_yes (Err refusal) x = record { takes_no_slot = x.takes_no_slot; unlists = tt; refused = x.refused; within = x.within; disturbed_within = x.disturbed_within; costs = tt; disturbed_costs = tt; fewer = tt }

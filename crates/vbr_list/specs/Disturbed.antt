@@ -58,3 +58,7 @@ steps_for_slot p q = most_to_take_among p.trace.start p.pool (gained p.trace q)
 -- the most that it costs where it is found
 abbrev pub find_costs_among : ℕ → ℕ → ℕ
 find_costs_among nodes times = (times + 1) * (9 * (nodes + times) + 3)
+
+-- the most that a remove costs which is answered, with so many steps to read a value
+abbrev pub remove_costs_among : ℕ → ℕ → ℕ → ℕ
+remove_costs_among nodes times reading = (times + 1) * (9 * (nodes + times) + 6) + 4 + reading

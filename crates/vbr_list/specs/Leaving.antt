@@ -9,8 +9,8 @@ use Rattle.vbr_slots.specs.Views.{PassView, Trace}
 use Rattle.vbr_at_table.specs.KeptSlots.{TakesNoSlot}
 use Rattle.vbr_at_table.specs.Refusals.{LeavesRoom}
 use Rattle.vbr_at_table.specs.Steps.{TookWithin}
-use Rattle.vbr_list.specs.Budgets.{enough_to_search, enough_to_unlink, listed_for, remove_costs}
-use Rattle.vbr_list.specs.Disturbed.{disturbed, enough_to_search_among}
+use Rattle.vbr_list.specs.Budgets.{enough_to_search, enough_to_unlink, listed_for, remove_costs, steps_to_value_of}
+use Rattle.vbr_list.specs.Disturbed.{disturbed, enough_to_search_among, remove_costs_among}
 use Rattle.vbr_list.specs.Refusals.{IsTired}
 use Rattle.vbr_list.specs.declared.refusal.Refusal.{Refusal}
 
@@ -24,7 +24,7 @@ pub record WasClear (p q : Trace) (key : ℕ) : Type 0 where
 abbrev pub Leaves : Trace → Trace → ℕ → Type 0
 Leaves p q key = MarkedLeft p.start p.seen q.seen p.who key
 
--- what a remove promises besides: it advances no epoch and loses no slot; where it answers yes, the node that it marked has left its list, unless its steps leave no room in the budget for one more piece; it is refused for want of steps alone, and alone it has steps enough with a budget that is known before, and its answer costs no more than is known before, and with two steps more one that is yes leaves fewer nodes in the list; and a pass that was disturbed so often has steps enough with a budget for that
+-- what a remove promises besides: it advances no epoch and loses no slot; where it answers yes, the node that it marked has left its list, unless its steps leave no room in the budget for one more piece; it is refused for want of steps alone, and alone it has steps enough with a budget that is known before, and its answer costs no more than is known before, and with two steps more one that is yes leaves fewer nodes in the list; and a pass that was disturbed so often has steps enough with a budget for that, and its answer costs no more than that allows
 pub record SparesRemove {A : Type 0} (yes : A → Bool) (p q : PassView) (key budget : ℕ) (answer : Result A Refusal) : Type 0 where
   pub takes_no_slot : TakesNoSlot p q
   pub unlists : IfOk answer (λ removed. yes removed ≡ true → LeavesRoom p q budget → Leaves p.trace q.trace key)
@@ -32,4 +32,5 @@ pub record SparesRemove {A : Type 0} (yes : A → Bool) (p q : PassView) (key bu
   pub within : IfErr answer (λ refusal. IsAlone p.trace q.trace → budget < enough_to_search p.trace key)
   pub disturbed_within : IfErr answer (λ refusal. budget < enough_to_search_among (listed_for p.trace key) (disturbed p.trace q.trace key))
   pub costs : IfOk answer (λ removed. IsAlone p.trace q.trace → TookWithin p.trace q.trace (remove_costs p.trace key))
+  pub disturbed_costs : IfOk answer (λ removed. TookWithin p.trace q.trace (remove_costs_among (listed_for p.trace key) (disturbed p.trace q.trace key) (steps_to_value_of p.trace.start)))
   pub fewer : IfOk answer (λ removed. yes removed ≡ true → IsAlone p.trace q.trace → enough_to_unlink p.trace key ≤ budget → listed_for q.trace key < listed_for p.trace key)

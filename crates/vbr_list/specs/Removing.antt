@@ -1,15 +1,21 @@
 -- The pieces of a remove. Only contracts of private functions cite this.
-use Rattle.std.specs.Prelude.{◌≡◌, ℕ, ◌+◌, ◌<◌, ◌≤◌, Option, true, is_some}
+use Rattle.std.specs.Prelude.{◌≡◌, ℕ, ◌+◌, ◌<◌, ◌≤◌, ◌⊎◌, List, Option, true, is_some}
+use Rattle.vbr_words.specs.Words.{link_of}
 use Rattle.vbr_machine.specs.Start.{Start}
 use Rattle.vbr_words.specs.declared.nodes.Nodes.{Ghosts}
 use Rattle.vbr_words.specs.declared.place.At.TheVariants.{Slot}
 use Rattle.vbr_words.specs.Buckets.{bucket_of}
+use Rattle.vbr_machine.specs.Disturbances.{IsOpenIn}
+use Rattle.vbr_machine.specs.Images.{link_shown_at}
 use Rattle.vbr_machine.specs.Membership.{HeldIn, KeyAt, StandsBehind}
 use Rattle.vbr_machine.specs.Removals.{IsTakenOut}
+use Rattle.vbr_machine.specs.Runs.{Begins}
+use Rattle.vbr_machine.specs.declared.event.Event.{Event}
 use Rattle.vbr_machine.specs.declared.history.Op.TheVariants.{Remove}
 use Rattle.vbr_slots.specs.Alone.{IsFresh, nodes}
-use Rattle.vbr_slots.specs.Calls.{Quiet}
-use Rattle.vbr_slots.specs.Views.{knows}
+use Rattle.vbr_slots.specs.Calls.{IsSame, Quiet}
+use Rattle.vbr_slots.specs.Views.{Trace, knows}
+use Rattle.vbr_at_table.specs.Counts.{advances}
 use Rattle.vbr_at_table.specs.Alone.{StandsNow}
 use Rattle.vbr_at_table.specs.declared.held.Held.{Held}
 use Rattle.vbr_at_table.specs.declared.held.Marked.{Marked}
@@ -18,7 +24,8 @@ use Rattle.vbr_list.specs.Budgets.{listed_for, steps_to_value_of}
 use Rattle.vbr_list.specs.Helping.{MayHelp}
 use Rattle.vbr_list.specs.Leaving.{Leaves, WasClear}
 use Rattle.vbr_list.specs.Pieces.{Gives, HasRoom, WasAlone, trace_in}
-use Rattle.vbr_list.specs.Walking.{LosesFound}
+use Rattle.vbr_list.specs.Disturbed.{changed_after}
+use Rattle.vbr_list.specs.Walking.{LosesFound, LosesPlace, WalksAgain, nodes_after}
 use Rattle.vbr_list.specs.declared.call.PendingCall.{PendingCall}
 use Rattle.vbr_list.specs.declared.found.Found.{Found}
 
@@ -52,10 +59,46 @@ pub record RemovesSoon {N : Type 0} {kind : Ghosts N} (c d : PendingCall N kind)
   pub few : d.used ≤ c.used + steps_to_remove (trace_in c).start
   pub fewer : is_some answer ≡ true → c.used + steps_to_value_of (trace_in c).start + 9 ≤ c.budget → listed_for (trace_in d) c.key < listed_for (trace_in c) c.key
 
--- the remove is answered, and gives the value that was read of the node where nodes have values; where that is yes, the node that it marked has left its list, unless the budget has no room for one more piece; and alone, where the place before the key stands, so it is soon
+-- past the mark of another node a place shows what it showed before; and where that is the link which is held of it, it is open
+pub record MarksBehind (p q : Trace) (key : ℕ) (pred : Held) : Type 0 where
+  pub same : IsSame p q
+  pub count : advances q ≡ advances p
+  pub epoch : (knows q).epoch ≡ (knows p).epoch
+  pub moment : List Event
+  pub before : Begins p.seen moment
+  pub after : Begins moment q.seen
+  pub own : changed_after p key moment ≡ changed_after p key p.seen
+  pub link : link_shown_at (nodes_after p q.seen) pred.at ≡ link_shown_at (nodes_after p moment) pred.at
+  pub opens : link_shown_at (nodes_after p q.seen) pred.at ≡ link_of pred.word → IsOpenIn p.start (nodes_after p q.seen) (bucket_of p.start.shape key) pred.at
+
+-- in six steps at most a place is lost, and a search follows
+pub record SearchesOn (p q : Trace) (key before since : ℕ) (pred : Held) : Type 0 where
+  pub ended : Trace
+  pub quiet : Quiet p ended
+  pub count : advances ended ≡ advances p
+  pub loses : LosesPlace p ended pred
+  pub used : ℕ
+  pub few : used ≤ before + 6
+  pub then : Quiet ended q
+  pub walks : WalksAgain 9 ended q key used since
+
+-- the marked node is unlinked in as many, or not, as the place before it is lost
+abbrev pub UnlinksOrSearches : Trace → Trace → ℕ → ℕ → ℕ → Held → Type 0
+UnlinksOrSearches p q key before since pred = (since ≤ before + 6) ⊎ SearchesOn p q key before since pred
+
+-- a node was marked, once its value was read, and not unlinked, as the place before it was lost since
+pub record MarksAndSearches (p q : Trace) (key before since : ℕ) (pred : Held) : Type 0 where
+  pub marked : Trace
+  pub marks : MarksBehind p marked key pred
+  pub used : ℕ
+  pub few : used ≤ before + steps_to_value_of p.start + 1
+  pub searches : SearchesOn marked q key used since pred
+
+-- the remove is answered, and gives the value that was read of the node where nodes have values; where that is yes, the node that it marked has left its list, unless the budget has no room for one more piece; it is answered soon, but for a search once the place before the node was lost; and alone, where that place stands, so it is soon
 pub record RemoveAnswers {N : Type 0} {kind : Ghosts N} (c d : PendingCall N kind) (found : Found) (answer : Option ℕ) : Type 0 where
   pub made : Gives Remove c d answer
   pub unlists : is_some answer ≡ true → HasRoom d → Leaves (trace_in c) (trace_in d) c.key
+  pub paid : (d.used ≤ c.used + steps_to_remove (trace_in c).start) ⊎ MarksAndSearches (trace_in c) (trace_in d) c.key c.used d.used found.pred
   pub soon : IsFresh (trace_in c) → StandsNow (trace_in c) found.pred → WasAlone c d → RemovesSoon c d answer
 
 -- it isn't answered in three steps at most, and no call was made, as what was found is lost

@@ -7,10 +7,11 @@ ghost use Rattle.vbr_slots.specs.Views.{IsOf};
 ghost use Rattle.vbr_at_table.specs.declared.budget.TheConstants.{PIECE};
 ghost use Rattle.vbr_list.specs.Sparing.{Calls, CallsAs, CallsRemove};
 ghost use Rattle.vbr_list.specs.Leaving.{SparesRemove, WasClear};
-ghost use Rattle.vbr_list.specs.Pieces.{Goes, GoesOn, HasRoom, Settles};
-ghost use Rattle.vbr_list.specs.Removing.{Clears, ClearsSoon, IsMarkedFor, RemoveAnswers, RemoveRollsBack};
+ghost use Rattle.vbr_list.specs.Pieces.{Goes, GoesOn, HasRoom, Settles, trace_in};
+ghost use Rattle.vbr_list.specs.Removing.{Clears, ClearsSoon, IsMarkedFor, RemoveAnswers, RemoveRollsBack, UnlinksOrSearches};
 ghost use Rattle.vbr_list.specs.Told.{given_in};
 ghost use Rattle.vbr_list.specs.Traversing.{LocatesFor};
+ghost use Rattle.vbr_list.specs.Walking.{WalksAgain};
 
 use crate::call::PendingCall;
 use crate::found::Found;
@@ -34,6 +35,7 @@ fn walk_apart<N: Nodes>(at: &mut AtTable<'_, N>, key: u64, budget: u32, used: u3
     ensures goes { Goes (pass_of at.old) (pass_of at.new) used result }
     ensures within { (used ≤ result) × (result ≤ budget) }
     ensures clear { result + PIECE ≤ budget → WasClear (trace_of at.old) (trace_of at.new) key }
+    ensures walks { WalksAgain 9 (trace_of at.old) (trace_of at.new) key used result }
 {
     at.law();
     let mut call = PendingCall {
@@ -59,6 +61,7 @@ fn walk_by_copy<N: Nodes>(at: &mut AtTable<'_, N>, key: u64, budget: u32, used: 
     ensures goes { Goes (pass_of at.old) (pass_of at.new) used result }
     ensures within { (used ≤ result) × (result ≤ budget) }
     ensures clear { result + PIECE ≤ budget → WasClear (trace_of at.old) (trace_of at.new) key }
+    ensures walks { WalksAgain 9 (trace_of at.old) (trace_of at.new) key used result }
 {
     let slots = at.slots;
     let mut copy = AtTable {
@@ -77,6 +80,8 @@ impl<N: Nodes> PendingCall<'_, N> {
         requires room { HasRoom self.old }
         ensures goes { GoesOn self.old self.new }
         ensures clear { Clears self.old self.new }
+        ensures paid { UnlinksOrSearches (trace_in self.old) (trace_in self.new) self.old.key
+            self.old.used self.new.used pred.now }
         ensures soon { ClearsSoon self.old self.new pred.now }
     {
         let (outcome, made) = unlink_and_retire(&mut self.at, pred, marked);

@@ -32,7 +32,7 @@ pub use Rattle.vbr_machine.proofs.OwnEntries.{others_leave_entries, own_entries-
 pub use Rattle.vbr_machine.proofs.KnownReads.{birth_held, slot_held}
 -- What runs say to the layers above: of what a pass knows by membership, of the keys that were in the set when a link was loaded, and of chains of marked links.
 pub use Rattle.vbr_machine.proofs.RunForms.{absent_at_load, confirmed_call_is, head_unmarked, held_in_bucket, known_accepts, link_held, link_loaded}
-pub use Rattle.vbr_machine.proofs.RunForms.{marked_call_is, none_marked_between, none_marked_here, none_marked_skipped, present_at_load, value_at_load, written_is, skipped_unlisted}
+pub use Rattle.vbr_machine.proofs.RunForms.{marked_call_is, none_marked_between, none_marked_here, none_marked_skipped, one_key, present_at_load, skipped_unlisted, value_at_load, written_is}
 -- A key that was passed by behind an unmarked link, along marked ones, was absent at a moment since.
 pub use Rattle.vbr_machine.proofs.MarkedMoments.{absent_at_moments}
 -- Removed incarnations: the one that a remove marked has left its list, once no marked one of its key is in a list but one that was replaced.
@@ -59,7 +59,7 @@ pub use Rattle.vbr_machine.proofs.OutsidePool.{IsRaise, NoneRaises, count_none, 
 pub use Rattle.vbr_machine.proofs.Since.{Since, changed_disturbed, disturbances_grow, moved_disturbed, own_between, own_unchanged, since, step_changes_none, undisturbed_by_itself, undisturbed_shown}
 pub use Rattle.vbr_machine.proofs.MovedEpochs.{AdvancesNone, IsAdvance, moved_by_others, moved_by_steps}
 pub use Rattle.vbr_machine.proofs.Visits.{ahead_few, head_visited, known_open, met_bound, met_later, met_on, next_visited, shown_there, unmarked_open, visited_few, visited_on}
-pub use Rattle.vbr_machine.proofs.OwnInserts.{met_bound_quiet}
+pub use Rattle.vbr_machine.proofs.OwnInserts.{inserts_in, inserts_in-remove, met_bound_quiet, met_bound_uninserted}
 -- A slot that was in the shared pool, and isn't there after events of other passes, was gained by one of these.
 pub use Rattle.vbr_machine.proofs.GainedSlots.{gains_grow, own_gains_uncounted, slot_gained}
 -- What disturbances are: updates that were answered, and advances.

@@ -1,5 +1,5 @@
--- A pass that makes no call links no node: each of its inserts is a call, and each of its replacements two.
-use Rattle.std.proofs.Common.{◌≡◌, ℕ, ◌+◌, ◌≤◌, Bool, true, false, List, [], ◌∷◌, ◌++◌, length, length-append, refl, sym, ap, ◌∙◌, eq-eqb, arith}
+-- A pass whose calls are no inserts links no node: each of its inserts is a call, and each of its replacements makes one.
+use Rattle.std.proofs.Common.{◌≡◌, ℕ, ◌+◌, ◌≤◌, Bool, true, false, List, [], ◌∷◌, ◌++◌, refl, sym, ap, ◌∙◌, eq-eqb, arith}
 use Rattle.vbr_machine.specs.Start.{Start, IsStart}
 use Rattle.vbr_machine.specs.History.{calls_by}
 use Rattle.vbr_machine.specs.Runs.{Begins, IsRun}
@@ -8,9 +8,11 @@ use Rattle.vbr_machine.specs.Incarnations.{Incarnations}
 use Rattle.vbr_machine.specs.Chronicles.{Happening, Advances, Gains, Probes, Raises, GivesUp, Bears, Keyed, Valued, Aims, Inserts, Removes, Replaces, Unlinks, Stamps, Confirms, Entry, becomes, calls_made, incarnations_from}
 use Rattle.vbr_machine.specs.Accounts.{incarnations_after}
 use Rattle.vbr_machine.specs.Nodes.{behind}
-use Rattle.vbr_machine.specs.Disturbances.{disturbances, met}
+use Rattle.vbr_machine.specs.Disturbances.{counted, disturbances, met}
 use Rattle.vbr_machine.specs.declared.event.Event.{Event}
 use Rattle.vbr_machine.specs.declared.history.Call.{Call}
+use Rattle.vbr_machine.specs.declared.history.Op.{Op}
+use Rattle.vbr_machine.specs.declared.history.Op.TheVariants.{Insert, Remove}
 use Rattle.vbr_words.specs.declared.place.At.TheVariants.{Head}
 use Rattle.vbr_machine.specs.Opened.{opening_keys}
 use Rattle.vbr_machine.proofs.EveryRun.{run_agrees}
@@ -18,11 +20,33 @@ use Rattle.vbr_machine.proofs.MetNodes.{InsertsNone, is_insert, met_at_first, me
 use Rattle.vbr_machine.proofs.RunsGoOn.{begins_run, calls_by-append}
 use Rattle.vbr_machine.proofs.Since.{since, disturbances_sum}
 
-made_count : (who : ℕ) (a b : List Call) → length (calls_by who a) ≤ length (calls_by who (a ++ b))
-made_count who a b = let e = ap length (calls_by-append who a b) ∙ length-append (calls_by who a) (calls_by who b) in omega (arith, e)
+is_insert_call : Op → Bool
+is_insert_call Insert = true
+is_insert_call _ = false
+
+-- how many of these calls are inserts
+pub inserts_in : List Call → ℕ
+inserts_in [] = 0
+inserts_in (call ∷ calls) = counted (is_insert_call call.op) + inserts_in calls
+
+inserts_in-append : (xs ys : List Call) → inserts_in (xs ++ ys) ≡ inserts_in xs + inserts_in ys
+unfolding inserts_in
+inserts_in-append [] ys = omega arith
+inserts_in-append (x ∷ xs) ys = let r = inserts_in-append xs ys in omega (arith, r)
+
+-- a remove is none
+pub inserts_in-remove : (xs : List Call) (call : Call) → call.op ≡ Remove → inserts_in (xs ++ call ∷ []) ≡ inserts_in xs
+unfolding inserts_in is_insert_call
+inserts_in-remove xs call is =
+    let sum = inserts_in-append xs (call ∷ []) in
+    let none : counted (is_insert_call call.op) ≡ 0 = ap (λ (op : Op). counted (is_insert_call op)) is in
+    omega (arith, sum, none)
+
+made_count : (who : ℕ) (a b : List Call) → inserts_in (calls_by who a) ≤ inserts_in (calls_by who (a ++ b))
+made_count who a b = let e = ap inserts_in (calls_by-append who a b) ∙ inserts_in-append (calls_by who a) (calls_by who b) in omega (arith, e)
 
 -- one event leaves the calls of a pass, or adds to them
-one_event : (start : Start) (a : Incarnations) (who pass : ℕ) (what : Happening) → length (calls_by who a.calls) ≤ length (calls_by who (becomes start a pass what).calls)
+one_event : (start : Start) (a : Incarnations) (who pass : ℕ) (what : Happening) → inserts_in (calls_by who a.calls) ≤ inserts_in (calls_by who (becomes start a pass what).calls)
 one_event start a who pass (Inserts c behind) = made_count who a.calls (calls_made start a pass (Inserts c behind))
 one_event start a who pass (Removes c) = made_count who a.calls (calls_made start a pass (Removes c))
 one_event start a who pass (Replaces old c) = made_count who a.calls (calls_made start a pass (Replaces old c))
@@ -39,25 +63,26 @@ one_event start a who pass (Aims c link) = omega arith
 one_event start a who pass (Unlinks c behind) = omega arith
 one_event start a who pass (Stamps c stamp) = omega arith
 
-all_events : (start : Start) (a : Incarnations) (who : ℕ) (entries : List Entry) → length (calls_by who a.calls) ≤ length (calls_by who (incarnations_from start a entries).calls)
+all_events : (start : Start) (a : Incarnations) (who : ℕ) (entries : List Entry) → inserts_in (calls_by who a.calls) ≤ inserts_in (calls_by who (incarnations_from start a entries).calls)
 all_events start a who [] = omega arith
 all_events start a who (entry ∷ entries) =
     let one = one_event start a who entry.pass entry.what in
     let rest = all_events start (becomes start a entry.pass entry.what) who entries in
     omega (arith, one, rest)
 
--- an insert of the pass adds one, and a replacement two
-own_insert : (start : Start) (a : Incarnations) (who pass : ℕ) (what : Happening) → pass ≡ who → is_insert what ≡ true → length (calls_by who a.calls) + 1 ≤ length (calls_by who (becomes start a pass what).calls)
+-- an insert of the pass adds one, and so does a replacement
+own_insert : (start : Start) (a : Incarnations) (who pass : ℕ) (what : Happening) → pass ≡ who → is_insert what ≡ true → inserts_in (calls_by who a.calls) + 1 ≤ inserts_in (calls_by who (becomes start a pass what).calls)
+unfolding inserts_in is_insert_call
 own_insert start a who pass (Inserts c behind) mine is =
     let made = calls_made start a pass (Inserts c behind) in
-    let one : length (calls_by who made) ≡ 1 = rw (eq-eqb pass who mine) refl in
-    let e = ap length (calls_by-append who a.calls made) ∙ length-append (calls_by who a.calls) (calls_by who made) in
+    let one : inserts_in (calls_by who made) ≡ 1 = rw (eq-eqb pass who mine) refl in
+    let e = ap inserts_in (calls_by-append who a.calls made) ∙ inserts_in-append (calls_by who a.calls) (calls_by who made) in
     omega (arith, e, one)
 own_insert start a who pass (Replaces old c) mine is =
     let made = calls_made start a pass (Replaces old c) in
-    let two : length (calls_by who made) ≡ 2 = rw (eq-eqb pass who mine) refl in
-    let e = ap length (calls_by-append who a.calls made) ∙ length-append (calls_by who a.calls) (calls_by who made) in
-    omega (arith, e, two)
+    let one : inserts_in (calls_by who made) ≡ 1 = rw (eq-eqb pass who mine) refl in
+    let e = ap inserts_in (calls_by-append who a.calls made) ∙ inserts_in-append (calls_by who a.calls) (calls_by who made) in
+    omega (arith, e, one)
 own_insert start a who pass (Removes c) mine is = absurd (cc)
 own_insert start a who pass (Confirms call) mine is = absurd (cc)
 own_insert start a who pass Advances mine is = absurd (cc)
@@ -72,8 +97,8 @@ own_insert start a who pass (Aims c link) mine is = absurd (cc)
 own_insert start a who pass (Unlinks c behind) mine is = absurd (cc)
 own_insert start a who pass (Stamps c stamp) mine is = absurd (cc)
 
--- so it links none where its calls stay
-no_call_inserts : (start : Start) (a : Incarnations) (who : ℕ) (entries : List Entry) → length (calls_by who (incarnations_from start a entries).calls) ≤ length (calls_by who a.calls) → InsertsNone who entries
+-- so it links none where it has made no more inserts
+no_call_inserts : (start : Start) (a : Incarnations) (who : ℕ) (entries : List Entry) → inserts_in (calls_by who (incarnations_from start a entries).calls) ≤ inserts_in (calls_by who a.calls) → InsertsNone who entries
 no_call_inserts start a who [] same = tt
 no_call_inserts start a who (entry ∷ entries) same =
     let b = becomes start a entry.pass entry.what in
@@ -85,19 +110,24 @@ no_call_inserts start a who (entry ∷ entries) same =
     either true e never = absurd (never e)
     either false e never = e
 
--- a law: the nodes that a pass which made no call can have met are no more than were in the list at first, and than it was disturbed since
-pub met_bound_quiet : (start : Start) (passes : ℕ) (first run : List Event) → IsStart start → IsRun start passes run → Begins first run → (who bucket h : ℕ) → own_calls start run who ≡ own_calls start first who →
+-- a law: the nodes that a pass which made no insert can have met are no more than were in the list at first, and than it was disturbed since
+pub met_bound_uninserted : (start : Start) (passes : ℕ) (first run : List Event) → IsStart start → IsRun start passes run → Begins first run → (who bucket h : ℕ) → inserts_in (own_calls start run who) ≡ inserts_in (own_calls start first who) →
     met start (incarnations_after start first) (incarnations_after start run) bucket + disturbances start first who bucket ≤ behind start (incarnations_after start first) bucket (Head h) + disturbances start run who bucket
-met_bound_quiet start passes first run is ok begins who bucket h same =
+met_bound_uninserted start passes first run is ok begins who bucket h same =
     let good = run_agrees start passes first is (begins_run start passes first run begins ok) in
     let last = run_agrees start passes run is ok in
     let y = since start passes first run is ok begins in
     let a = incarnations_after start first in
-    let calls : length (calls_by who (incarnations_from start a y.entries).calls) ≡ length (calls_by who a.calls) = (
-    ap (λ (b : Incarnations). length (calls_by who b.calls)) (sym y.makes) ∙ ap (λ l. length (calls_by who l)) (sym last.calls) ∙ ap length same ∙ ap (λ l. length (calls_by who l)) good.calls) in
+    let calls : inserts_in (calls_by who (incarnations_from start a y.entries).calls) ≡ inserts_in (calls_by who a.calls) = (
+    ap (λ (b : Incarnations). inserts_in (calls_by who b.calls)) (sym y.makes) ∙ ap (λ l. inserts_in (calls_by who l)) (sym last.calls) ∙ same ∙ ap (λ l. inserts_in (calls_by who l)) good.calls) in
     let none = no_call_inserts start a who y.entries (omega (arith, calls)) in
     let at_start = met_at_first good.sound good.fits bucket h in
     let more = met_since start (opening_keys start) a a who bucket y.entries good.sound y.lawful none in
     let sum = disturbances_sum y who bucket in
     let made = ap (λ b. met start a b bucket) y.makes in
     omega (arith, at_start, more, sum, made)
+
+-- so it is of one that made no call
+pub met_bound_quiet : (start : Start) (passes : ℕ) (first run : List Event) → IsStart start → IsRun start passes run → Begins first run → (who bucket h : ℕ) → own_calls start run who ≡ own_calls start first who →
+    met start (incarnations_after start first) (incarnations_after start run) bucket + disturbances start first who bucket ≤ behind start (incarnations_after start first) bucket (Head h) + disturbances start run who bucket
+met_bound_quiet start passes first run is ok begins who bucket h same = met_bound_uninserted start passes first run is ok begins who bucket h (ap inserts_in same)

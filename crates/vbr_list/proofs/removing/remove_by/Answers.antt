@@ -1,4 +1,5 @@
-use Rattle.std.proofs.Common.{rules, sym, ◌∙◌, arith, ap}
+use Rattle.std.proofs.Common.{rules, refl, sym, ◌∙◌, ⊎_elim, arith, ap}
+use Rattle.std.specs.Prelude.{◌⊎◌}
 use Rattle.vbr_slots.proofs.Lemmas.{alone_first, alone_then, quiet_on, same_on}
 use Rattle.vbr_at_table.proofs.Lemmas.{counts_on, none_on, took_all}
 use Rattle.vbr_words.specs.Dimensions.{Dimensions}
@@ -9,9 +10,10 @@ use Rattle.vbr_list.proofs.Walking.{enough_alone, remove_lacks, search_round_on,
 use Rattle.vbr_list.proofs.LonePasses.{alone}
 use Rattle.std.proofs.Common.{◌≡◌, ℕ, ◌+◌, ◌*◌, ◌<◌, ◌≤◌, true, false, subst}
 use Rattle.vbr_slots.specs.Alone.{IsAlone}
-use Rattle.vbr_list.specs.Disturbed.{disturbed, enough_to_search_among}
+use Rattle.vbr_list.specs.Disturbed.{disturbed, enough_to_search_among, remove_costs_among}
 use Rattle.vbr_list.specs.Budgets.{listed_for, remove_costs, steps_to_value_of}
-use Rattle.vbr_list.specs.Removing.{RemovesSoon}
+use Rattle.vbr_list.specs.Removing.{MarksAndSearches, RemovesSoon, steps_to_remove}
+use Rattle.vbr_list.proofs.Marks.{late_paid, soon_paid}
 use Rattle.vbr_list.proofs.Sufficing.{no_more_listed}
 use Rattle.vbr_list.proofs.Nearing.{then_of}
 use Rattle.vbr_machine.specs.declared.history.Op.TheVariants.{Remove}
@@ -93,6 +95,7 @@ returns-in_default-clause-calls g c =
         within = λ alone. enough_alone (listed_for p c.args.key) (disturbed p m c.args.key) (alone_undisturbed p m c.args.key alone) disturbed_short;
         disturbed_within = disturbed_short;
         costs = tt;
+        disturbed_costs = tt;
         fewer = tt;
       };
     })
@@ -125,6 +128,7 @@ returns-then-not-affords-clause-calls g c =
         within = λ alone. enough_alone (listed_for p c.args.key) (disturbed p m c.args.key) (alone_undisturbed p m c.args.key alone) disturbed_short;
         disturbed_within = disturbed_short;
         costs = tt;
+        disturbed_costs = tt;
         fewer = tt;
       };
     })
@@ -147,6 +151,14 @@ returns-in-Ok-clause-calls g c =
     let values = ap steps_to_value_of first.same.start in
     let whole = run_at p.trace q.trace first.same (first.is_run c.law.ensures.is_run) in
     let searched : IsAlone p.trace q.trace → c.search.new.self.used ≤ 0 + 3 + 9 * listed_for p.trace c.args.key = searches_alone p.trace c.loop-found.call.at.stepper.now.trace q.trace c.law.ensures.start whole c.args.key before.same before.seen went.seen first c.loop-found.invariant.4 (rw (c.loop-found.invariant.0.key ∙ c.loop-found.invariant.1) at c.in-Some.ensures.found.walks) in
+    let walk = c.loop-found.call.at.stepper.now.trace in
+    let there = c.loop-found.invariant.0.key ∙ c.loop-found.invariant.1 in
+    let run = run_at p.trace r.trace made.same made.is_run in
+    let P : ℕ → Type 0 = λ k. (c.settle_remove.new.self.used ≤ c.search.new.self.used + steps_to_remove q.trace.start) ⊎ MarksAndSearches q.trace r.trace k c.search.new.self.used c.settle_remove.new.self.used c.in-Some.found.pred in
+    let paid : c.settle_remove.new.self.used ≤ remove_costs_among (listed_for p.trace c.args.key) (disturbed p.trace r.trace c.args.key) (steps_to_value_of p.trace.start) = ⊎_elim
+    (λ (few : c.settle_remove.new.self.used ≤ c.search.new.self.used + steps_to_remove q.trace.start). soon_paid p.trace walk q.trace r.trace c.law.ensures.start run c.args.key before.same went.same before.seen went.seen made refl answered.seen c.loop-found.invariant.4 (rw there at c.in-Some.ensures.found.walks) c.settle_remove.new.self.used (omega (arith, few, values)))
+    (λ (late : MarksAndSearches q.trace r.trace c.args.key c.search.new.self.used c.settle_remove.new.self.used c.in-Some.found.pred). late_paid p.trace walk q.trace r.trace c.law.ensures.start run c.args.key before.same went.same before.seen went.seen made refl answered.seen c.loop-found.invariant.4 c.in-Some.found (rw there at c.in-Some.ensures.found.last) c.settle_remove.new.self.used late)
+    (subst P key c.in-Ok.ensures.answers.paid) in
     let soon : IsAlone p.trace q.trace → IsAlone q.trace r.trace → RemovesSoon c.search.new.self c.settle_remove.new.self c.in-Ok.answer = λ alone then. let stands = (c.in-Some.ensures.found.alone (then_of before went alone)).pred in c.in-Ok.ensures.answers.soon stands.fresh stands.stands then in
     rw same (record {
       same = same_on first.same answered.same;
@@ -169,6 +181,7 @@ returns-in-Ok-clause-calls g c =
             let most = searched one in
             let few = (soon one (alone_then first.same.who first.seen answered.seen whole)).few in
             within_of c.settle_remove.new.self.used (remove_costs p.trace c.args.key) (omega (arith, most, few, values)) counts;
+        disturbed_costs = within_of c.settle_remove.new.self.used (remove_costs_among (listed_for p.trace c.args.key) (disturbed p.trace r.trace c.args.key) (steps_to_value_of p.trace.start)) paid counts;
         fewer = λ yes whole enough.
             let one = alone_first first.seen answered.seen whole in
             let most = searched one in

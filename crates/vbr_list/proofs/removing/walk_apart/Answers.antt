@@ -2,6 +2,7 @@ use Rattle.std.proofs.Common.{rules, ◌≡◌, ap, arith}
 use Rattle.vbr_words.specs.Dimensions.{Dimensions}
 use Rattle.vbr_list.proofs.Clearing.{clear_walked}
 use Rattle.vbr_list.proofs.Going.{bucket_is}
+use Rattle.vbr_list.proofs.Marks.{walked}
 use Rattle.vbr_list.proofs.removing.walk_apart.Goals as goal
 
 pub invariant_of-call-2 : goal.invariant_of-call-2
@@ -18,5 +19,6 @@ returns g c =
       table = search rules;
       goes = rw same c.search.ensures.goes.goes;
       within = search rules;
+      walks = rw same (walked _ c.search.new.self c.search.result c.search.ensures.found c.search.ensures.tired);
       clear = λ room. rw same (clear_walked _ c.search.new.self c.search.result c.law.ensures.start c.search.ensures.goes.goes.quiet.same c.search.ensures.found c.search.ensures.tired room);
     }

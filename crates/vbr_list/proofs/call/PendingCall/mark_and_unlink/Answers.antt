@@ -1,4 +1,4 @@
-use Rattle.std.proofs.Common.{◌≡◌, ◌+◌, ℕ, ◌≤◌, Bool, true, false, Option, Some, rules, arith, sym, ap, ◌∙◌, subst, inl, inr}
+use Rattle.std.proofs.Common.{◌≡◌, ◌+◌, ℕ, ◌≤◌, Bool, true, false, Option, Some, rules, arith, sym, ap, ◌∙◌, subst, inl, inr, ⊎_elim}
 use Rattle.vbr_machine.specs.Start.{Start}
 use Rattle.vbr_words.specs.Buckets.{bucket_of}
 use Rattle.vbr_words.specs.declared.place.At.{At}
@@ -11,12 +11,14 @@ use Rattle.vbr_at_table.proofs.Lemmas.{counts_on, no_room, fresh_kept, held_kept
 use Rattle.vbr_at_table.specs.Held.{Names}
 use Rattle.vbr_at_table.specs.declared.held.Held.{Held}
 use Rattle.vbr_list.specs.Pieces.{Goes}
+use Rattle.vbr_list.specs.Removing.{SearchesOn}
 use Rattle.vbr_list.specs.Walking.{LosesNext}
 use Rattle.vbr_list.specs.Budgets.{steps_to_value_of, steps_where}
 use Rattle.vbr_list.proofs.Clearing.{leaves_clear}
 use Rattle.vbr_list.proofs.Disturbing.{lost_place_later, moves_epoch, moves_on, run_at}
 use Rattle.vbr_list.proofs.Going.{counts_step, goes_counted}
 use Rattle.vbr_list.proofs.KeptHands.{hand_on, own_kept}
+use Rattle.vbr_list.proofs.Marks.{apart, marks_behind}
 use Rattle.vbr_list.proofs.Moments.{key_found}
 use Rattle.vbr_list.proofs.Nearing.{fresh_marked, listed_same, named_elsewhere, read_leaves, stands_on}
 use Rattle.vbr_list.proofs.Reaching.{key_kept, pred_inside, pred_on, slot_same}
@@ -158,8 +160,22 @@ returns-then-affords-clause-answers g c =
     let r = c.mark_entry-outcome.new.at.stepper.now in
     let reads = c.value_if_any-read.ensures.reads in
     let steps : c.steps_to_value_of.result ≡ steps_to_value_of p.trace.start = c.steps_to_value_of.ensures ∙ ap steps_to_value_of (sym c.value_if_any-read.new.at.own.1 ∙ same.start) in
+    let first : Goes p q c.args.self.now.used (c.args.self.now.used + c.steps_to_value_of.result) = goes_counted c.args.self.now.used c.steps_to_value_of.result (steps_to_value_of p.trace.start) steps reads in
+    let mark = c.mark_entry-outcome.ensures.keeps in
+    let pred = pred_on c.args.self.now.key f.pred made.same mark.keeps (pred_on c.args.self.now.key f.pred same keeps c.requires.locates.pred) in
     record {
       made = made_then told then;
+      paid = ⊎_elim (λ (few : c.unlink_marked.new.self.used ≤ c.args.self.now.used + c.steps_to_value_of.result + 1 + 6). inl (omega (arith, few, steps)))
+          (λ (on : SearchesOn r.trace c.unlink_marked.new.self.at.stepper.now.trace c.args.self.now.key (c.args.self.now.used + c.steps_to_value_of.result + 1) c.unlink_marked.new.self.used f.pred). inr (record {
+            marked = r.trace;
+            marks = marks_behind p.trace q.trace r.trace c.args.self.now.key f.pred c.in-Some.cur c.law.ensures.start (run_at p.trace r.trace told.same told.is_run) reads.quiet reads.adds_none made.same c.in_ok-marked.ensures.removed.leaves
+                (apart p.trace c.law.ensures.start c.law.ensures.is_run f.pred.at c.in-Some.cur.at c.args.self.now.key c.requires.locates.pred.behind key)
+                (mark.keeps.epoch ∙ keeps.epoch) (mark.takes_no_slot.count ∙ first.hand.takes_no_slot.count) pred.held pred.unmarked pred.inside;
+            used = c.args.self.now.used + c.steps_to_value_of.result + 1;
+            few = omega (arith, steps);
+            searches = on;
+          }))
+          c.unlink_marked.ensures.paid;
       unlists = λ yes room. leaves_clear c.law.ensures.start told then.same (c.unlink_marked.ensures.clear room);
       soon = λ fresh stands alone.
           let one = alone_first told.seen then.seen alone in
@@ -204,6 +220,7 @@ returns-else-affords-clause-answers g c =
     let told = told_since c.value_if_any-read.ensures.reads.quiet (given_same same Remove c.args.self.now.key (Some c.in_ok-value.value)) made in
     record {
       made = told;
+      paid = inl (let steps : c.steps_to_value_of.result ≡ steps_to_value_of c.args.self.now.at.stepper.now.trace.start = c.steps_to_value_of.ensures ∙ ap steps_to_value_of (sym c.value_if_any-read.new.at.own.1 ∙ same.start) in omega (arith, steps));
       unlists = λ yes room. (let f = c.if-affords.false in let z = c.affords.ensures.1 room in let w : false ≡ true = sym f ∙ z in absurd (cc));
       soon = λ fresh stands alone.
           let steps : c.steps_to_value_of.result ≡ steps_to_value_of c.args.self.now.at.stepper.now.trace.start = c.steps_to_value_of.ensures ∙ ap steps_to_value_of (sym c.value_if_any-read.new.at.own.1 ∙ same.start) in

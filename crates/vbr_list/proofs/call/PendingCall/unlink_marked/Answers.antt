@@ -1,4 +1,4 @@
-use Rattle.std.proofs.Common.{rules, arith, sym, ◌∙◌}
+use Rattle.std.proofs.Common.{rules, arith, inl, inr, sym, ◌∙◌, ◌+◌}
 use Rattle.vbr_list.specs.Helping.{IsLostPlace}
 use Rattle.vbr_list.proofs.Clearing.{clear_since}
 use Rattle.vbr_list.proofs.Going.{goes_on}
@@ -14,6 +14,25 @@ returns-then-is_err-clause-clear g c = λ room. clear_since (c.unlink_and_retire
 
 pub returns-else-is_err-clause-goes : goal.returns-else-is_err-clause-goes
 returns-else-is_err-clause-goes g c = record { call = search rules; goes = c.unlink_and_retire-outcome.ensures.goes c.args.self.now.used; more = omega arith }
+
+pub returns-then-is_err-clause-paid : goal.returns-then-is_err-clause-paid
+returns-then-is_err-clause-paid g c =
+    let tried = c.unlink_and_retire-outcome in
+    let never : IsLostPlace c.args.self.now.at.stepper.now tried.new.at.stepper.now c.args.pred.now = if_failed tried.result.0 (sym c.is_err.ensures.value ∙ c.if-is_err.true) tried.ensures.lost in
+    let few = tried.ensures.few in
+    inr (record {
+      ended = tried.new.at.stepper.now.trace;
+      quiet = (tried.ensures.goes 0).quiet;
+      count = (tried.ensures.goes 0).hand.takes_no_slot.count;
+      loses = never.loses;
+      used = c.args.self.now.used + tried.result.1;
+      few = omega (arith, few);
+      then = c.walk_by_copy-self.ensures.goes.quiet;
+      walks = c.walk_by_copy-self.ensures.walks;
+    })
+
+pub returns-else-is_err-clause-paid : goal.returns-else-is_err-clause-paid
+returns-else-is_err-clause-paid g c = let few = c.unlink_and_retire-outcome.ensures.few in inl (omega (arith, few))
 
 pub returns-then-is_err-clause-soon : goal.returns-then-is_err-clause-soon
 returns-then-is_err-clause-soon g c = λ fresh stands alone.

@@ -1,0 +1,232 @@
+-- A remove after its mark: the place before the node stands as it stood, or the pass was disturbed; and what the answer costs.
+use Rattle.std.proofs.Common.{◌≡◌, ◌≢◌, ℕ, ◌+◌, ◌*◌, ◌<◌, ◌≤◌, false, Option, Some, None, refl, sym, ap, ◌∙◌, subst, inl, inr, arith}
+use Rattle.std.specs.Prelude.{◌⊎◌, IfNone, IfSome}
+use Rattle.std.proofs.lemmas.Bool.{cases_lt}
+use Rattle.std.proofs.lemmas.Nat.{mul-le}
+use Rattle.vbr_words.specs.Words.{link_of}
+use Rattle.vbr_words.specs.Buckets.{bucket_of}
+use Rattle.vbr_words.specs.declared.nodes.Nodes.{Ghosts}
+use Rattle.vbr_words.specs.declared.place.At.{At}
+use Rattle.vbr_words.specs.declared.place.At.TheVariants.{Head, Slot}
+use Rattle.vbr_machine.specs.Start.{Start, IsStart}
+use Rattle.vbr_machine.specs.Accounts.{incarnations_after}
+use Rattle.vbr_machine.specs.Calls.{own_calls}
+use Rattle.vbr_machine.specs.Disturbances.{IsOpenIn, own_changes}
+use Rattle.vbr_machine.specs.Images.{link_shown_at}
+use Rattle.vbr_machine.specs.Membership.{HeldIn, KeyAt, StandsBehind}
+use Rattle.vbr_machine.specs.Runs.{Begins, IsRun}
+use Rattle.vbr_machine.specs.declared.history.Call.{Call}
+use Rattle.vbr_machine.specs.declared.history.Op.TheVariants.{Remove}
+use Rattle.vbr_machine.proofs.Lemmas.{begins_refl, begins_run, begins_trans, disturbances_grow, inserts_in, inserts_in-remove, known_open, met_bound_uninserted, one_key, since, undisturbed_shown}
+use Rattle.vbr_slots.specs.Calls.{AddsNone, IsSame, Made, Quiet}
+use Rattle.vbr_slots.specs.Views.{Trace, knows}
+use Rattle.vbr_slots.proofs.Lemmas.{same_on}
+use Rattle.vbr_at_table.specs.Counts.{advances}
+use Rattle.vbr_at_table.specs.Held.{IsHeld}
+use Rattle.vbr_at_table.specs.Marks.{LeavesOthers}
+use Rattle.vbr_at_table.specs.declared.held.Held.{Held}
+use Rattle.vbr_list.specs.Budgets.{listed_for, steps_to_value_of}
+use Rattle.vbr_list.specs.Disturbed.{changed_after, disturbed, disturbed_after, remove_costs_among}
+use Rattle.vbr_list.specs.Places.{IsPred}
+use Rattle.vbr_list.specs.Pieces.{trace_in}
+use Rattle.vbr_list.specs.Removing.{MarksAndSearches, MarksBehind, SearchesOn}
+use Rattle.vbr_list.specs.Traversing.{Finds, LastWalk, SearchTires}
+use Rattle.vbr_list.specs.Walking.{KnowsEpoch, LosesPlace, StandsStill, WalksAgain, met_since, nodes_after}
+use Rattle.vbr_list.specs.declared.call.PendingCall.{PendingCall}
+use Rattle.vbr_list.specs.declared.found.Found.{Found}
+use Rattle.vbr_list.proofs.Disturbing.{changed_same, disturbed_same, loses_place_disturb, met_before, met_less, met_quiet, run_at, unchanged_at}
+use Rattle.vbr_list.proofs.Walking.{HasRepeated}
+
+-- ---- a search
+
+-- whatever it came to
+pub walked : {N : Type 0} {kind : Ghosts N} (c d : PendingCall N kind) (found : Option Found) → IfSome found (Finds c d) → IfNone found (SearchTires c d) → WalksAgain 9 (trace_in c) (trace_in d) c.key c.used d.used
+walked c d None x tired = tired.walks
+walked c d (Some found) x tired = x.walks
+
+-- ---- a mark
+
+-- the node of a key isn't the place before the key
+pub apart : (p : Trace) → IsStart p.start → IsRun p.start p.passes p.seen → (at node : At) (key : ℕ) → StandsBehind p.start (knows p) at key → KeyAt (knows p) node key → at ≢ node
+apart p is ok (Head b) node key behind there e = let P : At → Type 0 = λ t. KeyAt (knows p) t key in subst P (sym e) there
+apart p is ok (Slot s) node key behind there e =
+    let P : At → Type 0 = λ t. KeyAt (knows p) t key in
+    let same = one_key p.start p.passes p.seen is ok p.who s behind.0 key behind.1 (subst P (sym e) there) in
+    let less = behind.3 in
+    absurd (omega (arith, same, less))
+
+-- what a mark leaves of a place before its node
+pub marks_behind : (p q r : Trace) (key : ℕ) (pred node : Held) → IsStart p.start → IsRun p.start p.passes r.seen → Quiet p q → AddsNone p q → IsSame q r → (x : LeavesOthers q r node) → pred.at ≢ node.at → (knows r).epoch ≡ (knows p).epoch → advances r ≡ advances p → IsHeld (knows r) pred → (link_of pred.word).mark ≡ false → HeldIn (knows r) pred.at (bucket_of r.start.shape key) → MarksBehind p r key pred
+marks_behind p q r key pred node is ok quiet none same x other epoch count held unmarked inside =
+    let whole : IsSame p r = same_on quiet.same same in
+    let bucket = bucket_of p.start.shape key in
+    let all = begins_trans q.seen x.moment r.seen x.from x.to in
+    let P : Start → Type 0 = λ start. IsOpenIn start (incarnations_after start r.seen) (bucket_of start.shape key) pred.at in
+    let R : Start → Type 0 = λ start. IsRun start r.passes r.seen in
+    let R2 : ℕ → Type 0 = λ passes. IsRun p.start passes r.seen in
+    let ok_r : IsRun r.start r.passes r.seen = subst R (sym whole.start) (subst R2 (sym whole.passes) ok) in
+    let later : own_changes p.start x.moment p.who bucket ≡ own_changes p.start q.seen p.who bucket = sym (λ i. own_changes (quiet.same.start i) x.moment (quiet.same.who i) bucket) ∙ x.own bucket ∙ (λ i. own_changes (quiet.same.start i) q.seen (quiet.same.who i) bucket) in
+    record {
+      same = whole;
+      count = count;
+      epoch = epoch;
+      moment = x.moment;
+      before = begins_trans p.seen q.seen x.moment quiet.seen x.from;
+      after = x.to;
+      own = later ∙ unchanged_at p p q key is (begins_run p.start p.passes q.seen r.seen all ok) (record { table = refl; start = refl; passes = refl; who = refl }) quiet.same quiet.seen none;
+      link = sym (λ i. link_shown_at (incarnations_after (quiet.same.start i) r.seen) pred.at) ∙ x.links pred.at other ∙ (λ i. link_shown_at (incarnations_after (quiet.same.start i) x.moment) pred.at);
+      opens = λ shown. subst P whole.start (known_open r.start r.passes r.seen (subst IsStart (sym whole.start) is) ok_r r.who (bucket_of r.start.shape key) pred.at (link_of pred.word) held.link unmarked ((λ i. link_shown_at (incarnations_after (whole.start i) r.seen) pred.at) ∙ shown) inside);
+    }
+
+-- ---- a place that is lost since
+
+module _ (b p r s : Trace) (is : IsStart b.start) (ok : IsRun b.start b.passes s.seen) (key : ℕ) (sp : IsSame b p) (sr : IsSame p r) (ss : IsSame b s) (first : Begins b.seen p.seen) (last : Begins r.seen s.seen) (pred : Held) (still : StandsStill b p key pred) (mark : MarksBehind p r key pred) where
+  to_moment : Begins still.stood.moment mark.moment
+  to_moment = begins_trans still.stood.moment p.seen mark.moment still.stood.to mark.before
+
+  to_end : Begins mark.moment s.seen
+  to_end = begins_trans mark.moment r.seen s.seen mark.after last
+
+  ok_moment : IsRun b.start b.passes mark.moment
+  ok_moment = begins_run b.start b.passes mark.moment s.seen to_end ok
+
+  ok_r : IsRun b.start b.passes r.seen
+  ok_r = begins_run b.start b.passes r.seen s.seen last ok
+
+  ok_stood : IsRun b.start b.passes still.stood.moment
+  ok_stood = begins_run b.start b.passes still.stood.moment mark.moment to_moment ok_moment
+
+  -- until the mark the pass changed nothing itself
+  unchanged : changed_after b key mark.moment ≡ changed_after b key still.stood.moment
+  unchanged = sym (changed_same b p key mark.moment sp) ∙ mark.own ∙ changed_same b p key p.seen sp ∙ still.own
+
+  -- so the place stands as it stood, or the pass was disturbed
+  stands_past : (disturbed_after b key b.seen < disturbed_after b key s.seen) ⊎ StandsStill b r key pred
+  stands_past = go (cases_lt (disturbed_after b key still.stood.moment) (disturbed_after b key mark.moment))
+    where
+      bucket : ℕ
+      bucket = bucket_of b.start.shape key
+
+      go : (disturbed_after b key still.stood.moment < disturbed_after b key mark.moment) ⊎ (disturbed_after b key mark.moment ≤ disturbed_after b key still.stood.moment) → (disturbed_after b key b.seen < disturbed_after b key s.seen) ⊎ StandsStill b r key pred
+      go (inl less) =
+          let low = disturbances_grow (since b.start b.passes b.seen still.stood.moment is ok_stood still.stood.from) b.who (bucket_of b.start.shape key) in
+          let high = disturbances_grow (since b.start b.passes mark.moment s.seen is ok to_end) b.who (bucket_of b.start.shape key) in
+          inl (omega (arith, less, low, high))
+      go (inr even) =
+          let x = since b.start b.passes still.stood.moment mark.moment is ok_moment to_moment in
+          let low = disturbances_grow x b.who (bucket_of b.start.shape key) in
+          let there : link_shown_at (nodes_after b mark.moment) pred.at ≡ link_of pred.word = undisturbed_shown x b.who (bucket_of b.start.shape key) unchanged (omega (arith, even, low)) pred.at still.stood.is_open ∙ still.stood.shown in
+          let of_p : link_shown_at (nodes_after p r.seen) pred.at ≡ link_of pred.word = mark.link ∙ ap (λ (start : Start). link_shown_at (incarnations_after start mark.moment) pred.at) sp.start ∙ there in
+          let P : Start → Type 0 = λ start. IsOpenIn start (incarnations_after start r.seen) (bucket_of start.shape key) pred.at in
+          inr (record {
+            stood = record {
+              moment = r.seen;
+              from = begins_trans b.seen p.seen r.seen first (begins_trans p.seen mark.moment r.seen mark.before mark.after);
+              to = begins_refl r.seen;
+              shown = ap (λ (start : Start). link_shown_at (incarnations_after start r.seen) pred.at) (sym sp.start) ∙ of_p;
+              is_open = subst P sp.start (mark.opens of_p);
+            };
+            own = refl;
+          })
+
+  -- a place that is lost past the mark shows a disturbance
+  pub lost_past : advances s ≡ advances b → KnowsEpoch b p → LosesPlace r s pred → disturbed_after b key b.seen < disturbed_after b key s.seen
+  lost_past count knew loses = go stands_past
+    where
+      to_r : Begins p.seen r.seen
+      to_r = begins_trans p.seen mark.moment r.seen mark.before mark.after
+
+      knows_r : KnowsEpoch b r
+      knows_r = record { moment = knew.moment; from = knew.from; to = begins_trans knew.moment p.seen r.seen knew.to to_r; was = knew.was ∙ sym mark.epoch }
+
+      go : (disturbed_after b key b.seen < disturbed_after b key s.seen) ⊎ StandsStill b r key pred → disturbed_after b key b.seen < disturbed_after b key s.seen
+      go (inl less) = less
+      go (inr stands) = loses_place_disturb b s is ok key ss count r pred (same_on sp sr) last knows_r stands loses
+
+-- ---- what an answer costs
+
+-- the nodes that a pass which was answered a remove can have met
+pub met_removed : (p r : Trace) → IsStart p.start → IsRun p.start p.passes r.seen → (key : ℕ) {call : Call} → Made call p r → call.op ≡ Remove → met_since p r key ≤ listed_for p key + disturbed p r key
+met_removed p r is ok key {call} made op =
+    let bucket = bucket_of p.start.shape key in
+    let calls : inserts_in (own_calls p.start r.seen p.who) ≡ inserts_in (own_calls p.start p.seen p.who) = sym (λ i. inserts_in (own_calls (made.same.start i) r.seen (made.same.who i))) ∙ ap inserts_in made.calls ∙ inserts_in-remove (own_calls p.start p.seen p.who) call op in
+    let x = met_bound_uninserted p.start p.passes p.seen r.seen is ok made.seen p.who bucket bucket calls in
+    let y = disturbances_grow (since p.start p.passes p.seen r.seen is ok made.seen) p.who bucket in
+    omega (arith, x, y)
+
+soon_few : (lost t m1 m2 n d used mid now more : ℕ) → used ≤ 0 + lost * (9 * m1 + 6) → mid ≤ used + (t + 1) * (9 * m2 + 3) → now ≤ mid + (more + 7) → m1 ≤ n + d → m2 ≤ n + d → lost + t ≤ d → now ≤ remove_costs_among n d more
+soon_few lost t m1 m2 n d used mid now more x y z l k f =
+    let u = mul-le lost (9 * m1 + 6) lost (9 * (n + d) + 6) (omega arith) (omega (arith, l)) in
+    let v = mul-le (t + 1) (9 * m2 + 3) (t + 1) (9 * (n + d) + 3) (omega arith) (omega (arith, k)) in
+    let w = mul-le (lost + t) (9 * (n + d) + 6) d (9 * (n + d) + 6) f (omega arith) in
+    omega (arith, x, y, z, u, v, w)
+
+late_few : (lost t t2 m1 m2 m3 n d used mid marked ended now more : ℕ) → used ≤ 0 + lost * (9 * m1 + 6) → mid ≤ used + (t + 1) * (9 * m2 + 3) → marked ≤ mid + more + 1 → ended ≤ marked + 6 → now ≤ ended + (t2 + 1) * (9 * m3 + 3) → m1 ≤ n + d → m2 ≤ n + d → m3 ≤ n + d → lost + t + t2 + 1 ≤ d → now ≤ remove_costs_among n d more
+late_few lost t t2 m1 m2 m3 n d used mid marked ended now more x y z e g l k j f =
+    let u = mul-le lost (9 * m1 + 6) lost (9 * (n + d) + 6) (omega arith) (omega (arith, l)) in
+    let v = mul-le (t + 1) (9 * m2 + 3) (t + 1) (9 * (n + d) + 3) (omega arith) (omega (arith, k)) in
+    let v2 = mul-le (t2 + 1) (9 * m3 + 3) (t2 + 1) (9 * (n + d) + 3) (omega arith) (omega (arith, j)) in
+    let w = mul-le (lost + t + t2 + 1) (9 * (n + d) + 6) d (9 * (n + d) + 6) f (omega arith) in
+    omega (arith, x, y, z, e, g, u, v, v2, w)
+
+module _ (p q m r : Trace) (is : IsStart p.start) (ok : IsRun p.start p.passes r.seen) (key : ℕ) (sq : IsSame p q) (sm : IsSame q m) (a : Begins p.seen q.seen) (b : Begins q.seen m.seen) {call : Call} (made : Made call p r) (op : call.op ≡ Remove) (on : Begins m.seen r.seen) where
+  from_q : Begins q.seen r.seen
+  from_q = begins_trans q.seen m.seen r.seen b on
+
+  met_all : met_since p r key ≤ listed_for p key + disturbed p r key
+  met_all = met_removed p r is ok key made op
+
+  met_first : met_since p q key ≤ listed_for p key + disturbed p r key
+  met_first = let low = met_before p r is ok key q a from_q in let all = met_all in omega (arith, low, all)
+
+  met_mid : met_since q m key ≤ listed_for p key + disturbed p r key
+  met_mid =
+      let less = met_less p m is (begins_run p.start p.passes m.seen r.seen on ok) key q sq a b in
+      let low = met_before p r is ok key m (begins_trans p.seen q.seen m.seen a b) on in
+      let all = met_all in
+      omega (arith, less, low, all)
+
+  -- one that was soon
+  pub soon_paid : {used mid : ℕ} → HasRepeated 9 p q key 6 0 used → WalksAgain 9 q m key used mid → (now : ℕ) → now ≤ mid + (steps_to_value_of p.start + 7) → now ≤ remove_costs_among (listed_for p key) (disturbed p r key) (steps_to_value_of p.start)
+  soon_paid {used} {mid} x w now few =
+      let here = disturbed_same p q key q.seen sq in
+      let there = disturbed_same p q key m.seen sq in
+      let before = x.repeats.few in
+      let since_q = w.repeats.few in
+      let grows = disturbances_grow (since p.start p.passes m.seen r.seen is ok on) p.who (bucket_of p.start.shape key) in
+      soon_few x.lost w.lost (met_since p q key) (met_since q m key) (listed_for p key) (disturbed p r key) used mid now (steps_to_value_of p.start) x.repeats.paid w.repeats.paid few met_first met_mid (omega (arith, before, since_q, here, there, grows))
+
+  -- and one for which a search followed
+  pub late_paid : {used mid : ℕ} → HasRepeated 9 p q key 6 0 used → (told : Found) → LastWalk q m key used mid told → (now : ℕ) → MarksAndSearches m r key mid now told.pred → now ≤ remove_costs_among (listed_for p key) (disturbed p r key) (steps_to_value_of p.start)
+  late_paid {used} {mid} x told last now late =
+      let t = last.begun in
+      let e = late.searches.ended in
+      let st : IsSame p t = same_on sq last.same in
+      let pm : IsSame p m = same_on sq sm in
+      let pe : IsSame p e = same_on (same_on pm late.marks.same) late.searches.quiet.same in
+      let tm : IsSame t m = record { table = pm.table ∙ sym st.table; start = pm.start ∙ sym st.start; passes = pm.passes ∙ sym st.passes; who = pm.who ∙ sym st.who } in
+      let te : IsSame t e = record { table = pe.table ∙ sym st.table; start = pe.start ∙ sym st.start; passes = pe.passes ∙ sym st.passes; who = pe.who ∙ sym st.who } in
+      let is_t : IsStart t.start = subst IsStart (sym st.start) is in
+      let ok_e = begins_run p.start p.passes e.seen r.seen late.searches.then.seen ok in
+      let R : Start → Type 0 = λ start. IsRun start p.passes e.seen in
+      let R2 : ℕ → Type 0 = λ passes. IsRun t.start passes e.seen in
+      let ok_te : IsRun t.start t.passes e.seen = subst R2 (sym st.passes) (subst R (sym st.start) ok_e) in
+      let marked = late.marks in
+      let to_marked = begins_trans m.seen marked.moment late.marked.seen marked.before marked.after in
+      let less = lost_past t m late.marked e is_t ok_te key tm marked.same te last.to late.searches.quiet.seen told.pred last.pred marked (late.searches.count ∙ marked.count ∙ last.count) last.knew late.searches.loses in
+      let here = disturbed_same p q key q.seen sq in
+      let mid_there = disturbed_same p q key t.seen sq in
+      let there = disturbed_same p t key t.seen st in
+      let end = disturbed_same p t key e.seen st in
+      let then_e = disturbed_same p e key e.seen pe in
+      let then_r = disturbed_same p e key r.seen pe in
+      let before = x.repeats.few in
+      let since_q = last.repeats.few in
+      let since_e = late.searches.walks.repeats.few in
+      let start = ap steps_to_value_of pm.start in
+      let marked_few = late.few in
+      let to_e = begins_trans m.seen late.marked.seen e.seen to_marked late.searches.quiet.seen in
+      let met_last = met_less p r is ok key e pe (begins_trans p.seen m.seen e.seen (begins_trans p.seen q.seen m.seen a b) to_e) late.searches.then.seen in
+      let all = met_all in
+      late_few x.lost last.lost late.searches.walks.lost (met_since p q key) (met_since q m key) (met_since e r key) (listed_for p key) (disturbed p r key) used mid late.used late.searches.used now (steps_to_value_of p.start) x.repeats.paid last.repeats.paid (omega (arith, marked_few, start)) late.searches.few late.searches.walks.repeats.paid met_first met_mid (omega (arith, met_last, all))
+      (omega (arith, before, since_q, since_e, less, here, mid_there, there, end, then_e, then_r))
