@@ -35,7 +35,7 @@ loop-pred-init g c =
         tries = record { goes = c.start.ensures.goes.goes; within = (omega (arith, used), omega (arith, fits, used)) };
         some = omega (arith, used);
         reached = c.in-Ok.ensures.come;
-        walks = walk_begins 9 p.trace r.trace c.law.ensures.start ok c.args.self.now.key quiet.same c.args.self.now.bucket c.args.self.now.used c.start.new.self.used c.in-Ok.pred c.args.self.now.of_key used head.at (unchanged_at p.trace p.trace r.trace c.args.self.now.key c.law.ensures.start ok (same_refl p.trace) quiet.same quiet.seen c.start.ensures.looks.observes.adds_none) head.reads;
+        walks = walk_begins 9 p.trace r.trace c.law.ensures.start ok c.args.self.now.key quiet.same c.args.self.now.bucket c.args.self.now.used c.start.new.self.used c.in-Ok.pred c.args.self.now.of_key used head.at (unchanged_at p.trace p.trace r.trace c.args.self.now.key c.law.ensures.start ok (same_refl p.trace) quiet.same quiet.seen c.start.ensures.observes.adds_none) head.reads;
       },
     )
 
@@ -58,7 +58,7 @@ loop-pred-preserved g c =
     let b = c.loop-pred.invariant.0.budget in (
       call_on c.loop-pred.invariant.0 v.call,
       traverses_on i v.goes (omega (arith, x)) (omega (arith, x, y, b)) come
-          (walk_to 9 p r c.law.ensures.start ok c.args.self.now.key whole.same q first.same first.seen v.goes.quiet.seen i.walks met.reads.slot met.reads.named (unchanged_at p q r c.args.self.now.key c.law.ensures.start ok first.same whole.same v.goes.quiet.seen c.visit.ensures.looks.observes.adds_none) c.in-Ok-Smaller.node met.fresh met.keeps.epoch met.reads.at met.reads (let count = met.count in omega (arith, count)) come.is.unmarked),
+          (walk_to 9 p r c.law.ensures.start ok c.args.self.now.key whole.same q first.same first.seen v.goes.quiet.seen i.walks met.reads.slot met.reads.named (unchanged_at p q r c.args.self.now.key c.law.ensures.start ok first.same whole.same v.goes.quiet.seen c.visit.ensures.observes.adds_none) c.in-Ok-Smaller.node met.fresh met.keeps.epoch met.reads.at met.reads (let count = met.count in omega (arith, count)) come.is.unmarked),
     )
 
 pub loop-pred-preserved-in-Ok-help : goal.loop-pred-preserved-in-Ok-help
@@ -89,7 +89,7 @@ loop-pred-preserved-in-Ok-help g c =
     let key = c.args.self.now.key in
     let P : Start → Type 0 = λ start. HeldIn (knows r) c.loop-pred.pred.at (bucket_of start.shape key) in
     let inside : HeldIn (knows r) c.loop-pred.pred.at (bucket_of p.start.shape key) = subst P whole.same.start before.inside in
-    let past : Walks 9 p r key c.args.self.now.used c.help.new.self.used c.loop-pred.pred (held_of c.in-Ok-Marked.marked) = walk_past 9 p r is ok key whole.same q first.same first.seen v.goes.quiet.seen i.walks met.reads.slot met.reads.named (unchanged_at p q r key is ok first.same whole.same v.goes.quiet.seen c.visit.ensures.looks.observes.adds_none) (held_of c.in-Ok-Marked.marked) met.fresh met.keeps.epoch met.reads.at met.reads (let count = met.count in omega (arith, count, few)) in (
+    let past : Walks 9 p r key c.args.self.now.used c.help.new.self.used c.loop-pred.pred (held_of c.in-Ok-Marked.marked) = walk_past 9 p r is ok key whole.same q first.same first.seen v.goes.quiet.seen i.walks met.reads.slot met.reads.named (unchanged_at p q r key is ok first.same whole.same v.goes.quiet.seen c.visit.ensures.observes.adds_none) (held_of c.in-Ok-Marked.marked) met.fresh met.keeps.epoch met.reads.at met.reads (let count = met.count in omega (arith, count, few)) in (
       call_on c.loop-pred.invariant.0 (call_on v.call h.call),
       traverses_on i (goes_on v.goes h.goes) (omega (arith, x, y)) (omega (arith, few, z, b, d)) (record { is = s.is; stood = stood_since v.goes.quiet s.stood })
           (walk_helped 9 p r t is ok_t key whole.same whole.seen h.goes.quiet.seen past inside helped.epoch helped.opens),
@@ -141,7 +141,7 @@ returns-in-Ok-Beyond-clause-found g c =
     let is = c.law.ensures.start in
     let ok = run_at p r whole.same (whole.is_run c.law.ensures.is_run) in
     let key = c.args.self.now.key in
-    let none = unchanged_at p q r key is ok first.same whole.same v.seen c.visit.ensures.looks.observes.adds_none in
+    let none = unchanged_at p q r key is ok first.same whole.same v.seen c.visit.ensures.observes.adds_none in
     record {
       found = cur_found c.args.self.now.key c.visit.new.self.used c.loop-pred.pred c.in-Ok-Beyond.node (c.visit.new.self.key == c.in-Ok-Beyond.key) i.reached i.tries.goes.quiet v met.keeps cur met.reads.stood;
       used = refl;
@@ -175,7 +175,7 @@ returns-in_default-clause-stopped g c =
     let used = c.start.ensures.used in (
       omega (arith, used),
       omega (arith, used),
-      start_disturbed 9 p r c.law.ensures.start ok c.args.self.now.key quiet.same (unchanged_at p p r c.args.self.now.key c.law.ensures.start ok (same_refl p) quiet.same quiet.seen c.start.ensures.looks.observes.adds_none) c.in_default.ensures.moved.moves,
+      start_disturbed 9 p r c.law.ensures.start ok c.args.self.now.key quiet.same (unchanged_at p p r c.args.self.now.key c.law.ensures.start ok (same_refl p) quiet.same quiet.seen c.start.ensures.observes.adds_none) c.in_default.ensures.moved.moves,
     )
 
 pub returns-then-not-affords-2-clause-stopped : goal.returns-then-not-affords-2-clause-stopped
@@ -241,7 +241,7 @@ returns-in-Err-help-clause-stopped g c =
     let ok_t = run_at p t all.same (all.is_run c.law.ensures.is_run) in
     let key = c.args.self.now.key in
     let steps = h.hand.takes_no_slot.count ∙ v.hand.takes_no_slot.count ∙ i.tries.goes.hand.takes_no_slot.count in
-    let none = unchanged_at p q r key is ok first.same whole.same v.quiet.seen c.visit.ensures.looks.observes.adds_none in (
+    let none = unchanged_at p q r key is ok first.same whole.same v.quiet.seen c.visit.ensures.observes.adds_none in (
       omega arith,
       walk_visited 9 p t is ok_t key all.same q first.same first.seen later.seen i.walks (let count = met.count in omega (arith, count, few)) (ap is_some met.reads.named),
       loses_place_disturb p t is ok_t key all.same steps r c.loop-pred.pred whole.same h.quiet.seen (knows_now p r whole.same whole.seen met.fresh) (stands_still_on v.quiet.seen none i.walks.stands) c.in-Err-help.ensures.lost.loses,

@@ -30,11 +30,11 @@ loop-here-init g c =
     let quiet = c.start.ensures.goes.goes.quiet in (
       c.start.ensures.goes.call,
       record {
-        peeks = record { tries = record { goes = c.start.ensures.goes.goes; within = (omega (arith, used), omega (arith, fits, used)) }; observes = c.start.ensures.looks.observes };
+        peeks = record { tries = record { goes = c.start.ensures.goes.goes; within = (omega (arith, used), omega (arith, fits, used)) }; observes = c.start.ensures.observes };
         some = omega (arith, used);
         look = look_at c.in-Ok.ensures.come.is;
         fresh = head.reads.fresh;
-        walks = walk_begins 5 p.trace r.trace c.law.ensures.start (run_at p.trace r.trace quiet.same (quiet.is_run c.law.ensures.is_run)) c.args.self.now.key quiet.same c.args.self.now.bucket c.args.self.now.used c.start.new.self.used c.in-Ok.pred c.args.self.now.of_key used head.at (unchanged_at p.trace p.trace r.trace c.args.self.now.key c.law.ensures.start (run_at p.trace r.trace quiet.same (quiet.is_run c.law.ensures.is_run)) (same_refl p.trace) quiet.same quiet.seen c.start.ensures.looks.observes.adds_none) head.reads;
+        walks = walk_begins 5 p.trace r.trace c.law.ensures.start (run_at p.trace r.trace quiet.same (quiet.is_run c.law.ensures.is_run)) c.args.self.now.key quiet.same c.args.self.now.bucket c.args.self.now.used c.start.new.self.used c.in-Ok.pred c.args.self.now.of_key used head.at (unchanged_at p.trace p.trace r.trace c.args.self.now.key c.law.ensures.start (run_at p.trace r.trace quiet.same (quiet.is_run c.law.ensures.is_run)) (same_refl p.trace) quiet.same quiet.seen c.start.ensures.observes.adds_none) head.reads;
       },
     )
 
@@ -53,8 +53,8 @@ loop-here-preserved-in-Ok-Marked g c =
     let b = c.loop-here.invariant.0.budget in (
       call_on c.loop-here.invariant.0 v.call,
       subst (λ (h : Held). Looks c.args.self.now.at.stepper.now c.visit.new.self.at.stepper.now c.args.self.now.key c.args.self.now.used c.visit.new.self.used c.args.self.now.budget c.loop-here.pred h) (sym c.held_of-here.ensures)
-          (looks_on c.loop-here.invariant.1 v.goes c.visit.ensures.looks.observes (omega (arith, x)) (omega (arith, x, y, b)) look met.fresh
-          (walk_past 5 p.trace r.trace c.law.ensures.start (run_at p.trace r.trace whole.same (whole.is_run c.law.ensures.is_run)) c.args.self.now.key whole.same q.trace first.same first.seen v.goes.quiet.seen c.loop-here.invariant.1.walks met.reads.slot met.reads.named (unchanged_at p.trace q.trace r.trace c.args.self.now.key c.law.ensures.start (run_at p.trace r.trace whole.same (whole.is_run c.law.ensures.is_run)) first.same whole.same v.goes.quiet.seen c.visit.ensures.looks.observes.adds_none) (held_of c.in-Ok-Marked.marked) met.fresh met.keeps.epoch met.reads.at met.reads (let count = met.count in omega (arith, count)))),
+          (looks_on c.loop-here.invariant.1 v.goes c.visit.ensures.observes (omega (arith, x)) (omega (arith, x, y, b)) look met.fresh
+          (walk_past 5 p.trace r.trace c.law.ensures.start (run_at p.trace r.trace whole.same (whole.is_run c.law.ensures.is_run)) c.args.self.now.key whole.same q.trace first.same first.seen v.goes.quiet.seen c.loop-here.invariant.1.walks met.reads.slot met.reads.named (unchanged_at p.trace q.trace r.trace c.args.self.now.key c.law.ensures.start (run_at p.trace r.trace whole.same (whole.is_run c.law.ensures.is_run)) first.same whole.same v.goes.quiet.seen c.visit.ensures.observes.adds_none) (held_of c.in-Ok-Marked.marked) met.fresh met.keeps.epoch met.reads.at met.reads (let count = met.count in omega (arith, count)))),
     )
 
 pub loop-here-preserved : goal.loop-here-preserved
@@ -73,8 +73,8 @@ loop-here-preserved g c =
     let whole = quiet_on first v.goes.quiet in
     let b = c.loop-here.invariant.0.budget in (
       call_on c.loop-here.invariant.0 v.call,
-      looks_on c.loop-here.invariant.1 v.goes c.visit.ensures.looks.observes (omega (arith, x)) (omega (arith, x, y, b)) (look_at come.is) met.fresh
-          (walk_to 5 p.trace r.trace c.law.ensures.start (run_at p.trace r.trace whole.same (whole.is_run c.law.ensures.is_run)) c.args.self.now.key whole.same q.trace first.same first.seen v.goes.quiet.seen c.loop-here.invariant.1.walks met.reads.slot met.reads.named (unchanged_at p.trace q.trace r.trace c.args.self.now.key c.law.ensures.start (run_at p.trace r.trace whole.same (whole.is_run c.law.ensures.is_run)) first.same whole.same v.goes.quiet.seen c.visit.ensures.looks.observes.adds_none) c.in-Ok-Smaller.node met.fresh met.keeps.epoch met.reads.at met.reads (let count = met.count in omega (arith, count)) come.is.unmarked),
+      looks_on c.loop-here.invariant.1 v.goes c.visit.ensures.observes (omega (arith, x)) (omega (arith, x, y, b)) (look_at come.is) met.fresh
+          (walk_to 5 p.trace r.trace c.law.ensures.start (run_at p.trace r.trace whole.same (whole.is_run c.law.ensures.is_run)) c.args.self.now.key whole.same q.trace first.same first.seen v.goes.quiet.seen c.loop-here.invariant.1.walks met.reads.slot met.reads.named (unchanged_at p.trace q.trace r.trace c.args.self.now.key c.law.ensures.start (run_at p.trace r.trace whole.same (whole.is_run c.law.ensures.is_run)) first.same whole.same v.goes.quiet.seen c.visit.ensures.observes.adds_none) c.in-Ok-Smaller.node met.fresh met.keeps.epoch met.reads.at met.reads (let count = met.count in omega (arith, count)) come.is.unmarked),
     )
 
 pub returns-in-Err-clause-goes : goal.returns-in-Err-clause-goes
@@ -85,7 +85,7 @@ returns-in-Err-clause-goes g c = record {
 }
 
 pub returns-in-Err-clause-observes : goal.returns-in-Err-clause-observes
-returns-in-Err-clause-observes g c = observes_on c.loop-here.invariant.1.peeks.observes c.visit.ensures.looks.observes
+returns-in-Err-clause-observes g c = observes_on c.loop-here.invariant.1.peeks.observes c.visit.ensures.observes
 
 pub returns-then-self-key-clause-goes : goal.returns-then-self-key-clause-goes
 returns-then-self-key-clause-goes g c = record {
@@ -95,7 +95,7 @@ returns-then-self-key-clause-goes g c = record {
 }
 
 pub returns-then-self-key-clause-observes : goal.returns-then-self-key-clause-observes
-returns-then-self-key-clause-observes g c = observes_on c.loop-here.invariant.1.peeks.observes c.visit.ensures.looks.observes
+returns-then-self-key-clause-observes g c = observes_on c.loop-here.invariant.1.peeks.observes c.visit.ensures.observes
 
 pub returns-in-Ok-Beyond-clause-goes : goal.returns-in-Ok-Beyond-clause-goes
 returns-in-Ok-Beyond-clause-goes g c = record {
@@ -105,7 +105,7 @@ returns-in-Ok-Beyond-clause-goes g c = record {
 }
 
 pub returns-in-Ok-Beyond-clause-observes : goal.returns-in-Ok-Beyond-clause-observes
-returns-in-Ok-Beyond-clause-observes g c = observes_on c.loop-here.invariant.1.peeks.observes c.visit.ensures.looks.observes
+returns-in-Ok-Beyond-clause-observes g c = observes_on c.loop-here.invariant.1.peeks.observes c.visit.ensures.observes
 
 pub returns-then-self-key-clause-sight : goal.returns-then-self-key-clause-sight
 returns-then-self-key-clause-sight g c =
@@ -126,7 +126,7 @@ returns-then-self-key-clause-sight g c =
     record {
       sees = present_at r.trace.start c.args.self.now.key c.loop-here.here c.in-Ok-Beyond.node cur;
       fresh = met.fresh;
-      stood = (node_open 5 p.trace r.trace c.law.ensures.start ok c.args.self.now.key whole.same q.trace first.same first.seen v.seen w met.reads.slot met.reads.named (unchanged_at p.trace q.trace r.trace c.args.self.now.key c.law.ensures.start (run_at p.trace r.trace whole.same (whole.is_run c.law.ensures.is_run)) first.same whole.same v.seen c.visit.ensures.looks.observes.adds_none) c.in-Ok-Beyond.node met.fresh met.keeps.epoch met.reads.at met.reads cur.unmarked).stood;
+      stood = (node_open 5 p.trace r.trace c.law.ensures.start ok c.args.self.now.key whole.same q.trace first.same first.seen v.seen w met.reads.slot met.reads.named (unchanged_at p.trace q.trace r.trace c.args.self.now.key c.law.ensures.start (run_at p.trace r.trace whole.same (whole.is_run c.law.ensures.is_run)) first.same whole.same v.seen c.visit.ensures.observes.adds_none) c.in-Ok-Beyond.node met.fresh met.keeps.epoch met.reads.at met.reads cur.unmarked).stood;
       paid = walk_visited 5 p.trace r.trace c.law.ensures.start ok c.args.self.now.key whole.same q.trace first.same first.seen v.seen w (let count = met.count in omega (arith, count)) (ap is_some met.reads.named);
     }
 
@@ -180,7 +180,7 @@ returns-in-Err-clause-stopped g c =
     let w = c.loop-here.invariant.1.walks in
     let used = c.visit.ensures.used.1 in
     let some : is_some (link_of c.loop-here.here.word).slot ≡ true = ap (λ (l : Link). is_some l.slot) (sym c.decode.ensures.link) ∙ sym c.is_some.ensures ∙ c.loop-here-test.true in
-    let less = moves_disturb p.trace r.trace c.law.ensures.start ok c.args.self.now.key q.trace first.same whole.same v.seen (unchanged_at p.trace q.trace r.trace c.args.self.now.key c.law.ensures.start ok first.same whole.same v.seen c.visit.ensures.looks.observes.adds_none) c.loop-here.invariant.1.fresh c.in-Err.ensures.moved.moves in
+    let less = moves_disturb p.trace r.trace c.law.ensures.start ok c.args.self.now.key q.trace first.same whole.same v.seen (unchanged_at p.trace q.trace r.trace c.args.self.now.key c.law.ensures.start ok first.same whole.same v.seen c.visit.ensures.observes.adds_none) c.loop-here.invariant.1.fresh c.in-Err.ensures.moved.moves in
     let before = grows_disturbed p.trace q.trace c.law.ensures.start ok_q c.args.self.now.key p.trace.seen first.seen in (
       omega arith,
       walk_visited 5 p.trace r.trace c.law.ensures.start ok c.args.self.now.key whole.same q.trace first.same first.seen v.seen w (omega (arith, used)) some,
@@ -195,7 +195,7 @@ returns-in_default-clause-stopped g c =
     let used = c.start.ensures.used in (
       omega (arith, used),
       omega (arith, used),
-      start_disturbed 5 p.trace r.trace c.law.ensures.start (run_at p.trace r.trace quiet.same (quiet.is_run c.law.ensures.is_run)) c.args.self.now.key quiet.same (unchanged_at p.trace p.trace r.trace c.args.self.now.key c.law.ensures.start (run_at p.trace r.trace quiet.same (quiet.is_run c.law.ensures.is_run)) (same_refl p.trace) quiet.same quiet.seen c.start.ensures.looks.observes.adds_none) c.in_default.ensures.moved.moves,
+      start_disturbed 5 p.trace r.trace c.law.ensures.start (run_at p.trace r.trace quiet.same (quiet.is_run c.law.ensures.is_run)) c.args.self.now.key quiet.same (unchanged_at p.trace p.trace r.trace c.args.self.now.key c.law.ensures.start (run_at p.trace r.trace quiet.same (quiet.is_run c.law.ensures.is_run)) (same_refl p.trace) quiet.same quiet.seen c.start.ensures.observes.adds_none) c.in_default.ensures.moved.moves,
     )
 
 pub returns-then-not-affords-2-clause-stopped : goal.returns-then-not-affords-2-clause-stopped
