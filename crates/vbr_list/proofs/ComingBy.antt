@@ -10,7 +10,7 @@ use Rattle.vbr_slots.specs.Views.{PassView, Trace}
 use Rattle.vbr_slots.proofs.Lemmas.{quiet_adds_none}
 use Rattle.vbr_at_table.proofs.Lemmas.{took_all}
 use Rattle.vbr_list.specs.Budgets.{steps_to_value_of}
-use Rattle.vbr_list.specs.Cursors.{HasStayedOrMoved, IsAtEnd, IsBehindKey, IsPastKey, IteratesWhere, PassesBy, SeesMore, costs_over, entered_by, next_bucket}
+use Rattle.vbr_list.specs.Cursors.{HasStayedOrMoved, IsBehindKey, IsPastKey, IteratesWhere, PassesBy, SeesMore, costs_over, entered_by, next_bucket}
 use Rattle.vbr_list.specs.Next.{HasNoNext, enough_to_seek, listed_in, seek_costs}
 use Rattle.vbr_list.specs.Pieces.{Goes, Observes}
 use Rattle.vbr_list.specs.Seeking.{Sought}
@@ -96,26 +96,26 @@ module _ {p q : PassView} (r : PassView) (law : PassLaw p) (c d : Cursor) (used 
   -- over the rest of a bucket
   pub come_on : Sought q r d.bucket d.from used since budget (Some None) → HasComeBy p r c (next_bucket d) since budget
   come_on y = record {
-    goes = goes_on x.goes y.goes;
-    observes = observes_on x.observes y.observes;
-    within = y.within.1;
-    passes = passes_on to_here (from_here y.goes.quiet) x.passes (passes_bucket d y.tells);
+    goes = goes_on x.goes y.peeks.tries.goes;
+    observes = observes_on x.observes y.peeks.observes;
+    within = y.peeks.tries.within.1;
+    passes = passes_on to_here (from_here y.peeks.tries.goes.quiet) x.passes (passes_bucket d y.next.tells);
     moved = inr (omega (arith, on), refl);
-    paid = λ alone. paid_on y.goes.quiet y.paid alone;
+    paid = λ alone. paid_on y.peeks.tries.goes.quiet y.next.paid alone;
   }
 
   -- to a node
   pub come_to : (e : Cursor) (next : NextNode) → Sought q r d.bucket d.from used since budget (Some (Some next)) → (next.is_last ≡ true → e ≡ next_bucket d) → (next.is_last ≡ false → IsBehindKey d.bucket next.key e) → IteratesWhere p r c e budget (Ok (Some (next.key, next.value)))
   come_to e next y last more =
-      let all = goes_on x.goes y.goes in
-      let seen = observes_on x.observes y.observes in
-      let tells = y.tells.0 in
+      let all = goes_on x.goes y.peeks.tries.goes in
+      let seen = observes_on x.observes y.peeks.observes in
+      let tells = y.next.tells.0 in
       let of_bucket : bucket_of p.trace.start.shape next.key ≡ d.bucket = ap (λ (s : Start). bucket_of s.shape next.key) (sym x.goes.quiet.same.start) ∙ tells.0.of_bucket in
       let P : ℕ → Type 0 = λ b. IsPastKey b next.key e in
       let past = is_past next.is_last last more in
       record {
         gives = (
-          (passes_on to_here (from_here y.goes.quiet) x.passes (passes next.is_last last more y.tells.1), subst P (sym of_bucket) past),
+          (passes_on to_here (from_here y.peeks.tries.goes.quiet) x.passes (passes next.is_last last more y.next.tells.1), subst P (sym of_bucket) past),
           λ values. entry_since to_here (tells.1 (ap (λ (s : Start). s.shape.values) x.goes.quiet.same.start ∙ values)),
         );
         refused = tt;
@@ -124,8 +124,8 @@ module _ {p q : PassView} (r : PassView) (law : PassLaw p) (c d : Cursor) (used 
         adds_none = seen.adds_none;
         takes_no_slot = all.hand.takes_no_slot;
         hand = all.hand.hand;
-        steps = within_of since budget y.within.1 all.counts;
-        costs = λ alone. within_of since (costs_over p.trace c.bucket (entered_by e.bucket e.from - c.bucket)) (entered past (paid_on y.goes.quiet y.paid alone)) all.counts;
+        steps = within_of since budget y.peeks.tries.within.1 all.counts;
+        costs = λ alone. within_of since (costs_over p.trace c.bucket (entered_by e.bucket e.from - c.bucket)) (entered past (paid_on y.peeks.tries.goes.quiet y.next.paid alone)) all.counts;
       }
     where
       is_past : (is_last : Bool) → (is_last ≡ true → e ≡ next_bucket d) → (is_last ≡ false → IsBehindKey d.bucket next.key e) → IsPastKey d.bucket next.key e
@@ -137,8 +137,8 @@ module _ {p q : PassView} (r : PassView) (law : PassLaw p) (c d : Cursor) (used 
           go (inr b) = inr (b.0, b.1)
 
       passes : (is_last : Bool) → (is_last ≡ true → e ≡ next_bucket d) → (is_last ≡ false → IsBehindKey d.bucket next.key e) → (is_last ≡ true → HasNoNext q.trace r.trace d.bucket (next.key + 1)) → PassesBy q.trace r.trace d e (Some next.key)
-      passes true last more none = let P : Cursor → Type 0 = λ u. PassesBy q.trace r.trace d u (Some next.key) in subst P (sym (last refl)) (passes_last d next.key y.tells.0.0 (none refl))
-      passes false last more none = passes_key d e next.key y.tells.0.0 (more refl)
+      passes true last more none = let P : Cursor → Type 0 = λ u. PassesBy q.trace r.trace d u (Some next.key) in subst P (sym (last refl)) (passes_last d next.key y.next.tells.0.0 (none refl))
+      passes false last more none = passes_key d e next.key y.next.tells.0.0 (more refl)
 
       entered : IsPastKey d.bucket next.key e → since ≤ costs_over p.trace c.bucket (d.bucket + 1 - c.bucket) → since ≤ costs_over p.trace c.bucket (entered_by e.bucket e.from - c.bucket)
       entered (inl b) le =
@@ -154,13 +154,13 @@ module _ {p q : PassView} (r : PassView) (law : PassLaw p) (c d : Cursor) (used 
   -- no further, for want of steps
   pub come_short : d.bucket < p.trace.start.shape.buckets → Sought q r d.bucket d.from used since budget None → IteratesWhere p r c d budget (Err (OutOfSteps since))
   come_short here y =
-      let all = goes_on x.goes y.goes in
-      let seen = observes_on x.observes y.observes in
+      let all = goes_on x.goes y.peeks.tries.goes in
+      let seen = observes_on x.observes y.peeks.observes in
       record {
         gives = tt;
         refused = record {
-          tired = record { took = took_all all.counts; within = y.within.1; short = y.tired };
-          passed = passes_on to_here (from_here y.goes.quiet) x.passes (passes_still q.trace r.trace d);
+          tired = record { took = took_all all.counts; within = y.peeks.tries.within.1; short = y.tired.tired };
+          passed = passes_on to_here (from_here y.peeks.tries.goes.quiet) x.passes (passes_still q.trace r.trace d);
           moved = x.moved;
           bucket = here;
           short = λ alone. short alone;
@@ -170,14 +170,14 @@ module _ {p q : PassView} (r : PassView) (law : PassLaw p) (c d : Cursor) (used 
         adds_none = seen.adds_none;
         takes_no_slot = all.hand.takes_no_slot;
         hand = all.hand.hand;
-        steps = within_of since budget y.within.1 all.counts;
+        steps = within_of since budget y.peeks.tries.within.1 all.counts;
         costs = tt;
       }
     where
       short : IsAlone p.trace r.trace → budget < costs_over p.trace c.bucket (d.bucket - c.bucket) + enough_to_seek p.trace d.bucket
       short alone =
-          let first = first_of x.goes.quiet y.goes.quiet alone in
+          let first = first_of x.goes.quiet y.peeks.tries.goes.quiet alone in
           let before = x.paid first in
-          let lacks = y.short (then_of x.goes.quiet y.goes.quiet alone) in
+          let lacks = y.tired.short (then_of x.goes.quiet y.peeks.tries.goes.quiet alone) in
           let few = enough_no_more q law x.goes.quiet first d.bucket in
           omega (arith, before, lacks, few)

@@ -1,52 +1,44 @@
 -- A seek goes on from place to place, and what it tells of the keys that it has passed by.
-use Rattle.std.proofs.Common.{◌≡◌, ℕ, suc, ◌+◌, ◌*◌, ◌<◌, ◌≤◌, Bool, true, false, Option, Some, None, refl, sym, ap, ◌∙◌, subst, arith, inl, inr}
+use Rattle.std.proofs.Common.{◌≡◌, ℕ, ◌+◌, ◌*◌, ◌<◌, ◌≤◌, Bool, true, false, Option, Some, None, refl, sym, ap, ◌∙◌, subst, arith, inl}
 use Rattle.std.specs.Option.{is_none}
 use Rattle.vbr_machine.specs.Start.{Start, IsStart}
 use Rattle.vbr_words.specs.Words.{link_of}
 use Rattle.vbr_words.specs.declared.place.At.{At}
-use Rattle.vbr_words.specs.declared.place.At.TheVariants.{Head, Slot}
+use Rattle.vbr_words.specs.declared.place.At.TheVariants.{Slot}
 use Rattle.vbr_words.specs.Buckets.{bucket_of}
-use Rattle.vbr_machine.specs.Knowledge.{Know}
-use Rattle.vbr_machine.specs.Membership.{HeldIn, at_head, KeyAt, LeadsTo, itself, onward, StandsBefore, StandsBehind}
-use Rattle.vbr_machine.specs.Nodes.{is_there}
-use Rattle.vbr_machine.proofs.Lemmas.{begins_trans, named_there, one_fewer_behind}
-use Rattle.vbr_slots.specs.Alone.{IsAlone, IsFresh, LeavesLists, ahead, nodes}
+use Rattle.vbr_machine.specs.Membership.{KeyAt, LeadsTo, itself, onward, StandsBefore, StandsBehind}
+use Rattle.vbr_machine.proofs.Lemmas.{begins_trans}
+use Rattle.vbr_slots.specs.Alone.{IsAlone, ahead}
 use Rattle.vbr_slots.specs.Calls.{IsSame, Quiet}
-use Rattle.vbr_slots.specs.PassLaw.{PassLaw}
 use Rattle.vbr_slots.specs.Views.{PassView, Trace, knows}
-use Rattle.vbr_slots.proofs.Lemmas.{quiet_on}
+use Rattle.vbr_slots.proofs.Lemmas.{quiet_on, quiet_refl}
 use Rattle.vbr_at_table.specs.Alone.{StandsNow}
-use Rattle.vbr_at_table.specs.Held.{HoldsMarked, Names, held_of}
+use Rattle.vbr_at_table.specs.Held.{held_of}
 use Rattle.vbr_at_table.specs.Keeping.{Keeps}
-use Rattle.vbr_at_table.specs.Moments.{IsNext, IsRead, WasSo}
+use Rattle.vbr_at_table.specs.Moments.{IsRead, WasSo}
+use Rattle.vbr_at_table.specs.Reading.{ReadsIn}
 use Rattle.vbr_at_table.specs.Values.{ValueAt}
+use Rattle.vbr_at_table.specs.declared.budget.TheConstants.{PIECE}
 use Rattle.vbr_at_table.specs.declared.held.Held.{Held}
 use Rattle.vbr_at_table.specs.declared.held.Marked.{Marked}
-use Rattle.vbr_at_table.proofs.Lemmas.{behind_kept, fresh_kept, held_in_kept, held_in_next, held_kept, keeps_on, stood_before, was_absent, was_absent_on, was_entry, was_present}
+use Rattle.vbr_at_table.proofs.Lemmas.{behind_kept, held_in_kept, held_in_next, held_kept, keeps_on, stood_before, was_absent, was_absent_on, was_entry, was_present}
 use Rattle.vbr_list.specs.Budgets.{steps_to_value_of}
 use Rattle.vbr_list.specs.Nearing.{StandsInList, StillAt}
-use Rattle.vbr_list.specs.Next.{HasNoNext, listed_in}
-use Rattle.vbr_list.specs.Pieces.{Goes, Observes}
-use Rattle.vbr_list.specs.Seeking.{ComesBefore, IsNextRead, IsPlaceBefore, IsPlaceIn, IsSameSeek, TellsNode}
-use Rattle.vbr_list.specs.declared.seek.PendingSeek.{PendingSeek}
+use Rattle.vbr_list.specs.Next.{HasNoNext, listed_in, seek_costs}
+use Rattle.vbr_list.specs.Pieces.{LooksOn, Peeks}
+use Rattle.vbr_list.specs.Places.{IsPlaceBefore, IsPlaceIn}
+use Rattle.vbr_list.specs.Seeking.{TellsNode}
+use Rattle.vbr_list.specs.Traversing.{ComesBefore}
+use Rattle.vbr_list.specs.Valuing.{ReadsValue}
+use Rattle.vbr_list.specs.Visiting.{ComesNearer, IsVisit, Meets, StartsAt}
 use Rattle.vbr_list.specs.declared.seeking.NextNode.{NextNode}
-use Rattle.vbr_words.specs.declared.nodes.Nodes.{Ghosts}
-use Rattle.vbr_list.proofs.Nearing.{looks_leave}
-use Rattle.vbr_list.proofs.Passing.{leads_kept, peeks_on}
-use Rattle.vbr_list.proofs.Reaching.{key_kept, slot_same, stood_since}
-use Rattle.vbr_list.proofs.Traversals.{Peeks}
-
--- ---- the same seek
-
-pub seek_on : {N : Type 0} {kind : Ghosts N} → {b c d : PendingSeek N kind} → IsSameSeek b c → IsSameSeek c d → IsSameSeek b d
-seek_on x y = record { at = record { pass = y.at.pass ∙ x.at.pass; slots = y.at.slots ∙ x.at.slots }; bucket = y.bucket ∙ x.bucket; from = y.from ∙ x.from; budget = y.budget ∙ x.budget }
-
-pub seek_refl : {N : Type 0} {kind : Ghosts N} → (c : PendingSeek N kind) → IsSameSeek c c
-seek_refl c = record { at = record { pass = refl; slots = refl }; bucket = refl; from = refl; budget = refl }
-
--- its steps are within the budget that it began with
-pub within_seek : {N : Type 0} {kind : Ghosts N} → {c d : PendingSeek N kind} → IsSameSeek c d → d.used ≤ c.budget
-within_seek {c} {d} x = let u = d.within in let e = x.budget in omega (arith, u, e)
+use Rattle.vbr_list.specs.declared.visiting.Visited.TheVariants.{Beyond, Marked as MarkedNode, Smaller}
+use Rattle.vbr_list.proofs.Going.{goes_counted, keeps_still}
+use Rattle.vbr_list.proofs.Nearing.{first_of, read_leaves, then_of}
+use Rattle.vbr_list.proofs.Observing.{looks_read}
+use Rattle.vbr_list.proofs.Passing.{leads_kept, peeks_on, peeks_read, peeks_refl}
+use Rattle.vbr_list.proofs.Reaching.{behind_node, head_before, key_kept, node_before, stood_since}
+use Rattle.vbr_list.proofs.ValueReads.{few_to_value}
 
 -- ---- places
 
@@ -59,67 +51,6 @@ place_on {p} {q} bucket from place s keeps x =
       inside = held_in_kept place.at bucket keeps x.inside;
       unmarked = x.unmarked;
       behind = subst P (sym s.start) (λ key b h. behind_kept p.start place.at key keeps (x.behind key b h));
-    }
-
--- the head
-pub head_before : {p q r : Trace} (bucket from : ℕ) (head : Held) → Quiet p q → Quiet q r → head.at ≡ Head bucket → IsRead q r head → (link_of head.word).mark ≡ false → ComesBefore p r bucket from head
-head_before {p} {q} {r} bucket from head a b at read unmarked =
-    let P : At → Type 0 = λ place. HeldIn (knows r) place bucket in
-    record {
-      is = record {
-        held = read.known;
-        inside = subst P (sym at) (at_head bucket);
-        unmarked = unmarked;
-        behind = λ key is high. let Q : At → Type 0 = λ place. StandsBehind r.start (knows r) place key in subst Q (sym at) is;
-      };
-      stood = stood_since a read.stood;
-    }
-
--- what the link of a place names is held in the bucket
-pub next_inside : {p q : Trace} (bucket : ℕ) (here node : Held) → IsPlaceIn (knows p) bucket here → Keeps (knows p) (knows q) → IsNext p q here (Some node) → HeldIn (knows q) node.at bucket
-next_inside {p} {q} bucket here node x keep n =
-    let P : At → Type 0 = λ at. HeldIn (knows q) at bucket in
-    subst P (sym n.2) (held_in_next here n.0 bucket (held_kept here keep x.held) n.1 (held_in_kept here.at bucket keep x.inside))
-
--- keys of the bucket from a number on stand behind a node with a key below it
-behind_node : (start : Start) (know : Know) (at : At) (s here key : ℕ) → at ≡ Slot s → KeyAt know at here → bucket_of start.shape key ≡ bucket_of start.shape here → here < key → StandsBehind start know at key
-behind_node start know at s here key e x b l =
-    let P : At → Type 0 = λ y. KeyAt know y here → StandsBehind start know y key in
-    subst P (sym e) (λ h. (here, h, b, l)) x
-
--- a node with a key below the number
-pub node_before : {p q r : Trace} (bucket from key : ℕ) (here node : Held) → IsPlaceIn (knows p) bucket here → Keeps (knows p) (knows q) → IsNext p q here (Some node) → Keeps (knows q) (knows r) → KeyAt (knows r) node.at key →
-    ((b : ℕ) → HeldIn (knows q) node.at b → bucket_of q.start.shape key ≡ b) → (link_of node.word).mark ≡ false → key < from → Quiet p q → Quiet q r → ComesBefore p r bucket from node
-node_before {p} {q} {r} bucket from key here node x keep n keep2 k in_bucket unmarked low a b =
-    let inside = next_inside bucket here node x keep n in
-    let same : bucket_of r.start.shape key ≡ bucket = ap (λ (s : Start). bucket_of s.shape key) b.same.start ∙ in_bucket bucket inside in
-    record {
-      is = record {
-        held = held_kept node keep2 n.3.known;
-        inside = held_in_kept node.at bucket keep2 inside;
-        unmarked = unmarked;
-        behind = λ other is high. behind_node r.start (knows r) node.at n.0 key other n.2 k (is ∙ sym same) (omega (arith, low, high));
-      };
-      stood = stood_before n.3.stood b;
-    }
-
--- a node with the next key
-pub node_next : {p q r s : Trace} (bucket from key value : ℕ) (is_last : Bool) (here node : Held) → IsPlaceIn (knows p) bucket here → Keeps (knows p) (knows q) → IsNext p q here (Some node) → Keeps (knows q) (knows r) → KeyAt (knows r) node.at key →
-    ((b : ℕ) → HeldIn (knows q) node.at b → bucket_of q.start.shape key ≡ b) → (link_of node.word).mark ≡ false → from ≤ key → Quiet q r → Keeps (knows r) (knows s) → (s.start.shape.values ≡ true → ValueAt (knows s) node.at value) → Quiet r s → is_last ≡ is_none (link_of node.word).slot → IsNextRead p s bucket from here (record { key = key; value = value; is_last = is_last })
-node_next {p} {q} {r} {s} bucket from key value is_last here node x keep n keep2 k in_bucket unmarked high a keep3 v b last =
-    let both = quiet_on a b in
-    record {
-      node = node;
-      read = record { known = held_kept node (keeps_on keep2 keep3) n.3.known; stood = stood_before n.3.stood both };
-      unmarked = unmarked;
-      slot = n.0;
-      named = n.1;
-      at = n.2;
-      keyed = key_kept node.at key keep3 k;
-      of_bucket = ap (λ (t : Start). bucket_of t.shape key) both.same.start ∙ in_bucket bucket (next_inside bucket here node x keep n);
-      high = high;
-      valued = v;
-      last = last;
     }
 
 -- ---- from place to place
@@ -140,29 +71,67 @@ pub record Follows (p q : PassView) (bucket from before since budget : ℕ) (her
   pub leads : LeadsTo (knows q.trace) (link_of pred.word) (link_of here.word)
   pub nears : IsAlone p.trace q.trace → NearsIn p.trace q.trace bucket before since here
 
--- at a place before the number
-pub follows_before : {p q r : PassView} (bucket from a b c budget : ℕ) (here node : Held) → Follows p q bucket from a b budget here → Goes q r b c → Observes q.trace r.trace → b ≤ c → c ≤ budget → ComesBefore q.trace r.trace bucket from node → (IsAlone p.trace r.trace → NearsIn p.trace r.trace bucket a c node) → Follows p r bucket from a c budget node
-follows_before bucket from a b c budget here node x y more le high come nears = record {
-  peeks = peeks_on x.peeks y more le high;
-  some = let u = x.some in omega (arith, u, le);
-  pred = node;
-  come = record { is = come.is; stood = stood_since x.peeks.tries.goes.quiet come.stood };
-  inside = record { held = come.is.held; inside = come.is.inside };
-  leads = itself;
-  nears = nears;
-}
+-- at the head
+pub follows_head : {p q : PassView} (bucket from before budget : ℕ) (head : Held) → ReadsIn p q 3 → before + PIECE ≤ budget → StartsAt p.trace q.trace bucket head → Follows p q bucket from before (before + 3) budget head
+follows_head {p} {q} bucket from before budget head reads fits x =
+    let come = head_before bucket from head x in
+    record {
+      peeks = peeks_read before 3 budget (peeks_refl p before budget (omega (arith, fits))) reads (omega (arith, fits));
+      some = omega arith;
+      pred = head;
+      come = come;
+      inside = record { held = x.known; inside = come.is.inside };
+      leads = itself;
+      nears = λ alone.
+          let listed : ahead q.trace bucket head.at ≡ listed_in p.trace bucket = (read_leaves reads alone).count bucket head.at ∙ ap (ahead p.trace bucket) x.at in
+          record { place = x.stands alone; there = inl x.unmarked; paid = omega (arith, listed) };
+    }
 
--- past a marked node
-pub follows_marked : {p q r : PassView} (bucket from a b c budget : ℕ) (here : Held) (marked : Marked) → Follows p q bucket from a b budget here → Goes q r b c → Observes q.trace r.trace → b ≤ c → c ≤ budget → Keeps (knows q.trace) (knows r.trace) → HoldsMarked (knows r.trace) marked → Names here marked.slot → (IsAlone p.trace r.trace → NearsIn p.trace r.trace bucket a c (held_of marked)) → Follows p r bucket from a c budget (held_of marked)
-follows_marked bucket from a b c budget here marked x y more le high keeps m names nears = record {
-  peeks = peeks_on x.peeks y more le high;
-  some = let u = x.some in omega (arith, u, le);
-  pred = x.pred;
-  come = record { is = place_on bucket from x.pred y.quiet.same keeps x.come.is; stood = stood_before x.come.stood y.quiet };
-  inside = record { held = m.held; inside = held_in_next here marked.slot bucket (held_kept here keeps x.inside.held) names (held_in_kept here.at bucket keeps x.inside.inside) };
-  leads = onward (link_of here.word) marked.slot (link_of marked.word) (leads_kept (link_of x.pred.word) (link_of here.word) keeps x.leads) names m.held.link m.mark;
-  nears = nears;
-}
+-- and on by a visit
+module _ {p q r : PassView} (bucket from a b c budget : ℕ) (here : Held) (x : Follows p q bucket from a b budget here) (looks : LooksOn q r b c) (few : IsVisit b c) (fits : b + PIECE ≤ budget) where
+  pub peeks_visit : Peeks p r a c budget
+  peeks_visit = peeks_on x.peeks looks.goes looks.looks.observes (omega (arith, few)) (omega (arith, few, fits))
+
+  nears_next : (next : Held) → (StandsInList q.trace here → StandsNow q.trace here → IsAlone q.trace r.trace → ComesNearer q.trace r.trace bucket here next) → IsAlone p.trace r.trace → NearsIn p.trace r.trace bucket a c next
+  nears_next next nearer alone =
+      let near = x.nears (first_of x.peeks.tries.goes.quiet looks.goes.quiet alone) in
+      let y = nearer near.there near.place.stands (then_of x.peeks.tries.goes.quiet looks.goes.quiet alone) in
+      record { place = y.stands; there = y.there; paid = (let u = near.paid in let v = y.fewer in omega (arith, u, v, few)) }
+
+  -- a node with a key below the number
+  pub follows_node : (node : Held) → Meets q.trace r.trace b c here from (Smaller node) → Follows p r bucket from a c budget node
+  follows_node node m =
+      let come = node_before bucket from m.visits.key here node x.inside m.keeps m.reads m.visits.has m.visits.low in
+      record {
+        peeks = peeks_visit;
+        some = let u = x.some in omega (arith, u, few);
+        pred = node;
+        come = record { is = come.is; stood = stood_since x.peeks.tries.goes.quiet come.stood };
+        inside = record { held = come.is.held; inside = come.is.inside };
+        leads = itself;
+        nears = nears_next node (m.alone bucket x.inside.inside);
+      }
+
+  -- a marked node
+  pub follows_marked : (gone : Marked) → Meets q.trace r.trace b c here from (MarkedNode gone) → Follows p r bucket from a c budget (held_of gone)
+  follows_marked gone m =
+      let held = m.visits.0 in
+      let names = m.visits.1 in
+      record {
+        peeks = peeks_visit;
+        some = let u = x.some in omega (arith, u, few);
+        pred = x.pred;
+        come = record { is = place_on bucket from x.pred looks.goes.quiet.same m.keeps x.come.is; stood = stood_before x.come.stood looks.goes.quiet };
+        inside = record { held = held.held; inside = held_in_next here gone.slot bucket (held_kept here m.keeps x.inside.held) names (held_in_kept here.at bucket m.keeps x.inside.inside) };
+        leads = onward (link_of here.word) gone.slot (link_of gone.word) (leads_kept (link_of x.pred.word) (link_of here.word) m.keeps x.leads) names held.held.link held.mark;
+        nears = nears_next (held_of gone) (m.alone bucket x.inside.inside);
+      }
+
+-- and a value is read
+pub peeks_value : {p q r : PassView} {a : ℕ} (b n budget : ℕ) → Peeks p q a b budget → ReadsIn q r (steps_to_value_of q.trace.start) → n ≡ steps_to_value_of q.trace.start → b + 2 ≤ budget → Peeks p r a (b + n) budget
+peeks_value {p} {q} b n budget x y e fits =
+    let few = few_to_value q.trace.start in
+    peeks_on x (goes_counted b n (steps_to_value_of q.trace.start) e y) (looks_read y).observes (omega arith) (omega (arith, e, few, fits))
 
 -- ---- what it tells
 
@@ -179,73 +148,53 @@ no_slot None e = refl
 no_slot (Some s) e = absurd (cc)
 
 -- there is no next key
-pub tells_none : {p q : PassView} (bucket from a b budget : ℕ) (here : Held) → IsStart p.trace.start → Follows p q bucket from a b budget here → Quiet q.trace q.trace → Keeps (knows q.trace) (knows q.trace) → (link_of here.word).slot ≡ None → HasNoNext p.trace q.trace bucket from
-tells_none {p} {q} bucket from a b budget here start x quiet keeps none = record { behind = λ other is high. passed_by q bucket from a b budget here start x quiet keeps other is high (rw none tt) }
+pub tells_none : {p q : PassView} (bucket from a b budget : ℕ) (here : Held) → IsStart p.trace.start → Follows p q bucket from a b budget here → (link_of here.word).slot ≡ None → HasNoNext p.trace q.trace bucket from
+tells_none {p} {q} bucket from a b budget here start x none = record { behind = λ other is high. passed_by q bucket from a b budget here start x (quiet_refl q.trace) (keeps_still (knows q.trace)) other is high (rw none tt) }
 
--- the next node
-pub tells_next : {p q : PassView} (r : PassView) (bucket from a b budget : ℕ) (next : NextNode) (here : Held) → IsStart p.trace.start → Follows p q bucket from a b budget here → Quiet q.trace r.trace → Keeps (knows q.trace) (knows r.trace) → IsNextRead q.trace r.trace bucket from here next → TellsNode p.trace r.trace bucket from (Some next)
-tells_next {p} {q} r bucket from a b budget next here start x quiet keeps n =
-    let whole = quiet_on x.peeks.tries.goes.quiet quiet in
-    let P : At → Type 0 = λ at. KeyAt (knows r.trace) at next.key in
-    let Q : At → Type 0 = λ at. ValueAt (knows r.trace) at next.value in
-    let keyed : KeyAt (knows r.trace) (Slot n.slot) next.key = subst P n.at n.keyed in
-    let read : IsRead p.trace r.trace n.node = record { known = n.read.known; stood = stood_since x.peeks.tries.goes.quiet n.read.stood } in (
+-- the next node, and the value that was read after it
+pub tells_next : {p q r : PassView} (s : PassView) (bucket from a b c budget : ℕ) (next : NextNode) (here node : Held) → IsStart p.trace.start → Follows p q bucket from a b budget here → Quiet q.trace r.trace → Meets q.trace r.trace b c here from (Beyond node next.key) → Quiet r.trace s.trace → ReadsValue r s node.at next.value → next.is_last ≡ is_none (link_of node.word).slot → TellsNode p.trace s.trace bucket from (Some next)
+tells_next {p} {q} {r} s bucket from a b c budget next here node start x visit m then v is_last =
+    let quiet = quiet_on visit then in
+    let keeps = keeps_on m.keeps v.keeps in
+    let first = x.peeks.tries.goes.quiet in
+    let whole = quiet_on first quiet in
+    let n = m.reads in
+    let k = m.visits.0 in
+    let P : At → Type 0 = λ at. KeyAt (knows s.trace) at next.key in
+    let Q : At → Type 0 = λ at. ValueAt (knows s.trace) at next.value in
+    let there = key_kept node.at next.key v.keeps k.keyed in
+    let keyed : KeyAt (knows s.trace) (Slot n.slot) next.key = subst P n.at there in
+    let of_bucket : bucket_of p.trace.start.shape next.key ≡ bucket = ap (λ (t : Start). bucket_of t.shape next.key) (sym (quiet_on first visit).same.start) ∙ k.of_bucket bucket x.inside.inside in
+    let read : IsRead p.trace s.trace node = record { known = held_kept node v.keeps k.held; stood = stood_before (stood_since first n.stood) then } in (
       (
         record {
-          high = n.high;
-          of_bucket = ap (λ (t : Start). bucket_of t.shape next.key) (sym whole.same.start) ∙ n.of_bucket;
-          was = was_present n.node start whole.same read n.unmarked next.key n.keyed;
-          between = λ other is high low. passed_by r bucket from a b budget here start x quiet keeps other is high (rw n.named (next.key, keyed, low));
+          high = m.visits.1;
+          of_bucket = of_bucket;
+          was = was_present node start whole.same read k.unmarked next.key there;
+          between = λ other is high low. passed_by s bucket from a b budget here start x quiet keeps other is high (rw n.named (next.key, keyed, low));
         },
-        λ values. was_entry n.node start whole.same read n.unmarked n.slot next.key next.value n.at keyed (subst Q n.at (n.valued (ap (λ (t : Start). t.shape.values) whole.same.start ∙ values))) values,
+        λ values. was_entry node start whole.same read k.unmarked n.slot next.key next.value n.at keyed (subst Q n.at (v.value (ap (λ (t : Start). t.shape.values) (quiet_on first visit).same.start ∙ values))) values,
       ),
       λ last. record {
         behind = λ other is high.
-            let now : bucket_of r.trace.start.shape other ≡ bucket_of r.trace.start.shape next.key = ap (λ (t : Start). bucket_of t.shape other) whole.same.start ∙ is ∙ sym n.of_bucket in
-            let none = no_slot (link_of n.node.word).slot (sym n.last ∙ last) in
-            was_absent n.node start whole.same read n.unmarked other (behind_node r.trace.start (knows r.trace) n.node.at n.slot next.key other n.at n.keyed now (omega (arith, high))) (rw none tt);
+            let same_bucket : bucket_of p.trace.start.shape other ≡ bucket_of p.trace.start.shape next.key = is ∙ sym of_bucket in
+            let S : Start → Type 0 = λ t. bucket_of t.shape other ≡ bucket_of t.shape next.key in
+            let now = subst S (sym whole.same.start) same_bucket in
+            let none = no_slot (link_of node.word).slot (sym is_last ∙ last) in
+            was_absent node start whole.same read k.unmarked other (behind_node s.trace.start (knows s.trace) node.at n.slot next.key other n.at there now (omega (arith, high))) (rw none tt);
       },
     )
 
--- ---- a pass that is alone
-
--- behind what the link of a place names there is one node fewer
-one_behind_in : (p : PassView) → PassLaw p → (bucket : ℕ) (here : Held) → IsPlaceIn (knows p.trace) bucket here → StandsInList p.trace here → StandsNow p.trace here → (s : ℕ) → Names here s → ahead p.trace bucket here.at ≡ suc (ahead p.trace bucket (Slot s))
-one_behind_in p sound bucket here x there stands s names = one_fewer_behind p.trace.start p.trace.passes p.trace.seen sound.start sound.is_run p.trace.who bucket here.at (link_of here.word) x.held.link there stands x.inside s names
-
-pub visited_in : (p : PassView) → PassLaw p → (q r : Trace) (bucket : ℕ) (here node : Held) → IsPlaceIn (knows p.trace) bucket here → StandsInList p.trace here → StandsNow p.trace here → IsNext p.trace q here (Some node) → LeavesLists p.trace r → ahead p.trace bucket here.at ≡ suc (ahead r bucket node.at)
-visited_in p sound q r bucket here node x there stands n l =
-    one_behind_in p sound bucket here x there stands n.0 n.1
-    ∙ ap suc (sym (l.count bucket (Slot n.0)) ∙ ap (ahead r bucket) (sym n.2))
-
-pub some_ahead : (p : PassView) → PassLaw p → (q : Trace) (bucket : ℕ) (here node : Held) → IsPlaceIn (knows p.trace) bucket here → StandsInList p.trace here → StandsNow p.trace here → IsNext p.trace q here (Some node) → 0 < ahead p.trace bucket here.at
-some_ahead p sound q bucket here node x there stands n = let u = one_behind_in p sound bucket here x there stands n.0 n.1 in omega (arith, u)
-
--- a marked node
-pub marked_in_alone : (p : PassView) → PassLaw p → (q : Trace) (bucket : ℕ) (here node : Held) (marked : Marked) → Quiet p.trace q → IsPlaceIn (knows p.trace) bucket here → StandsInList p.trace here → StandsNow p.trace here → IsNext p.trace q here (Some node) → held_of marked ≡ node → nodes q ≡ nodes p.trace → Keeps (knows p.trace) (knows q) → IsFresh p.trace → StandsNow q node →
-    StillAt q (held_of marked) × (ahead p.trace bucket here.at ≡ suc (ahead q bucket (Slot marked.slot))) × (is_there (nodes q) (Slot marked.slot) ≡ true)
-marked_in_alone p sound q bucket here node marked quiet x there stands n e same keeps fresh now =
-    let P : Held → Type 0 = λ h. StillAt q h × (ahead p.trace bucket here.at ≡ suc (ahead q bucket h.at)) in
-    let both = subst P (sym e) (record { fresh = fresh_kept p.trace q same keeps fresh; stands = now }, visited_in p sound q q bucket here node x there stands n (looks_leave quiet same)) in
-    let s : n.0 ≡ marked.slot = slot_same marked.slot n.0 (ap (λ (h : Held). h.at) e ∙ n.2) in
-    let Q : ℕ → Type 0 = λ t. is_there (nodes q) (Slot t) ≡ true in
-    let in_list = ap (λ a. is_there a (Slot n.0)) same ∙ named_there p.trace.start p.trace.passes p.trace.seen sound.start sound.is_run p.trace.who bucket here.at (link_of here.word) x.held.link there stands x.inside n.0 n.1 in
-    (both.0, both.1, subst Q s in_list)
-
-pub nears_start : (p q : Trace) (bucket before since : ℕ) (head : Held) → LeavesLists p q → since ≡ before + 3 → (link_of head.word).mark ≡ false → StillAt q head × (head.at ≡ Head bucket) → NearsIn p q bucket before since head
-nears_start p q bucket before since head l sum unmarked x =
-    let a : ahead q bucket head.at ≡ listed_in p bucket = l.count bucket head.at ∙ ap (ahead p bucket) x.1 in
-    record { place = x.0; there = inl unmarked; paid = omega (arith, a, sum) }
-
-pub nears_before : (p q r : Trace) (bucket before a b : ℕ) (here node : Held) → NearsIn p q bucket before a here → b ≡ a + 5 → (link_of node.word).mark ≡ false → StillAt r node × (ahead q bucket here.at ≡ suc (ahead r bucket node.at)) → NearsIn p r bucket before b node
-nears_before p q r bucket before a b here node x sum unmarked y = record { place = y.0; there = inl unmarked; paid = (let u = x.paid in let v = y.1 in omega (arith, u, v, sum)) }
-
-pub nears_marked : (p q r : Trace) (bucket before a b : ℕ) (here : Held) (marked : Marked) → NearsIn p q bucket before a here → b ≡ a + 3 → StillAt r (held_of marked) × (ahead q bucket here.at ≡ suc (ahead r bucket (Slot marked.slot))) × (is_there (nodes r) (Slot marked.slot) ≡ true) → NearsIn p r bucket before b (held_of marked)
-nears_marked p q r bucket before a b here marked x sum y = record { place = y.0; there = inr y.2; paid = (let u = x.paid in let v = y.1 in omega (arith, u, v, sum)) }
-
--- what the next key costs
-pub next_paid : (p q : Trace) (bucket before a b : ℕ) (here : Held) → NearsIn p q bucket before a here → 0 < ahead q bucket here.at → b ≡ a + (5 + steps_to_value_of p.start) → b ≤ before + (5 * listed_in p bucket + 3 + steps_to_value_of p.start)
-next_paid p q bucket before a b here x some sum = let u = x.paid in omega (arith, u, some, sum)
+-- what it costs
+pub next_paid : {p q : PassView} (r : Trace) (bucket from a b c budget key : ℕ) (here node : Held) → Follows p q bucket from a b budget here → Quiet q.trace r → Meets q.trace r b c here from (Beyond node key) → IsAlone p.trace r → c + steps_to_value_of r.start ≤ a + seek_costs p.trace bucket
+next_paid {p} {q} r bucket from a b c budget key here node x quiet m alone =
+    let first = x.peeks.tries.goes.quiet in
+    let near = x.nears (first_of first quiet alone) in
+    let some = (m.alone bucket x.inside.inside near.there near.place.stands (then_of first quiet alone)).fewer in
+    let paid = near.paid in
+    let count = m.count in
+    let values : steps_to_value_of r.start ≡ steps_to_value_of p.trace.start = ap steps_to_value_of (quiet_on first quiet).same.start in
+    omega (arith, paid, some, count, values)
 
 -- ---- again
 

@@ -5,6 +5,8 @@ use Rattle.vbr_words.specs.declared.nodes.Nodes.{Ghosts}
 use Rattle.vbr_words.specs.Dimensions.{Dimensions}
 use Rattle.vbr_machine.specs.Start.{Start}
 use Rattle.vbr_words.specs.Buckets.{bucket_of}
+use Rattle.vbr_slots.specs.AtTables.{IsSameTable}
+use Rattle.vbr_slots.specs.declared.at_table.AtTable.{AtTable}
 use Rattle.vbr_slots.specs.Calls.{IsSame, Quiet, Took}
 use Rattle.vbr_slots.specs.Views.{Trace, TableView, PassView, IsOf}
 use Rattle.vbr_slots.proofs.Lemmas.{quiet_on, quiet_refl}
@@ -16,10 +18,9 @@ use Rattle.vbr_machine.specs.Knowledge.{Know}
 use Rattle.vbr_at_table.specs.declared.budget.TheConstants.{PIECE}
 use Rattle.vbr_at_table.specs.Keeping.{Keeps, KeepsOwn}
 use Rattle.vbr_at_table.specs.Reading.{ReadsIn}
-use Rattle.vbr_list.specs.Pieces.{Goes, IsSameCall}
+use Rattle.vbr_list.specs.Pieces.{Goes, IsSameCall, Tries}
 use Rattle.vbr_list.specs.declared.call.PendingCall.{PendingCall}
 use Rattle.vbr_list.proofs.KeptHands.{hand_refl, hand_on, own_kept}
-use Rattle.vbr_list.proofs.Traversals.{Tries}
 
 -- the pass stays one of the table
 pub of_on : {p q : Trace} {t : TableView} → IsSame p q → IsOf p t → IsOf q t
@@ -66,9 +67,13 @@ pub bucket_is : (a b : Start) (shape : Dimensions) (bucket key : ℕ) → a ≡ 
 unfolding bucket_of
 bucket_is a b shape bucket key e g f = f ∙ ap (λ (s : Dimensions). bucket_of s key) g ∙ ap (λ (start : Start). bucket_of start.shape key) (sym e)
 
--- a call stays the same one from piece to piece
+-- the pass stays the same one at the same table from piece to piece
+pub table_on : {N : Type 0} {kind : Ghosts N} → {b c d : AtTable N kind} → IsSameTable b c → IsSameTable c d → IsSameTable b d
+table_on x y = record { pass = y.pass ∙ x.pass; slots = y.slots ∙ x.slots }
+
+-- so does a call
 pub call_on : {N : Type 0} {kind : Ghosts N} → {b c d : PendingCall N kind} → IsSameCall b c → IsSameCall c d → IsSameCall b d
-call_on x y = record { at = record { pass = y.at.pass ∙ x.at.pass; slots = y.at.slots ∙ x.at.slots }; key = y.key ∙ x.key; bucket = y.bucket ∙ x.bucket; budget = y.budget ∙ x.budget }
+call_on x y = record { at = table_on x.at y.at; key = y.key ∙ x.key; bucket = y.bucket ∙ x.bucket; budget = y.budget ∙ x.budget }
 
 pub call_refl : {N : Type 0} {kind : Ghosts N} → (c : PendingCall N kind) → IsSameCall c c
 call_refl c = record { at = record { pass = refl; slots = refl }; key = refl; bucket = refl; budget = refl }

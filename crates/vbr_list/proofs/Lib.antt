@@ -1,4 +1,3 @@
-mod PaidPlaces
 mod Traversals
 mod Going
 mod KeptHands

@@ -1,5 +1,5 @@
 -- A look-up goes on from place to place: behind a place before the key known marked links lead on.
-use Rattle.std.proofs.Common.{◌≡◌, ℕ, ◌≤◌, Bool, true, false, Option, None, sym, subst, arith}
+use Rattle.std.proofs.Common.{◌≡◌, ℕ, ◌+◌, ◌≤◌, Bool, true, false, Option, None, sym, subst, arith}
 use Rattle.vbr_machine.specs.Start.{Start}
 use Rattle.vbr_words.specs.Words.{link_of}
 use Rattle.vbr_words.specs.declared.link.Link.{Link}
@@ -13,18 +13,19 @@ use Rattle.vbr_slots.specs.Calls.{IsSame}
 use Rattle.vbr_slots.specs.Views.{Trace, PassView, knows}
 use Rattle.vbr_at_table.specs.Held.{HoldsMarked, Names, held_of}
 use Rattle.vbr_at_table.specs.Keeping.{Keeps}
+use Rattle.vbr_at_table.specs.Reading.{ReadsIn}
 use Rattle.vbr_at_table.specs.declared.held.Held.{Held}
 use Rattle.vbr_at_table.specs.declared.held.Marked.{Marked}
 use Rattle.vbr_at_table.proofs.Lemmas.{held_in_kept, held_in_next, held_kept}
-use Rattle.vbr_list.specs.Pieces.{Goes, Observes}
+use Rattle.vbr_list.specs.Pieces.{Goes, Observes, Peeks}
 use Rattle.vbr_list.specs.Places.{IsCur, IsEnd, IsPred, IsSight}
 use Rattle.vbr_list.specs.Walking.{Walks}
 use Rattle.vbr_list.specs.declared.looking.Sight.TheVariants.{Present, Absent}
-use Rattle.vbr_list.proofs.Going.{tries_on, tries_refl}
+use Rattle.vbr_list.proofs.Going.{goes_read, tries_on, tries_refl}
 use Rattle.vbr_list.proofs.Moments.{before_cur, stands_before, key_known}
-use Rattle.vbr_list.proofs.Observing.{observes_on, observes_refl}
+use Rattle.vbr_list.proofs.Observing.{looks_read, observes_on, observes_refl}
 use Rattle.vbr_list.proofs.Reaching.{pred_inside, pred_on}
-use Rattle.vbr_list.proofs.Traversals.{IsLook, Looks, Peeks}
+use Rattle.vbr_list.proofs.Traversals.{IsLook, Looks}
 
 -- where known marked links lead, they lead while they are known
 pub leads_kept : {know later : Know} (link last : Link) → Keeps know later → LeadsTo know link last → LeadsTo later link last
@@ -74,6 +75,9 @@ peeks_refl p a budget h = record { tries = tries_refl p a budget h; observes = o
 
 pub peeks_on : {p q r : PassView} {a b c budget : ℕ} → Peeks p q a b budget → Goes q r b c → Observes q.trace r.trace → b ≤ c → c ≤ budget → Peeks p r a c budget
 peeks_on x y more le high = record { tries = tries_on x.tries y le high; observes = observes_on x.observes more }
+
+pub peeks_read : {p q r : PassView} {a : ℕ} (b n budget : ℕ) → Peeks p q a b budget → ReadsIn q r n → b + n ≤ budget → Peeks p r a (b + n) budget
+peeks_read b n budget x y high = peeks_on x (goes_read b y) (looks_read y).observes (omega arith) high
 
 pub looks_on : {p q r : PassView} {key a b c budget : ℕ} {pred here pred2 here2 : Held} → Looks p q key a b budget pred here → Goes q r b c → Observes q.trace r.trace → b ≤ c → c ≤ budget → IsLook r.trace.start (knows r.trace) key pred2 here2 → IsFresh r.trace → Walks 5 p.trace r.trace key a c pred2 here2 → Looks p r key a c budget pred2 here2
 looks_on x y more le high look fresh walks = record { peeks = peeks_on x.peeks y more le high; some = let u = x.some in omega arith; look = look; fresh = fresh; walks = walks }

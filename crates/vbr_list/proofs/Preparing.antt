@@ -17,14 +17,13 @@ use Rattle.vbr_at_table.specs.KeptSlots.{TakesNoSlot}
 use Rattle.vbr_at_table.proofs.Lemmas.{counts_on, had_grown, had_on, slots_kept_on, missed_after, needed_after, shared_taken, shares_more, took_all}
 use Rattle.vbr_at_table.specs.Moments.{WasSo}
 use Rattle.vbr_list.specs.Inserting.{CountsWithin, InsertIsShort, InsertShowsSpent, Prepares, RefusesInsert, TakesNone}
-use Rattle.vbr_list.specs.Pieces.{IsSameCall, pass_in, trace_in}
+use Rattle.vbr_list.specs.Pieces.{IsSameCall, Tries, pass_in, trace_in}
 use Rattle.vbr_list.specs.Refusals.{IsRefusedInsert}
 use Rattle.vbr_list.specs.declared.refusal.Refusal.{Refusal}
 use Rattle.vbr_list.specs.declared.refusal.Refusal.TheVariants.{OutOfSteps, NoSlot, EpochSpent}
 use Rattle.vbr_list.specs.declared.call.PendingCall.{PendingCall}
 use Rattle.vbr_list.proofs.Going.{call_on, counts_step}
 use Rattle.vbr_list.proofs.Moments.{so_before}
-use Rattle.vbr_list.proofs.Traversals.{Tries}
 
 pub within_tries : {p q : PassView} {a b budget : ℕ} → Tries p q a b budget → CountsWithin p.trace q.trace a b budget
 within_tries x = record { counts = x.goes.counts; within = x.within }

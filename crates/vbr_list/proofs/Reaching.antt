@@ -12,7 +12,6 @@ use Rattle.vbr_machine.specs.Membership.{HeldIn, at_head, KeyAt, StandsBehind}
 use Rattle.vbr_machine.specs.declared.knowledge.Read.TheVariants.{KeyOf}
 use Rattle.vbr_slots.specs.Calls.{IsSame, Quiet}
 use Rattle.vbr_slots.specs.Views.{Trace, TableView, PassView, IsOf, knows}
-use Rattle.vbr_slots.proofs.Lemmas.{quiet_on}
 use Rattle.vbr_at_table.specs.Retiring.{know_retired}
 use Rattle.vbr_at_table.specs.Held.{IsSlot, HoldsMarked}
 use Rattle.vbr_at_table.specs.Keeping.{Keeps}
@@ -22,27 +21,15 @@ use Rattle.vbr_at_table.specs.declared.held.Held.{Held}
 use Rattle.vbr_at_table.specs.declared.held.Marked.{Marked}
 use Rattle.vbr_at_table.proofs.Lemmas.{behind_kept, held_in_kept, held_in_next, held_kept, link_in, stood_after, stood_before}
 use Rattle.vbr_list.specs.Pieces.{Goes}
-use Rattle.vbr_list.specs.Places.{IsCur, IsInside, IsPred}
-use Rattle.vbr_list.specs.Traversing.{HasComeTo}
-use Rattle.vbr_list.specs.Walking.{Walks}
+use Rattle.vbr_list.specs.Places.{IsCur, IsInside, IsPlaceIn, IsPred}
+use Rattle.vbr_list.specs.Traversing.{ComesBefore, HasComeTo}
+use Rattle.vbr_list.specs.Visiting.{HasKey, StartsAt}
+use Rattle.vbr_list.specs.Walking.{ReadsNext, Walks}
 use Rattle.vbr_list.proofs.Going.{tries_on}
 use Rattle.vbr_list.proofs.Traversals.{Traverses}
 
 pub stood_since : {p q r : Trace} {held : Held} → Quiet p q → Stood q r held → Stood p r held
 stood_since a x = stood_after a.same a.seen x
-
--- ---- the head
-
-place_at_head : (start : Start) (know : Know) (at : At) (bucket key : ℕ) → at ≡ Head bucket → bucket ≡ bucket_of start.shape key → HeldIn know at (bucket_of start.shape key) × StandsBehind start know at key
-place_at_head start know at bucket key e f =
-    let P : At → Type 0 = λ x. HeldIn know x (bucket_of start.shape key) × StandsBehind start know x key in
-    subst P (sym (e ∙ ap Head f)) (at_head (bucket_of start.shape key), refl)
-
-pub head_reached : {p q r : Trace} (bucket key : ℕ) (head : Held) → Quiet p q → Quiet q r → bucket ≡ bucket_of p.start.shape key → head.at ≡ Head bucket → IsRead q r head → (link_of head.word).mark ≡ false → HasComeTo p r key head
-head_reached {p} {q} {r} bucket key head x y e at read unmarked =
-    let z = quiet_on x y in
-    let place = place_at_head r.start (knows r) head.at bucket key at (e ∙ ap (λ (start : Start). bucket_of start.shape key) (sym z.same.start)) in
-    record { is = record { held = read.known; unmarked = unmarked; inside = place.0; behind = place.1 }; stood = stood_since x read.stood }
 
 -- ---- what is known stays
 
@@ -67,36 +54,60 @@ key_kept (Slot s) key keeps k = keeps.reads (KeyOf s key) k
 pub pred_inside : {start : Start} {know : Know} {key : ℕ} {pred : Held} → IsPred start know key pred → IsInside start know key pred
 pred_inside x = record { held = x.held; inside = x.inside }
 
--- ---- a node
+-- ---- the head and a node
 
-node_behind : (start : Start) (know : Know) (at : At) (s here key : ℕ) → at ≡ Slot s → KeyAt know at here → bucket_of start.shape key ≡ bucket_of start.shape here → here < key → StandsBehind start know at key
-node_behind start know at s here key e x b l =
+-- the head is a place before each number
+pub head_before : {p q : Trace} (bucket from : ℕ) (head : Held) → StartsAt p q bucket head → ComesBefore p q bucket from head
+head_before {p} {q} bucket from head x =
+    let P : At → Type 0 = λ place. HeldIn (knows q) place bucket in
+    record {
+      is = record {
+        held = x.known;
+        inside = subst P (sym x.at) (at_head bucket);
+        unmarked = x.unmarked;
+        behind = λ key is high. let Q : At → Type 0 = λ place. StandsBehind q.start (knows q) place key in subst Q (sym x.at) is;
+      };
+      stood = stood_after x.reads.checks.same x.reads.checks.from x.reads.stood;
+    }
+
+-- what the link of a place names is held in the bucket
+pub next_inside : {p q : Trace} (bucket : ℕ) (here node : Held) → IsPlaceIn (knows p) bucket here → Keeps (knows p) (knows q) → ReadsNext p q here node → HeldIn (knows q) node.at bucket
+next_inside {p} {q} bucket here node x keeps n =
+    let P : At → Type 0 = λ at. HeldIn (knows q) at bucket in
+    subst P (sym n.at) (held_in_next here n.slot bucket (held_kept here keeps x.held) n.named (held_in_kept here.at bucket keeps x.inside))
+
+-- keys of its bucket stand behind a node with a key below them
+pub behind_node : (start : Start) (know : Know) (at : At) (s here key : ℕ) → at ≡ Slot s → KeyAt know at here → bucket_of start.shape key ≡ bucket_of start.shape here → here < key → StandsBehind start know at key
+behind_node start know at s here key e x b l =
     let P : At → Type 0 = λ y. KeyAt know y here → StandsBehind start know y key in
     subst P (sym e) (λ h. (here, h, b, l)) x
 
+-- a node with a key below a number is a place before it
+pub node_before : {p q : Trace} (bucket from key : ℕ) (here node : Held) → IsPlaceIn (knows p) bucket here → Keeps (knows p) (knows q) → ReadsNext p q here node → HasKey p q here node key → key < from → ComesBefore p q bucket from node
+node_before {p} {q} bucket from key here node x keeps n k low = record {
+  is = record {
+    held = k.held;
+    inside = next_inside bucket here node x keeps n;
+    unmarked = k.unmarked;
+    behind = λ other is high. behind_node q.start (knows q) node.at n.slot key other n.at k.keyed (is ∙ sym (k.of_bucket bucket x.inside)) (omega (arith, low, high));
+  };
+  stood = n.stood;
+}
+
+-- a place before a number of its bucket is one before that key
+pub come_to : {p q : Trace} (bucket key : ℕ) (place : Held) → IsSame p q → bucket ≡ bucket_of p.start.shape key → ComesBefore p q bucket key place → HasComeTo p q key place
+come_to {p} {q} bucket key place s is x =
+    let P : ℕ → Type 0 = λ b. ComesBefore p q b key place in
+    let y = subst P (is ∙ ap (λ (start : Start). bucket_of start.shape key) (sym s.start)) x in
+    record { is = record { held = y.is.held; unmarked = y.is.unmarked; inside = y.is.inside; behind = y.is.behind key refl (omega arith) }; stood = y.stood }
+
 -- a node with a smaller key
-pub node_reached : {p q r : Trace} (key here : ℕ) (pred node : Held) → IsInside p.start (knows p) key pred → Keeps (knows p) (knows q) → IsNext p q pred (Some node) → Keeps (knows q) (knows r) → KeyAt (knows r) node.at here →
-    ((b : ℕ) → HeldIn (knows q) node.at b → bucket_of q.start.shape here ≡ b) → (link_of node.word).mark ≡ false → here < key → Quiet p q → Quiet q r → HasComeTo p r key node
-node_reached {p} {q} {r} key here pred node x keep n keep2 k bucket unmarked l a b =
-    let P : At → Type 0 = λ at. HeldIn (knows q) at (bucket_of p.start.shape key) in
-    let i : HeldIn (knows q) node.at (bucket_of p.start.shape key) = subst P (sym n.2) (held_in_next pred n.0 (bucket_of p.start.shape key) (held_kept pred keep x.held) n.1 (held_in_kept pred.at (bucket_of p.start.shape key) keep x.inside)) in
-    let s = quiet_on a b in
-    let e : bucket_of p.start.shape key ≡ bucket_of r.start.shape key = ap (λ (start : Start). bucket_of start.shape key) (sym s.same.start) in
-    let f : bucket_of r.start.shape here ≡ bucket_of r.start.shape key = ap (λ (start : Start). bucket_of start.shape here) b.same.start ∙ bucket (bucket_of p.start.shape key) i ∙ e in
-    record {
-      is = record {
-        held = held_kept node keep2 n.3.known;
-        unmarked = unmarked;
-        inside = held_in_kept node.at (bucket_of r.start.shape key) keep2 (let Q : ℕ → Type 0 = λ v. HeldIn (knows q) node.at v in subst Q e i);
-        behind = node_behind r.start (knows r) node.at n.0 here key n.2 k (sym f) l;
-      };
-      stood = stood_before n.3.stood b;
-    }
+pub node_reached : {p q : Trace} (key here : ℕ) (pred node : Held) → IsSame p q → IsInside p.start (knows p) key pred → Keeps (knows p) (knows q) → ReadsNext p q pred node → HasKey p q pred node here → here < key → HasComeTo p q key node
+node_reached {p} key here pred node s x keeps n k low = come_to (bucket_of p.start.shape key) key node s refl (node_before (bucket_of p.start.shape key) key here pred node x keeps n k low)
 
 -- a node with the key or a greater one
-pub node_found : {p q r : Trace} (key here : ℕ) (pred node : Held) → IsNext p q pred (Some node) → Keeps (knows q) (knows r) → KeyAt (knows r) node.at here → (link_of node.word).mark ≡ false → key ≤ here → Quiet q r → IsCur (knows r) key pred node (key == here) × Stood p r node
-node_found key here pred node n keep k unmarked high b =
-    (record { held = held_kept node keep n.3.known; unmarked = unmarked; slot = n.0; named = n.1; at = n.2; here = here; read = k; not_smaller = high; says = refl }, stood_before n.3.stood b)
+pub node_found : {p q : Trace} (key here : ℕ) (present : Bool) (pred node : Held) → ReadsNext p q pred node → HasKey p q pred node here → key ≤ here → present ≡ (key == here) → IsCur (knows q) key pred node present
+node_found key here present pred node n k high says = record { held = k.held; unmarked = k.unmarked; slot = n.slot; named = n.named; at = n.at; here = here; read = k.keyed; not_smaller = high; says = says }
 
 -- what isn't marked is unmarked, if it is a node
 pub node_unmarked : {p q : Trace} (pred node : Held) → IsNext p q pred (Some node) → (IsSlot node.at → (link_of node.word).mark ≡ false) → (link_of node.word).mark ≡ false

@@ -1,11 +1,11 @@
 -- How far the loop of a traversal or of a look-up has come: what its pass did since it began, and where it stands.
-use Rattle.std.specs.Prelude.{ℕ, ◌≡◌, ◌⊎◌, ◌≤◌, ◌<◌}
+use Rattle.std.specs.Prelude.{ℕ, ◌≡◌, ◌⊎◌, ◌<◌}
 use Rattle.vbr_machine.specs.Start.{Start}
 use Rattle.vbr_words.specs.Words.{link_of}
 use Rattle.vbr_machine.specs.Knowledge.{Know}
 use Rattle.vbr_machine.specs.Membership.{LeadsTo}
 use Rattle.vbr_at_table.specs.declared.held.Held.{Held}
-use Rattle.vbr_list.specs.Pieces.{Goes, Observes}
+use Rattle.vbr_list.specs.Pieces.{Peeks, Tries}
 use Rattle.vbr_list.specs.Places.{IsInside, IsPred}
 use Rattle.vbr_list.specs.Traversing.{HasComeTo}
 use Rattle.vbr_slots.specs.Alone.{IsAlone, IsFresh}
@@ -22,22 +22,12 @@ pub record IsLook (start : Start) (know : Know) (key : ℕ) (pred here : Held) :
 abbrev pub IsFirst : PassView → PassView → ℕ → ℕ → Type 0
 IsFirst p q before since = (IsAlone p.trace q.trace → ⊥) ⊎ ((q ≡ p) × (since ≡ before))
 
--- the same, within the budget
-pub record Tries (p q : PassView) (before since budget : ℕ) : Type 0 where
-  pub goes : Goes p q before since
-  pub within : (before ≤ since) × (since ≤ budget)
-
 -- a traversal that began with so many steps stands at this place
 pub record Traverses (p q : PassView) (key before since budget : ℕ) (pred : Held) : Type 0 where
   pub tries : Tries p q before since budget
   pub some : before < since
   pub reached : HasComeTo p.trace q.trace key pred
   pub walks : Walks 9 p.trace q.trace key before since pred pred
-
--- within the budget, the pass only observed
-pub record Peeks (p q : PassView) (before since budget : ℕ) : Type 0 where
-  pub tries : Tries p q before since budget
-  pub observes : Observes p.trace q.trace
 
 -- a look-up that began with so many steps stands at this place, behind marked nodes alone
 pub record Looks (p q : PassView) (key before since budget : ℕ) (pred here : Held) : Type 0 where

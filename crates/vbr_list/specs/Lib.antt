@@ -10,6 +10,7 @@ pub mod Sparing
 pub mod Pieces
 pub mod Nearing
 pub mod Walking
+pub mod Visiting
 pub mod Traversing
 pub mod Helping
 pub mod Valuing

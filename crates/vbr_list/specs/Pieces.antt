@@ -65,6 +65,11 @@ pub record Goes (p q : PassView) (before since : ℕ) : Type 0 where
   pub counts : CountsSteps p.trace q.trace before since
   pub hand : KeepsHand p q
 
+-- so it is within the budget
+pub record Tries (p q : PassView) (before since budget : ℕ) : Type 0 where
+  pub goes : Goes p q before since
+  pub within : (before ≤ since) × (since ≤ budget)
+
 -- the call is the same one, and has gone on so
 pub record GoesOn {N : Type 0} {kind : Ghosts N} (c d : PendingCall N kind) : Type 0 where
   pub call : IsSameCall c d
@@ -83,10 +88,20 @@ pub record Observes (p q : Trace) : Type 0 where
   pub only_loads : OnlyLoads p q
   pub adds_none : AddsNone p q
 
--- so it did, and alone it left the lists as they were
+-- so it is within the budget
+pub record Peeks (p q : PassView) (before since budget : ℕ) : Type 0 where
+  pub tries : Tries p q before since budget
+  pub observes : Observes p.trace q.trace
+
+-- it only observed, and alone it left the lists as they were
 pub record OnlyLooks (p q : Trace) : Type 0 where
   pub observes : Observes p q
   pub leaves : IsAlone p q → LeavesLists p q
+
+-- so it did, and its steps are counted
+pub record LooksOn (p q : PassView) (before since : ℕ) : Type 0 where
+  pub goes : Goes p q before since
+  pub looks : OnlyLooks p.trace q.trace
 
 -- one step, or up to eight
 abbrev pub IsPiece : ℕ → ℕ → Type 0

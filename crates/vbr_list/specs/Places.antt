@@ -12,10 +12,21 @@ use Rattle.vbr_list.specs.declared.found.Found.{Found}
 use Rattle.vbr_list.specs.declared.looking.Sight.{Sight}
 use Rattle.vbr_list.specs.declared.looking.Sight.TheVariants.{Present, Absent}
 
--- a place in the list of the key's bucket is held
-pub record IsInside (start : Start) (know : Know) (key : ℕ) (place : Held) : Type 0 where
+-- a place in the list of a bucket is held
+pub record IsPlaceIn (know : Know) (bucket : ℕ) (place : Held) : Type 0 where
   pub held : IsHeld know place
-  pub inside : HeldIn know place.at (bucket_of start.shape key)
+  pub inside : HeldIn know place.at bucket
+
+-- so it is of the key's bucket
+abbrev pub IsInside : Start → Know → ℕ → Held → Type 0
+IsInside start know key place = IsPlaceIn know (bucket_of start.shape key) place
+
+-- a place before a number: it is held in the bucket, its link is unmarked, and each key of the bucket from the number on stands behind it
+pub record IsPlaceBefore (start : Start) (know : Know) (bucket from : ℕ) (place : Held) : Type 0 where
+  pub held : IsHeld know place
+  pub inside : HeldIn know place.at bucket
+  pub unmarked : (link_of place.word).mark ≡ false
+  pub behind : (key : ℕ) → bucket_of start.shape key ≡ bucket → from ≤ key → StandsBehind start know place.at key
 
 -- a place before the key: it is held in the key's bucket, its link is unmarked, and the key stands behind it
 pub record IsPred (start : Start) (know : Know) (key : ℕ) (pred : Held) : Type 0 where

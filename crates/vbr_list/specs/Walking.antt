@@ -13,7 +13,7 @@ use Rattle.vbr_slots.specs.Alone.{IsFresh}
 use Rattle.vbr_slots.specs.Calls.{IsSame}
 use Rattle.vbr_slots.specs.Views.{Trace, knows}
 use Rattle.vbr_at_table.specs.Counts.{ChangesNone}
-use Rattle.vbr_at_table.specs.Held.{Names, held_of}
+use Rattle.vbr_at_table.specs.Held.{Names}
 use Rattle.vbr_at_table.specs.Moments.{Stood}
 use Rattle.vbr_at_table.specs.Rollbacks.{FreshIfMoved, IsLost, IsMovedOrLost}
 use Rattle.vbr_at_table.specs.declared.held.Held.{Held}
@@ -21,8 +21,6 @@ use Rattle.vbr_at_table.specs.declared.rollback.Rollback.{Rollback}
 use Rattle.vbr_at_table.specs.declared.rollback.Rollback.TheVariants.{LostExchange}
 use Rattle.vbr_list.specs.Disturbed.{changed_after, disturbed_after}
 use Rattle.vbr_list.specs.declared.found.Found.{Found}
-use Rattle.vbr_list.specs.declared.traversal.Visited.{Visited}
-use Rattle.vbr_list.specs.declared.traversal.Visited.TheVariants.{Smaller, Beyond, Marked}
 
 -- ---- what was read
 
@@ -50,12 +48,6 @@ pub record ReadsFresh (p q : Trace) (held : Held) : Type 0 where
 pub record MovesSince (p q : Trace) : Type 0 where
   pub checks : Checks p q
   pub moves : MovesEpoch checks.between q
-
--- what a visit met, as a place
-abbrev pub visited_place : Visited → Held
-visited_place (Smaller node) = node
-visited_place (Beyond node present) = node
-visited_place (Marked marked) = held_of marked
 
 -- what the link of a place names was read
 pub record ReadsNext (p q : Trace) (pred node : Held) : Type 0 where

@@ -22,10 +22,10 @@ pub mod next;
 pub mod refusal;
 pub mod removing;
 mod replacing;
-mod seek;
 mod seeking;
 mod traversal;
 mod valuing;
+mod visiting;
 
 pub use cursor::Cursor;
 pub use finding::find;

@@ -7,7 +7,8 @@ ghost use Rattle.vbr_list.specs.LookingUp.{LookTires, Sees, WalkStops, WalksTo};
 ghost use Rattle.vbr_list.specs.Pieces.{GoesOn, Observes, trace_in};
 
 use crate::call::PendingCall;
-use crate::traversal::{Stop, Visited};
+use crate::traversal::Stop;
+use crate::visiting::Visited;
 use vbr_at_table::budget::affords;
 use vbr_at_table::{Held, Marked};
 use vbr_words::{At, Nodes, decode};
@@ -62,8 +63,12 @@ impl<N: Nodes> PendingCall<'_, N> {
                     pred = node;
                     here = node;
                 }
-                Ok(Visited::Beyond(node, true)) => return Ok(Sight::Present(node)),
-                Ok(Visited::Beyond(_, false)) => return Ok(Sight::Absent(pred)),
+                Ok(Visited::Beyond(node, key)) => {
+                    if self.key == key {
+                        return Ok(Sight::Present(node));
+                    }
+                    return Ok(Sight::Absent(pred));
+                }
             }
         }
         Ok(Sight::Absent(pred))

@@ -1,14 +1,13 @@
 //! The next key of a bucket, from a number on.
-ghost use Rattle.std.specs.Prelude.{◌≡◌, ◌+◌, ◌<◌, ◌≤◌, true};
+ghost use Rattle.std.specs.Prelude.{◌≡◌, ◌+◌, ◌<◌, true};
 ghost use Rattle.vbr_slots.specs.AtTables.{IsSameTable, pass_of, trace_of};
 ghost use Rattle.vbr_slots.specs.Calls.{Took};
 ghost use Rattle.vbr_slots.specs.Views.{IsOf};
 ghost use Rattle.vbr_list.specs.Next.{Seeks, SeeksEntry, SeeksKey};
-ghost use Rattle.vbr_list.specs.Seeking.{Sought, TellsWhere};
+ghost use Rattle.vbr_list.specs.Seeking.{TellsWhere};
 
 use crate::refusal::Refusal;
-use crate::seek::PendingSeek;
-use crate::seeking::NextNode;
+use crate::seeking::seek_in;
 use vbr_slots::{AtTable, Pass, Slots};
 use vbr_words::{Entries, Nodes};
 
@@ -120,34 +119,4 @@ fn seek_by<N: Nodes>(
         Some(None) => (Ok(None), used),
         None => (Err(Refusal::OutOfSteps { used }), used),
     }
-}
-
-// Seeks in a bucket, where so many steps of the budget are used: what it finds, none where the budget has no
-// room for one more piece; and how many steps are used then.
-#[inline(always)]
-pub(crate) fn seek_in<N: Nodes>(
-    at: &mut AtTable<'_, N>,
-    bucket: u32,
-    from: u64,
-    budget: u32,
-    used: u32,
-) -> (Option<Option<NextNode>>, u32)
-    requires bucket { bucket < at.old.slots.now.start.shape.buckets }
-    requires within { used ≤ budget }
-    ensures table { IsSameTable at.old at.new }
-    ensures sought { Sought (pass_of at.old) (pass_of at.new)
-        bucket from used result.1 budget result.0 }
-{
-    let mut seek = PendingSeek {
-        at: AtTable {
-            slots: at.slots,
-            stepper: at.stepper,
-        },
-        bucket,
-        from,
-        budget,
-        used,
-    };
-    let found = seek.seek();
-    (found, seek.used)
 }

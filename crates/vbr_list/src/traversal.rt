@@ -2,28 +2,19 @@
 ghost use Rattle.std.specs.Prelude.{◌≡◌, ◌+◌, ◌≤◌, IsSome, IfOk, IfErr};
 ghost use Rattle.vbr_words.specs.Words.{link_of};
 ghost use Rattle.vbr_slots.specs.Views.{knows};
-ghost use Rattle.vbr_at_table.specs.Held.{HoldsMarked, Names};
+ghost use Rattle.vbr_at_table.specs.Held.{HoldsMarked, IsHeld, Names};
 ghost use Rattle.vbr_list.specs.Helping.{Helps, HelpsNone};
-ghost use Rattle.vbr_list.specs.Pieces.{GoesOn, HasRoom, IsPiece, OnlyLooks, pass_in, trace_in};
-ghost use Rattle.vbr_list.specs.Traversing.{IsInsideFor, IsPredFor, Meets, RollsBackFrom, SearchStops, Starts, StartsNone, WalkFinds};
+ghost use Rattle.vbr_list.specs.Pieces.{GoesOn, HasRoom, OnlyLooks, pass_in, trace_in};
+ghost use Rattle.vbr_list.specs.Traversing.{HasComeTo, IsPredFor, SearchStops, WalkFinds};
+ghost use Rattle.vbr_list.specs.Visiting.{IsVisit, Meets, RollsBackFrom, StartsAt, StartsNone};
 
 use crate::call::PendingCall;
 use crate::found::Found;
 use crate::helping::help_by_copy;
+use crate::visiting::{Visited, start_at, visit_behind};
 use vbr_at_table::budget::affords;
-use vbr_at_table::{Held, Marked, Rollback, checkpoint, first, key_of, next};
+use vbr_at_table::{Held, Marked, Rollback};
 use vbr_words::{Nodes, decode};
-
-/// What a visit comes to behind a place.
-#[derive(Clone, Copy)]
-pub(crate) enum Visited {
-    /// An unmarked node with a smaller key.
-    Smaller(Held),
-    /// An unmarked node with a key that isn't smaller, and whether it is the key.
-    Beyond(Held, bool),
-    /// A marked node.
-    Marked(Marked),
-}
 
 /// Why a traversal ended before it came to the key.
 #[derive(Clone, Copy)]
@@ -42,42 +33,33 @@ impl<N: Nodes> PendingCall<'_, N> {
         ensures goes { GoesOn self.old self.new }
         ensures looks { OnlyLooks (trace_in self.old) (trace_in self.new) }
         ensures used { self.new.used ≡ self.old.used + 3 }
-        ensures head { IfOk result (Starts self.old self.new) }
-        ensures moved { IfErr result (StartsNone self.old self.new) }
+        ensures head { IfOk result (StartsAt (trace_in self.old) (trace_in self.new)
+            self.old.bucket) }
+        ensures come { IfOk result (HasComeTo (trace_in self.old) (trace_in self.new)
+            self.old.key) }
+        ensures moved { IfErr result (StartsNone (trace_in self.old) (trace_in self.new)) }
     {
-        let point = checkpoint(&mut self.at);
-        let head = first(&mut self.at, &point, self.bucket);
+        let head = start_at(&mut self.at, self.bucket);
         self.used += 3;
         head
     }
 
     // Visits the node that the link of a place names, in three steps if it is marked, else in five.
     #[inline(always)]
-    pub(crate) fn visit(&mut self, pred: &Held) -> Result<Visited, Rollback>
-        requires pred { IsInsideFor self.old pred.now }
-        requires some { IsSome (link_of pred.now.word).slot }
+    pub(crate) fn visit(&mut self, here: &Held) -> Result<Visited, Rollback>
+        requires held { IsHeld (knows (trace_in self.old)) here.now }
+        requires some { IsSome (link_of here.now.word).slot }
         requires room { HasRoom self.old }
         ensures goes { GoesOn self.old self.new }
         ensures looks { OnlyLooks (trace_in self.old) (trace_in self.new) }
-        ensures used { IsPiece self.old.used self.new.used }
-        ensures met { IfOk result (Meets self.old self.new pred.now) }
-        ensures moved { IfErr result (RollsBackFrom self.old self.new) }
+        ensures used { IsVisit self.old.used self.new.used }
+        ensures met { IfOk result (Meets (trace_in self.old) (trace_in self.new)
+            self.old.used self.new.used here.now self.old.key) }
+        ensures moved { IfErr result (RollsBackFrom (trace_in self.old) (trace_in self.new)) }
     {
-        self.at.law();
-        let node = next(&mut self.at, pred);
-        self.used += 3;
-        let Some(node) = node? else { unreachable!() };
-        if let Some(marked) = Marked::of(&node) {
-            return Ok(Visited::Marked(marked));
-        }
-        let read = key_of(&mut self.at, &node);
-        self.used += 2;
-        let here = read?;
-        Ok(if here < self.key {
-            Visited::Smaller(node)
-        } else {
-            Visited::Beyond(node, self.key == here)
-        })
+        // Once it is read, its range is known: so the steps that it has room for are counted without overflow.
+        let _budget = self.budget;
+        visit_behind(&mut self.at, here, self.key, &mut self.used)
     }
 
     // Helps to unlink a marked node behind a place, in one step to six: gives the place with its new link,
@@ -135,11 +117,11 @@ impl<N: Nodes> PendingCall<'_, N> {
                     }
                 }
                 Ok(Visited::Smaller(node)) => pred = node,
-                Ok(Visited::Beyond(node, present)) => {
+                Ok(Visited::Beyond(node, key)) => {
                     return Ok(Found {
                         pred,
                         cur: Some(node),
-                        present,
+                        present: self.key == key,
                         used: self.used,
                     });
                 }

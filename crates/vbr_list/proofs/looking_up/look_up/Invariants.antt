@@ -1,8 +1,7 @@
 use Rattle.std.proofs.Common.{◌≡◌, ◌+◌, ◌-◌}
-use Rattle.vbr_list.specs.Pieces.{IsSameCall}
+use Rattle.vbr_list.specs.Pieces.{IsSameCall, Peeks}
 use Rattle.vbr_list.proofs.looking_up.look_up.Given as goal
 use Rattle.vbr_list.specs.LookingUp.{steps_to_answer}
-use Rattle.vbr_list.proofs.Traversals.{Peeks}
 use Rattle.vbr_list.proofs.Walking.{HasRepeated}
 
 abbrev pub invariant-loop-sight : goal.invariant-loop-sight

@@ -1,7 +1,6 @@
 use Rattle.std.proofs.Common.{◌≡◌, ◌-◌}
-use Rattle.vbr_list.specs.Pieces.{IsSameCall}
+use Rattle.vbr_list.specs.Pieces.{IsSameCall, Tries}
 use Rattle.vbr_list.proofs.removing.remove_by.Given as goal
-use Rattle.vbr_list.proofs.Traversals.{Tries}
 use Rattle.vbr_list.proofs.Walking.{HasRepeated}
 
 abbrev pub invariant-loop-found : goal.invariant-loop-found

@@ -1,7 +1,6 @@
 use Rattle.std.proofs.Common.{◌-◌}
-use Rattle.vbr_list.specs.Pieces.{IsSameCall}
+use Rattle.vbr_list.specs.Pieces.{IsSameCall, Peeks}
 use Rattle.vbr_list.proofs.call.PendingCall.look.Given as goal
-use Rattle.vbr_list.proofs.Traversals.{Peeks}
 use Rattle.vbr_list.proofs.Walking.{HasRepeated}
 
 abbrev pub invariant-loop-sight : goal.invariant-loop-sight

@@ -1,5 +1,6 @@
 use Rattle.std.proofs.Common.{◌≡◌, ◌+◌, ℕ, ◌≤◌, Bool, true, false, Option, Some, rules, arith, sym, ap, ◌∙◌, subst, inl, inr}
 use Rattle.vbr_machine.specs.Start.{Start}
+use Rattle.vbr_words.specs.Buckets.{bucket_of}
 use Rattle.vbr_words.specs.declared.place.At.{At}
 use Rattle.vbr_words.specs.declared.place.At.TheVariants.{Head}
 use Rattle.vbr_machine.specs.Membership.{KeyAt}
@@ -164,7 +165,7 @@ returns-then-affords-clause-answers g c =
           let one = alone_first told.seen then.seen alone in
           let read = alone_first reads.quiet.seen made.seen one in
           let marks = c.in_ok-marked.ensures.removed.alone (alone_then same.who reads.quiet.seen made.seen one) in
-          let other = named_elsewhere p c.law.ensures c.args.self.now.key f.pred (pred_inside c.requires.locates.pred) (inl c.requires.locates.pred.unmarked) stands y.slot y.named c.in-Some.cur.at y.at in
+          let other = named_elsewhere p c.law.ensures (bucket_of p.trace.start.shape c.args.self.now.key) f.pred (pred_inside c.requires.locates.pred) (inl c.requires.locates.pred.unmarked) stands y.slot y.named c.in-Some.cur.at y.at in
           let kept = fresh_marked q.trace r.trace marks.epoch c.mark_entry-outcome.ensures.keeps.keeps (fresh_kept p.trace q.trace (reads.looks read) keeps fresh) in
           let there = marks.others f.pred.at other ∙ stands_on p.trace q.trace f.pred (read_leaves reads read) stands in
           let soon = c.unlink_marked.ensures.soon kept there (alone_then told.same.who told.seen then.seen alone) in

@@ -1,7 +1,7 @@
 use Rattle.std.proofs.Common.{◌-◌}
-use Rattle.vbr_list.specs.Pieces.{IsSameCall}
+use Rattle.vbr_list.specs.Pieces.{IsSameCall, Tries}
 use Rattle.vbr_list.proofs.call.PendingCall.prepare.Given as goal
-use Rattle.vbr_list.proofs.Traversals.{IsFirst, Tries}
+use Rattle.vbr_list.proofs.Traversals.{IsFirst}
 use Rattle.vbr_list.proofs.Walking.{HasRepeated}
 
 abbrev pub invariant-loop-found : goal.invariant-loop-found

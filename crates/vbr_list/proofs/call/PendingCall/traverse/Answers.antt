@@ -1,4 +1,5 @@
 use Rattle.std.proofs.Common.{rules, ◌≡◌, ◌+◌, ◌≤◌, true, false, sym, ap, ◌∙◌, refl, subst, arith}
+use Rattle.std.specs.Prelude.{◌==◌}
 use Rattle.std.specs.Option.{is_some}
 use Rattle.vbr_words.specs.Buckets.{bucket_of}
 use Rattle.vbr_words.specs.Words.{link_of}
@@ -13,12 +14,9 @@ use Rattle.vbr_list.specs.Walking.{Walks}
 use Rattle.vbr_list.proofs.Disturbing.{loses_place_disturb, moves_on, moves_on_disturb, run_at, unchanged_at}
 use Rattle.vbr_list.proofs.Going.{call_on, goes_on}
 use Rattle.vbr_list.proofs.Moments.{cur_found}
-use Rattle.vbr_list.proofs.Reaching.{pred_inside, pred_on, stood_since, traverses_on}
+use Rattle.vbr_list.proofs.Reaching.{node_found, node_reached, pred_inside, pred_on, stood_since, traverses_on}
 use Rattle.vbr_list.proofs.Walking.{knows_now, node_open, stands_still_on, start_disturbed, walk_begins, walk_helped, walk_paid, walk_past, walk_to, walk_visited}
 use Rattle.vbr_list.proofs.call.PendingCall.traverse.Goals as goal
-
-pub visit-requires-clause-pred : goal.visit-requires-clause-pred
-visit-requires-clause-pred g c = rw c.loop-pred.invariant.0.key (pred_inside c.loop-pred.invariant.1.reached.is)
 
 pub help-requires-clause-pred : goal.help-requires-clause-pred
 help-requires-clause-pred g c = rw (c.visit.ensures.goes.call.key, c.loop-pred.invariant.0.key) (pred_on c.args.self.now.key c.loop-pred.pred c.visit.ensures.goes.goes.quiet.same c.in-Ok-Marked.ensures.met.keeps c.loop-pred.invariant.1.reached.is)
@@ -36,7 +34,7 @@ loop-pred-init g c =
       record {
         tries = record { goes = c.start.ensures.goes.goes; within = (omega (arith, used), omega (arith, fits, used)) };
         some = omega (arith, used);
-        reached = head.come;
+        reached = c.in-Ok.ensures.come;
         walks = walk_begins 9 p.trace r.trace c.law.ensures.start ok c.args.self.now.key quiet.same c.args.self.now.bucket c.args.self.now.used c.start.new.self.used c.in-Ok.pred c.args.self.now.of_key used head.at (unchanged_at p.trace p.trace r.trace c.args.self.now.key c.law.ensures.start ok (same_refl p.trace) quiet.same quiet.seen c.start.ensures.looks.observes.adds_none) head.reads;
       },
     )
@@ -45,7 +43,9 @@ pub loop-pred-preserved : goal.loop-pred-preserved
 loop-pred-preserved g c =
     let v = c.visit.ensures.goes in
     let met = rw c.in-Ok-Smaller.field-0-is at c.in-Ok-Smaller.ensures.met in
-    let come = rw c.loop-pred.invariant.0.key at met.visits in
+    let same = c.loop-pred.invariant.0.key in
+    let low = met.visits.low in
+    let come = node_reached c.args.self.now.key met.visits.key c.loop-pred.pred c.in-Ok-Smaller.node v.goes.quiet.same (pred_inside c.loop-pred.invariant.1.reached.is) met.keeps met.reads met.visits.has (omega (arith, low, same)) in
     let x = c.visit.ensures.used in
     let y = c.affords-in-loop-pred.ensures.0 c.if-not-affords-2.false in
     let p = c.args.self.now.at.stepper.now.trace in
@@ -128,7 +128,11 @@ returns-in-Ok-Beyond-clause-found g c =
     let v = c.visit.ensures.goes.goes.quiet in
     let i = c.loop-pred.invariant.1 in
     let met = rw c.in-Ok-Beyond.field-0-is at c.in-Ok-Beyond.ensures.met in
-    let visits = rw c.loop-pred.invariant.0.key at met.visits in
+    let same = c.visit.ensures.goes.call.key ∙ c.loop-pred.invariant.0.key in
+    let high = met.visits.1 in
+    let is = c.loop-pred.invariant.0.key in
+    let says = ap (λ k. k == c.in-Ok-Beyond.key) same in
+    let cur = node_found c.args.self.now.key c.in-Ok-Beyond.key _ c.loop-pred.pred c.in-Ok-Beyond.node met.reads met.visits.0 (omega (arith, high, is)) says in
     let p = c.args.self.now.at.stepper.now.trace in
     let q = c.loop-pred.self.at.stepper.now.trace in
     let r = c.visit.new.self.at.stepper.now.trace in
@@ -139,11 +143,11 @@ returns-in-Ok-Beyond-clause-found g c =
     let key = c.args.self.now.key in
     let none = unchanged_at p q r key is ok first.same whole.same v.seen c.visit.ensures.looks.observes.adds_none in
     record {
-      found = cur_found c.args.self.now.key c.visit.new.self.used c.loop-pred.pred c.in-Ok-Beyond.node c.in-Ok-Beyond.present i.reached i.tries.goes.quiet v met.keeps visits.0 visits.1;
+      found = cur_found c.args.self.now.key c.visit.new.self.used c.loop-pred.pred c.in-Ok-Beyond.node (c.visit.new.self.key == c.in-Ok-Beyond.key) i.reached i.tries.goes.quiet v met.keeps cur met.reads.stood;
       used = refl;
       knew = knows_now p r whole.same whole.seen met.fresh;
       pred = stands_still_on v.seen none i.walks.stands;
-      cur = node_open 9 p r is ok key whole.same q first.same first.seen v.seen i.walks met.reads.slot met.reads.named none c.in-Ok-Beyond.node met.fresh met.keeps.epoch met.reads.at met.reads visits.0.unmarked;
+      cur = node_open 9 p r is ok key whole.same q first.same first.seen v.seen i.walks met.reads.slot met.reads.named none c.in-Ok-Beyond.node met.fresh met.keeps.epoch met.reads.at met.reads cur.unmarked;
       paid = walk_visited 9 p r is ok key whole.same q first.same first.seen v.seen i.walks (let count = met.count in omega (arith, count)) (ap is_some met.reads.named);
     }
 
@@ -194,7 +198,7 @@ returns-in-Err-clause-stopped g c =
     let is = c.law.ensures.start in
     let ok = run_at p r whole.same (whole.is_run c.law.ensures.is_run) in
     let key = c.args.self.now.key in
-    let few = c.in-Err.ensures.moved.few in
+    let few = c.visit.ensures.used.1 in
     let some : is_some (link_of c.loop-pred.pred.word).slot ≡ true = ap (λ (l : Link). is_some l.slot) (sym c.decode.ensures.link) ∙ sym c.is_some.ensures ∙ c.loop-pred-test.true in
     let steps = c.visit.ensures.goes.goes.hand.takes_no_slot.count ∙ i.tries.goes.hand.takes_no_slot.count in (
       omega arith,

@@ -1,4 +1,6 @@
-use Rattle.std.proofs.Common.{rules, ◌≡◌, refl, sym, ap, ◌∙◌, subst, arith, true, false, Option, ℕ, Some, None}
+use Rattle.std.proofs.Common.{rules, ◌≡◌, refl, sym, ap, ◌∙◌, subst, arith, eq-eqb, true, false, Option, ℕ, Some, None}
+use Rattle.std.specs.Prelude.{◌==◌}
+use Rattle.std.proofs.lemmas.Bool.Decides.{nat_tests}
 use Rattle.std.specs.Option.{is_some}
 use Rattle.vbr_words.specs.declared.link.Link.{Link}
 use Rattle.vbr_at_table.specs.Held.{held_of}
@@ -9,6 +11,7 @@ use Rattle.vbr_words.specs.Words.{link_of}
 use Rattle.vbr_list.proofs.Disturbing.{grows_disturbed, moves_disturb, run_at, unchanged_at}
 use Rattle.vbr_list.proofs.Walking.{node_open, start_disturbed, stood_on, walk_begins, walk_paid, walk_past, walk_to, walk_visited}
 use Rattle.vbr_list.proofs.Observing.{observes_on}
+use Rattle.vbr_list.proofs.Reaching.{node_found, node_reached}
 use Rattle.vbr_list.proofs.Passing.{look_at, look_past, absent_at_end, absent_before, present_at, looks_on}
 use Rattle.vbr_list.proofs.Traversals.{Looks}
 use Rattle.vbr_list.proofs.call.PendingCall.walk.Goals as goal
@@ -29,7 +32,7 @@ loop-here-init g c =
       record {
         peeks = record { tries = record { goes = c.start.ensures.goes.goes; within = (omega (arith, used), omega (arith, fits, used)) }; observes = c.start.ensures.looks.observes };
         some = omega (arith, used);
-        look = look_at head.come.is;
+        look = look_at c.in-Ok.ensures.come.is;
         fresh = head.reads.fresh;
         walks = walk_begins 5 p.trace r.trace c.law.ensures.start (run_at p.trace r.trace quiet.same (quiet.is_run c.law.ensures.is_run)) c.args.self.now.key quiet.same c.args.self.now.bucket c.args.self.now.used c.start.new.self.used c.in-Ok.pred c.args.self.now.of_key used head.at (unchanged_at p.trace p.trace r.trace c.args.self.now.key c.law.ensures.start (run_at p.trace r.trace quiet.same (quiet.is_run c.law.ensures.is_run)) (same_refl p.trace) quiet.same quiet.seen c.start.ensures.looks.observes.adds_none) head.reads;
       },
@@ -58,7 +61,9 @@ pub loop-here-preserved : goal.loop-here-preserved
 loop-here-preserved g c =
     let v = c.visit.ensures.goes in
     let met = rw c.in-Ok-Smaller.field-0-is at c.in-Ok-Smaller.ensures.met in
-    let come = rw c.loop-here.invariant.0.key at met.visits in
+    let key = c.loop-here.invariant.0.key in
+    let low = met.visits.low in
+    let come = node_reached c.args.self.now.key met.visits.key c.loop-here.here c.in-Ok-Smaller.node v.goes.quiet.same c.loop-here.invariant.1.look.inside met.keeps met.reads met.visits.has (omega (arith, low, key)) in
     let x = c.visit.ensures.used in
     let y = c.affords-in-loop-here.ensures.0 c.if-not-affords-2.false in
     let p = c.args.self.now.at.stepper.now in
@@ -82,31 +87,35 @@ returns-in-Err-clause-goes g c = record {
 pub returns-in-Err-clause-observes : goal.returns-in-Err-clause-observes
 returns-in-Err-clause-observes g c = observes_on c.loop-here.invariant.1.peeks.observes c.visit.ensures.looks.observes
 
-pub returns-in-Ok-Beyond-default-true-clause-goes : goal.returns-in-Ok-Beyond-default-true-clause-goes
-returns-in-Ok-Beyond-default-true-clause-goes g c = record {
+pub returns-then-self-key-clause-goes : goal.returns-then-self-key-clause-goes
+returns-then-self-key-clause-goes g c = record {
   call = call_on c.loop-here.invariant.0 c.visit.ensures.goes.call;
   goes = goes_on c.loop-here.invariant.1.peeks.tries.goes c.visit.ensures.goes.goes;
   more = omega arith;
 }
 
-pub returns-in-Ok-Beyond-default-true-clause-observes : goal.returns-in-Ok-Beyond-default-true-clause-observes
-returns-in-Ok-Beyond-default-true-clause-observes g c = observes_on c.loop-here.invariant.1.peeks.observes c.visit.ensures.looks.observes
+pub returns-then-self-key-clause-observes : goal.returns-then-self-key-clause-observes
+returns-then-self-key-clause-observes g c = observes_on c.loop-here.invariant.1.peeks.observes c.visit.ensures.looks.observes
 
-pub returns-in-Ok-Beyond-default-false-clause-goes : goal.returns-in-Ok-Beyond-default-false-clause-goes
-returns-in-Ok-Beyond-default-false-clause-goes g c = record {
+pub returns-in-Ok-Beyond-clause-goes : goal.returns-in-Ok-Beyond-clause-goes
+returns-in-Ok-Beyond-clause-goes g c = record {
   call = call_on c.loop-here.invariant.0 c.visit.ensures.goes.call;
   goes = goes_on c.loop-here.invariant.1.peeks.tries.goes c.visit.ensures.goes.goes;
   more = omega arith;
 }
 
-pub returns-in-Ok-Beyond-default-false-clause-observes : goal.returns-in-Ok-Beyond-default-false-clause-observes
-returns-in-Ok-Beyond-default-false-clause-observes g c = observes_on c.loop-here.invariant.1.peeks.observes c.visit.ensures.looks.observes
+pub returns-in-Ok-Beyond-clause-observes : goal.returns-in-Ok-Beyond-clause-observes
+returns-in-Ok-Beyond-clause-observes g c = observes_on c.loop-here.invariant.1.peeks.observes c.visit.ensures.looks.observes
 
-pub returns-in-Ok-Beyond-default-true-clause-sight : goal.returns-in-Ok-Beyond-default-true-clause-sight
-returns-in-Ok-Beyond-default-true-clause-sight g c =
+pub returns-then-self-key-clause-sight : goal.returns-then-self-key-clause-sight
+returns-then-self-key-clause-sight g c =
     let v = c.visit.ensures.goes.goes.quiet in
-    let met = rw (c.in-Ok-Beyond-default-true.field-0-is, c.in-Ok-Beyond-default-true.field-0-1-test) at c.in-Ok-Beyond-default-true.ensures.met in
-    let visits = rw c.loop-here.invariant.0.key at met.visits in
+    let met = rw c.in-Ok-Beyond.field-0-is at c.in-Ok-Beyond.ensures.met in
+    let key = c.visit.ensures.goes.call.key ∙ c.loop-here.invariant.0.key in
+    let high = met.visits.1 in
+    let is_key = c.loop-here.invariant.0.key in
+    let says : true ≡ (c.args.self.now.key == c.in-Ok-Beyond.key) = let is = c.if-self-key.true in sym (eq-eqb c.args.self.now.key c.in-Ok-Beyond.key (sym key ∙ is)) in
+    let cur = node_found c.args.self.now.key c.in-Ok-Beyond.key true c.loop-here.here c.in-Ok-Beyond.node met.reads met.visits.0 (omega (arith, high, is_key)) says in
     let p = c.args.self.now.at.stepper.now in
     let q = c.loop-here.self.at.stepper.now in
     let r = c.visit.new.self.at.stepper.now in
@@ -115,17 +124,21 @@ returns-in-Ok-Beyond-default-true-clause-sight g c =
     let ok = run_at p.trace r.trace whole.same (whole.is_run c.law.ensures.is_run) in
     let w = c.loop-here.invariant.1.walks in
     record {
-      sees = present_at r.trace.start c.args.self.now.key c.loop-here.here c.in-Ok-Beyond-default-true.node visits.0;
+      sees = present_at r.trace.start c.args.self.now.key c.loop-here.here c.in-Ok-Beyond.node cur;
       fresh = met.fresh;
-      stood = (node_open 5 p.trace r.trace c.law.ensures.start ok c.args.self.now.key whole.same q.trace first.same first.seen v.seen w met.reads.slot met.reads.named (unchanged_at p.trace q.trace r.trace c.args.self.now.key c.law.ensures.start (run_at p.trace r.trace whole.same (whole.is_run c.law.ensures.is_run)) first.same whole.same v.seen c.visit.ensures.looks.observes.adds_none) c.in-Ok-Beyond-default-true.node met.fresh met.keeps.epoch met.reads.at met.reads visits.0.unmarked).stood;
+      stood = (node_open 5 p.trace r.trace c.law.ensures.start ok c.args.self.now.key whole.same q.trace first.same first.seen v.seen w met.reads.slot met.reads.named (unchanged_at p.trace q.trace r.trace c.args.self.now.key c.law.ensures.start (run_at p.trace r.trace whole.same (whole.is_run c.law.ensures.is_run)) first.same whole.same v.seen c.visit.ensures.looks.observes.adds_none) c.in-Ok-Beyond.node met.fresh met.keeps.epoch met.reads.at met.reads cur.unmarked).stood;
       paid = walk_visited 5 p.trace r.trace c.law.ensures.start ok c.args.self.now.key whole.same q.trace first.same first.seen v.seen w (let count = met.count in omega (arith, count)) (ap is_some met.reads.named);
     }
 
-pub returns-in-Ok-Beyond-default-false-clause-sight : goal.returns-in-Ok-Beyond-default-false-clause-sight
-returns-in-Ok-Beyond-default-false-clause-sight g c =
+pub returns-in-Ok-Beyond-clause-sight : goal.returns-in-Ok-Beyond-clause-sight
+returns-in-Ok-Beyond-clause-sight g c =
     let v = c.visit.ensures.goes.goes.quiet in
-    let met = rw (c.in-Ok-Beyond-default-false.field-0-is, c.in-Ok-Beyond-default-false.field-0-1-test) at c.in-Ok-Beyond-default-false.ensures.met in
-    let visits = rw c.loop-here.invariant.0.key at met.visits in
+    let met = rw c.in-Ok-Beyond.field-0-is at c.in-Ok-Beyond.ensures.met in
+    let key = c.visit.ensures.goes.call.key ∙ c.loop-here.invariant.0.key in
+    let high = met.visits.1 in
+    let is_key = c.loop-here.invariant.0.key in
+    let says : false ≡ (c.args.self.now.key == c.in-Ok-Beyond.key) = let isnt = c.if-self-key.false in let not : ¬ (c.args.self.now.key ≡ c.in-Ok-Beyond.key) = λ e. isnt (key ∙ e) in grind (arith, nat_tests, not) in
+    let cur = node_found c.args.self.now.key c.in-Ok-Beyond.key false c.loop-here.here c.in-Ok-Beyond.node met.reads met.visits.0 (omega (arith, high, is_key)) says in
     let p = c.args.self.now.at.stepper.now in
     let q = c.loop-here.self.at.stepper.now in
     let r = c.visit.new.self.at.stepper.now in
@@ -134,7 +147,7 @@ returns-in-Ok-Beyond-default-false-clause-sight g c =
     let ok = run_at p.trace r.trace whole.same (whole.is_run c.law.ensures.is_run) in
     let w = c.loop-here.invariant.1.walks in
     record {
-      sees = absent_before c.args.self.now.key c.loop-here.pred c.loop-here.here c.in-Ok-Beyond-default-false.field-0-0 v.same met.keeps c.loop-here.invariant.1.look visits.0;
+      sees = absent_before c.args.self.now.key c.loop-here.pred c.loop-here.here c.in-Ok-Beyond.node v.same met.keeps c.loop-here.invariant.1.look cur;
       fresh = met.fresh;
       stood = stood_on v.seen w.stands.stood;
       paid = walk_visited 5 p.trace r.trace c.law.ensures.start ok c.args.self.now.key whole.same q.trace first.same first.seen v.seen w (let count = met.count in omega (arith, count)) (ap is_some met.reads.named);
@@ -165,7 +178,7 @@ returns-in-Err-clause-stopped g c =
     let ok = run_at p.trace r.trace whole.same (whole.is_run c.law.ensures.is_run) in
     let ok_q = run_at p.trace q.trace first.same (first.is_run c.law.ensures.is_run) in
     let w = c.loop-here.invariant.1.walks in
-    let used = c.in-Err.ensures.moved.few in
+    let used = c.visit.ensures.used.1 in
     let some : is_some (link_of c.loop-here.here.word).slot ≡ true = ap (λ (l : Link). is_some l.slot) (sym c.decode.ensures.link) ∙ sym c.is_some.ensures ∙ c.loop-here-test.true in
     let less = moves_disturb p.trace r.trace c.law.ensures.start ok c.args.self.now.key q.trace first.same whole.same v.seen (unchanged_at p.trace q.trace r.trace c.args.self.now.key c.law.ensures.start ok first.same whole.same v.seen c.visit.ensures.looks.observes.adds_none) c.loop-here.invariant.1.fresh c.in-Err.ensures.moved.moves in
     let before = grows_disturbed p.trace q.trace c.law.ensures.start ok_q c.args.self.now.key p.trace.seen first.seen in (

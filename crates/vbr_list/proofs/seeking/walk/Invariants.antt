@@ -1,0 +1,10 @@
+use Rattle.std.proofs.Common.{◌-◌}
+use Rattle.vbr_slots.specs.AtTables.{IsSameTable}
+use Rattle.vbr_list.proofs.Following.{Follows}
+use Rattle.vbr_list.proofs.seeking.walk.Given as goal
+
+abbrev pub invariant-loop-here : goal.invariant-loop-here
+invariant-loop-here g l = IsSameTable l.fn.at l.at × Follows l.fn.at.stepper.now l.at.stepper.now l.fn.bucket l.fn.from l.fn.used l.used l.fn.budget l.here
+
+abbrev pub decreases-loop-here : goal.decreases-loop-here
+decreases-loop-here g l = l.fn.budget - l.used

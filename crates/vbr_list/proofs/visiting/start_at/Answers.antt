@@ -1,0 +1,44 @@
+use Rattle.std.proofs.Common.{ℕ, Ok, Err}
+use Rattle.std.specs.Prelude.{IfOk, IfErr, Result}
+use Rattle.vbr_slots.specs.Alone.{IsFresh}
+use Rattle.vbr_slots.specs.Views.{PassView}
+use Rattle.vbr_at_table.specs.Reading.{IsHeadRead, ReadsIn, RollsBack}
+use Rattle.vbr_at_table.specs.declared.held.Held.{Held}
+use Rattle.vbr_at_table.specs.declared.rollback.Rollback.{Rollback}
+use Rattle.vbr_at_table.proofs.Lemmas.{reads_on}
+use Rattle.vbr_list.specs.Visiting.{StartsAt, StartsNone}
+use Rattle.vbr_list.specs.Walking.{Checks}
+use Rattle.vbr_list.proofs.Disturbing.{moves_epoch}
+use Rattle.vbr_list.proofs.Nearing.{then_of}
+use Rattle.vbr_list.proofs.visiting.start_at.Goals as goal
+
+module _ {p q r : PassView} {m n : ℕ} (x : ReadsIn p q m) (y : ReadsIn q r n) (fresh : IsFresh q.trace) where
+  -- on its way it read the epoch that stood
+  abbrev checked : Checks p.trace r.trace
+  checked = record { between = q.trace; same = x.quiet.same; from = x.quiet.seen; to = y.quiet.seen; was = fresh }
+
+  starts : (bucket : ℕ) (head : Result Held Rollback) → IfOk head (IsHeadRead q r bucket) → IfOk head (StartsAt p.trace r.trace bucket)
+  starts bucket (Ok h) read = record {
+    known = read.read.known;
+    unmarked = read.unmarked;
+    at = read.at;
+    reads = record { checks = checked; epoch = read.keeps.epoch; fresh = read.fresh; stood = read.read.stood };
+    stands = λ alone. record { fresh = read.fresh; stands = read.stands (then_of x.quiet y.quiet alone) };
+  }
+  starts bucket (Err e) read = tt
+
+  starts_none : (head : Result Held Rollback) → IfErr head (RollsBack q r) → IfErr head (StartsNone p.trace r.trace)
+  starts_none (Ok h) rolls = tt
+  starts_none (Err e) rolls = record {
+    moves = record { checks = checked; moves = moves_epoch e rolls };
+    still = λ alone. rolls.still fresh (then_of x.quiet y.quiet alone);
+  }
+
+pub returns-clause-reads : goal.returns-clause-reads
+returns-clause-reads g c = reads_on c.checkpoint-point.ensures.reads c.first.ensures.reads
+
+pub returns-clause-head : goal.returns-clause-head
+returns-clause-head g c = starts c.checkpoint-point.ensures.reads c.first.ensures.reads c.checkpoint-point.ensures.point.fresh c.args.bucket c.first.result c.first.ensures.head
+
+pub returns-clause-moved : goal.returns-clause-moved
+returns-clause-moved g c = starts_none c.checkpoint-point.ensures.reads c.first.ensures.reads c.checkpoint-point.ensures.point.fresh c.first.result c.first.ensures.moved

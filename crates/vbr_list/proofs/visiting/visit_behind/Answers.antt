@@ -1,0 +1,137 @@
+use Rattle.std.proofs.Common.{◌≡◌, ◌≤◌, ℕ, ◌+◌, Option, Some, None, sym, ap, ◌∙◌, subst, arith, false}
+use Rattle.std.specs.Prelude.{IsSome}
+use Rattle.vbr_words.specs.Words.{link_of}
+use Rattle.vbr_words.specs.Buckets.{bucket_of}
+use Rattle.vbr_machine.specs.Start.{Start}
+use Rattle.vbr_machine.specs.Images.{link_shown_at}
+use Rattle.vbr_machine.specs.Membership.{HeldIn}
+use Rattle.vbr_slots.specs.Alone.{IsAlone}
+use Rattle.vbr_slots.specs.PassLaw.{PassLaw}
+use Rattle.vbr_slots.specs.Views.{PassView, Trace, knows}
+use Rattle.vbr_at_table.specs.Alone.{StandsNow}
+use Rattle.vbr_at_table.specs.CallSteps.{next_steps}
+use Rattle.vbr_at_table.specs.Held.{IsHeld}
+use Rattle.vbr_at_table.specs.Keeping.{Keeps}
+use Rattle.vbr_at_table.specs.Moments.{IsNext}
+use Rattle.vbr_at_table.specs.Reading.{IsKeyRead, ReadsIn}
+use Rattle.vbr_at_table.specs.declared.held.Held.{Held}
+use Rattle.vbr_at_table.proofs.Lemmas.{fresh_kept, held_kept, keeps_on, reads_on, stood_before}
+use Rattle.vbr_list.specs.Nearing.{StandsInList}
+use Rattle.vbr_list.specs.Pieces.{LooksOn}
+use Rattle.vbr_list.specs.Visiting.{ComesNearer, HasKey}
+use Rattle.vbr_list.specs.Walking.{ReadsNext}
+use Rattle.vbr_list.proofs.Disturbing.{moves_epoch}
+use Rattle.vbr_list.proofs.Going.{goes_on, goes_read}
+use Rattle.vbr_list.proofs.Nearing.{comes_nearer, first_of, then_of}
+use Rattle.vbr_list.proofs.Observing.{looks_read}
+use Rattle.vbr_list.proofs.Reaching.{next_inside, node_unmarked, slot_same}
+use Rattle.vbr_list.proofs.Sufficing.{any_error}
+use Rattle.vbr_list.proofs.visiting.visit_behind.Goals as goal
+
+in_three : {p q : PassView} (next : Option ℕ) → IsSome next → ReadsIn p q (next_steps next) → ReadsIn p q 3
+in_three None some x = absurd (cc)
+in_three (Some s) some x = x
+
+-- its key is read too
+looks_five : {p q r : PassView} (a : ℕ) (here : Held) → IsSome (link_of here.word).slot → ReadsIn p q (next_steps (link_of here.word).slot) → ReadsIn q r 2 → LooksOn p r a (a + 3 + 2)
+looks_five a here some x y = record { goes = goes_on (goes_read a (in_three (link_of here.word).slot some x)) (goes_read (a + 3) y); looks = looks_read (reads_on x y) }
+
+-- what was read of the node
+read_next : {p q : Trace} {here node : Held} → IsNext p q here (Some node) → ReadsNext p q here node
+read_next n = record { slot = n.0; named = n.1; at = n.2; stood = n.3.stood }
+
+-- ---- a marked node
+
+pub returns-in-Some-of-clause-met : goal.returns-in-Some-of-clause-met
+returns-in-Some-of-clause-met g c =
+    let x = c.in_ok-node.ensures in
+    let n = rw c.in-Some.is at x.next.read in
+    let fresh = rw c.in-Some.is at x.next.fresh in
+    let now = rw c.in-Some.is at x.next.stands in
+    let is = c.in-Some-of.ensures.0 in
+    let p = c.args.at.now.stepper.now in
+    let q = c.next-node.new.at.stepper.now.trace in
+    let P : Held → Type 0 = λ h. ReadsNext p.trace q c.args.here.now h in
+    let s : n.0 ≡ c.in-Some-of.marked.slot = slot_same c.in-Some-of.marked.slot n.0 (ap (λ (h : Held). h.at) is ∙ n.2) in
+    record {
+      keeps = x.next.keeps;
+      visits = (let H : Held → Type 0 = IsHeld (knows q) in record { held = subst H (sym is) n.3.known; mark = c.in-Some-of.ensures.1 }, n.1 ∙ ap Some s);
+      reads = subst P (sym is) (read_next n);
+      fresh = fresh;
+      count = omega arith;
+      alone = λ bucket inside there stands alone.
+          let Q : Held → Type 0 = λ h. ComesNearer p.trace q bucket c.args.here.now h in
+          subst Q (sym is) (comes_nearer p c.law.ensures q bucket c.args.here.now c.in-Some.node (record { held = c.requires.held; inside = inside }) there stands n.0 n.1 n.2 x.reads.quiet (x.reads.looks alone) (record { fresh = fresh; stands = now alone }));
+    }
+
+-- ---- a node whose key is read
+
+pub returns-in_err-key-clause-looks : goal.returns-in_err-key-clause-looks
+returns-in_err-key-clause-looks g c = looks_five c.args.used.now c.args.here.now c.requires.some c.next-node.ensures.reads c.key_of-read.ensures.reads
+
+pub returns-in_err-key-clause-moved : goal.returns-in_err-key-clause-moved
+returns-in_err-key-clause-moved g c =
+    let x = c.in_ok-node.ensures in
+    let y = c.in_err-key.ensures in
+    let m = moves_epoch _ y.moved in
+    any_error c.from_residual-in_err-key.result (λ rollback. record {
+      moves = record { other = λ e. m.other (e ∙ sym x.next.keeps.epoch); fresh = m.fresh };
+      still = λ fresh alone. y.moved.still (fresh_kept c.args.at.now.stepper.now.trace c.next-node.new.at.stepper.now.trace (x.reads.looks (first_of x.reads.quiet y.reads.quiet alone)) x.next.keeps fresh) (then_of x.reads.quiet y.reads.quiet alone);
+    })
+
+pub returns-then-key-number-clause-looks : goal.returns-then-key-number-clause-looks
+returns-then-key-number-clause-looks g c = looks_five c.args.used.now c.args.here.now c.requires.some c.next-node.ensures.reads c.key_of-read.ensures.reads
+
+pub returns-else-key-number-clause-looks : goal.returns-else-key-number-clause-looks
+returns-else-key-number-clause-looks g c = looks_five c.args.used.now c.args.here.now c.requires.some c.next-node.ensures.reads c.key_of-read.ensures.reads
+
+module _ {p q r : PassView} {m n : ℕ} (x : ReadsIn p q m) (y : ReadsIn q r n) (here node : Held) (held : IsHeld (knows p.trace) here) (keeps : Keeps (knows p.trace) (knows q.trace)) (next : IsNext p.trace q.trace here (Some node)) (key : ℕ) (k : IsKeyRead q r node.at key) where
+  has_key : (link_of node.word).mark ≡ false → HasKey p.trace r.trace here node key
+  has_key unmarked = record {
+    held = held_kept node k.keeps next.3.known;
+    unmarked = unmarked;
+    keyed = k.key;
+    of_bucket = λ bucket inside. ap (λ (start : Start). bucket_of start.shape key) y.quiet.same.start ∙ k.bucket bucket (next_inside bucket here node (record { held = held; inside = inside }) keeps (read_next next));
+  }
+
+  reads_node : ReadsNext p.trace r.trace here node
+  reads_node = record { slot = next.0; named = next.1; at = next.2; stood = stood_before next.3.stood y.quiet }
+
+  nearer : PassLaw p → (IsAlone p.trace q.trace → StandsNow q.trace node) → (bucket : ℕ) → HeldIn (knows p.trace) here.at bucket → StandsInList p.trace here → StandsNow p.trace here → IsAlone p.trace r.trace → ComesNearer p.trace r.trace bucket here node
+  nearer law now bucket inside there stands alone =
+      let both = reads_on x y in
+      let still = ap (λ a. link_shown_at a node.at) (y.looks (then_of x.quiet y.quiet alone)) ∙ now (first_of x.quiet y.quiet alone) in
+      comes_nearer p law r.trace bucket here node (record { held = held; inside = inside }) there stands next.0 next.1 next.2 both.quiet (both.looks alone) (record { fresh = k.fresh; stands = still })
+
+pub returns-then-key-number-clause-met : goal.returns-then-key-number-clause-met
+returns-then-key-number-clause-met g c =
+    let x = c.in_ok-node.ensures in
+    let y = c.in_ok-key.ensures in
+    let n = rw c.in-Some.is at x.next.read in
+    let here = c.args.here.now in
+    let node = c.in-Some.node in
+    record {
+      keeps = keeps_on x.next.keeps y.key.keeps;
+      visits = record { key = c.in_ok-key.key; has = has_key x.reads y.reads here node c.requires.held x.next.keeps n c.in_ok-key.key y.key (node_unmarked here node n c.in_default-of.ensures); low = c.if-key-number.true };
+      reads = reads_node x.reads y.reads here node c.requires.held x.next.keeps n c.in_ok-key.key y.key;
+      fresh = y.key.fresh;
+      count = omega arith;
+      alone = nearer x.reads y.reads here node c.requires.held x.next.keeps n c.in_ok-key.key y.key c.law.ensures (rw c.in-Some.is at x.next.stands);
+    }
+
+pub returns-else-key-number-clause-met : goal.returns-else-key-number-clause-met
+returns-else-key-number-clause-met g c =
+    let x = c.in_ok-node.ensures in
+    let y = c.in_ok-key.ensures in
+    let n = rw c.in-Some.is at x.next.read in
+    let here = c.args.here.now in
+    let node = c.in-Some.node in
+    let high : c.args.number ≤ c.in_ok-key.key = let f = c.if-key-number.false in omega (arith, f) in
+    record {
+      keeps = keeps_on x.next.keeps y.key.keeps;
+      visits = (has_key x.reads y.reads here node c.requires.held x.next.keeps n c.in_ok-key.key y.key (node_unmarked here node n c.in_default-of.ensures), high);
+      reads = reads_node x.reads y.reads here node c.requires.held x.next.keeps n c.in_ok-key.key y.key;
+      fresh = y.key.fresh;
+      count = omega arith;
+      alone = nearer x.reads y.reads here node c.requires.held x.next.keeps n c.in_ok-key.key y.key c.law.ensures (rw c.in-Some.is at x.next.stands);
+    }
