@@ -1,7 +1,6 @@
 use Rattle.std.proofs.Common.{◌-◌}
-use Rattle.vbr_list.specs.Pieces.{IsSameCall}
+use Rattle.vbr_list.specs.Pieces.{IsSameCall, Tries}
 use Rattle.vbr_list.proofs.call.PendingCall.ready.Given as goal
-use Rattle.vbr_list.specs.Pieces.{Tries}
 
 abbrev pub invariant-loop-found : goal.invariant-loop-found
 invariant-loop-found g l = IsSameCall l.fn.self l.self × Tries l.fn.self.at.stepper.now l.self.at.stepper.now l.fn.self.used l.self.used l.fn.self.budget
