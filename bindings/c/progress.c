@@ -4,7 +4,7 @@
    With n nodes in the bucket as the call begins, and m disturbances until it ends, a budget that is refused is below
        (m + 1) * (5 * (n + m) + 11)         for a look-up,
        (m + 1) * (9 * (n + m) + 11)         for a remove,
-       (m + 2) * (9 * (n + m) + 11) + 80    for an insert by a handle with a slot of its own.
+       (m + 2) * (9 * (n + m) + 7) + 68     for an insert by a handle with a slot of its own.
    m is at most the advances of the epoch, two for each update of others that was answered yes meanwhile, and one for each node
    that is marked as the call begins.
 
@@ -104,14 +104,14 @@ static uint64_t bound_after(const struct worker *w, enum kind kind, struct other
     switch (kind) {
     case LOOK_UP: return (m + 1) * (5 * (n + m) + 11);
     case REMOVE: return (m + 1) * (9 * (n + m) + 11);
-    default: return (m + 2) * (9 * (n + m) + 11) + 80;
+    default: return (m + 2) * (9 * (n + m) + 7) + 68;
     }
 }
 
 /* The greatest budget that is tried: twice the bound of a call that nothing disturbs. */
 static uint32_t most(enum kind kind) {
     uint32_t n = (uint32_t)resting + CHANGING;
-    return 2 * (kind == LOOK_UP ? 5 * n + 11 : kind == REMOVE ? 9 * n + 11 : 18 * n + 102);
+    return 2 * (kind == LOOK_UP ? 5 * n + 11 : kind == REMOVE ? 9 * n + 11 : 18 * n + 82);
 }
 
 static vbr_answer look_up(struct worker *w, uint64_t key, uint32_t budget) {
