@@ -35,7 +35,7 @@ use Rattle.vbr_list.specs.declared.seeking.NextNode.{NextNode}
 use Rattle.vbr_list.specs.declared.visiting.Visited.TheVariants.{Beyond, Marked as MarkedNode, Smaller}
 use Rattle.vbr_list.proofs.Going.{goes_counted, keeps_still}
 use Rattle.vbr_list.proofs.Nearing.{first_of, read_leaves, then_of}
-use Rattle.vbr_list.proofs.Observing.{looks_read}
+use Rattle.vbr_list.proofs.Observing.{reads_observe}
 use Rattle.vbr_list.proofs.Passing.{leads_kept, peeks_on, peeks_read, peeks_refl}
 use Rattle.vbr_list.proofs.Reaching.{behind_node, head_before, key_kept, node_before, stood_since}
 use Rattle.vbr_list.proofs.ValueReads.{few_to_value}
@@ -90,7 +90,7 @@ follows_head {p} {q} bucket from before budget head reads fits x =
 -- and on by a visit
 module _ {p q r : PassView} (bucket from a b c budget : ℕ) (here : Held) (x : Follows p q bucket from a b budget here) (looks : LooksOn q r b c) (few : IsVisit b c) (fits : b + PIECE ≤ budget) where
   pub peeks_visit : Peeks p r a c budget
-  peeks_visit = peeks_on x.peeks looks.goes looks.looks.observes (omega (arith, few)) (omega (arith, few, fits))
+  peeks_visit = peeks_on x.peeks looks.goes looks.observes (omega (arith, few)) (omega (arith, few, fits))
 
   nears_next : (next : Held) → (StandsInList q.trace here → StandsNow q.trace here → IsAlone q.trace r.trace → ComesNearer q.trace r.trace bucket here next) → IsAlone p.trace r.trace → NearsIn p.trace r.trace bucket a c next
   nears_next next nearer alone =
@@ -131,7 +131,7 @@ module _ {p q r : PassView} (bucket from a b c budget : ℕ) (here : Held) (x : 
 pub peeks_value : {p q r : PassView} {a : ℕ} (b n budget : ℕ) → Peeks p q a b budget → ReadsIn q r (steps_to_value_of q.trace.start) → n ≡ steps_to_value_of q.trace.start → b + 2 ≤ budget → Peeks p r a (b + n) budget
 peeks_value {p} {q} b n budget x y e fits =
     let few = few_to_value q.trace.start in
-    peeks_on x (goes_counted b n (steps_to_value_of q.trace.start) e y) (looks_read y).observes (omega arith) (omega (arith, e, few, fits))
+    peeks_on x (goes_counted b n (steps_to_value_of q.trace.start) e y) (reads_observe y) (omega arith) (omega (arith, e, few, fits))
 
 -- ---- what it tells
 

@@ -18,7 +18,7 @@ use Rattle.vbr_machine.specs.Knowledge.{Know}
 use Rattle.vbr_at_table.specs.declared.budget.TheConstants.{PIECE}
 use Rattle.vbr_at_table.specs.Keeping.{Keeps, KeepsOwn}
 use Rattle.vbr_at_table.specs.Reading.{ReadsIn}
-use Rattle.vbr_list.specs.Pieces.{Goes, IsSameCall, Tries}
+use Rattle.vbr_list.specs.Pieces.{Goes, GoesOn, IsSameCall, Tries, pass_in}
 use Rattle.vbr_list.specs.declared.call.PendingCall.{PendingCall}
 use Rattle.vbr_list.proofs.KeptHands.{hand_refl, hand_on, own_kept}
 
@@ -74,6 +74,10 @@ table_on x y = record { pass = y.pass ∙ x.pass; slots = y.slots ∙ x.slots }
 -- so does a call
 pub call_on : {N : Type 0} {kind : Ghosts N} → {b c d : PendingCall N kind} → IsSameCall b c → IsSameCall c d → IsSameCall b d
 call_on x y = record { at = table_on x.at y.at; key = y.key ∙ x.key; bucket = y.bucket ∙ x.bucket; budget = y.budget ∙ x.budget }
+
+-- after what it did first, it has gone on
+pub goes_further : {N : Type 0} {kind : Ghosts N} → {b c d : PendingCall N kind} → IsSameCall b c → Tries (pass_in b) (pass_in c) b.used c.used b.budget → GoesOn c d → GoesOn b d
+goes_further same tries v = record { call = call_on same v.call; goes = goes_on tries.goes v.goes; more = let x = tries.within.0 in let y = v.more in omega (arith, x, y) }
 
 pub call_refl : {N : Type 0} {kind : Ghosts N} → (c : PendingCall N kind) → IsSameCall c c
 call_refl c = record { at = record { pass = refl; slots = refl }; key = refl; bucket = refl; budget = refl }

@@ -13,14 +13,14 @@ use Rattle.vbr_slots.specs.Alone.{IsAlone, IsFresh, LeavesLists, ahead, nodes}
 use Rattle.vbr_slots.specs.Calls.{Quiet}
 use Rattle.vbr_slots.specs.Views.{Trace, PassView, knows}
 use Rattle.vbr_slots.proofs.Lemmas.{alone_first, alone_then, same_leaves}
-use Rattle.vbr_at_table.specs.Alone.{StandsNow, UnlinksAlone}
+use Rattle.vbr_at_table.specs.Alone.{StandsNow}
 use Rattle.vbr_at_table.specs.Held.{Names}
 use Rattle.vbr_at_table.specs.Reading.{ReadsIn}
 use Rattle.vbr_at_table.specs.Keeping.{Keeps}
 use Rattle.vbr_slots.specs.PassLaw.{PassLaw}
 use Rattle.vbr_at_table.specs.declared.held.Held.{Held}
 use Rattle.vbr_list.specs.Budgets.{listed_for}
-use Rattle.vbr_list.specs.Nearing.{HelpsAlone, StandsInList, StillAt}
+use Rattle.vbr_list.specs.Nearing.{StandsInList, StillAt}
 use Rattle.vbr_list.specs.Places.{IsPlaceIn}
 use Rattle.vbr_list.specs.Visiting.{ComesNearer}
 use Rattle.vbr_list.proofs.Traversals.{IsFirst}
@@ -63,18 +63,6 @@ comes_nearer p sound q bucket here node x there stands s names at quiet same sti
       there = inr (subst P (sym at) (ap (λ a. is_there a (Slot s)) same ∙ named));
       fewer = one_behind p sound bucket here x there stands s names ∙ ap suc (sym ((looks_leave quiet same).count bucket (Slot s)) ∙ ap (ahead q bucket) (sym at));
     }
-
--- ---- a help
-
--- in lists as they were
-pub ahead_same : (p q : Trace) (key : ℕ) (at : At) → LeavesLists p q → q.start ≡ p.start → ahead q (bucket_of q.start.shape key) at ≡ ahead p (bucket_of p.start.shape key) at
-ahead_same p q key at l start = ap (λ (s : Start). ahead q (bucket_of s.shape key) at) start ∙ l.count (bucket_of p.start.shape key) at
-
-pub helped_alone : (p q r : Trace) (key : ℕ) (pred place : Held) → HeldIn (knows p) pred.at (bucket_of p.start.shape key) → place.at ≡ pred.at → q.start ≡ p.start → r.start ≡ q.start → UnlinksAlone p q pred place → LeavesLists q r → IsFresh r → HelpsAlone p r key pred place
-helped_alone p q r key pred place inside at s1 s2 x l fresh = record {
-  keeps = record { fresh = fresh; stands = l.links place.at ∙ x.stands };
-  fewer = x.fewer (bucket_of p.start.shape key) inside ∙ ap suc (sym (ahead_same q r key place.at l s2 ∙ ap (λ (s : Start). ahead q (bucket_of s.shape key) place.at) s1 ∙ ap (ahead q (bucket_of p.start.shape key)) at));
-}
 
 -- ---- a mark
 

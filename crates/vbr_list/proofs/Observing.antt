@@ -4,8 +4,7 @@ use Rattle.vbr_slots.specs.Calls.{AddsNone, OnlyLoads}
 use Rattle.vbr_slots.specs.Views.{PassView, Trace}
 use Rattle.vbr_slots.proofs.Lemmas.{adds_on, adds_refl, loads_on, loads_refl}
 use Rattle.vbr_at_table.specs.Reading.{ReadsIn}
-use Rattle.vbr_list.specs.Pieces.{Observes, OnlyLooks}
-use Rattle.vbr_list.proofs.Nearing.{read_leaves}
+use Rattle.vbr_list.specs.Pieces.{Observes}
 
 pub observes_refl : (p : Trace) → Observes p p
 observes_refl p = record { only_loads = loads_refl p; adds_none = adds_refl p }
@@ -18,5 +17,5 @@ pub observed : {p q : Trace} → OnlyLoads p q → AddsNone p q → Observes p q
 observed loads none = record { only_loads = loads; adds_none = none }
 
 -- and one that reads
-pub looks_read : {p q : PassView} {n : ℕ} → ReadsIn p q n → OnlyLooks p.trace q.trace
-looks_read x = record { observes = observed x.only_loads x.adds_none; leaves = read_leaves x }
+pub reads_observe : {p q : PassView} {n : ℕ} → ReadsIn p q n → Observes p.trace q.trace
+reads_observe x = observed x.only_loads x.adds_none

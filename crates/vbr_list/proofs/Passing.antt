@@ -23,7 +23,7 @@ use Rattle.vbr_list.specs.Walking.{Walks}
 use Rattle.vbr_list.specs.declared.looking.Sight.TheVariants.{Present, Absent}
 use Rattle.vbr_list.proofs.Going.{goes_read, tries_on, tries_refl}
 use Rattle.vbr_list.proofs.Moments.{before_cur, stands_before, key_known}
-use Rattle.vbr_list.proofs.Observing.{looks_read, observes_on, observes_refl}
+use Rattle.vbr_list.proofs.Observing.{observes_on, observes_refl, reads_observe}
 use Rattle.vbr_list.proofs.Reaching.{pred_inside, pred_on}
 use Rattle.vbr_list.proofs.Traversals.{IsLook, Looks}
 
@@ -77,7 +77,7 @@ pub peeks_on : {p q r : PassView} {a b c budget : ℕ} → Peeks p q a b budget 
 peeks_on x y more le high = record { tries = tries_on x.tries y le high; observes = observes_on x.observes more }
 
 pub peeks_read : {p q r : PassView} {a : ℕ} (b n budget : ℕ) → Peeks p q a b budget → ReadsIn q r n → b + n ≤ budget → Peeks p r a (b + n) budget
-peeks_read b n budget x y high = peeks_on x (goes_read b y) (looks_read y).observes (omega arith) high
+peeks_read b n budget x y high = peeks_on x (goes_read b y) (reads_observe y) (omega arith) high
 
 pub looks_on : {p q r : PassView} {key a b c budget : ℕ} {pred here pred2 here2 : Held} → Looks p q key a b budget pred here → Goes q r b c → Observes q.trace r.trace → b ≤ c → c ≤ budget → IsLook r.trace.start (knows r.trace) key pred2 here2 → IsFresh r.trace → Walks 5 p.trace r.trace key a c pred2 here2 → Looks p r key a c budget pred2 here2
 looks_on x y more le high look fresh walks = record { peeks = peeks_on x.peeks y more le high; some = let u = x.some in omega arith; look = look; fresh = fresh; walks = walks }

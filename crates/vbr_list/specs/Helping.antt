@@ -17,7 +17,6 @@ use Rattle.vbr_at_table.specs.declared.held.Held.{Held}
 use Rattle.vbr_at_table.specs.declared.held.Marked.{Marked}
 use Rattle.vbr_at_table.specs.declared.rollback.Rollback.{Rollback}
 use Rattle.vbr_list.specs.Leaving.{WasClear}
-use Rattle.vbr_list.specs.Nearing.{HelpsAlone}
 use Rattle.vbr_list.specs.Pieces.{Goes}
 use Rattle.vbr_list.specs.Places.{IsPred}
 use Rattle.vbr_list.specs.Traversing.{HasComeTo}
@@ -48,13 +47,12 @@ pub record OpensPlace (p q : Trace) (pred : Held) (gone : Marked) (place : Held)
   pub own : (bucket : ℕ) → own_changes p.start q.seen p.who bucket ≡ own_changes p.start moment p.who bucket
   pub next : (link_of place.word).slot ≡ (link_of gone.word).slot
 
--- the place is where it was, in the epoch that the pass had, and the pass came on to it with its new link, if it stood before a key; alone, one node fewer is behind it
+-- the place is where it was, in the epoch that the pass had, and the pass came on to it with its new link, if it stood before a key
 pub record Helps (p q : PassView) (pred : Held) (gone : Marked) (place : Held) : Type 0 where
   pub at : place.at ≡ pred.at
   pub epoch : (knows q.trace).epoch ≡ (knows p.trace).epoch
   pub opens : OpensPlace p.trace q.trace pred gone place
   pub come : (key : ℕ) → IsPred p.trace.start (knows p.trace) key pred → HasComeTo p.trace q.trace key place
-  pub alone : (key : ℕ) → IsPred p.trace.start (knows p.trace) key pred → IsFresh p.trace → StandsNow p.trace pred → IsAlone p.trace q.trace → HelpsAlone p.trace q.trace key pred place
 
 -- the pass rolled back, as the place is lost, which it isn't for a pass that is alone, where it stood as it is held
 pub record IsLostPlace (p q : PassView) (pred : Held) : Type 0 where

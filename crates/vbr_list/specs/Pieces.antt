@@ -3,7 +3,7 @@ use Rattle.std.specs.Prelude.{◌≡◌, ℕ, ◌+◌, ◌<◌, ◌≤◌, Bool,
 use Rattle.vbr_words.specs.declared.nodes.Nodes.{Ghosts}
 use Rattle.vbr_machine.specs.History.{set_call}
 use Rattle.vbr_machine.specs.declared.history.Op.{Op}
-use Rattle.vbr_slots.specs.Alone.{IsAlone, LeavesLists}
+use Rattle.vbr_slots.specs.Alone.{IsAlone}
 use Rattle.vbr_slots.specs.AtTables.{IsSameTable}
 use Rattle.vbr_slots.specs.Calls.{AddsNone, Made, OnlyLoads, Quiet}
 use Rattle.vbr_slots.specs.Views.{PassView, Trace, knows}
@@ -93,15 +93,10 @@ pub record Peeks (p q : PassView) (before since budget : ℕ) : Type 0 where
   pub tries : Tries p q before since budget
   pub observes : Observes p.trace q.trace
 
--- it only observed, and alone it left the lists as they were
-pub record OnlyLooks (p q : Trace) : Type 0 where
-  pub observes : Observes p q
-  pub leaves : IsAlone p q → LeavesLists p q
-
 -- so it did, and its steps are counted
 pub record LooksOn (p q : PassView) (before since : ℕ) : Type 0 where
   pub goes : Goes p q before since
-  pub looks : OnlyLooks p.trace q.trace
+  pub observes : Observes p.trace q.trace
 
 -- one step, or up to eight
 abbrev pub IsPiece : ℕ → ℕ → Type 0

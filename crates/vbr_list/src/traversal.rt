@@ -4,7 +4,7 @@ ghost use Rattle.vbr_words.specs.Words.{link_of};
 ghost use Rattle.vbr_slots.specs.Views.{knows};
 ghost use Rattle.vbr_at_table.specs.Held.{HoldsMarked, IsHeld, Names};
 ghost use Rattle.vbr_list.specs.Helping.{Helps, HelpsNone};
-ghost use Rattle.vbr_list.specs.Pieces.{GoesOn, HasRoom, OnlyLooks, pass_in, trace_in};
+ghost use Rattle.vbr_list.specs.Pieces.{GoesOn, HasRoom, Observes, pass_in, trace_in};
 ghost use Rattle.vbr_list.specs.Traversing.{HasComeTo, IsPredFor, SearchStops, WalkFinds};
 ghost use Rattle.vbr_list.specs.Visiting.{IsVisit, Meets, RollsBackFrom, StartsAt, StartsNone};
 
@@ -31,7 +31,7 @@ impl<N: Nodes> PendingCall<'_, N> {
     pub(crate) fn start(&mut self) -> Result<Held, Rollback>
         requires room { HasRoom self.old }
         ensures goes { GoesOn self.old self.new }
-        ensures looks { OnlyLooks (trace_in self.old) (trace_in self.new) }
+        ensures observes { Observes (trace_in self.old) (trace_in self.new) }
         ensures used { self.new.used ≡ self.old.used + 3 }
         ensures head { IfOk result (StartsAt (trace_in self.old) (trace_in self.new)
             self.old.bucket) }
@@ -51,7 +51,7 @@ impl<N: Nodes> PendingCall<'_, N> {
         requires some { IsSome (link_of here.now.word).slot }
         requires room { HasRoom self.old }
         ensures goes { GoesOn self.old self.new }
-        ensures looks { OnlyLooks (trace_in self.old) (trace_in self.new) }
+        ensures observes { Observes (trace_in self.old) (trace_in self.new) }
         ensures used { IsVisit self.old.used self.new.used }
         ensures met { IfOk result (Meets (trace_in self.old) (trace_in self.new)
             self.old.used self.new.used here.now self.old.key) }

@@ -17,7 +17,7 @@ use Rattle.vbr_list.proofs.Disturbing.{loses_place, moved_late, opened, run_at}
 use Rattle.vbr_at_table.proofs.Lemmas.{unchanged_by_none}
 use Rattle.vbr_list.proofs.Going.{counts_step, took_same}
 use Rattle.vbr_list.proofs.KeptHands.{helped_hand, retired_hand}
-use Rattle.vbr_list.proofs.Nearing.{first_of, then_of, helped_alone}
+use Rattle.vbr_list.proofs.Nearing.{first_of, then_of}
 use Rattle.vbr_list.proofs.Reaching.{helped, retired_keeps}
 use Rattle.vbr_list.proofs.helping.unlink_and_retire.Goals as goal
 
@@ -49,9 +49,6 @@ returns-in-Ok-clause-unlinks g c =
         epoch = sym e ∙ won.read.known.epoch ∙ won.keeps.epoch;
         opens = opened p.trace q.trace r.trace c.args.pred.now c.args.marked c.in-Ok.place a b c.law-in-Ok.ensures.start c.law-in-Ok.ensures.is_run won.keeps won.at won.read.known won.still won.stands won.next c.retire.ensures.retires.unchanged;
         come = λ key is. helped key c.args.pred.now c.in-Ok.place is won.keeps won.at won.still won.read a b (retired_keeps (knows q.trace) (knows r.trace) c.in-Ok.unlinked.slot (is_kept q.pool) c.retire.ensures.retires.known (sym e ∙ won.read.known.epoch));
-        alone = λ key is fresh stands alone.
-            let l = c.retire.ensures.retires.alone (then_of a b alone) in
-            helped_alone p.trace q.trace r.trace key c.args.pred.now c.in-Ok.place is.inside won.at a.same.start b.same.start (won.alone (first_of a b alone) stands) l.0 l.1;
       };
       late = λ other. moved_late p.trace q.trace r.trace a b c.law.ensures.start (won.read.known.epoch ∙ won.keeps.epoch) c.retire.ensures.retires.stamped other;
       stays = λ fresh stands alone.

@@ -23,7 +23,7 @@ use Rattle.vbr_list.specs.Walking.{ReadsNext}
 use Rattle.vbr_list.proofs.Disturbing.{moves_epoch}
 use Rattle.vbr_list.proofs.Going.{goes_on, goes_read}
 use Rattle.vbr_list.proofs.Nearing.{comes_nearer, first_of, then_of}
-use Rattle.vbr_list.proofs.Observing.{looks_read}
+use Rattle.vbr_list.proofs.Observing.{reads_observe}
 use Rattle.vbr_list.proofs.Reaching.{next_inside, node_unmarked, slot_same}
 use Rattle.vbr_list.proofs.Sufficing.{any_error}
 use Rattle.vbr_list.proofs.visiting.visit_behind.Goals as goal
@@ -34,7 +34,7 @@ in_three (Some s) some x = x
 
 -- its key is read too
 looks_five : {p q r : PassView} (a : ℕ) (here : Held) → IsSome (link_of here.word).slot → ReadsIn p q (next_steps (link_of here.word).slot) → ReadsIn q r 2 → LooksOn p r a (a + 3 + 2)
-looks_five a here some x y = record { goes = goes_on (goes_read a (in_three (link_of here.word).slot some x)) (goes_read (a + 3) y); looks = looks_read (reads_on x y) }
+looks_five a here some x y = record { goes = goes_on (goes_read a (in_three (link_of here.word).slot some x)) (goes_read (a + 3) y); observes = reads_observe (reads_on x y) }
 
 -- what was read of the node
 read_next : {p q : Trace} {here node : Held} → IsNext p q here (Some node) → ReadsNext p q here node

@@ -1,4 +1,3 @@
-use Rattle.std.proofs.Common.{arith}
 use Rattle.vbr_words.specs.Buckets.{bucket_of}
 use Rattle.vbr_machine.proofs.Lemmas.{begins_run, disturbances_grow, since}
 use Rattle.vbr_slots.proofs.Lemmas.{quiet_on}
@@ -6,7 +5,7 @@ use Rattle.vbr_list.specs.Disturbed.{disturbed_after}
 use Rattle.vbr_list.specs.Places.{sighted}
 use Rattle.vbr_list.proofs.Disturbing.{grows_disturbed, run_at}
 use Rattle.vbr_list.proofs.Walking.{repeated_last, repeated_none, repeated_on, stood_from}
-use Rattle.vbr_list.proofs.Going.{call_on, call_refl, goes_on, within_call}
+use Rattle.vbr_list.proofs.Going.{call_on, call_refl, goes_further, within_call}
 use Rattle.vbr_list.proofs.Observing.{observes_on}
 use Rattle.vbr_list.proofs.Passing.{peeks_on, peeks_refl}
 use Rattle.vbr_list.proofs.call.PendingCall.look.Goals as goal
@@ -27,21 +26,13 @@ loop-sight-preserved g c =
     (same, peeks_on c.loop-sight.invariant.1 v.goes c.walk.ensures.observes v.more (within_call same), repeated_on 5 p q r c.law.ensures.start (run_at p r whole.same (whole.is_run c.law.ensures.is_run)) c.args.self.now.key first.same first.seen v.goes.quiet.seen c.loop-sight.invariant.2 (rw c.loop-sight.invariant.0.key at stopped.1) (rw c.loop-sight.invariant.0.key at stopped.2))
 
 pub returns-in-Ok-clause-goes : goal.returns-in-Ok-clause-goes
-returns-in-Ok-clause-goes g c = record {
-  call = call_on c.loop-sight.invariant.0 c.walk.ensures.goes.call;
-  goes = goes_on c.loop-sight.invariant.1.tries.goes c.walk.ensures.goes.goes;
-  more = omega arith;
-}
+returns-in-Ok-clause-goes g c = goes_further c.loop-sight.invariant.0 c.loop-sight.invariant.1.tries c.walk.ensures.goes
 
 pub returns-in-Ok-clause-observes : goal.returns-in-Ok-clause-observes
 returns-in-Ok-clause-observes g c = observes_on c.loop-sight.invariant.1.observes c.walk.ensures.observes
 
 pub returns-in-Err-Tired-clause-goes : goal.returns-in-Err-Tired-clause-goes
-returns-in-Err-Tired-clause-goes g c = record {
-  call = call_on c.loop-sight.invariant.0 c.walk.ensures.goes.call;
-  goes = goes_on c.loop-sight.invariant.1.tries.goes c.walk.ensures.goes.goes;
-  more = omega arith;
-}
+returns-in-Err-Tired-clause-goes g c = goes_further c.loop-sight.invariant.0 c.loop-sight.invariant.1.tries c.walk.ensures.goes
 
 pub returns-in-Err-Tired-clause-observes : goal.returns-in-Err-Tired-clause-observes
 returns-in-Err-Tired-clause-observes g c = observes_on c.loop-sight.invariant.1.observes c.walk.ensures.observes

@@ -3,7 +3,7 @@ use Rattle.vbr_slots.proofs.Lemmas.{quiet_on}
 use Rattle.vbr_list.specs.Disturbed.{disturbed_after}
 use Rattle.vbr_list.specs.Walking.{WalksAgain}
 use Rattle.vbr_list.proofs.Disturbing.{grows_disturbed, knows_from, run_at}
-use Rattle.vbr_list.proofs.Going.{call_on, call_refl, goes_on, tries_on, tries_refl, within_call}
+use Rattle.vbr_list.proofs.Going.{call_on, call_refl, goes_further, tries_on, tries_refl, within_call}
 use Rattle.vbr_list.proofs.Moments.{found_since}
 use Rattle.vbr_list.proofs.Walking.{found_alone, next_still_from, repeated_last, repeated_none, repeated_on, still_from, tired_alone}
 use Rattle.vbr_list.proofs.call.PendingCall.search.Goals as goal
@@ -24,18 +24,10 @@ loop-found-preserved g c =
     (same, tries_on c.loop-found.invariant.1 t.goes t.more (within_call same), repeated_on 9 p q r c.law.ensures.start (run_at p r whole.same (whole.is_run c.law.ensures.is_run)) c.args.self.now.key first.same first.seen t.goes.quiet.seen c.loop-found.invariant.2 (rw c.loop-found.invariant.0.key at stopped.1) (rw c.loop-found.invariant.0.key at stopped.2))
 
 pub returns-in-Ok-clause-goes : goal.returns-in-Ok-clause-goes
-returns-in-Ok-clause-goes g c = record {
-  call = call_on c.loop-found.invariant.0 c.traverse.ensures.goes.call;
-  goes = goes_on c.loop-found.invariant.1.goes c.traverse.ensures.goes.goes;
-  more = omega arith;
-}
+returns-in-Ok-clause-goes g c = goes_further c.loop-found.invariant.0 c.loop-found.invariant.1 c.traverse.ensures.goes
 
 pub returns-in-Err-Tired-clause-goes : goal.returns-in-Err-Tired-clause-goes
-returns-in-Err-Tired-clause-goes g c = record {
-  call = call_on c.loop-found.invariant.0 c.traverse.ensures.goes.call;
-  goes = goes_on c.loop-found.invariant.1.goes c.traverse.ensures.goes.goes;
-  more = omega arith;
-}
+returns-in-Err-Tired-clause-goes g c = goes_further c.loop-found.invariant.0 c.loop-found.invariant.1 c.traverse.ensures.goes
 
 pub returns-in-Ok-clause-found : goal.returns-in-Ok-clause-found
 returns-in-Ok-clause-found g c =

@@ -1,6 +1,6 @@
 use Rattle.std.proofs.Common.{rules, arith}
 use Rattle.vbr_list.proofs.Going.{goes_read, ok_as}
-use Rattle.vbr_list.proofs.Observing.{looks_read}
+use Rattle.vbr_list.proofs.Observing.{reads_observe}
 use Rattle.vbr_list.proofs.Reaching.{come_to, head_before}
 use Rattle.vbr_list.proofs.call.PendingCall.start.Goals as goal
 
@@ -11,8 +11,8 @@ returns-clause-goes g c = record {
   more = omega arith;
 }
 
-pub returns-clause-looks : goal.returns-clause-looks
-returns-clause-looks g c = looks_read c.start_at-head.ensures.reads
+pub returns-clause-observes : goal.returns-clause-observes
+returns-clause-observes g c = reads_observe c.start_at-head.ensures.reads
 
 pub returns-clause-come : goal.returns-clause-come
 returns-clause-come g c = ok_as c.start_at-head.result (λ head x. come_to c.args.self.now.bucket c.args.self.now.key head c.start_at-head.ensures.reads.quiet.same c.args.self.now.of_key (head_before c.args.self.now.bucket c.args.self.now.key head x)) c.start_at-head.ensures.head

@@ -7,15 +7,16 @@ use Rattle.vbr_words.specs.declared.link.Link.{Link}
 use Rattle.vbr_machine.specs.Start.{Start}
 use Rattle.vbr_machine.specs.Membership.{HeldIn}
 use Rattle.vbr_slots.specs.Views.{knows}
-use Rattle.vbr_slots.proofs.Lemmas.{quiet_on, same_refl}
+use Rattle.vbr_slots.proofs.Lemmas.{quiet_on}
 use Rattle.vbr_at_table.specs.Held.{held_of}
 use Rattle.vbr_at_table.specs.declared.budget.TheConstants.{PIECE}
 use Rattle.vbr_list.specs.Walking.{Walks}
-use Rattle.vbr_list.proofs.Disturbing.{loses_place_disturb, moves_on, moves_on_disturb, run_at, unchanged_at}
-use Rattle.vbr_list.proofs.Going.{call_on, goes_on}
+use Rattle.vbr_list.proofs.Disturbing.{loses_place_disturb, moves_on, moves_on_disturb, run_at}
+use Rattle.vbr_list.proofs.Going.{call_on, goes_further, goes_on, tries_on, within_call}
 use Rattle.vbr_list.proofs.Moments.{cur_found}
 use Rattle.vbr_list.proofs.Reaching.{node_found, node_reached, pred_inside, pred_on, stood_since, traverses_on}
-use Rattle.vbr_list.proofs.Walking.{knows_now, node_open, stands_still_on, start_disturbed, walk_begins, walk_helped, walk_paid, walk_past, walk_to, walk_visited}
+use Rattle.vbr_list.proofs.Walking.{knows_now, stands_still_on, walk_helped, walk_paid, walk_visited}
+use Rattle.vbr_list.proofs.Visits.{met_knows, met_open, met_paid, met_past, met_to, starts_none, starts_walk, visit_changes_none, visit_paid, visited_run}
 use Rattle.vbr_list.proofs.call.PendingCall.traverse.Goals as goal
 
 pub help-requires-clause-pred : goal.help-requires-clause-pred
@@ -24,18 +25,13 @@ help-requires-clause-pred g c = rw (c.visit.ensures.goes.call.key, c.loop-pred.i
 pub loop-pred-init : goal.loop-pred-init
 loop-pred-init g c =
     let fits = c.affords.ensures.0 c.if-not-affords.false in
-    let used = c.in-Ok.ensures.used in
-    let head = c.in-Ok.ensures.head in
-    let p = c.args.self.now.at.stepper.now in
-    let r = c.start.new.self.at.stepper.now in
-    let quiet = c.start.ensures.goes.goes.quiet in
-    let ok = run_at p.trace r.trace quiet.same (quiet.is_run c.law.ensures.is_run) in (
+    let used = c.in-Ok.ensures.used in (
       c.start.ensures.goes.call,
       record {
         tries = record { goes = c.start.ensures.goes.goes; within = (omega (arith, used), omega (arith, fits, used)) };
         some = omega (arith, used);
         reached = c.in-Ok.ensures.come;
-        walks = walk_begins 9 p.trace r.trace c.law.ensures.start ok c.args.self.now.key quiet.same c.args.self.now.bucket c.args.self.now.used c.start.new.self.used c.in-Ok.pred c.args.self.now.of_key used head.at (unchanged_at p.trace p.trace r.trace c.args.self.now.key c.law.ensures.start ok (same_refl p.trace) quiet.same quiet.seen c.start.ensures.looks.observes.adds_none) head.reads;
+        walks = starts_walk c.law.ensures c.args.self.now.key c.start.ensures.goes.goes.quiet c.start.ensures.observes 9 c.args.self.now.bucket c.args.self.now.used c.start.new.self.used c.in-Ok.pred c.args.self.now.of_key used c.in-Ok.ensures.head;
       },
     )
 
@@ -43,22 +39,15 @@ pub loop-pred-preserved : goal.loop-pred-preserved
 loop-pred-preserved g c =
     let v = c.visit.ensures.goes in
     let met = rw c.in-Ok-Smaller.field-0-is at c.in-Ok-Smaller.ensures.met in
+    let count = met.count in
+    let i = c.loop-pred.invariant.1 in
     let same = c.loop-pred.invariant.0.key in
     let low = met.visits.low in
-    let come = node_reached c.args.self.now.key met.visits.key c.loop-pred.pred c.in-Ok-Smaller.node v.goes.quiet.same (pred_inside c.loop-pred.invariant.1.reached.is) met.keeps met.reads met.visits.has (omega (arith, low, same)) in
-    let x = c.visit.ensures.used in
+    let come = node_reached c.args.self.now.key met.visits.key c.loop-pred.pred c.in-Ok-Smaller.node v.goes.quiet.same (pred_inside i.reached.is) met.keeps met.reads met.visits.has (omega (arith, low, same)) in
     let y = c.affords-in-loop-pred.ensures.0 c.if-not-affords-2.false in
-    let p = c.args.self.now.at.stepper.now.trace in
-    let q = c.loop-pred.self.at.stepper.now.trace in
-    let r = c.visit.new.self.at.stepper.now.trace in
-    let i = c.loop-pred.invariant.1 in
-    let first = i.tries.goes.quiet in
-    let whole = quiet_on first v.goes.quiet in
-    let ok = run_at p r whole.same (whole.is_run c.law.ensures.is_run) in
     let b = c.loop-pred.invariant.0.budget in (
       call_on c.loop-pred.invariant.0 v.call,
-      traverses_on i v.goes (omega (arith, x)) (omega (arith, x, y, b)) come
-          (walk_to 9 p r c.law.ensures.start ok c.args.self.now.key whole.same q first.same first.seen v.goes.quiet.seen i.walks met.reads.slot met.reads.named (unchanged_at p q r c.args.self.now.key c.law.ensures.start ok first.same whole.same v.goes.quiet.seen c.visit.ensures.looks.observes.adds_none) c.in-Ok-Smaller.node met.fresh met.keeps.epoch met.reads.at met.reads (let count = met.count in omega (arith, count)) come.is.unmarked),
+      traverses_on i v.goes (omega (arith, count)) (omega (arith, count, y, b)) come (met_to c.law.ensures c.args.self.now.key c.loop-pred.invariant.1.tries.goes.quiet c.visit.ensures.goes.goes.quiet c.visit.ensures.observes i.walks met (omega (arith, count)) come.is.unmarked),
     )
 
 pub loop-pred-preserved-in-Ok-help : goal.loop-pred-preserved-in-Ok-help
@@ -77,78 +66,53 @@ loop-pred-preserved-in-Ok-help g c =
     let b = v.call.budget in
     let d = c.loop-pred.invariant.0.budget in
     let p = c.args.self.now.at.stepper.now.trace in
-    let q = c.loop-pred.self.at.stepper.now.trace in
     let r = c.visit.new.self.at.stepper.now.trace in
     let t = c.help.new.self.at.stepper.now.trace in
     let first = i.tries.goes.quiet in
     let whole = quiet_on first v.goes.quiet in
     let all = quiet_on whole h.goes.quiet in
     let is = c.law.ensures.start in
-    let ok = run_at p r whole.same (whole.is_run c.law.ensures.is_run) in
     let ok_t = run_at p t all.same (all.is_run c.law.ensures.is_run) in
     let key = c.args.self.now.key in
     let P : Start → Type 0 = λ start. HeldIn (knows r) c.loop-pred.pred.at (bucket_of start.shape key) in
     let inside : HeldIn (knows r) c.loop-pred.pred.at (bucket_of p.start.shape key) = subst P whole.same.start before.inside in
-    let past : Walks 9 p r key c.args.self.now.used c.help.new.self.used c.loop-pred.pred (held_of c.in-Ok-Marked.marked) = walk_past 9 p r is ok key whole.same q first.same first.seen v.goes.quiet.seen i.walks met.reads.slot met.reads.named (unchanged_at p q r key is ok first.same whole.same v.goes.quiet.seen c.visit.ensures.looks.observes.adds_none) (held_of c.in-Ok-Marked.marked) met.fresh met.keeps.epoch met.reads.at met.reads (let count = met.count in omega (arith, count, few)) in (
+    let count = met.count in
+    let past : Walks 9 p r key c.args.self.now.used c.help.new.self.used c.loop-pred.pred (held_of c.in-Ok-Marked.marked) = met_past c.law.ensures c.args.self.now.key c.loop-pred.invariant.1.tries.goes.quiet c.visit.ensures.goes.goes.quiet c.visit.ensures.observes i.walks met (omega (arith, count, few)) in (
       call_on c.loop-pred.invariant.0 (call_on v.call h.call),
       traverses_on i (goes_on v.goes h.goes) (omega (arith, x, y)) (omega (arith, few, z, b, d)) (record { is = s.is; stood = stood_since v.goes.quiet s.stood })
           (walk_helped 9 p r t is ok_t key whole.same whole.seen h.goes.quiet.seen past inside helped.epoch helped.opens),
     )
 
 pub returns-in-Err-clause-goes : goal.returns-in-Err-clause-goes
-returns-in-Err-clause-goes g c = record {
-  call = call_on c.loop-pred.invariant.0 c.visit.ensures.goes.call;
-  goes = goes_on c.loop-pred.invariant.1.tries.goes c.visit.ensures.goes.goes;
-  more = omega arith;
-}
+returns-in-Err-clause-goes g c = goes_further c.loop-pred.invariant.0 c.loop-pred.invariant.1.tries c.visit.ensures.goes
 
 pub returns-then-not-affords-3-clause-goes : goal.returns-then-not-affords-3-clause-goes
-returns-then-not-affords-3-clause-goes g c = record {
-  call = call_on c.loop-pred.invariant.0 c.visit.ensures.goes.call;
-  goes = goes_on c.loop-pred.invariant.1.tries.goes c.visit.ensures.goes.goes;
-  more = omega arith;
-}
+returns-then-not-affords-3-clause-goes g c = goes_further c.loop-pred.invariant.0 c.loop-pred.invariant.1.tries c.visit.ensures.goes
 
 pub returns-in-Ok-Beyond-clause-goes : goal.returns-in-Ok-Beyond-clause-goes
-returns-in-Ok-Beyond-clause-goes g c = record {
-  call = call_on c.loop-pred.invariant.0 c.visit.ensures.goes.call;
-  goes = goes_on c.loop-pred.invariant.1.tries.goes c.visit.ensures.goes.goes;
-  more = omega arith;
-}
+returns-in-Ok-Beyond-clause-goes g c = goes_further c.loop-pred.invariant.0 c.loop-pred.invariant.1.tries c.visit.ensures.goes
 
 pub returns-in-Err-help-clause-goes : goal.returns-in-Err-help-clause-goes
-returns-in-Err-help-clause-goes g c = record {
-  call = call_on c.loop-pred.invariant.0 (call_on c.visit.ensures.goes.call c.help.ensures.goes.call);
-  goes = goes_on c.loop-pred.invariant.1.tries.goes (goes_on c.visit.ensures.goes.goes c.help.ensures.goes.goes);
-  more = omega arith;
-}
+returns-in-Err-help-clause-goes g c = goes_further (call_on c.loop-pred.invariant.0 c.visit.ensures.goes.call) (tries_on c.loop-pred.invariant.1.tries c.visit.ensures.goes.goes c.visit.ensures.goes.more (within_call (call_on c.loop-pred.invariant.0 c.visit.ensures.goes.call))) c.help.ensures.goes
 
 pub returns-in-Ok-Beyond-clause-found : goal.returns-in-Ok-Beyond-clause-found
 returns-in-Ok-Beyond-clause-found g c =
     let v = c.visit.ensures.goes.goes.quiet in
     let i = c.loop-pred.invariant.1 in
     let met = rw c.in-Ok-Beyond.field-0-is at c.in-Ok-Beyond.ensures.met in
+    let count = met.count in
     let same = c.visit.ensures.goes.call.key ∙ c.loop-pred.invariant.0.key in
     let high = met.visits.1 in
     let is = c.loop-pred.invariant.0.key in
     let says = ap (λ k. k == c.in-Ok-Beyond.key) same in
     let cur = node_found c.args.self.now.key c.in-Ok-Beyond.key _ c.loop-pred.pred c.in-Ok-Beyond.node met.reads met.visits.0 (omega (arith, high, is)) says in
-    let p = c.args.self.now.at.stepper.now.trace in
-    let q = c.loop-pred.self.at.stepper.now.trace in
-    let r = c.visit.new.self.at.stepper.now.trace in
-    let first = i.tries.goes.quiet in
-    let whole = quiet_on first v in
-    let is = c.law.ensures.start in
-    let ok = run_at p r whole.same (whole.is_run c.law.ensures.is_run) in
-    let key = c.args.self.now.key in
-    let none = unchanged_at p q r key is ok first.same whole.same v.seen c.visit.ensures.looks.observes.adds_none in
     record {
       found = cur_found c.args.self.now.key c.visit.new.self.used c.loop-pred.pred c.in-Ok-Beyond.node (c.visit.new.self.key == c.in-Ok-Beyond.key) i.reached i.tries.goes.quiet v met.keeps cur met.reads.stood;
       used = refl;
-      knew = knows_now p r whole.same whole.seen met.fresh;
-      pred = stands_still_on v.seen none i.walks.stands;
-      cur = node_open 9 p r is ok key whole.same q first.same first.seen v.seen i.walks met.reads.slot met.reads.named none c.in-Ok-Beyond.node met.fresh met.keeps.epoch met.reads.at met.reads cur.unmarked;
-      paid = walk_visited 9 p r is ok key whole.same q first.same first.seen v.seen i.walks (let count = met.count in omega (arith, count)) (ap is_some met.reads.named);
+      knew = met_knows c.law.ensures c.args.self.now.key c.loop-pred.invariant.1.tries.goes.quiet c.visit.ensures.goes.goes.quiet c.visit.ensures.observes i.walks met;
+      pred = stands_still_on v.seen (visit_changes_none c.law.ensures c.args.self.now.key c.loop-pred.invariant.1.tries.goes.quiet c.visit.ensures.goes.goes.quiet c.visit.ensures.observes) i.walks.stands;
+      cur = met_open c.law.ensures c.args.self.now.key c.loop-pred.invariant.1.tries.goes.quiet c.visit.ensures.goes.goes.quiet c.visit.ensures.observes i.walks met cur.unmarked;
+      paid = met_paid c.law.ensures c.args.self.now.key c.loop-pred.invariant.1.tries.goes.quiet c.visit.ensures.goes.goes.quiet c.visit.ensures.observes i.walks met (omega (arith, count));
     }
 
 pub returns-clause-found : goal.returns-clause-found
@@ -168,15 +132,8 @@ returns-clause-found g c =
 
 pub returns-in_default-clause-stopped : goal.returns-in_default-clause-stopped
 returns-in_default-clause-stopped g c =
-    let p = c.args.self.now.at.stepper.now.trace in
-    let r = c.start.new.self.at.stepper.now.trace in
-    let quiet = c.start.ensures.goes.goes.quiet in
-    let ok = run_at p r quiet.same (quiet.is_run c.law.ensures.is_run) in
-    let used = c.start.ensures.used in (
-      omega (arith, used),
-      omega (arith, used),
-      start_disturbed 9 p r c.law.ensures.start ok c.args.self.now.key quiet.same (unchanged_at p p r c.args.self.now.key c.law.ensures.start ok (same_refl p) quiet.same quiet.seen c.start.ensures.looks.observes.adds_none) c.in_default.ensures.moved.moves,
-    )
+    let used = c.start.ensures.used in
+    (omega (arith, used), omega (arith, used), starts_none c.law.ensures c.args.self.now.key c.start.ensures.goes.goes.quiet c.start.ensures.observes c.in_default.ensures.moved.moves)
 
 pub returns-then-not-affords-2-clause-stopped : goal.returns-then-not-affords-2-clause-stopped
 returns-then-not-affords-2-clause-stopped g c =
@@ -194,32 +151,21 @@ returns-in-Err-clause-stopped g c =
     let q = c.loop-pred.self.at.stepper.now.trace in
     let r = c.visit.new.self.at.stepper.now.trace in
     let first = i.tries.goes.quiet in
-    let whole = quiet_on first v in
-    let is = c.law.ensures.start in
-    let ok = run_at p r whole.same (whole.is_run c.law.ensures.is_run) in
-    let key = c.args.self.now.key in
     let few = c.visit.ensures.used.1 in
     let some : is_some (link_of c.loop-pred.pred.word).slot ≡ true = ap (λ (l : Link). is_some l.slot) (sym c.decode.ensures.link) ∙ sym c.is_some.ensures ∙ c.loop-pred-test.true in
     let steps = c.visit.ensures.goes.goes.hand.takes_no_slot.count ∙ i.tries.goes.hand.takes_no_slot.count in (
       omega arith,
-      walk_visited 9 p r is ok key whole.same q first.same first.seen v.seen i.walks (omega (arith, few)) some,
-      moves_on_disturb p r is ok key whole.same steps q first.same v.seen i.walks.knew (moves_on q r v.same v.seen c.in-Err.ensures.moved.moves),
+      visit_paid c.law.ensures c.args.self.now.key c.loop-pred.invariant.1.tries.goes.quiet c.visit.ensures.goes.goes.quiet c.visit.ensures.observes i.walks (omega (arith, few)) some,
+      moves_on_disturb p r c.law.ensures.start (visited_run c.law.ensures c.args.self.now.key c.loop-pred.invariant.1.tries.goes.quiet c.visit.ensures.goes.goes.quiet c.visit.ensures.observes) c.args.self.now.key (quiet_on first v).same steps q first.same v.seen i.walks.knew (moves_on q r v.same v.seen c.in-Err.ensures.moved.moves),
     )
 
 pub returns-then-not-affords-3-clause-stopped : goal.returns-then-not-affords-3-clause-stopped
 returns-then-not-affords-3-clause-stopped g c =
-    let i = c.loop-pred.invariant.1 in
-    let v = c.visit.ensures.goes.goes.quiet in
     let b = c.visit.ensures.goes.call.budget ∙ c.loop-pred.invariant.0.budget in
     let short : ¬ (c.visit.new.self.used + PIECE ≤ c.visit.new.self.budget) = λ h. (let f = c.if-not-affords-3.true in let z = c.affords-in-Ok-Marked.ensures.1 h in let w : false ≡ true = sym f ∙ z in cc) in
     let met = rw c.in-Ok-Marked.field-0-is at c.in-Ok-Marked.ensures.met in
-    let p = c.args.self.now.at.stepper.now.trace in
-    let q = c.loop-pred.self.at.stepper.now.trace in
-    let r = c.visit.new.self.at.stepper.now.trace in
-    let first = i.tries.goes.quiet in
-    let whole = quiet_on first v in
-    let ok = run_at p r whole.same (whole.is_run c.law.ensures.is_run) in
-    (omega (arith, short, b), walk_visited 9 p r c.law.ensures.start ok c.args.self.now.key whole.same q first.same first.seen v.seen i.walks (let count = met.count in omega (arith, count)) (ap is_some met.reads.named))
+    let count = met.count in
+    (omega (arith, short, b), met_paid c.law.ensures c.args.self.now.key c.loop-pred.invariant.1.tries.goes.quiet c.visit.ensures.goes.goes.quiet c.visit.ensures.observes c.loop-pred.invariant.1.walks met (omega (arith, count)))
 
 pub returns-in-Err-help-clause-stopped : goal.returns-in-Err-help-clause-stopped
 returns-in-Err-help-clause-stopped g c =
@@ -237,11 +183,10 @@ returns-in-Err-help-clause-stopped g c =
     let all = quiet_on whole h.quiet in
     let later = quiet_on v.quiet h.quiet in
     let is = c.law.ensures.start in
-    let ok = run_at p r whole.same (whole.is_run c.law.ensures.is_run) in
     let ok_t = run_at p t all.same (all.is_run c.law.ensures.is_run) in
     let key = c.args.self.now.key in
     let steps = h.hand.takes_no_slot.count ∙ v.hand.takes_no_slot.count ∙ i.tries.goes.hand.takes_no_slot.count in
-    let none = unchanged_at p q r key is ok first.same whole.same v.quiet.seen c.visit.ensures.looks.observes.adds_none in (
+    let none = visit_changes_none c.law.ensures c.args.self.now.key c.loop-pred.invariant.1.tries.goes.quiet c.visit.ensures.goes.goes.quiet c.visit.ensures.observes in (
       omega arith,
       walk_visited 9 p t is ok_t key all.same q first.same first.seen later.seen i.walks (let count = met.count in omega (arith, count, few)) (ap is_some met.reads.named),
       loses_place_disturb p t is ok_t key all.same steps r c.loop-pred.pred whole.same h.quiet.seen (knows_now p r whole.same whole.seen met.fresh) (stands_still_on v.quiet.seen none i.walks.stands) c.in-Err-help.ensures.lost.loses,

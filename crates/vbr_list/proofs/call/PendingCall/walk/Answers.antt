@@ -3,13 +3,12 @@ use Rattle.std.specs.Prelude.{◌==◌}
 use Rattle.std.proofs.lemmas.Bool.Decides.{nat_tests}
 use Rattle.std.specs.Option.{is_some}
 use Rattle.vbr_words.specs.declared.link.Link.{Link}
-use Rattle.vbr_at_table.specs.Held.{held_of}
 use Rattle.vbr_at_table.specs.declared.held.Held.{Held}
-use Rattle.vbr_list.proofs.Going.{call_on, goes_on}
-use Rattle.vbr_slots.proofs.Lemmas.{quiet_on, same_refl}
+use Rattle.vbr_list.proofs.Going.{call_on, goes_further}
 use Rattle.vbr_words.specs.Words.{link_of}
-use Rattle.vbr_list.proofs.Disturbing.{grows_disturbed, moves_disturb, run_at, unchanged_at}
-use Rattle.vbr_list.proofs.Walking.{node_open, start_disturbed, stood_on, walk_begins, walk_paid, walk_past, walk_to, walk_visited}
+use Rattle.vbr_list.proofs.Disturbing.{grows_disturbed, run_at}
+use Rattle.vbr_list.proofs.Walking.{stood_on, walk_paid}
+use Rattle.vbr_list.proofs.Visits.{met_open, met_paid, met_past, met_to, starts_none, starts_walk, visit_moved, visit_paid}
 use Rattle.vbr_list.proofs.Observing.{observes_on}
 use Rattle.vbr_list.proofs.Reaching.{node_found, node_reached}
 use Rattle.vbr_list.proofs.Passing.{look_at, look_past, absent_at_end, absent_before, present_at, looks_on}
@@ -24,17 +23,14 @@ pub loop-here-init : goal.loop-here-init
 loop-here-init g c =
     let fits = c.affords.ensures.0 c.if-not-affords.false in
     let used = c.in-Ok.ensures.used in
-    let head = c.in-Ok.ensures.head in
-    let p = c.args.self.now.at.stepper.now in
-    let r = c.start.new.self.at.stepper.now in
-    let quiet = c.start.ensures.goes.goes.quiet in (
+    let head = c.in-Ok.ensures.head in (
       c.start.ensures.goes.call,
       record {
-        peeks = record { tries = record { goes = c.start.ensures.goes.goes; within = (omega (arith, used), omega (arith, fits, used)) }; observes = c.start.ensures.looks.observes };
+        peeks = record { tries = record { goes = c.start.ensures.goes.goes; within = (omega (arith, used), omega (arith, fits, used)) }; observes = c.start.ensures.observes };
         some = omega (arith, used);
         look = look_at c.in-Ok.ensures.come.is;
         fresh = head.reads.fresh;
-        walks = walk_begins 5 p.trace r.trace c.law.ensures.start (run_at p.trace r.trace quiet.same (quiet.is_run c.law.ensures.is_run)) c.args.self.now.key quiet.same c.args.self.now.bucket c.args.self.now.used c.start.new.self.used c.in-Ok.pred c.args.self.now.of_key used head.at (unchanged_at p.trace p.trace r.trace c.args.self.now.key c.law.ensures.start (run_at p.trace r.trace quiet.same (quiet.is_run c.law.ensures.is_run)) (same_refl p.trace) quiet.same quiet.seen c.start.ensures.looks.observes.adds_none) head.reads;
+        walks = starts_walk c.law.ensures c.args.self.now.key c.start.ensures.goes.goes.quiet c.start.ensures.observes 5 c.args.self.now.bucket c.args.self.now.used c.start.new.self.used c.in-Ok.pred c.args.self.now.of_key used head;
       },
     )
 
@@ -42,115 +38,82 @@ pub loop-here-preserved-in-Ok-Marked : goal.loop-here-preserved-in-Ok-Marked
 loop-here-preserved-in-Ok-Marked g c =
     let v = c.visit.ensures.goes in
     let met = rw c.in-Ok-Marked.field-0-is at c.in-Ok-Marked.ensures.met in
-    let x = c.visit.ensures.used in
+    let count = met.count in
+    let i = c.loop-here.invariant.1 in
     let y = c.affords-in-loop-here.ensures.0 c.if-not-affords-2.false in
-    let p = c.args.self.now.at.stepper.now in
-    let q = c.loop-here.self.at.stepper.now in
-    let r = c.visit.new.self.at.stepper.now in
-    let first = c.loop-here.invariant.1.peeks.tries.goes.quiet in
-    let whole = quiet_on first v.goes.quiet in
-    let look = look_past c.args.self.now.key c.loop-here.pred c.loop-here.here c.in-Ok-Marked.marked v.goes.quiet.same met.keeps c.loop-here.invariant.1.look met.visits.0 met.visits.1 in
+    let look = look_past c.args.self.now.key c.loop-here.pred c.loop-here.here c.in-Ok-Marked.marked v.goes.quiet.same met.keeps i.look met.visits.0 met.visits.1 in
     let b = c.loop-here.invariant.0.budget in (
       call_on c.loop-here.invariant.0 v.call,
       subst (λ (h : Held). Looks c.args.self.now.at.stepper.now c.visit.new.self.at.stepper.now c.args.self.now.key c.args.self.now.used c.visit.new.self.used c.args.self.now.budget c.loop-here.pred h) (sym c.held_of-here.ensures)
-          (looks_on c.loop-here.invariant.1 v.goes c.visit.ensures.looks.observes (omega (arith, x)) (omega (arith, x, y, b)) look met.fresh
-          (walk_past 5 p.trace r.trace c.law.ensures.start (run_at p.trace r.trace whole.same (whole.is_run c.law.ensures.is_run)) c.args.self.now.key whole.same q.trace first.same first.seen v.goes.quiet.seen c.loop-here.invariant.1.walks met.reads.slot met.reads.named (unchanged_at p.trace q.trace r.trace c.args.self.now.key c.law.ensures.start (run_at p.trace r.trace whole.same (whole.is_run c.law.ensures.is_run)) first.same whole.same v.goes.quiet.seen c.visit.ensures.looks.observes.adds_none) (held_of c.in-Ok-Marked.marked) met.fresh met.keeps.epoch met.reads.at met.reads (let count = met.count in omega (arith, count)))),
+          (looks_on i v.goes c.visit.ensures.observes (omega (arith, count)) (omega (arith, count, y, b)) look met.fresh (met_past c.law.ensures c.args.self.now.key c.loop-here.invariant.1.peeks.tries.goes.quiet c.visit.ensures.goes.goes.quiet c.visit.ensures.observes i.walks met (omega (arith, count)))),
     )
 
 pub loop-here-preserved : goal.loop-here-preserved
 loop-here-preserved g c =
     let v = c.visit.ensures.goes in
     let met = rw c.in-Ok-Smaller.field-0-is at c.in-Ok-Smaller.ensures.met in
+    let count = met.count in
+    let i = c.loop-here.invariant.1 in
     let key = c.loop-here.invariant.0.key in
     let low = met.visits.low in
-    let come = node_reached c.args.self.now.key met.visits.key c.loop-here.here c.in-Ok-Smaller.node v.goes.quiet.same c.loop-here.invariant.1.look.inside met.keeps met.reads met.visits.has (omega (arith, low, key)) in
-    let x = c.visit.ensures.used in
+    let come = node_reached c.args.self.now.key met.visits.key c.loop-here.here c.in-Ok-Smaller.node v.goes.quiet.same i.look.inside met.keeps met.reads met.visits.has (omega (arith, low, key)) in
     let y = c.affords-in-loop-here.ensures.0 c.if-not-affords-2.false in
-    let p = c.args.self.now.at.stepper.now in
-    let q = c.loop-here.self.at.stepper.now in
-    let r = c.visit.new.self.at.stepper.now in
-    let first = c.loop-here.invariant.1.peeks.tries.goes.quiet in
-    let whole = quiet_on first v.goes.quiet in
     let b = c.loop-here.invariant.0.budget in (
       call_on c.loop-here.invariant.0 v.call,
-      looks_on c.loop-here.invariant.1 v.goes c.visit.ensures.looks.observes (omega (arith, x)) (omega (arith, x, y, b)) (look_at come.is) met.fresh
-          (walk_to 5 p.trace r.trace c.law.ensures.start (run_at p.trace r.trace whole.same (whole.is_run c.law.ensures.is_run)) c.args.self.now.key whole.same q.trace first.same first.seen v.goes.quiet.seen c.loop-here.invariant.1.walks met.reads.slot met.reads.named (unchanged_at p.trace q.trace r.trace c.args.self.now.key c.law.ensures.start (run_at p.trace r.trace whole.same (whole.is_run c.law.ensures.is_run)) first.same whole.same v.goes.quiet.seen c.visit.ensures.looks.observes.adds_none) c.in-Ok-Smaller.node met.fresh met.keeps.epoch met.reads.at met.reads (let count = met.count in omega (arith, count)) come.is.unmarked),
+      looks_on i v.goes c.visit.ensures.observes (omega (arith, count)) (omega (arith, count, y, b)) (look_at come.is) met.fresh (met_to c.law.ensures c.args.self.now.key c.loop-here.invariant.1.peeks.tries.goes.quiet c.visit.ensures.goes.goes.quiet c.visit.ensures.observes i.walks met (omega (arith, count)) come.is.unmarked),
     )
 
 pub returns-in-Err-clause-goes : goal.returns-in-Err-clause-goes
-returns-in-Err-clause-goes g c = record {
-  call = call_on c.loop-here.invariant.0 c.visit.ensures.goes.call;
-  goes = goes_on c.loop-here.invariant.1.peeks.tries.goes c.visit.ensures.goes.goes;
-  more = omega arith;
-}
+returns-in-Err-clause-goes g c = goes_further c.loop-here.invariant.0 c.loop-here.invariant.1.peeks.tries c.visit.ensures.goes
 
 pub returns-in-Err-clause-observes : goal.returns-in-Err-clause-observes
-returns-in-Err-clause-observes g c = observes_on c.loop-here.invariant.1.peeks.observes c.visit.ensures.looks.observes
+returns-in-Err-clause-observes g c = observes_on c.loop-here.invariant.1.peeks.observes c.visit.ensures.observes
 
 pub returns-then-self-key-clause-goes : goal.returns-then-self-key-clause-goes
-returns-then-self-key-clause-goes g c = record {
-  call = call_on c.loop-here.invariant.0 c.visit.ensures.goes.call;
-  goes = goes_on c.loop-here.invariant.1.peeks.tries.goes c.visit.ensures.goes.goes;
-  more = omega arith;
-}
+returns-then-self-key-clause-goes g c = goes_further c.loop-here.invariant.0 c.loop-here.invariant.1.peeks.tries c.visit.ensures.goes
 
 pub returns-then-self-key-clause-observes : goal.returns-then-self-key-clause-observes
-returns-then-self-key-clause-observes g c = observes_on c.loop-here.invariant.1.peeks.observes c.visit.ensures.looks.observes
+returns-then-self-key-clause-observes g c = observes_on c.loop-here.invariant.1.peeks.observes c.visit.ensures.observes
 
 pub returns-in-Ok-Beyond-clause-goes : goal.returns-in-Ok-Beyond-clause-goes
-returns-in-Ok-Beyond-clause-goes g c = record {
-  call = call_on c.loop-here.invariant.0 c.visit.ensures.goes.call;
-  goes = goes_on c.loop-here.invariant.1.peeks.tries.goes c.visit.ensures.goes.goes;
-  more = omega arith;
-}
+returns-in-Ok-Beyond-clause-goes g c = goes_further c.loop-here.invariant.0 c.loop-here.invariant.1.peeks.tries c.visit.ensures.goes
 
 pub returns-in-Ok-Beyond-clause-observes : goal.returns-in-Ok-Beyond-clause-observes
-returns-in-Ok-Beyond-clause-observes g c = observes_on c.loop-here.invariant.1.peeks.observes c.visit.ensures.looks.observes
+returns-in-Ok-Beyond-clause-observes g c = observes_on c.loop-here.invariant.1.peeks.observes c.visit.ensures.observes
 
 pub returns-then-self-key-clause-sight : goal.returns-then-self-key-clause-sight
 returns-then-self-key-clause-sight g c =
-    let v = c.visit.ensures.goes.goes.quiet in
     let met = rw c.in-Ok-Beyond.field-0-is at c.in-Ok-Beyond.ensures.met in
+    let count = met.count in
     let key = c.visit.ensures.goes.call.key ∙ c.loop-here.invariant.0.key in
     let high = met.visits.1 in
     let is_key = c.loop-here.invariant.0.key in
     let says : true ≡ (c.args.self.now.key == c.in-Ok-Beyond.key) = let is = c.if-self-key.true in sym (eq-eqb c.args.self.now.key c.in-Ok-Beyond.key (sym key ∙ is)) in
     let cur = node_found c.args.self.now.key c.in-Ok-Beyond.key true c.loop-here.here c.in-Ok-Beyond.node met.reads met.visits.0 (omega (arith, high, is_key)) says in
-    let p = c.args.self.now.at.stepper.now in
-    let q = c.loop-here.self.at.stepper.now in
-    let r = c.visit.new.self.at.stepper.now in
-    let first = c.loop-here.invariant.1.peeks.tries.goes.quiet in
-    let whole = quiet_on first v in
-    let ok = run_at p.trace r.trace whole.same (whole.is_run c.law.ensures.is_run) in
     let w = c.loop-here.invariant.1.walks in
     record {
-      sees = present_at r.trace.start c.args.self.now.key c.loop-here.here c.in-Ok-Beyond.node cur;
+      sees = present_at c.visit.new.self.at.stepper.now.trace.start c.args.self.now.key c.loop-here.here c.in-Ok-Beyond.node cur;
       fresh = met.fresh;
-      stood = (node_open 5 p.trace r.trace c.law.ensures.start ok c.args.self.now.key whole.same q.trace first.same first.seen v.seen w met.reads.slot met.reads.named (unchanged_at p.trace q.trace r.trace c.args.self.now.key c.law.ensures.start (run_at p.trace r.trace whole.same (whole.is_run c.law.ensures.is_run)) first.same whole.same v.seen c.visit.ensures.looks.observes.adds_none) c.in-Ok-Beyond.node met.fresh met.keeps.epoch met.reads.at met.reads cur.unmarked).stood;
-      paid = walk_visited 5 p.trace r.trace c.law.ensures.start ok c.args.self.now.key whole.same q.trace first.same first.seen v.seen w (let count = met.count in omega (arith, count)) (ap is_some met.reads.named);
+      stood = (met_open c.law.ensures c.args.self.now.key c.loop-here.invariant.1.peeks.tries.goes.quiet c.visit.ensures.goes.goes.quiet c.visit.ensures.observes w met cur.unmarked).stood;
+      paid = met_paid c.law.ensures c.args.self.now.key c.loop-here.invariant.1.peeks.tries.goes.quiet c.visit.ensures.goes.goes.quiet c.visit.ensures.observes w met (omega (arith, count));
     }
 
 pub returns-in-Ok-Beyond-clause-sight : goal.returns-in-Ok-Beyond-clause-sight
 returns-in-Ok-Beyond-clause-sight g c =
     let v = c.visit.ensures.goes.goes.quiet in
     let met = rw c.in-Ok-Beyond.field-0-is at c.in-Ok-Beyond.ensures.met in
+    let count = met.count in
     let key = c.visit.ensures.goes.call.key ∙ c.loop-here.invariant.0.key in
     let high = met.visits.1 in
     let is_key = c.loop-here.invariant.0.key in
     let says : false ≡ (c.args.self.now.key == c.in-Ok-Beyond.key) = let isnt = c.if-self-key.false in let not : ¬ (c.args.self.now.key ≡ c.in-Ok-Beyond.key) = λ e. isnt (key ∙ e) in grind (arith, nat_tests, not) in
     let cur = node_found c.args.self.now.key c.in-Ok-Beyond.key false c.loop-here.here c.in-Ok-Beyond.node met.reads met.visits.0 (omega (arith, high, is_key)) says in
-    let p = c.args.self.now.at.stepper.now in
-    let q = c.loop-here.self.at.stepper.now in
-    let r = c.visit.new.self.at.stepper.now in
-    let first = c.loop-here.invariant.1.peeks.tries.goes.quiet in
-    let whole = quiet_on first v in
-    let ok = run_at p.trace r.trace whole.same (whole.is_run c.law.ensures.is_run) in
     let w = c.loop-here.invariant.1.walks in
     record {
       sees = absent_before c.args.self.now.key c.loop-here.pred c.loop-here.here c.in-Ok-Beyond.node v.same met.keeps c.loop-here.invariant.1.look cur;
       fresh = met.fresh;
       stood = stood_on v.seen w.stands.stood;
-      paid = walk_visited 5 p.trace r.trace c.law.ensures.start ok c.args.self.now.key whole.same q.trace first.same first.seen v.seen w (let count = met.count in omega (arith, count)) (ap is_some met.reads.named);
+      paid = met_paid c.law.ensures c.args.self.now.key c.loop-here.invariant.1.peeks.tries.goes.quiet c.visit.ensures.goes.goes.quiet c.visit.ensures.observes w met (omega (arith, count));
     }
 
 pub returns-clause-sight : goal.returns-clause-sight
@@ -169,34 +132,23 @@ returns-clause-sight g c =
 
 pub returns-in-Err-clause-stopped : goal.returns-in-Err-clause-stopped
 returns-in-Err-clause-stopped g c =
-    let v = c.visit.ensures.goes.goes.quiet in
     let p = c.args.self.now.at.stepper.now in
     let q = c.loop-here.self.at.stepper.now in
-    let r = c.visit.new.self.at.stepper.now in
-    let first = c.loop-here.invariant.1.peeks.tries.goes.quiet in
-    let whole = quiet_on first v in
-    let ok = run_at p.trace r.trace whole.same (whole.is_run c.law.ensures.is_run) in
-    let ok_q = run_at p.trace q.trace first.same (first.is_run c.law.ensures.is_run) in
-    let w = c.loop-here.invariant.1.walks in
+    let i = c.loop-here.invariant.1 in
+    let first = i.peeks.tries.goes.quiet in
     let used = c.visit.ensures.used.1 in
     let some : is_some (link_of c.loop-here.here.word).slot ≡ true = ap (λ (l : Link). is_some l.slot) (sym c.decode.ensures.link) ∙ sym c.is_some.ensures ∙ c.loop-here-test.true in
-    let less = moves_disturb p.trace r.trace c.law.ensures.start ok c.args.self.now.key q.trace first.same whole.same v.seen (unchanged_at p.trace q.trace r.trace c.args.self.now.key c.law.ensures.start ok first.same whole.same v.seen c.visit.ensures.looks.observes.adds_none) c.loop-here.invariant.1.fresh c.in-Err.ensures.moved.moves in
-    let before = grows_disturbed p.trace q.trace c.law.ensures.start ok_q c.args.self.now.key p.trace.seen first.seen in (
+    let less = visit_moved c.law.ensures c.args.self.now.key c.loop-here.invariant.1.peeks.tries.goes.quiet c.visit.ensures.goes.goes.quiet c.visit.ensures.observes i.fresh c.in-Err.ensures.moved.moves in
+    let before = grows_disturbed p.trace q.trace c.law.ensures.start (run_at p.trace q.trace first.same (first.is_run c.law.ensures.is_run)) c.args.self.now.key p.trace.seen first.seen in (
       omega arith,
-      walk_visited 5 p.trace r.trace c.law.ensures.start ok c.args.self.now.key whole.same q.trace first.same first.seen v.seen w (omega (arith, used)) some,
+      visit_paid c.law.ensures c.args.self.now.key c.loop-here.invariant.1.peeks.tries.goes.quiet c.visit.ensures.goes.goes.quiet c.visit.ensures.observes i.walks (omega (arith, used)) some,
       omega (arith, less, before),
     )
 
 pub returns-in_default-clause-stopped : goal.returns-in_default-clause-stopped
 returns-in_default-clause-stopped g c =
-    let p = c.args.self.now.at.stepper.now in
-    let r = c.start.new.self.at.stepper.now in
-    let quiet = c.start.ensures.goes.goes.quiet in
-    let used = c.start.ensures.used in (
-      omega (arith, used),
-      omega (arith, used),
-      start_disturbed 5 p.trace r.trace c.law.ensures.start (run_at p.trace r.trace quiet.same (quiet.is_run c.law.ensures.is_run)) c.args.self.now.key quiet.same (unchanged_at p.trace p.trace r.trace c.args.self.now.key c.law.ensures.start (run_at p.trace r.trace quiet.same (quiet.is_run c.law.ensures.is_run)) (same_refl p.trace) quiet.same quiet.seen c.start.ensures.looks.observes.adds_none) c.in_default.ensures.moved.moves,
-    )
+    let used = c.start.ensures.used in
+    (omega (arith, used), omega (arith, used), starts_none c.law.ensures c.args.self.now.key c.start.ensures.goes.goes.quiet c.start.ensures.observes c.in_default.ensures.moved.moves)
 
 pub returns-then-not-affords-2-clause-stopped : goal.returns-then-not-affords-2-clause-stopped
 returns-then-not-affords-2-clause-stopped g c =
