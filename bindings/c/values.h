@@ -169,12 +169,12 @@ static inline const vbr_entry *value_of_report(uint64_t key) {
     return NULL;
 }
 
-/* The entry that an opening gives a key: that of the last report, or one with a value of its own. Of one that is refused no value
-   is in a map. */
+/* The entry that an opening gives a key: that of the last report, unless its value is in a map again, or one with a value of its
+   own. */
 static inline vbr_entry value_opens(uint64_t key) {
     const vbr_entry *told = value_of_report(key);
     struct value_place *it = told ? value_place(told->value) : NULL;
-    if (!it || value_read(&it->value) != told->value) it = value_begins(key);
+    if (!it || value_read(&it->value) != told->value || value_is_in_use(it)) it = value_begins(key);
     value_write(&it->stage, STORED);
     return (vbr_entry){key, value_read(&it->value)};
 }
