@@ -31,8 +31,8 @@ extern "C" {
     ) -> i32;
     pub(crate) fn vbr_insert(handle: *mut Raw, key: u64, budget: u32) -> i32;
     pub(crate) fn vbr_remove(handle: *mut Raw, key: u64, budget: u32) -> i32;
-    pub(crate) fn vbr_has(handle: *mut Raw, key: u64, budget: u32) -> i32;
-    pub(crate) fn vbr_next(handle: *mut Raw, cursor: *mut Cursor, budget: u32, key: *mut u64) -> i32;
+    fn vbr_has(handle: *mut Raw, key: u64, budget: u32) -> i32;
+    fn vbr_next(handle: *mut Raw, cursor: *mut Cursor, budget: u32, key: *mut u64) -> i32;
     fn vbr_epoch(handle: *mut Raw) -> u64;
     fn vbr_last_epoch(handle: *mut Raw) -> u64;
     fn vbr_slots(handle: *mut Raw) -> u32;
@@ -53,8 +53,8 @@ extern "C" {
     pub(crate) fn vbr_map_insert(handle: *mut Raw, key: u64, value: u64, budget: u32) -> i32;
     pub(crate) fn vbr_map_remove(handle: *mut Raw, key: u64, budget: u32, value: *mut u64) -> i32;
     pub(crate) fn vbr_map_get(handle: *mut Raw, key: u64, budget: u32, value: *mut u64) -> i32;
-    pub(crate) fn vbr_map_has(handle: *mut Raw, key: u64, budget: u32) -> i32;
-    pub(crate) fn vbr_map_next(handle: *mut Raw, cursor: *mut Cursor, budget: u32, key: *mut u64, value: *mut u64) -> i32;
+    fn vbr_map_has(handle: *mut Raw, key: u64, budget: u32) -> i32;
+    fn vbr_map_next(handle: *mut Raw, cursor: *mut Cursor, budget: u32, key: *mut u64, value: *mut u64) -> i32;
     fn vbr_map_epoch(handle: *mut Raw) -> u64;
     fn vbr_map_last_epoch(handle: *mut Raw) -> u64;
     fn vbr_map_slots(handle: *mut Raw) -> u32;
@@ -63,19 +63,27 @@ extern "C" {
     fn vbr_map_drop(handle: *mut Raw);
 }
 
-/// What handles of sets and of maps have alike: the calls of the library that open and close them and show their numbers.
+/// What handles of sets and of maps have alike: the calls of the library that open and close them, look up, walk, and show their
+/// numbers.
 pub(crate) trait Kind {
     /// What an opening is given and a report tells: keys, or entries.
     type Item: Copy + Default;
+
+    /// What a walk gives: a key, or a key with its value.
+    type Given: Default;
 
     const OPEN: unsafe extern "C" fn(*mut Raw, usize, u32, u32, u64) -> i32;
     const OPEN_WITH: unsafe extern "C" fn(*mut Raw, usize, u32, u32, u64, *const Self::Item, usize) -> i32;
     const CLOSE_ALL: unsafe extern "C" fn(*mut Raw, usize, *mut Self::Item, usize, *mut ReportNumbers) -> i32;
     const DROP: unsafe extern "C" fn(*mut Raw);
+    const HAS: unsafe extern "C" fn(*mut Raw, u64, u32) -> i32;
     const EPOCH: unsafe extern "C" fn(*mut Raw) -> u64;
     const LAST_EPOCH: unsafe extern "C" fn(*mut Raw) -> u64;
     const SLOTS: unsafe extern "C" fn(*mut Raw) -> u32;
     const BUCKETS: unsafe extern "C" fn(*mut Raw) -> u32;
+
+    /// Makes a call of a walk. It asks what the call of the library does.
+    unsafe fn next(handle: *mut Raw, cursor: &mut Cursor, budget: u32, given: &mut Self::Given) -> i32;
 }
 
 /// The kind of sets.
@@ -83,15 +91,22 @@ pub(crate) struct Keys;
 
 impl Kind for Keys {
     type Item = u64;
+    type Given = u64;
 
     const OPEN: unsafe extern "C" fn(*mut Raw, usize, u32, u32, u64) -> i32 = vbr_open;
     const OPEN_WITH: unsafe extern "C" fn(*mut Raw, usize, u32, u32, u64, *const u64, usize) -> i32 = vbr_open_with;
     const CLOSE_ALL: unsafe extern "C" fn(*mut Raw, usize, *mut u64, usize, *mut ReportNumbers) -> i32 = vbr_close_all;
     const DROP: unsafe extern "C" fn(*mut Raw) = vbr_drop;
+    const HAS: unsafe extern "C" fn(*mut Raw, u64, u32) -> i32 = vbr_has;
     const EPOCH: unsafe extern "C" fn(*mut Raw) -> u64 = vbr_epoch;
     const LAST_EPOCH: unsafe extern "C" fn(*mut Raw) -> u64 = vbr_last_epoch;
     const SLOTS: unsafe extern "C" fn(*mut Raw) -> u32 = vbr_slots;
     const BUCKETS: unsafe extern "C" fn(*mut Raw) -> u32 = vbr_buckets;
+
+    #[inline]
+    unsafe fn next(handle: *mut Raw, cursor: &mut Cursor, budget: u32, given: &mut u64) -> i32 {
+        vbr_next(handle, cursor, budget, given)
+    }
 }
 
 /// The kind of maps.
@@ -99,15 +114,22 @@ pub(crate) struct Entries;
 
 impl Kind for Entries {
     type Item = Entry;
+    type Given = (u64, u64);
 
     const OPEN: unsafe extern "C" fn(*mut Raw, usize, u32, u32, u64) -> i32 = vbr_map_open;
     const OPEN_WITH: unsafe extern "C" fn(*mut Raw, usize, u32, u32, u64, *const Entry, usize) -> i32 = vbr_map_open_with;
     const CLOSE_ALL: unsafe extern "C" fn(*mut Raw, usize, *mut Entry, usize, *mut ReportNumbers) -> i32 = vbr_map_close_all;
     const DROP: unsafe extern "C" fn(*mut Raw) = vbr_map_drop;
+    const HAS: unsafe extern "C" fn(*mut Raw, u64, u32) -> i32 = vbr_map_has;
     const EPOCH: unsafe extern "C" fn(*mut Raw) -> u64 = vbr_map_epoch;
     const LAST_EPOCH: unsafe extern "C" fn(*mut Raw) -> u64 = vbr_map_last_epoch;
     const SLOTS: unsafe extern "C" fn(*mut Raw) -> u32 = vbr_map_slots;
     const BUCKETS: unsafe extern "C" fn(*mut Raw) -> u32 = vbr_map_buckets;
+
+    #[inline]
+    unsafe fn next(handle: *mut Raw, cursor: &mut Cursor, budget: u32, given: &mut (u64, u64)) -> i32 {
+        vbr_map_next(handle, cursor, budget, &mut given.0, &mut given.1)
+    }
 }
 
 /// The answer of a call.
