@@ -1,7 +1,7 @@
 //! Sets and maps: one text, of which [`kind!`] makes either.
 
-/// A set or a map, with its handles and its report. What is said of one alone is given by who makes it: documents, calls of its
-/// handles, and these words:
+/// A set or a map, with its handles and its report. Who makes one gives what is of it alone: documents, calls of its handles, and
+/// these words:
 /// - `kind`: which calls of the library are its own;
 /// - `given`: what a walk gives;
 /// - `set`: what it is, in documents;
@@ -49,14 +49,17 @@ macro_rules! kind {
         }
 
         impl $Set {
-            #[doc = concat!("Opens an empty ", $set, " and gives its handles, from 1 to [`MAX_HANDLES`](crate::MAX_HANDLES) of them.")]
+            #[doc = concat!("Opens an empty ", $set, " and gives its handles,")]
+            /// from 1 to [`MAX_HANDLES`](crate::MAX_HANDLES) of them.
             ///
             /// ```
             #[doc = concat!("use vbr::{OpenError, ", stringify!($Set), ", Shape, ShapeError};")]
             ///
             #[doc = concat!("assert_eq!(", stringify!($Set), "::open(Shape::new(8, 2, 100), 3)?.len(), 3);")]
-            #[doc = concat!("assert_eq!(", stringify!($Set), "::open(Shape::new(0, 2, 100), 3).unwrap_err(), OpenError::Shape(ShapeError::Slots(0)));")]
-            #[doc = concat!("assert_eq!(", stringify!($Set), "::open(Shape::new(8, 2, 100), 65).unwrap_err(), OpenError::Handles);")]
+            #[doc = concat!("let no_slots = ", stringify!($Set), "::open(Shape::new(0, 2, 100), 3);")]
+            /// assert_eq!(no_slots.unwrap_err(), OpenError::Shape(ShapeError::Slots(0)));
+            #[doc = concat!("let too_many = ", stringify!($Set), "::open(Shape::new(8, 2, 100), 65);")]
+            /// assert_eq!(too_many.unwrap_err(), OpenError::Handles);
             /// # Ok::<(), OpenError>(())
             /// ```
             ///
@@ -77,12 +80,14 @@ macro_rules! kind {
                 Ok($Set { lender: Lender::of($Set::open(shape, handles)?)? })
             }
 
-            #[doc = concat!("Opens a ", $set, " of these ", stringify!($items), ", as [`", stringify!($Set), "::open_with`] does, that lends its handles.")]
+            #[doc = concat!("Opens a ", $set, " of these ", stringify!($items), ", as [`", stringify!($Set), "::open_with`] does,")]
+            /// that lends its handles.
             ///
             /// ```
             /// # use vbr::*;
             #[doc = concat!("let ", stringify!($items), " = ", $some, ";")]
-            #[doc = concat!("let ", $set, " = ", stringify!($Set), "::lending_with(Shape::for_keys(8, 2), 2, &", stringify!($items), ")?;")]
+            /// let shape = Shape::for_keys(8, 2);
+            #[doc = concat!("let ", $set, " = ", stringify!($Set), "::lending_with(shape, 2, &", stringify!($items), ")?;")]
             #[doc = concat!("assert_eq!(", $set, ".close()?.", stringify!($items), ", ", stringify!($items), ");")]
             /// # Ok::<(), Box<dyn std::error::Error>>(())
             /// ```
@@ -128,7 +133,8 @@ macro_rules! kind {
             ///
             /// # Errors
             ///
-            #[doc = concat!("[`CloseError::Memory`], with the last handle, which has the ", $set, " then; and [`CloseError::Lost`].")]
+            #[doc = concat!("[`CloseError::Memory`], with the last handle, which has the ", $set, " then;")]
+            /// and [`CloseError::Lost`].
             pub fn close(self) -> Result<$Report, CloseError<$Handle>> {
                 for handle in self.lender.into_handles() {
                     if let Some(report) = handle.close()? {
@@ -145,10 +151,13 @@ macro_rules! kind {
             }
         }
 
-        #[doc = concat!("A handle to a ", $set, ": a pass, the right of one thread at a time to make calls, and a share of the ", $set, ".")]
+        #[doc = concat!("A handle to a ", $set, ": a pass,")]
+        /// the right of one thread at a time to make calls,
+        #[doc = concat!("and a share of the ", $set, ".")]
         ///
         /// It may go to another thread, and is neither `Clone` nor `Sync`. One that is dropped is closed, and nothing is lost by
-        #[doc = concat!("it: the handle that is closed last gets the report. Where the last one is dropped, the ", $set, " goes with it.")]
+        /// it: the handle that is closed last gets the report. Where the last one is dropped,
+        #[doc = concat!("the ", $set, " goes with it.")]
         ///
         /// ```
         /// # use vbr::*;
@@ -173,15 +182,16 @@ macro_rules! kind {
         impl $Handle {
             $($own)*
 
-            #[doc = concat!("Whether a key is in the ", $set, ", in at most `budget` steps, all of them loads. While the other handles stand still,")]
-            /// 5n + 11 are enough, with n nodes in the bucket of the key.
+            #[doc = concat!("Whether a key is in the ", $set, ", in at most `budget` steps,")]
+            /// all of them loads. While the other handles stand still, 5n + 11 are enough, with n nodes in the bucket of the key.
             ///
             /// It changes what the handle owns, and nothing that another handle sees, so it takes `&self` of a type that is not
             /// `Sync`.
             ///
             /// ```
             /// # use vbr::*;
-            #[doc = concat!("let handle = ", stringify!($Set), "::open_with(Shape::for_keys(8, 1), 1, &[", $item, "])?.remove(0);")]
+            /// let shape = Shape::for_keys(8, 1);
+            #[doc = concat!("let handle = ", stringify!($Set), "::open_with(shape, 1, &[", $item, "])?.remove(0);")]
             /// assert!(handle.has(5, 1_000)? && !handle.has(6, 1_000)?);
             /// # Ok::<(), Box<dyn std::error::Error>>(())
             /// ```
@@ -207,7 +217,8 @@ macro_rules! kind {
             }
 
             /// The last epoch that the handle read in a call; 1 before its first. It makes no step, so others may have advanced the
-            #[doc = concat!("epoch since. Renew the ", $set, " before it comes to [`", stringify!($Handle), "::last_epoch`].")]
+            /// epoch since.
+            #[doc = concat!("Renew the ", $set, " before it comes to [`", stringify!($Handle), "::last_epoch`].")]
             ///
             /// ```
             /// # use vbr::*;
@@ -260,17 +271,22 @@ macro_rules! kind {
                 self.0.buckets()
             }
 
-            #[doc = concat!("Closes the handle. The answer is `None` while other handles of the ", $set, " are open; the last one is told what is in")]
-            #[doc = concat!("the ", $set, ". It alone takes memory: ", $of_item, " bytes for each slot, of which what isn't needed is given back where there is memory")]
-            #[doc = concat!("for the ", stringify!($items), " alone, and as much as the words of the ", $set, " and ", $while_it_runs, " bytes for each slot while it runs.")]
+            #[doc = concat!("Closes the handle. The answer is `None` while other handles of the ", $set, " are open;")]
+            #[doc = concat!("the last one is told what is in the ", $set, ". It alone takes memory:")]
+            #[doc = concat!($of_item, " bytes for each slot,")]
+            /// of which what isn't needed is given back where there is memory
+            #[doc = concat!("for the ", stringify!($items), " alone, and as much as the words of the ", $set)]
+            #[doc = concat!("and ", $while_it_runs, " bytes for each slot while it runs.")]
             ///
             /// ```
             /// # use vbr::*;
             #[doc = concat!("let ", stringify!($items), " = ", $some, ";")]
-            #[doc = concat!("let mut handles = ", stringify!($Set), "::open_with(Shape::for_keys(8, 2), 2, &", stringify!($items), ")?;")]
+            /// let shape = Shape::for_keys(8, 2);
+            #[doc = concat!("let mut handles = ", stringify!($Set), "::open_with(shape, 2, &", stringify!($items), ")?;")]
             /// let last = handles.pop().expect("two handles");
             /// assert!(handles.remove(0).close()?.is_none());
-            #[doc = concat!("assert_eq!(last.close()?.expect(\"the last handle\").", stringify!($items), ", ", stringify!($items), ");")]
+            /// let report = last.close()?.expect("the last handle");
+            #[doc = concat!("assert_eq!(report.", stringify!($items), ", ", stringify!($items), ");")]
             /// # Ok::<(), Box<dyn std::error::Error>>(())
             /// ```
             ///
