@@ -1,5 +1,6 @@
 //! The calls of the library, and which of them are those of a set and which those of a map.
 use crate::map::Entry;
+use crate::owned::Owned;
 use crate::{Cursor, Refusal};
 use core::ffi::c_void;
 
@@ -65,7 +66,7 @@ extern "C" {
 
 /// What handles of sets and of maps have alike: the calls of the library that open and close them, look up, walk, and show their
 /// numbers.
-pub(crate) trait Kind {
+pub(crate) trait Kind: Sized {
     /// What an opening is given and a report tells: keys, or entries.
     type Item: Copy + Default;
 
@@ -82,8 +83,8 @@ pub(crate) trait Kind {
     const SLOTS: unsafe extern "C" fn(*mut Raw) -> u32;
     const BUCKETS: unsafe extern "C" fn(*mut Raw) -> u32;
 
-    /// Makes a call of a walk. It asks what the call of the library does.
-    unsafe fn next(handle: *mut Raw, cursor: &mut Cursor, budget: u32, given: &mut Self::Given) -> i32;
+    /// The next call of a walk.
+    fn next(handle: &Owned<Self>, cursor: &mut Cursor, budget: u32, given: &mut Self::Given) -> i32;
 }
 
 /// The kind of sets.
@@ -104,8 +105,10 @@ impl Kind for Keys {
     const BUCKETS: unsafe extern "C" fn(*mut Raw) -> u32 = vbr_buckets;
 
     #[inline]
-    unsafe fn next(handle: *mut Raw, cursor: &mut Cursor, budget: u32, given: &mut u64) -> i32 {
-        vbr_next(handle, cursor, budget, given)
+    fn next(handle: &Owned<Keys>, cursor: &mut Cursor, budget: u32, key: &mut u64) -> i32 {
+        // SAFETY: one thread at a time has the handle, which is not `Sync`, and the call lends it to nobody; nothing else has the
+        // cursor and the key.
+        unsafe { vbr_next(handle.raw(), cursor, budget, key) }
     }
 }
 
@@ -127,8 +130,9 @@ impl Kind for Entries {
     const BUCKETS: unsafe extern "C" fn(*mut Raw) -> u32 = vbr_map_buckets;
 
     #[inline]
-    unsafe fn next(handle: *mut Raw, cursor: &mut Cursor, budget: u32, given: &mut (u64, u64)) -> i32 {
-        vbr_map_next(handle, cursor, budget, &mut given.0, &mut given.1)
+    fn next(handle: &Owned<Entries>, cursor: &mut Cursor, budget: u32, (key, value): &mut (u64, u64)) -> i32 {
+        // SAFETY: as for a set; nothing else has the value.
+        unsafe { vbr_map_next(handle.raw(), cursor, budget, key, value) }
     }
 }
 

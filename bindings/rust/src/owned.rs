@@ -77,8 +77,7 @@ impl<K: Kind> Owned<K> {
 
     #[inline]
     pub(crate) fn next(&self, cursor: &mut Cursor, budget: u32) -> Result<Option<K::Given>, Refusal> {
-        // SAFETY: as for `has`; nothing else has the cursor and what is given.
-        answer_with(|given| unsafe { K::next(self.raw(), cursor, budget, given) })
+        answer_with(|given| K::next(self, cursor, budget, given))
     }
 
     #[inline]
