@@ -104,7 +104,8 @@ static int spent_epoch(void) {
         CHECK(vbr_remove(&one, 1, BUDGET) == VBR_YES);
         code = vbr_insert(&one, 1, BUDGET);
     }
-    CHECK(code == VBR_EPOCH_SPENT);
+    CHECK(code == VBR_EPOCH_SPENT && vbr_remove(&one, 1, BUDGET) == VBR_NO);
+    for (int i = 0; i < 2; i++) CHECK(vbr_has(&one, 1, BUDGET) == VBR_NO);
     CHECK(vbr_close(&one, keys, 0, &report) == VBR_YES && report.live == 0);
     return 0;
 }
@@ -135,7 +136,8 @@ static int dropped_handles(void) {
     CHECK(vbr_open(three, 3, 8, 2, 100) == VBR_NO);
     CHECK(vbr_insert(&three[0], 3, BUDGET) == VBR_YES);
     vbr_drop(&three[0]);
-    CHECK(vbr_has(&three[0], 3, BUDGET) == VBR_EMPTY && vbr_has(&three[1], 3, BUDGET) == VBR_YES);
+    CHECK(vbr_has(&three[0], 3, BUDGET) == VBR_EMPTY && vbr_remove(&three[0], 3, BUDGET) == VBR_EMPTY);
+    for (int i = 0; i < 2; i++) CHECK(vbr_has(&three[1], 3, BUDGET) == VBR_YES);
     CHECK(vbr_insert(&three[1], 4, BUDGET) == VBR_YES);
     vbr_drop(&three[1]);
     CHECK(vbr_insert(&three[2], 5, BUDGET) == VBR_YES);

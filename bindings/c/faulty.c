@@ -1,8 +1,8 @@
-/* The library with one fault, whose number FAULT names in the environment: what looks for faults has to find it. Link with
-   -Wl,--wrap=vbr_open,--wrap=vbr_open_with,--wrap=vbr_insert,--wrap=vbr_remove,--wrap=vbr_has,--wrap=vbr_next,--wrap=vbr_close
+/* The library with one fault of its sets, or with -DOF_MAPS of its maps, whose number FAULT names in the environment: what looks
+   for faults has to find it. Link with -Wl,--wrap=NAME for each __wrap_NAME of the object.
 
     1 an insert now and then answers yes for a key that is there
-    2 a remove now and then removes nothing, and answers yes
+    2 a remove now and then removes nothing, and answers yes; of a map with the value
     3 an insert now and then is lost
     4 a look-up now and then answers no for a key that is there
     5 a report is short of a key
@@ -26,129 +26,156 @@
    One thread alone can't see the seventh and the twelfth, and four threads don't look for the eighth, ninth and tenth. The
    twelfth leaves each thread's own answers right: it shows only where the program orders calls of several. The thirteenth
    leaves all answers right while there are slots, and the last three leave right whatever is answered: they show only in what
-   is refused for want of steps. */
+   is refused for want of steps. What can be wrong with values alone is in map_faulty.c. */
+#include "faulty.h"
 #include "vbr.h"
 
-#include <stdatomic.h>
-#include <stdlib.h>
+/* WITH names what only calls on maps have, and GIVE writes a value; LOOK_UP tells of a key, and in a map its value too. */
+#ifdef OF_MAPS
+typedef vbr_map_handle a_handle;
+typedef vbr_entry an_item;
+#define REAL(call) __real_vbr_map_##call
+#define WRAP(call) __wrap_vbr_map_##call
+#define LOOK_UP __real_vbr_map_get
+#define WITH(value) , value
+#define GIVE(to, value) (*(to) = (value))
+vbr_answer __real_vbr_map_get(vbr_map_handle *handle, uint64_t key, uint32_t budget, uint64_t *value);
+#else
+typedef vbr_handle a_handle;
+typedef uint64_t an_item;
+#define REAL(call) __real_vbr_##call
+#define WRAP(call) __wrap_vbr_##call
+#define LOOK_UP __real_vbr_has
+#define WITH(value)
+#define GIVE(to, value) ((void)(value))
+#endif
 
-int32_t __real_vbr_open(vbr_handle *handles, size_t count, uint32_t slots, uint32_t buckets, uint64_t last_epoch);
-int32_t __real_vbr_open_with(vbr_handle *handles, size_t count, uint32_t slots, uint32_t buckets, uint64_t last_epoch,
-                             const uint64_t *keys, size_t key_count);
-int32_t __real_vbr_insert(vbr_handle *handle, uint64_t key, uint32_t budget);
-int32_t __real_vbr_remove(vbr_handle *handle, uint64_t key, uint32_t budget);
-int32_t __real_vbr_has(vbr_handle *handle, uint64_t key, uint32_t budget);
-int32_t __real_vbr_next(vbr_handle *handle, vbr_cursor *cursor, uint32_t budget, uint64_t *key);
-int32_t __real_vbr_close(vbr_handle *handle, uint64_t *keys, size_t room, vbr_totals *report);
-
-static atomic_int number = -1;
-static atomic_uint calls;
-
-static int fault(void) {
-    if (atomic_load(&number) < 0) {
-        const char *text = getenv("FAULT");
-        atomic_store(&number, text ? atoi(text) : 0);
-    }
-    return atomic_load(&number);
-}
-
-/* Whether this is the fault, and its turn has come: once in twenty calls. */
-static int now(int n) { return fault() == n && atomic_fetch_add(&calls, 1) % 20 == 19; }
+vbr_answer REAL(open)(a_handle *handles, size_t count, uint32_t slots, uint32_t buckets, uint64_t last_epoch);
+vbr_answer REAL(open_with)(a_handle *handles, size_t count, uint32_t slots, uint32_t buckets, uint64_t last_epoch,
+                           const an_item *items, size_t item_count);
+vbr_answer REAL(insert)(a_handle *handle, uint64_t key WITH(uint64_t value), uint32_t budget);
+vbr_answer REAL(remove)(a_handle *handle, uint64_t key, uint32_t budget WITH(uint64_t *value));
+vbr_answer REAL(has)(a_handle *handle, uint64_t key, uint32_t budget);
+vbr_answer REAL(next)(a_handle *handle, vbr_cursor *cursor, uint32_t budget, uint64_t *key WITH(uint64_t *value));
+vbr_answer REAL(close)(a_handle *handle, an_item *items, size_t room, vbr_totals *report);
 
 /* The insert that this thread has still to make, for the twelfth fault. */
-static _Thread_local struct {
-    vbr_handle *handle;
-    uint64_t key;
+static _Thread_local struct an_insert {
+    a_handle *handle;
+    uint64_t key WITH(value);
 } late;
 
 static void make_late(void) {
-    if (late.handle) __real_vbr_insert(late.handle, late.key, 1 << 20);
+    if (late.handle) (void)!REAL(insert)(late.handle, late.key WITH(late.value), 1 << 20);
     late.handle = NULL;
 }
 
-int32_t __wrap_vbr_open(vbr_handle *handles, size_t count, uint32_t slots, uint32_t buckets, uint64_t last_epoch) {
+vbr_answer WRAP(open)(a_handle *handles, size_t count, uint32_t slots, uint32_t buckets, uint64_t last_epoch) {
     static void *kept;
     if (fault() == 9 && (count < 1 || count > VBR_MAX_HANDLES)) return VBR_BAD_COUNT;
-    int32_t answer = __real_vbr_open(handles, count, slots, buckets, last_epoch);
+    vbr_answer answer = REAL(open)(handles, count, slots, buckets, last_epoch);
     if (fault() == 10 && answer == VBR_IN_USE) kept = realloc(kept, 1);
     return answer;
 }
 
-int32_t __wrap_vbr_open_with(vbr_handle *handles, size_t count, uint32_t slots, uint32_t buckets, uint64_t last_epoch,
-                             const uint64_t *keys, size_t key_count) {
-    if (fault() == 11 && key_count > 1) key_count--;
-    return __real_vbr_open_with(handles, count, slots, buckets, last_epoch, keys, key_count);
+vbr_answer WRAP(open_with)(a_handle *handles, size_t count, uint32_t slots, uint32_t buckets, uint64_t last_epoch,
+                           const an_item *items, size_t item_count) {
+    if (fault() == 11 && item_count > 1) item_count--;
+    return REAL(open_with)(handles, count, slots, buckets, last_epoch, items, item_count);
 }
 
-int32_t __wrap_vbr_insert(vbr_handle *handle, uint64_t key, uint32_t budget) {
-    if (fault() == 8 && budget < 100) return budget < 8 || !handle->owned ? __real_vbr_insert(handle, key, budget) : VBR_OUT_OF_STEPS;
+vbr_answer WRAP(insert)(a_handle *handle, uint64_t key WITH(uint64_t value), uint32_t budget) {
+    if (fault() == 8 && budget < 100 && budget >= 8 && handle->owned) return VBR_OUT_OF_STEPS;
     make_late();
-    if (fault() == 12 && __real_vbr_has(handle, key, budget) == VBR_NO) {
-        late.handle = handle;
-        late.key = key;
+    if (fault() == 12 && REAL(has)(handle, key, budget) == VBR_NO) {
+        late = (struct an_insert){handle, key WITH(value)};
         return VBR_YES;
     }
-    int32_t answer = __real_vbr_insert(handle, key, now(21) ? budget / 3 : budget);
+    vbr_answer answer = REAL(insert)(handle, key WITH(value), now(21) ? budget / 3 : budget);
     if (answer == VBR_NO && now(1)) return VBR_YES;
-    if (answer == VBR_YES && now(3)) __real_vbr_remove(handle, key, budget);
+    if (answer == VBR_YES && now(3)) (void)!REAL(remove)(handle, key, budget WITH(&(uint64_t){0}));
     return answer;
 }
 
-int32_t __wrap_vbr_remove(vbr_handle *handle, uint64_t key, uint32_t budget) {
+/* Answers what a look-up does, and removes the key if it is there by then. */
+static vbr_answer remove_after_look_up(a_handle *handle, uint64_t key, uint32_t budget WITH(uint64_t *value)) {
+    uint64_t seen = 0;
+    vbr_answer answer = LOOK_UP(handle, key, budget WITH(&seen));
+    vbr_answer removed = REAL(remove)(handle, key, budget WITH(&(uint64_t){0}));
+    if (removed < 0) return removed;
+    if (answer == VBR_YES) GIVE(value, seen);
+    return answer;
+}
+
+vbr_answer WRAP(remove)(a_handle *handle, uint64_t key, uint32_t budget WITH(uint64_t *value)) {
     make_late();
-    if (now(2)) return __real_vbr_has(handle, key, budget);
+    if (now(2)) return LOOK_UP(handle, key, budget WITH(value));
     if (now(13)) { /* the least budget that is answered leaves no step to unlink */
         for (uint32_t least = 0; least < budget; least++) {
-            int32_t answer = __real_vbr_remove(handle, key, least);
+            vbr_answer answer = REAL(remove)(handle, key, least WITH(value));
             if (answer != VBR_OUT_OF_STEPS) return answer;
         }
     }
-    if (fault() == 7) {
-        int32_t answer = __real_vbr_has(handle, key, budget);
-        int32_t removed = __real_vbr_remove(handle, key, budget);
-        return removed < 0 ? removed : answer;
-    }
-    return __real_vbr_remove(handle, key, now(20) ? budget / 2 : budget);
+    if (fault() == 7) return remove_after_look_up(handle, key, budget WITH(value));
+    return REAL(remove)(handle, key, now(20) ? budget / 2 : budget WITH(value));
 }
 
-int32_t __wrap_vbr_has(vbr_handle *handle, uint64_t key, uint32_t budget) {
+vbr_answer WRAP(has)(a_handle *handle, uint64_t key, uint32_t budget) {
     make_late();
-    int32_t answer = __real_vbr_has(handle, key, now(19) ? budget / 2 : budget);
+    vbr_answer answer = REAL(has)(handle, key, now(19) ? budget / 2 : budget);
     return answer == VBR_YES && now(4) ? VBR_NO : answer;
 }
+
+#ifdef OF_MAPS
+vbr_answer __wrap_vbr_map_get(vbr_map_handle *handle, uint64_t key, uint32_t budget, uint64_t *value) {
+    uint64_t old = *value;
+    make_late();
+    vbr_answer answer = __real_vbr_map_get(handle, key, now(19) ? budget / 2 : budget, value);
+    return answer == VBR_YES && now(4) ? *value = old, VBR_NO : answer;
+}
+#endif
 
 /* The key after a place of a walk of this thread, as it was found by the call before, for the sixteenth fault. */
 static _Thread_local struct {
     const vbr_cursor *of;
     vbr_cursor at, after;
-    uint64_t key;
+    uint64_t key, value; /* a set gives none */
 } ahead;
 
-static int32_t next_found_before(vbr_handle *handle, vbr_cursor *cursor, uint32_t budget, uint64_t *key) {
-    int32_t answer = VBR_YES;
-    if (ahead.of == cursor && ahead.at.bucket == cursor->bucket && ahead.at.from == cursor->from) *key = ahead.key, *cursor = ahead.after;
-    else answer = __real_vbr_next(handle, cursor, budget, key);
+static vbr_answer next_found_before(a_handle *handle, vbr_cursor *cursor, uint32_t budget, uint64_t *key WITH(uint64_t *value)) {
+    vbr_answer answer = VBR_YES;
+    if (ahead.of == cursor && ahead.at.bucket == cursor->bucket && ahead.at.from == cursor->from) {
+        *key = ahead.key, *cursor = ahead.after;
+        GIVE(value, ahead.value);
+    } else {
+        answer = REAL(next)(handle, cursor, budget, key WITH(value));
+    }
     ahead.at = ahead.after = *cursor;
-    ahead.of = answer == VBR_YES && __real_vbr_next(handle, &ahead.after, budget, &ahead.key) == VBR_YES ? cursor : NULL;
+    ahead.of = NULL;
+    if (answer == VBR_YES && REAL(next)(handle, &ahead.after, budget, &ahead.key WITH(&ahead.value)) == VBR_YES) ahead.of = cursor;
     return answer;
 }
 
-int32_t __wrap_vbr_next(vbr_handle *handle, vbr_cursor *cursor, uint32_t budget, uint64_t *key) {
+vbr_answer WRAP(next)(a_handle *handle, vbr_cursor *cursor, uint32_t budget, uint64_t *key WITH(uint64_t *value)) {
     vbr_cursor before = *cursor;
-    uint64_t old = *key;
+    uint64_t old[] = {*key WITH(*value)};
     make_late();
-    if (fault() == 16) return next_found_before(handle, cursor, budget, key);
-    int32_t answer = __real_vbr_next(handle, cursor, budget, key);
-    if (answer == VBR_YES && now(14)) return *key = old, __real_vbr_next(handle, cursor, budget, key);
+    if (fault() == 16) return next_found_before(handle, cursor, budget, key WITH(value));
+    vbr_answer answer = REAL(next)(handle, cursor, budget, key WITH(value));
+    if (answer == VBR_YES && now(14)) {
+        *key = old[0];
+        GIVE(value, old[1]);
+        return REAL(next)(handle, cursor, budget, key WITH(value));
+    }
     if (answer == VBR_YES && now(15)) *cursor = before;
     if (answer == VBR_OUT_OF_STEPS && fault() == 17) cursor->bucket++, cursor->from = 0;
     if (answer != VBR_YES && fault() == 18) *key = 1;
     return answer;
 }
 
-int32_t __wrap_vbr_close(vbr_handle *handle, uint64_t *keys, size_t room, vbr_totals *report) {
+vbr_answer WRAP(close)(a_handle *handle, an_item *items, size_t room, vbr_totals *report) {
     make_late();
-    int32_t answer = __real_vbr_close(handle, keys, room, report);
+    vbr_answer answer = REAL(close)(handle, items, room, report);
     if (answer == VBR_YES && fault() == 5 && report->live > 0) report->live--, report->free++;
     if (answer == VBR_YES && fault() == 6) report->epoch = 0;
     return answer;

@@ -1,6 +1,5 @@
-/* The library with one fault of its maps, whose number FAULT names in the environment: a soak over maps (values.h) has to find
-   it. Link with
-   -Wl,--wrap=vbr_map_open_with,--wrap=vbr_map_insert,--wrap=vbr_map_remove,--wrap=vbr_map_get,--wrap=vbr_map_next,--wrap=vbr_map_close
+/* The library with one fault of the values of its maps, whose number FAULT names in the environment: a soak over maps (values.h)
+   has to find it. Link with -Wl,--wrap=NAME for each __wrap_NAME of the object. What can be wrong with keys is in faulty.c.
 
     1 a get now and then gives the value that its key had before
     2 a get now and then gives a value whose insert was answered no
@@ -8,29 +7,16 @@
     4 a remove now and then gives the value that its key had before
     5 an insert of a key that is there now and then gives it the new value, and answers no all the same
     6 a value now and then loses its upper half
-    7 a remove now and then takes nothing out, and gives the value all the same
-    8 a get that isn't answered yes writes
-    9 a report has the value of one entry with the key of another
-   10 an opening gives the value of one entry to the key of another
-   11 an insert now and then answers yes for a key that is there
-   12 an insert now and then is lost
-   13 a get now and then answers no for a key that is there
-   14 a report is short of an entry
-   15 a walk now and then gives the value that its key had before
-   16 a walk now and then gives the value of the next key
-   17 a walk now and then passes a key by
-   18 a walk now and then gives a key twice
-   19 a call of a walk that gives no key writes
-   20 a get now and then begins anew, though nothing moved: it takes twice the steps
-   21 a remove now and then begins anew, though nothing moved
-   22 an insert now and then begins anew twice, though nothing moved
-
-   The last three leave right whatever is answered: they show only in what is refused for want of steps. */
+    7 a get that isn't answered yes writes
+    8 a report has the value of one entry with the key of another
+    9 an opening gives the value of one entry to the key of another
+   10 a walk now and then gives the value that its key had before
+   11 a walk now and then gives the value of the next key
+   12 a call of a walk that gives no entry writes a value */
+#include "faulty.h"
 #include "vbr.h"
 
 #include <pthread.h>
-#include <stdatomic.h>
-#include <stdlib.h>
 #include <string.h>
 
 vbr_answer __real_vbr_map_open_with(vbr_map_handle *handles, size_t count, uint32_t slots, uint32_t buckets, uint64_t last_epoch,
@@ -42,20 +28,6 @@ vbr_answer __real_vbr_map_next(vbr_map_handle *handle, vbr_cursor *cursor, uint3
 vbr_answer __real_vbr_map_close(vbr_map_handle *handle, vbr_entry *entries, size_t room, vbr_totals *report);
 
 enum { KEPT = 1 << 16 };
-
-static atomic_int number = -1;
-static atomic_uint calls;
-
-static int fault(void) {
-    if (atomic_load(&number) < 0) {
-        const char *text = getenv("FAULT");
-        atomic_store(&number, text ? atoi(text) : 0);
-    }
-    return atomic_load(&number);
-}
-
-/* Whether this is the fault, and its turn has come: once in twenty calls. */
-static int now(int n) { return fault() == n && atomic_fetch_add(&calls, 1) % 20 == 19; }
 
 /* For each place a key, with a value that it doesn't have: it was taken out, or its insert is answered no. */
 static vbr_entry kept[KEPT];
@@ -86,7 +58,7 @@ static void give_other(vbr_map_handle *handle, uint64_t key, uint32_t budget, ui
 
 vbr_answer __wrap_vbr_map_open_with(vbr_map_handle *handles, size_t count, uint32_t slots, uint32_t buckets, uint64_t last_epoch,
                                     const vbr_entry *entries, size_t entry_count) {
-    if (fault() != 10 || entry_count < 2) return __real_vbr_map_open_with(handles, count, slots, buckets, last_epoch, entries, entry_count);
+    if (fault() != 9 || entry_count < 2) return __real_vbr_map_open_with(handles, count, slots, buckets, last_epoch, entries, entry_count);
     vbr_entry *turned = malloc(entry_count * sizeof *turned);
     if (!turned) return VBR_NO_MEMORY;
     memcpy(turned, entries, entry_count * sizeof *turned);
@@ -100,54 +72,44 @@ vbr_answer __wrap_vbr_map_insert(vbr_map_handle *handle, uint64_t key, uint64_t 
     uint64_t old = 0;
     if (now(6)) value &= UINT32_MAX;
     if (fault() == 2) keep(key, value);
-    vbr_answer answer = __real_vbr_map_insert(handle, key, value, now(22) ? budget / 3 : budget);
-    if (answer == VBR_YES && now(12)) return __real_vbr_map_remove(handle, key, budget, &old);
-    if (answer == VBR_NO && now(11)) return VBR_YES;
+    vbr_answer answer = __real_vbr_map_insert(handle, key, value, budget);
     if (answer == VBR_NO && now(5) && __real_vbr_map_remove(handle, key, budget, &old) == VBR_YES)
         return __real_vbr_map_insert(handle, key, value, budget) == VBR_YES ? VBR_NO : VBR_EMPTY;
     return answer;
 }
 
 vbr_answer __wrap_vbr_map_remove(vbr_map_handle *handle, uint64_t key, uint32_t budget, uint64_t *value) {
-    if (now(7)) return __real_vbr_map_get(handle, key, budget, value);
-    vbr_answer answer = __real_vbr_map_remove(handle, key, now(21) ? budget / 2 : budget, value);
+    vbr_answer answer = __real_vbr_map_remove(handle, key, budget, value);
     uint64_t removed = *value;
     if (answer == VBR_YES && now(4)) give_kept(key, value);
-    if (answer == VBR_YES && (fault() == 1 || fault() == 4 || fault() == 15)) keep(key, removed);
+    if (answer == VBR_YES && (fault() == 1 || fault() == 4 || fault() == 10)) keep(key, removed);
     return answer;
 }
 
 vbr_answer __wrap_vbr_map_get(vbr_map_handle *handle, uint64_t key, uint32_t budget, uint64_t *value) {
-    uint64_t before = *value;
-    vbr_answer answer = __real_vbr_map_get(handle, key, now(20) ? budget / 2 : budget, value);
-    if (answer == VBR_YES && now(13)) return *value = before, VBR_NO;
+    vbr_answer answer = __real_vbr_map_get(handle, key, budget, value);
     if (answer == VBR_YES && (now(1) || now(2))) give_kept(key, value);
     if (answer == VBR_YES && now(3)) give_other(handle, key, budget, value);
-    if (answer != VBR_YES && fault() == 8) *value = 1;
+    if (answer != VBR_YES && fault() == 7) *value = 1;
     return answer;
 }
 
 vbr_answer __wrap_vbr_map_next(vbr_map_handle *handle, vbr_cursor *cursor, uint32_t budget, uint64_t *key, uint64_t *value) {
-    vbr_cursor before = *cursor;
-    uint64_t old_key = *key, old_value = *value;
     vbr_answer answer = __real_vbr_map_next(handle, cursor, budget, key, value);
-    if (answer == VBR_YES && now(15)) give_kept(*key, value);
-    if (answer == VBR_YES && now(16)) {
+    if (answer == VBR_YES && now(10)) give_kept(*key, value);
+    if (answer == VBR_YES && now(11)) {
         vbr_cursor copy = *cursor;
         uint64_t other = 0;
         (void)!__real_vbr_map_next(handle, &copy, budget, &other, value);
     }
-    if (answer == VBR_YES && now(17)) return *key = old_key, *value = old_value, __real_vbr_map_next(handle, cursor, budget, key, value);
-    if (answer == VBR_YES && now(18)) *cursor = before;
-    if (answer != VBR_YES && fault() == 19) *value = 1;
+    if (answer != VBR_YES && fault() == 12) *value = 1;
     return answer;
 }
 
 vbr_answer __wrap_vbr_map_close(vbr_map_handle *handle, vbr_entry *entries, size_t room, vbr_totals *report) {
     vbr_answer answer = __real_vbr_map_close(handle, entries, room, report);
-    if (answer != VBR_YES || report->live < 2) return answer;
+    if (answer != VBR_YES || report->live < 2 || fault() != 8) return answer;
     uint64_t first = entries[0].value;
-    if (fault() == 9) entries[0].value = entries[1].value, entries[1].value = first;
-    if (fault() == 14) report->live--, report->free++;
+    entries[0].value = entries[1].value, entries[1].value = first;
     return answer;
 }

@@ -36,6 +36,8 @@ static size_t told_count;
 /* Values are the numbers 1, 2 and so on, spread over all 64 bits by a product with an odd number; the other is its inverse. */
 static const uint64_t VALUE_MIXER = 0x9E3779B97F4A7C15u, VALUE_INVERSE = 0xF1DE83E19937733Du;
 
+static inline struct value_place *value_place(uint64_t value) { return &value_places[value * VALUE_INVERSE % VALUES]; }
+
 static inline uint64_t value_read(const _Atomic uint64_t *word) { return atomic_load_explicit(word, memory_order_acquire); }
 
 static inline void value_write(_Atomic uint64_t *word, uint64_t to) { atomic_store_explicit(word, to, memory_order_relaxed); }
@@ -94,7 +96,7 @@ static inline void value_ends(struct value_place *it, vbr_answer answer) {
 /* Where the value is that a call which began at this time tells of a key; none where the place is another value's by now. */
 static inline struct value_place *value_told(uint64_t key, uint64_t value, uint64_t began) {
     uint64_t number = value * VALUE_INVERSE;
-    struct value_place *it = &value_places[number % VALUES];
+    struct value_place *it = value_place(value);
     uint64_t first = value_read(&it->value), its_key = value_read(&it->key), stage = value_read(&it->stage), since = value_read(&it->since);
     if (number / VALUE_BLOCK == 0 || number / VALUE_BLOCK >= value_read(&value_blocks)) value_is_wrong("a value that nobody stored", key, value);
     if (first != value && first != 0 && since < began) value_is_wrong("a value that was gone long ago", key, value);
@@ -167,11 +169,12 @@ static inline const vbr_entry *value_of_report(uint64_t key) {
     return NULL;
 }
 
-/* The entry that an opening gives a key: that of the last report, or one with a value of its own. */
+/* The entry that an opening gives a key: that of the last report, unless its value is in a map again, or one with a value of its
+   own. */
 static inline vbr_entry value_opens(uint64_t key) {
     const vbr_entry *told = value_of_report(key);
-    struct value_place *it = told ? &value_places[told->value * VALUE_INVERSE % VALUES] : NULL;
-    if (!it || value_read(&it->value) != told->value) it = value_begins(key);
+    struct value_place *it = told ? value_place(told->value) : NULL;
+    if (!it || value_read(&it->value) != told->value || value_is_in_use(it)) it = value_begins(key);
     value_write(&it->stage, STORED);
     return (vbr_entry){key, value_read(&it->value)};
 }
@@ -180,7 +183,9 @@ VBR_NODISCARD static inline vbr_answer value_open_with(vbr_map_handle *handles, 
                                                        uint64_t last_epoch, const uint64_t *keys, size_t key_count) {
     if (key_count > MOST_ENTRIES) value_is_wrong("more keys than values.h has room for", key_count, 0);
     for (size_t i = 0; i < key_count; i++) opening_entries[i] = value_opens(keys[i]);
-    return vbr_map_open_with(handles, count, slots, buckets, last_epoch, opening_entries, key_count);
+    vbr_answer answer = vbr_map_open_with(handles, count, slots, buckets, last_epoch, opening_entries, key_count);
+    for (size_t i = 0; answer != VBR_NO && i < key_count; i++) value_write(&value_place(opening_entries[i].value)->stage, REFUSED);
+    return answer;
 }
 
 /* The entries of a report: each value is taken out, and its key is told. */

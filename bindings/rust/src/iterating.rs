@@ -1,7 +1,6 @@
 //! Going over all keys while other threads make calls.
-use crate::{Handle, MapHandle, Refusal};
+use crate::{Handle, Refusal};
 use core::fmt;
-use core::iter::FusedIterator;
 
 /// Where a walk over all keys stands: before the first key, after one, or at the end. [`Handle::next`] and
 /// [`MapHandle::next`] take it on, and no thread that makes calls holds it up.
@@ -19,6 +18,8 @@ use core::iter::FusedIterator;
 /// assert_eq!(handles[1].next(&mut copy, 1_000)?, Some(5));
 /// # Ok::<(), Box<dyn std::error::Error>>(())
 /// ```
+///
+/// [`MapHandle::next`]: crate::MapHandle::next
 #[repr(C)]
 #[derive(Clone, Copy, Debug, Default, PartialEq, Eq, Hash)]
 pub struct Cursor {
@@ -62,6 +63,8 @@ impl Cursor {
 /// # assert_eq!(sum_of_values(handle.iter(1_000))?, 141);
 /// # Ok::<(), Box<dyn std::error::Error>>(())
 /// ```
+///
+/// [`MapHandle::iter`]: crate::MapHandle::iter
 #[must_use = "a walk makes no call before it is asked for a key"]
 pub struct Iter<'h, H = Handle> {
     handle: &'h H,
@@ -76,7 +79,10 @@ impl<'h, H> Iter<'h, H> {
 
     /// What the next call gives that isn't refused on its way.
     #[inline]
-    fn step<T>(&mut self, next: impl Fn(&H, &mut Cursor, u32) -> Result<Option<T>, Refusal>) -> Option<Result<T, Refusal>> {
+    pub(crate) fn step<T>(
+        &mut self,
+        next: impl Fn(&H, &mut Cursor, u32) -> Result<Option<T>, Refusal>,
+    ) -> Option<Result<T, Refusal>> {
         loop {
             let before = self.cursor;
             let told = next(self.handle, &mut self.cursor, self.budget);
@@ -86,28 +92,6 @@ impl<'h, H> Iter<'h, H> {
         }
     }
 }
-
-impl Iterator for Iter<'_, Handle> {
-    type Item = Result<u64, Refusal>;
-
-    #[inline]
-    fn next(&mut self) -> Option<Result<u64, Refusal>> {
-        self.step(Handle::next)
-    }
-}
-
-impl Iterator for Iter<'_, MapHandle> {
-    type Item = Result<(u64, u64), Refusal>;
-
-    #[inline]
-    fn next(&mut self) -> Option<Result<(u64, u64), Refusal>> {
-        self.step(MapHandle::next)
-    }
-}
-
-impl FusedIterator for Iter<'_, Handle> {}
-
-impl FusedIterator for Iter<'_, MapHandle> {}
 
 impl<H> fmt::Debug for Iter<'_, H> {
     fn fmt(&self, f: &mut fmt::Formatter<'_>) -> fmt::Result {

@@ -105,6 +105,7 @@ extern crate alloc;
 
 mod errors;
 mod iterating;
+mod kind;
 mod lending;
 mod library;
 mod map;

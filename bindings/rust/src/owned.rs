@@ -1,6 +1,6 @@
 //! What a handle of a set and one of a map are alike: opened together, and closed one by one.
-use crate::library::{Kind, Raw, ReportNumbers};
-use crate::{CloseError, OpenError, Shape, Unclosed, MAX_HANDLES};
+use crate::library::{answer, answer_with, Kind, Raw, ReportNumbers};
+use crate::{CloseError, Cursor, OpenError, Refusal, Shape, Unclosed, MAX_HANDLES};
 use alloc::boxed::Box;
 use alloc::vec::Vec;
 use core::cell::UnsafeCell;
@@ -70,26 +70,37 @@ impl<K: Kind> Owned<K> {
     }
 
     #[inline]
-    pub(crate) fn epoch(&self) -> u64 {
+    pub(crate) fn has(&self, key: u64, budget: u32) -> Result<bool, Refusal> {
         // SAFETY: one thread at a time has the handle, which is not `Sync`, and the call lends it to nobody.
+        answer(unsafe { K::HAS(self.raw(), key, budget) })
+    }
+
+    #[inline]
+    pub(crate) fn next(&self, cursor: &mut Cursor, budget: u32) -> Result<Option<K::Given>, Refusal> {
+        answer_with(|given| K::next(self, cursor, budget, given))
+    }
+
+    #[inline]
+    pub(crate) fn epoch(&self) -> u64 {
+        // SAFETY: as for `has`.
         unsafe { K::EPOCH(self.raw()) }
     }
 
     #[inline]
     pub(crate) fn last_epoch(&self) -> u64 {
-        // SAFETY: as for `epoch`.
+        // SAFETY: as for `has`.
         unsafe { K::LAST_EPOCH(self.raw()) }
     }
 
     #[inline]
     pub(crate) fn slots(&self) -> u32 {
-        // SAFETY: as for `epoch`.
+        // SAFETY: as for `has`.
         unsafe { K::SLOTS(self.raw()) }
     }
 
     #[inline]
     pub(crate) fn buckets(&self) -> u32 {
-        // SAFETY: as for `epoch`.
+        // SAFETY: as for `has`.
         unsafe { K::BUCKETS(self.raw()) }
     }
 
