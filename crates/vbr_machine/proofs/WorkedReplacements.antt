@@ -1,19 +1,20 @@
--- Worked runs with replacements, computed: one that is won, with a reader that stands on the old node and goes on to the new one, and unlinks the old one; one that is lost to a mark, and one that is lost to an insert behind the node; and what is refused.
-use Rattle.std.proofs.Common.{◌≡◌, true, false, List, [], ◌∷◌, ◌++◌, Some, None, refl, rules, tests}
+-- Worked runs with replacements, computed: one that is won, with a reader that stands on the old node and goes on to the new one, and unlinks the old one; look-ups between the replacement and the unlinking; replacements that are lost to a mark, to an insert behind the node, to another replacement, and to a later node in the same slot; and what is refused.
+use Rattle.std.proofs.Common.{◌≡◌, ℕ, ◌≤◌, zero, suc, true, false, List, [], ◌∷◌, ◌++◌, Some, None, refl, rules, tests, arith, inr}
 use Rattle.vbr_machine.specs.Start.{Start, empty_start}
 use Rattle.vbr_words.specs.Flags.{has_flag, first_bits, flag_word}
 use Rattle.vbr_words.specs.Words.{word_of, link_of}
 use Rattle.vbr_words.specs.declared.place.At.TheVariants.{Head, Slot}
 use Rattle.vbr_words.specs.declared.place.Place.TheVariants as place
 use Rattle.vbr_words.specs.Buckets.{bucket_of}
+use Rattle.vbr_machine.specs.Acceptance.{IsBefore, after_turns}
 use Rattle.vbr_machine.specs.Accounts.{chronicle, incarnations_after}
 use Rattle.vbr_machine.specs.Chronicles.{Gains, Bears, Keyed, Valued, Aims, Inserts, Replaces, Unlinks, Confirms, AtHead}
-use Rattle.vbr_machine.specs.Incarnations.{Linked, Unlinked}
+use Rattle.vbr_machine.specs.Incarnations.{Linked, Marked, Unlinked}
 use Rattle.vbr_machine.specs.Machine.{opening, word_at}
-use Rattle.vbr_machine.specs.Runs.{IsRun, Refuses, world_after}
-use Rattle.vbr_machine.specs.declared.history.Op.TheVariants.{Insert, Remove, Get}
+use Rattle.vbr_machine.specs.Runs.{IsRun, Refuses, world_after, know_after}
+use Rattle.vbr_machine.specs.declared.history.Op.TheVariants.{Insert, Remove, Has, Get}
 use Rattle.vbr_machine.specs.declared.event.Event.{Event}
-use Rattle.vbr_machine.specs.declared.event.Step.TheVariants.{ReadEpoch, TakeFlag, StoreBirth, StoreKey, StoreValue, StoreLink, LoadLink, LoadBirth, LoadKey, LoadValue, Publish, Mark, Replace, Unlink, ConfirmPresent}
+use Rattle.vbr_machine.specs.declared.event.Step.TheVariants.{ReadEpoch, TakeFlag, Advance, StoreBirth, StoreKey, StoreValue, StoreLink, StoreStamp, LoadLink, LoadBirth, LoadKey, LoadValue, Publish, Mark, Replace, Unlink, ConfirmPresent, ConfirmAbsent}
 use Rattle.vbr_machine.specs.declared.event.Effect.TheVariants.{Value, Done, Won, Lost, Answered}
 use Rattle.vbr_machine.specs.declared.event.CoreRefusal.TheVariants.{NotOwned, NotHeld, OutOfRange}
 use Rattle.vbr_machine.proofs.WorkedLists.{by, effects_from}
@@ -80,6 +81,36 @@ pub replaced_run_rank : (incarnations_after map_of_three replaced_run).rank 1 �
 unfolding bucket_of link_of word_of has_flag first_bits flag_word
 replaced_run_rank = refl
 
+-- ---- look-ups between the replacement and the unlinking
+
+-- a third pass begins at the head, passes the old node, which is marked, and stands on the new one
+abbrev walked : List Event
+walked = by 2 ReadEpoch ∷ by 2 (LoadLink (Head 0)) ∷ by 2 ReadEpoch ∷ by 2 (LoadLink (Slot 0)) ∷ by 2 ReadEpoch ∷ by 2 (LoadKey 1) ∷ by 2 (LoadValue 1) ∷ by 2 (LoadLink (Slot 1)) ∷ by 2 ReadEpoch ∷ []
+
+-- there the key is present, with the new value; behind it 8 is absent
+abbrev looked_up : List Event
+looked_up = walked ++ by 2 (ConfirmPresent Has 1 33554432) ∷ by 2 (ConfirmPresent Get 1 33554432) ∷ by 2 (ConfirmAbsent Has 8 (Slot 1) 33554432) ∷ []
+
+pub looked_up_accepted : IsRun map_of_three 3 (replaced ++ looked_up)
+unfolding bucket_of link_of word_of has_flag first_bits flag_word
+looked_up_accepted = search (rules, tests)
+
+pub looked_up_effects : effects_from map_of_three (world_after map_of_three replaced) looked_up
+    ≡ (Value 1) ∷ (Value 33554433) ∷ (Value 1) ∷ (Value 50331650) ∷ (Value 1) ∷ (Value 7) ∷ (Value 207) ∷ (Value 33554432) ∷ (Value 1) ∷ (Answered true) ∷ (Answered true) ∷ (Answered false) ∷ []
+unfolding bucket_of link_of word_of has_flag first_bits flag_word
+looked_up_effects = refl
+
+pub looked_up_calls : (world_after map_of_three (replaced ++ looked_up)).calls
+    ≡ record { who = 0; op = Insert; key = 7; reply = true; value = Some 107 } ∷ record { who = 0; op = Remove; key = 7; reply = true; value = Some 107 } ∷ record { who = 0; op = Insert; key = 7; reply = true; value = Some 207 }
+    ∷ record { who = 2; op = Has; key = 7; reply = true; value = None } ∷ record { who = 2; op = Get; key = 7; reply = true; value = Some 207 } ∷ record { who = 2; op = Has; key = 8; reply = false; value = None } ∷ []
+unfolding bucket_of link_of word_of has_flag first_bits flag_word
+looked_up_calls = refl
+
+-- all the while the old node is in the list, and marked
+pub looked_up_old : (incarnations_after map_of_three (replaced ++ looked_up)).state 0 ≡ Marked
+unfolding bucket_of link_of word_of has_flag first_bits flag_word
+looked_up_old = refl
+
 -- ---- replacements that are lost
 
 -- the other has a node in hand that is ready to take the place
@@ -110,6 +141,71 @@ pub lost_to_an_insert_effects : effects_from map_of_three (world_after map_of_th
 unfolding bucket_of link_of word_of has_flag first_bits flag_word
 lost_to_an_insert_effects = refl
 
+-- to another replacement
+abbrev replaced_before : List Event
+replaced_before = by 0 (TakeFlag 2) ∷ by 0 (StoreBirth 2 1) ∷ by 0 (StoreKey 2 7) ∷ by 0 (StoreValue 2 307) ∷ by 0 (StoreLink 2 None) ∷ by 0 (Replace 0 33554432 2) ∷ []
+
+abbrev lost_to_another : List Event
+lost_to_another = replaced_before ++ by 1 (Replace 0 33554432 1) ∷ []
+
+pub lost_to_another_accepted : IsRun map_of_three 2 (ready ++ lost_to_another)
+unfolding bucket_of link_of word_of has_flag first_bits flag_word
+lost_to_another_accepted = search (rules, tests)
+
+pub lost_to_another_effects : effects_from map_of_three (world_after map_of_three ready) lost_to_another ≡ Won ∷ Done ∷ Done ∷ Done ∷ Done ∷ Won ∷ (Lost 50331651) ∷ []
+unfolding bucket_of link_of word_of has_flag first_bits flag_word
+lost_to_another_effects = refl
+
+-- the two calls are those of the one that won
+pub lost_to_another_calls : (world_after map_of_three (ready ++ lost_to_another)).calls
+    ≡ record { who = 0; op = Insert; key = 7; reply = true; value = Some 107 } ∷ record { who = 0; op = Remove; key = 7; reply = true; value = Some 107 } ∷ record { who = 0; op = Insert; key = 7; reply = true; value = Some 307 } ∷ []
+unfolding bucket_of link_of word_of has_flag first_bits flag_word
+lost_to_another_calls = refl
+
+-- the other still has its node in hand, and then replaces the new one: two marked nodes stand before the linked one
+abbrev replaced_next : List Event
+replaced_next = by 1 (LoadLink (Slot 0)) ∷ by 1 ReadEpoch ∷ by 1 (LoadBirth 2) ∷ by 1 (LoadKey 2) ∷ by 1 (LoadValue 2) ∷ by 1 (LoadLink (Slot 2)) ∷ by 1 ReadEpoch ∷ by 1 (Replace 2 33554432 1) ∷ []
+
+pub replaced_next_accepted : IsRun map_of_three 2 (ready ++ lost_to_another ++ replaced_next)
+unfolding bucket_of link_of word_of has_flag first_bits flag_word
+replaced_next_accepted = search (rules, tests)
+
+pub replaced_next_effects : effects_from map_of_three (world_after map_of_three (ready ++ lost_to_another)) replaced_next ≡ (Value 50331651) ∷ (Value 1) ∷ (Value 1) ∷ (Value 7) ∷ (Value 307) ∷ (Value 33554432) ∷ (Value 1) ∷ Won ∷ []
+unfolding bucket_of link_of word_of has_flag first_bits flag_word
+replaced_next_effects = refl
+
+pub replaced_next_calls : (world_after map_of_three (ready ++ lost_to_another ++ replaced_next)).calls
+    ≡ record { who = 0; op = Insert; key = 7; reply = true; value = Some 107 } ∷ record { who = 0; op = Remove; key = 7; reply = true; value = Some 107 } ∷ record { who = 0; op = Insert; key = 7; reply = true; value = Some 307 }
+    ∷ record { who = 1; op = Remove; key = 7; reply = true; value = Some 307 } ∷ record { who = 1; op = Insert; key = 7; reply = true; value = Some 207 } ∷ []
+unfolding bucket_of link_of word_of has_flag first_bits flag_word
+replaced_next_calls = refl
+
+-- the incarnation in hand was born before the one that it replaces, and stands behind it: by its rank, and not by its number
+pub replaced_next_place : (incarnations_after map_of_three (ready ++ lost_to_another ++ replaced_next)).next 2 ≡ Some 1
+unfolding bucket_of link_of word_of has_flag first_bits flag_word
+replaced_next_place = refl
+
+pub replaced_next_rank : (incarnations_after map_of_three (ready ++ lost_to_another ++ replaced_next)).rank 1 ≡ 2
+unfolding bucket_of link_of word_of has_flag first_bits flag_word
+replaced_next_rank = refl
+
+-- to a later node in the same slot, of the same key and with the same successor: its link has another version
+abbrev lost_to_a_later_node : List Event
+lost_to_a_later_node = by 0 (Mark 0 33554432) ∷ by 0 (Unlink (Head 0) 33554433 0) ∷ by 0 ReadEpoch ∷ by 0 (StoreStamp 0 1) ∷ by 0 (Advance 1) ∷ by 0 ReadEpoch ∷ by 0 (StoreBirth 0 2) ∷ by 0 (StoreKey 0 7) ∷ by 0 (StoreValue 0 307) ∷ by 0 (LoadLink (Head 0)) ∷ by 0 ReadEpoch ∷ by 0 (StoreLink 0 None) ∷ by 0 (Publish (Head 0) 0 0) ∷ by 1 (Replace 0 33554432 1) ∷ []
+
+pub lost_to_a_later_node_accepted : IsRun map_of_three 2 (ready ++ lost_to_a_later_node)
+unfolding bucket_of link_of word_of has_flag first_bits flag_word
+lost_to_a_later_node_accepted = search (rules, tests)
+
+pub lost_to_a_later_node_effects : effects_from map_of_three (world_after map_of_three ready) lost_to_a_later_node ≡ Won ∷ Won ∷ (Value 1) ∷ Done ∷ Won ∷ (Value 2) ∷ Done ∷ Done ∷ Done ∷ (Value 0) ∷ (Value 2) ∷ Done ∷ Won ∷ (Lost 67108864) ∷ []
+unfolding bucket_of link_of word_of has_flag first_bits flag_word
+lost_to_a_later_node_effects = refl
+
+pub lost_to_a_later_node_calls : (world_after map_of_three (ready ++ lost_to_a_later_node)).calls
+    ≡ record { who = 0; op = Insert; key = 7; reply = true; value = Some 107 } ∷ record { who = 0; op = Remove; key = 7; reply = true; value = Some 107 } ∷ record { who = 0; op = Insert; key = 7; reply = true; value = Some 307 } ∷ []
+unfolding bucket_of link_of word_of has_flag first_bits flag_word
+lost_to_a_later_node_calls = refl
+
 -- ---- what is refused
 
 pub replaced_without_its_birth : Refuses map_of_three 2 (world_after map_of_three (inserted ++ read_by_another ++ by 1 (TakeFlag 1) ∷ by 1 (StoreBirth 1 1) ∷ by 1 (StoreKey 1 7) ∷ by 1 (StoreValue 1 207) ∷ by 1 (StoreLink 1 None) ∷ [])) (by 1 (Replace 0 33554432 1)) NotHeld
@@ -131,3 +227,17 @@ replaced_by_nothing_in_hand = search (rules, tests)
 pub replaced_in_a_set : Refuses (empty_start (record { slots = 3; buckets = 1; spread = false; last_epoch = 10; values = false })) 2 (opening (empty_start (record { slots = 3; buckets = 1; spread = false; last_epoch = 10; values = false }))) (by 0 (Replace 0 33554432 1)) OutOfRange
 unfolding bucket_of link_of word_of has_flag first_bits flag_word
 replaced_in_a_set = search (rules, tests)
+
+-- no number of turns leads the third pass from the old node to one before which 7 stands
+never_above : (turns : ℕ) → turns ≤ 3 → IsBefore (know_after map_of_three (replaced ++ walked) 2).checked 7 (after_turns (know_after map_of_three (replaced ++ walked) 2).checked turns (Some 0)) → ⊥
+unfolding bucket_of link_of word_of has_flag first_bits flag_word
+never_above zero within before = omega (arith, before)
+never_above (suc zero) within before = omega (arith, before)
+never_above (suc (suc zero)) within before = omega (arith, before)
+never_above (suc (suc (suc zero))) within before = omega (arith, before)
+never_above (suc (suc (suc (suc turns)))) within before = omega (arith, within)
+
+-- so it can't answer that the key is absent, past the old node
+pub absent_past_the_old_node : Refuses map_of_three 3 (world_after map_of_three (replaced ++ walked)) (by 2 (ConfirmAbsent Has 7 (Head 0) 33554433)) OutOfRange
+unfolding bucket_of link_of word_of has_flag first_bits flag_word
+absent_past_the_old_node = (omega arith, inr ((omega arith, tt), tt, (refl, tt, record { turns = 1; within = omega arith; known = refl }), λ range. never_above range.3.turns range.3.within range.3.before))
