@@ -10,6 +10,7 @@ use Rattle.vbr_machine.specs.declared.event.Step.{Step}
 use Rattle.vbr_event_lists.specs.Worked.{AreWorked, three_slots, one_slot, many_epochs}
 use Rattle.vbr_event_lists.specs.Valued.{valued, with_values}
 use Rattle.vbr_event_lists.specs.declared.lists.TheConstants.{REBORN_SLOT, SAME_WORD, TWO_HELPERS, REBORN_SLOT_WORDS, SAME_WORD_WORDS, TWO_HELPERS_WORDS}
+use Rattle.vbr_event_lists.specs.declared.replaced.TheConstants.{REPLACED_VALUE, REPLACED_VALUE_WORDS}
 use Rattle.vbr_event_lists.specs.declared.standing.TheConstants.{STANDING_WITH_VALUES, STANDING_WORDS}
 use Rattle.vbr_event_lists.specs.declared.valued.TheConstants.{STORED_VALUE, STORED_VALUE_WORDS}
 use Rattle.vbr_event_lists.proofs.WorkedRows.{left_after, worked_in_two}
@@ -46,3 +47,7 @@ same_word_with_values = worked_in_parts (valued three_slots) 3 10 (with_values S
 pub standing_with_values : AreWorked (valued many_epochs) (opening (valued many_epochs)) STANDING_WITH_VALUES STANDING_WORDS
 unfolding bucket_of link_of word_of has_flag first_bits flag_word
 standing_with_values = worked_in_parts (valued many_epochs) 3 10 STANDING_WITH_VALUES (opening (valued many_epochs)) STANDING_WORDS (search (rules, tests), (search (rules, tests), (search (rules, tests), search (rules, tests))))
+
+pub replaced_value : AreWorked (valued three_slots) (opening (valued three_slots)) REPLACED_VALUE REPLACED_VALUE_WORDS
+unfolding bucket_of link_of word_of has_flag first_bits flag_word
+replaced_value = worked_in_parts (valued three_slots) 4 10 REPLACED_VALUE (opening (valued three_slots)) REPLACED_VALUE_WORDS (search (rules, tests), (search (rules, tests), (search (rules, tests), (search (rules, tests), search (rules, tests)))))

@@ -8,12 +8,13 @@ use Rattle.vbr_machine.specs.Machine.{World, found, stamp_shown, after}
 use Rattle.vbr_machine.specs.Runs.{IsAccepted}
 use Rattle.vbr_machine.specs.declared.event.Effect.{Effect}
 use Rattle.vbr_machine.specs.declared.event.Step.{Step}
-use Rattle.vbr_machine.specs.declared.event.Step.TheVariants.{StoreLink, Publish, Unlink}
+use Rattle.vbr_machine.specs.declared.event.Step.TheVariants.{StoreLink, Publish, Replace, Unlink}
 
 -- whether the step writes a link word that its caller names
 abbrev pub names_link : Step → Bool
 names_link (StoreLink s next) = true
 names_link (Publish pred expected s) = true
+names_link (Replace s expected t) = true
 names_link (Unlink pred expected s) = true
 names_link _ = false
 
@@ -31,6 +32,7 @@ others_of (word ∷ words) = words
 abbrev pub IsNamedWord : Know → Step → ℕ → Type 0
 IsNamedWord know (StoreLink s next) word = word ≡ word_of (link_written know (StoreLink s next))
 IsNamedWord know (Publish pred expected s) word = word ≡ word_of (link_written know (Publish pred expected s))
+IsNamedWord know (Replace s expected t) word = word ≡ word_of (link_written know (Replace s expected t))
 IsNamedWord know (Unlink pred expected s) word = word ≡ word_of (link_written know (Unlink pred expected s))
 IsNamedWord know _ word = Unit {0}
 

@@ -2,11 +2,13 @@
 #![tactic(auto)]
 
 mod lists;
+mod replaced;
 mod standing;
 mod valued;
 
 pub use lists::{
     REBORN_SLOT, REBORN_SLOT_WORDS, Row, SAME_WORD, SAME_WORD_WORDS, TWO_HELPERS, TWO_HELPERS_WORDS,
 };
+pub use replaced::{REPLACED_VALUE, REPLACED_VALUE_WORDS};
 pub use standing::{STANDING, STANDING_WITH_VALUES, STANDING_WORDS};
 pub use valued::{STORED_VALUE, STORED_VALUE_WORDS, with_values};

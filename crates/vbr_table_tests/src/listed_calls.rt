@@ -13,8 +13,9 @@ use std::alloc::Global;
 use std::process::Abort;
 use std::test::Fail;
 use vbr_event_lists::{
-    REBORN_SLOT, REBORN_SLOT_WORDS, Row, SAME_WORD, SAME_WORD_WORDS, STANDING_WITH_VALUES,
-    STANDING_WORDS, STORED_VALUE, STORED_VALUE_WORDS, TWO_HELPERS, TWO_HELPERS_WORDS, with_values,
+    REBORN_SLOT, REBORN_SLOT_WORDS, REPLACED_VALUE, REPLACED_VALUE_WORDS, Row, SAME_WORD,
+    SAME_WORD_WORDS, STANDING_WITH_VALUES, STANDING_WORDS, STORED_VALUE, STORED_VALUE_WORDS,
+    TWO_HELPERS, TWO_HELPERS_WORDS, with_values,
 };
 use vbr_machine::{Effect, Op, Step};
 use vbr_slots::{Pass, Slots};
@@ -134,6 +135,14 @@ fn call<N: Nodes>(
             exchanged(slots.publish(pass, pred, expected, slot, new))
         }
         Step::Mark { slot, expected } => exchanged(slots.mark(pass, slot, expected)),
+        Step::Replace {
+            slot,
+            expected,
+            new: by,
+        } => {
+            expect_in_hand(rt, pass, Some(by));
+            exchanged(slots.replace(pass, slot, expected, by, new))
+        }
         Step::Unlink {
             pred,
             expected,
@@ -180,7 +189,8 @@ fn names_link(step: Step) -> bool
     ensures { result ≡ names_link step }
 {
     match step {
-        Step::StoreLink { .. } | Step::Publish { .. } | Step::Unlink { .. } => true,
+        Step::StoreLink { .. } | Step::Publish { .. } => true,
+        Step::Replace { .. } | Step::Unlink { .. } => true,
         _ => false,
     }
 }
@@ -429,6 +439,46 @@ fn a_stored_value_is_read_back(rt: HostRuntime) -> Result<(), Fail> {
     assert_eq!(rt;
         words.as_slice(),
         [1, 167_772_161, 33_554_433, 50_331_648, 1, 0, 7, 107, 0,].as_slice()
+    );
+    Ok(())
+}
+
+#[test]
+fn a_value_is_replaced_twice(rt: HostRuntime) -> Result<(), Fail> {
+    let shape = Shape::new(3, 1, 10)?.with_values();
+    let Some(words) = words_with_values_after(
+        &rt,
+        rt.alloc(),
+        shape,
+        &REPLACED_VALUE,
+        &REPLACED_VALUE_WORDS,
+    ) else {
+        panic!(rt; "no words")
+    };
+    assert_eq!(rt;
+        words.as_slice(),
+        [
+            1,
+            167_772_163,
+            33_554_434,
+            50_331_650,
+            1,
+            1,
+            7,
+            107,
+            50_331_651,
+            1,
+            0,
+            7,
+            207,
+            33_554_432,
+            1,
+            0,
+            7,
+            307,
+            0,
+        ]
+        .as_slice()
     );
     Ok(())
 }

@@ -12,7 +12,9 @@ use std::test::Fail;
 use vbr_core::{
     Call, CoreRefusal, Effect, Event, Op, PlainMap, SlotPlace, Step, World, replay_with_entries,
 };
-use vbr_event_lists::{REBORN_SLOT, Row, SAME_WORD, STORED_VALUE, TWO_HELPERS, with_values};
+use vbr_event_lists::{
+    REBORN_SLOT, REPLACED_VALUE, Row, SAME_WORD, STORED_VALUE, TWO_HELPERS, with_values,
+};
 use vbr_words::{At, Place, Shape};
 
 // A call that was answered yes and stored or gave a value.
@@ -187,7 +189,9 @@ fn replays_a_list_with_values(rt: HostRuntime) -> Result<(), Fail> {
     let shape = Shape::new(3, 1, 10)?.with_values();
     expect_stamp(&rt, rt.alloc(), shape, &rows, 35)?;
     let shape = Shape::new(1, 1, 10)?.with_values();
-    expect_whole(&rt, rt.alloc(), shape, &STORED_VALUE, (3, 1, 1))
+    expect_whole(&rt, rt.alloc(), shape, &STORED_VALUE, (3, 1, 1))?;
+    let shape = Shape::new(3, 1, 10)?.with_values();
+    expect_whole(&rt, rt.alloc(), shape, &REPLACED_VALUE, (6, 3, 1))
 }
 
 #[test]
@@ -226,6 +230,35 @@ fn a_stored_value_is_got(rt: HostRuntime) -> Result<(), Fail> {
     Ok(expect_map(&rt, rt.alloc(), &[], &calls)?)
 }
 
+/// A replacement is two calls next to each other; the node that stood there keeps its value.
+#[test]
+fn a_value_is_replaced(rt: HostRuntime) -> Result<(), Fail> {
+    let shape = Shape::new(3, 1, 10)?.with_values();
+    let looks = [
+        (28, Place::LinkOf(0), 50_331_650),
+        (28, Place::Head(0), 33_554_433),
+        (43, Place::Value(0), 107),
+        (43, Place::Value(1), 207),
+        (43, Place::Value(2), 307),
+    ];
+    let world = follow(&rt, rt.alloc(), shape, &REPLACED_VALUE, &looks)?;
+    let calls = [
+        valued(0, Op::Insert, 7, 107),
+        valued(0, Op::Remove, 7, 107),
+        valued(0, Op::Insert, 7, 207),
+        valued(1, Op::Get, 7, 207),
+        valued(1, Op::Remove, 7, 207),
+        valued(1, Op::Insert, 7, 307),
+    ];
+    let places = [
+        SlotPlace::Own(1),
+        SlotPlace::Listed(0),
+        SlotPlace::Listed(0),
+    ];
+    expect(&rt, &world, shape, &calls, &places, 3);
+    Ok(expect_map(&rt, rt.alloc(), &[], &calls)?)
+}
+
 #[test]
 fn a_get_of_an_absent_key_has_no_value(rt: HostRuntime) -> Result<(), Fail> {
     let shape = Shape::new(1, 1, 10)?.with_values();
@@ -250,15 +283,15 @@ fn a_get_of_an_absent_key_has_no_value(rt: HostRuntime) -> Result<(), Fail> {
     Ok(())
 }
 
-// The events of the first rows of the list with a stored value, so many, but for one of them, and then
-// a step of a pass.
+// The events of the first rows of a list, so many, but for one of them, and then a step of a pass.
 fn events_but_one(
     alloc: Global,
+    rows: &[Row],
     count: usize,
     left_out: usize,
     last: (u32, Step),
 ) -> Result<Vec<Event>, AllocError> {
-    let mut events = events_of(alloc, &STORED_VALUE, count)?;
+    let mut events = events_of(alloc, rows, count)?;
     if left_out < events.len() {
         events.remove(left_out);
     }
@@ -323,7 +356,7 @@ fn asks_for_values(rt: HostRuntime) -> Result<(), Fail> {
         (18, 16, 1, HAS, None),
     ];
     for (count, left_out, pass, step, refusal) in rows {
-        let events = events_but_one(rt.alloc(), count, left_out, (pass, step))?;
+        let events = events_but_one(rt.alloc(), &STORED_VALUE, count, left_out, (pass, step))?;
         let wanted = refusal.map(|refusal| (events.len().saturating_sub(1), refusal));
         let stop = stop_of(rt.alloc(), shape, 2, &events);
         assert_eq!(rt;
@@ -331,6 +364,36 @@ fn asks_for_values(rt: HostRuntime) -> Result<(), Fail> {
             wanted,
             "{step:?} behind {count} rows but row {left_out}"
         );
+    }
+    Ok(())
+}
+
+const REPLACE: Step = Step::Replace {
+    slot: 0,
+    expected: 33_554_432,
+    new: 2,
+};
+
+/// Behind the first 27 rows, one of which is left out, the replacement by pass 1 is refused so, if it
+/// is. Rows 12 to 15 load key, value, birth and link of the node, and rows 19 to 21 fill the hand.
+#[test]
+fn asks_for_what_a_replacement_names(rt: HostRuntime) -> Result<(), Fail> {
+    let shape = Shape::new(3, 1, 10)?.with_values();
+    let rows = [
+        (12, Some(CoreRefusal::NotHeld)),
+        (13, Some(CoreRefusal::NotHeld)),
+        (14, Some(CoreRefusal::NotHeld)),
+        (15, Some(CoreRefusal::NotHeld)),
+        (19, Some(CoreRefusal::OutOfRange)),
+        (20, Some(CoreRefusal::OutOfRange)),
+        (21, Some(CoreRefusal::OutOfRange)),
+        (99, None),
+    ];
+    for (left_out, refusal) in rows {
+        let events = events_but_one(rt.alloc(), &REPLACED_VALUE, 27, left_out, (1, REPLACE))?;
+        let wanted = refusal.map(|refusal| (events.len().saturating_sub(1), refusal));
+        let stop = stop_of(rt.alloc(), shape, 2, &events);
+        assert_eq!(rt; stop, wanted, "without row {left_out}");
     }
     Ok(())
 }
@@ -372,6 +435,11 @@ fn a_set_has_no_values(rt: HostRuntime) -> Result<(), Fail> {
     let steps = [
         Step::StoreValue { slot: 0, value: 5 },
         Step::LoadValue { slot: 0 },
+        Step::Replace {
+            slot: 0,
+            expected: 0,
+            new: 0,
+        },
         GET,
         absent,
     ];

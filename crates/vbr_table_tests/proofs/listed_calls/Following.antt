@@ -13,10 +13,10 @@ use Rattle.vbr_machine.specs.Runs.{world_after}
 use Rattle.vbr_machine.specs.declared.event.Effect.{Effect}
 use Rattle.vbr_machine.specs.declared.event.Effect.TheVariants.{Value, Won, Lost, Answered}
 use Rattle.vbr_machine.specs.declared.event.Step.{Step}
-use Rattle.vbr_machine.specs.declared.event.Step.TheVariants.{ReadEpoch, Advance, LoadStamp, StoreStamp, Raise, TakeFlag, StoreBirth, StoreKey, StoreValue, StoreLink, LoadLink, LoadBirth, LoadKey, LoadValue, Publish, Mark, Unlink, ConfirmPresent, ConfirmAbsent}
+use Rattle.vbr_machine.specs.declared.event.Step.TheVariants.{ReadEpoch, Advance, LoadStamp, StoreStamp, Raise, TakeFlag, StoreBirth, StoreKey, StoreValue, StoreLink, LoadLink, LoadBirth, LoadKey, LoadValue, Publish, Mark, Replace, Unlink, ConfirmPresent, ConfirmAbsent}
 use Rattle.vbr_machine.specs.declared.knowledge.Holding.TheVariants.{Free, Unlinked}
 use Rattle.vbr_machine.proofs.Lemmas.{know_other, know_own, put_here}
-use Rattle.vbr_slots.specs.Expected.{Finds, FindsOther, Publishes}
+use Rattle.vbr_slots.specs.Expected.{Finds, FindsOther, Publishes, ReplacesNode}
 use Rattle.vbr_slots.specs.OwnSlots.{IsKnownStamp}
 use Rattle.vbr_slots.specs.Views.{Trace, PassView, TableView, Did, knows}
 use Rattle.vbr_event_lists.specs.Worked.{others_of, names_link, AreWorked}
@@ -49,6 +49,11 @@ found_either step p q expected (Err n) found other = (other.did, other.unexpecte
 pub published_either : {T : Type 0} (pred : At) (expected slot : ℕ) (p q : PassView) (answer : Result T ℕ) → OnOk answer (Publishes pred expected slot p q) → IfErr answer (FindsOther (Publish pred expected slot) p q expected) → MatchResult answer (λ _. Did (Publish pred expected slot) p.trace q.trace expected) (λ n. Did (Publish pred expected slot) p.trace q.trace n × (n ≢ expected))
 published_either pred expected slot p q (Ok x) found other = found.did
 published_either pred expected slot p q (Err n) found other = (other.did, other.unexpected)
+
+-- and a replacement
+pub replaced_either : {T : Type 0} (slot expected new : ℕ) (p q : PassView) (answer : Result T ℕ) → OnOk answer (ReplacesNode slot expected new p q) → IfErr answer (FindsOther (Replace slot expected new) p q expected) → MatchResult answer (λ _. Did (Replace slot expected new) p.trace q.trace expected) (λ n. Did (Replace slot expected new) p.trace q.trace n × (n ≢ expected))
+replaced_either slot expected new p q (Ok x) found other = found.did
+replaced_either slot expected new p q (Err n) found other = (other.did, other.unexpected)
 
 pub learned_exchange : {T : Type 0} (step : Step) (p q : Trace) (expected : ℕ) (answer : Result T ℕ) (effect : Effect) → ((w : World) → stamp_shown w step ≡ 0) → ((n : ℕ) → effect_of step n ≡ exchanged expected n) → MatchResult answer (λ _. Did step p q expected) (λ n. Did step p q n × (n ≢ expected)) → MatchResult answer (λ _. effect ≡ Won) (λ n. effect ≡ Lost n) → Learned step p q effect
 learned_exchange step p q expected (Ok x) effect none is did told =
@@ -118,6 +123,7 @@ same_teaches (LoadKey s) m n stamp know same = ap (λ v. learn (LoadKey s) v sta
 same_teaches (LoadValue s) m n stamp know same = ap (λ v. learn (LoadValue s) v stamp know) (ap value_in same)
 same_teaches (Publish pred expected s) m n stamp know same = ap (λ b. cond b (with_own (with_checked know (reads_won know (Publish pred expected s))) s None) know) (both_won expected m n same)
 same_teaches (Mark s expected) m n stamp know same = ap (λ b. cond b (with_checked know (reads_won know (Mark s expected))) know) (both_won expected m n same)
+same_teaches (Replace s expected t) m n stamp know same = ap (λ b. cond b (with_own (with_checked know (reads_won know (Replace s expected t))) t None) know) (both_won expected m n same)
 same_teaches (Unlink pred expected s) m n stamp know same = ap (λ b. cond b (with_own (with_checked know (reads_won know (Unlink pred expected s))) s (Some (Unlinked false))) know) (both_won expected m n same)
 same_teaches (ConfirmPresent op s expected) m n stamp know same = refl
 same_teaches (ConfirmAbsent op key at expected) m n stamp know same = refl

@@ -10,7 +10,7 @@ use Rattle.vbr_machine.specs.declared.event.Effect.TheVariants.{Done}
 use Rattle.vbr_slots.specs.Views.{knows}
 use Rattle.vbr_event_lists.specs.Worked.{IsNamedWord}
 use Rattle.vbr_table_tests.specs.Following.{Learned}
-use Rattle.vbr_table_tests.proofs.listed_calls.Following.{found_either, published_either, learned, learned_exchange, learned_load}
+use Rattle.vbr_table_tests.proofs.listed_calls.Following.{found_either, published_either, replaced_either, learned, learned_exchange, learned_load}
 use Rattle.vbr_table_tests.proofs.listed_calls.call.Goals as goal
 
 pub store_link-requires-clause-next_in : goal.store_link-requires-clause-next_in
@@ -40,6 +40,11 @@ pub returns-in-Mark : goal.returns-in-Mark
 returns-in-Mark g c =
     subst (λ (s : Step). Learned s c.args.pass.now.trace c.mark.new.pass.trace c.exchanged-in-Mark.result) (sym c.in-Mark.is)
     (learned_exchange _ _ _ c.in-Mark.expected c.mark.result _ (λ w. refl) (λ n. refl) (found_either _ c.args.pass.now c.mark.new.pass _ c.mark.result c.mark.ensures.found c.mark.ensures.other) c.exchanged-in-Mark.ensures)
+
+pub returns-in-Replace : goal.returns-in-Replace
+returns-in-Replace g c =
+    subst (λ (s : Step). Learned s c.args.pass.now.trace c.replace.new.pass.trace c.exchanged-in-Replace.result) (sym c.in-Replace.is)
+    (learned_exchange _ _ _ c.in-Replace.expected c.replace.result _ (λ w. refl) (λ n. refl) (replaced_either _ _ _ c.args.pass.now c.replace.new.pass c.replace.result c.replace.ensures.found c.replace.ensures.other) c.exchanged-in-Replace.ensures)
 
 pub returns-in-Unlink : goal.returns-in-Unlink
 returns-in-Unlink g c =
