@@ -48,6 +48,6 @@ pub standing_with_values : AreWorked (valued many_epochs) (opening (valued many_
 unfolding bucket_of link_of word_of has_flag first_bits flag_word
 standing_with_values = worked_in_parts (valued many_epochs) 3 10 STANDING_WITH_VALUES (opening (valued many_epochs)) STANDING_WORDS (search (rules, tests), (search (rules, tests), (search (rules, tests), search (rules, tests))))
 
-pub replaced_value : AreWorked (valued three_slots) (opening (valued three_slots)) REPLACED_VALUE REPLACED_VALUE_WORDS
+pub replaced_value : AreWorked (valued many_epochs) (opening (valued many_epochs)) REPLACED_VALUE REPLACED_VALUE_WORDS
 unfolding bucket_of link_of word_of has_flag first_bits flag_word
-replaced_value = worked_in_parts (valued three_slots) 4 10 REPLACED_VALUE (opening (valued three_slots)) REPLACED_VALUE_WORDS (search (rules, tests), (search (rules, tests), (search (rules, tests), (search (rules, tests), search (rules, tests)))))
+replaced_value = worked_in_parts (valued many_epochs) 4 10 REPLACED_VALUE (opening (valued many_epochs)) REPLACED_VALUE_WORDS (search (rules, tests), (search (rules, tests), (search (rules, tests), (search (rules, tests), search (rules, tests)))))

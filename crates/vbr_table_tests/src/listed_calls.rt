@@ -445,7 +445,7 @@ fn a_stored_value_is_read_back(rt: HostRuntime) -> Result<(), Fail> {
 
 #[test]
 fn a_value_is_replaced_twice(rt: HostRuntime) -> Result<(), Fail> {
-    let shape = Shape::new(3, 1, 10)?.with_values();
+    let shape = Shape::new(3, 1, 10_000)?.with_values();
     let Some(words) = words_with_values_after(
         &rt,
         rt.alloc(),
@@ -459,7 +459,7 @@ fn a_value_is_replaced_twice(rt: HostRuntime) -> Result<(), Fail> {
         words.as_slice(),
         [
             1,
-            167_772_163,
+            167_772_160_003,
             33_554_434,
             50_331_650,
             1,

@@ -12,7 +12,9 @@ use std::alloc::Global;
 use std::process::Abort;
 use std::test::Fail;
 use vbr_access::{Checkpoint, Rollback, first};
-use vbr_event_lists::{Row, STANDING, STANDING_WITH_VALUES, STANDING_WORDS};
+use vbr_event_lists::{
+    REPLACED_VALUE, REPLACED_VALUE_WORDS, Row, STANDING, STANDING_WITH_VALUES, STANDING_WORDS,
+};
 use vbr_list::{insert, insert_entry, remove, remove_entry};
 use vbr_slots::{Pass, Slots};
 use vbr_words::{Entries, Nodes, Shape};
@@ -132,6 +134,27 @@ fn stand_behind_in_a_map(rt: &impl Abort, alloc: Global, steps: usize) -> Result
     Ok(())
 }
 
+// The same behind the first steps of the list in which pass 1 has a node in hand, or has put it in the
+// place of another.
+fn stand_behind_replacing(rt: &impl Abort, alloc: Global, steps: usize) -> Result<(), Fail>
+    requires { steps ≤ 43 }
+{
+    let shape = Shape::new(3, 1, 10_000)?.with_values();
+    let Some((slots, mut a, mut b)) = map_after(
+        rt,
+        alloc,
+        shape,
+        &REPLACED_VALUE[..steps],
+        &REPLACED_VALUE_WORDS,
+    ) else {
+        panic!(rt; "no memory")
+    };
+    assert!(rt; a.in_hand() == None);
+    make_rounds_with_values(rt, &slots, &mut a);
+    expect_moved(rt, &slots, &a, &mut b);
+    Ok(())
+}
+
 #[test]
 fn behind_a_read_of_the_epoch(rt: HostRuntime) -> Result<(), Fail> {
     stand_behind(&rt, rt.alloc(), 9)
@@ -238,6 +261,20 @@ fn in_a_map_behind_an_exchange(rt: HostRuntime) -> Result<(), Fail> {
     stand_behind_in_a_map(&rt, rt.alloc(), 30)?; // a stamp
     stand_behind_in_a_map(&rt, rt.alloc(), 31)?; // a raised slot
     stand_behind_in_a_map(&rt, rt.alloc(), 32) // an advance
+}
+
+/// In a map, on a node that another pass has replaced: with a node in hand, and behind a replacement that
+/// is lost.
+#[test]
+fn on_a_replaced_node(rt: HostRuntime) -> Result<(), Fail> {
+    stand_behind_replacing(&rt, rt.alloc(), 28)?;
+    stand_behind_replacing(&rt, rt.alloc(), 29)
+}
+
+/// In a map, behind a replacement that is won.
+#[test]
+fn behind_a_replacement(rt: HostRuntime) -> Result<(), Fail> {
+    stand_behind_replacing(&rt, rt.alloc(), 42)
 }
 
 // Inserts the keys 1 to 64, and then removes them.

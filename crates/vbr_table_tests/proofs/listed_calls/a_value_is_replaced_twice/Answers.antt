@@ -2,7 +2,7 @@
 use Rattle.std.proofs.Common.{◌≡◌, sym, subst, rules, ap}
 use Rattle.vbr_machine.specs.Start.{Start, empty_start}
 use Rattle.vbr_machine.specs.Machine.{opening}
-use Rattle.vbr_event_lists.specs.Worked.{AreWorked, three_slots}
+use Rattle.vbr_event_lists.specs.Worked.{AreWorked, many_epochs}
 use Rattle.vbr_event_lists.specs.Valued.{valued}
 use Rattle.vbr_event_lists.specs.declared.replaced.TheConstants.{REPLACED_VALUE, REPLACED_VALUE_WORDS}
 use Rattle.vbr_event_lists.proofs.Lemmas.{replaced_value}
@@ -10,5 +10,5 @@ use Rattle.vbr_table_tests.proofs.listed_calls.a_value_is_replaced_twice.Goals a
 
 pub words_with_values_after-requires-clause-worked : goal.words_with_values_after-requires-clause-worked
 words_with_values_after-requires-clause-worked g c =
-    let shape : c.with_values-shape.result ≡ (valued three_slots).shape = search rules in
+    let shape : c.with_values-shape.result ≡ (valued many_epochs).shape = search rules in
     subst (λ (d : Start). AreWorked d (opening d) REPLACED_VALUE REPLACED_VALUE_WORDS) (sym (ap empty_start shape)) replaced_value
