@@ -27,14 +27,13 @@ use Rattle.vbr_at_table.specs.Marks.{LeavesOthers}
 use Rattle.vbr_at_table.specs.declared.held.Held.{Held}
 use Rattle.vbr_list.specs.Budgets.{listed_for, steps_to_value_of}
 use Rattle.vbr_list.specs.Disturbed.{changed_after, disturbed, disturbed_after, remove_costs_among}
-use Rattle.vbr_list.specs.Places.{IsPred}
 use Rattle.vbr_list.specs.Pieces.{trace_in}
-use Rattle.vbr_list.specs.Removing.{MarksAndSearches, MarksBehind, SearchesOn}
+use Rattle.vbr_list.specs.Removing.{MarksAndSearches, MarksBehind}
 use Rattle.vbr_list.specs.Traversing.{Finds, LastWalk, SearchTires}
 use Rattle.vbr_list.specs.Walking.{KnowsEpoch, LosesPlace, StandsStill, WalksAgain, met_since, nodes_after}
 use Rattle.vbr_list.specs.declared.call.PendingCall.{PendingCall}
 use Rattle.vbr_list.specs.declared.found.Found.{Found}
-use Rattle.vbr_list.proofs.Disturbing.{changed_same, disturbed_same, loses_place_disturb, met_before, met_less, met_quiet, run_at, unchanged_at}
+use Rattle.vbr_list.proofs.Disturbing.{changed_same, disturbed_same, loses_place_disturb, met_before, met_less, unchanged_at}
 use Rattle.vbr_list.proofs.Walking.{HasRepeated}
 
 -- ---- a search
@@ -104,9 +103,6 @@ module _ (b p r s : Trace) (is : IsStart b.start) (ok : IsRun b.start b.passes s
   stands_past : (disturbed_after b key b.seen < disturbed_after b key s.seen) ⊎ StandsStill b r key pred
   stands_past = go (cases_lt (disturbed_after b key still.stood.moment) (disturbed_after b key mark.moment))
     where
-      bucket : ℕ
-      bucket = bucket_of b.start.shape key
-
       go : (disturbed_after b key still.stood.moment < disturbed_after b key mark.moment) ⊎ (disturbed_after b key mark.moment ≤ disturbed_after b key still.stood.moment) → (disturbed_after b key b.seen < disturbed_after b key s.seen) ⊎ StandsStill b r key pred
       go (inl less) =
           let low = disturbances_grow (since b.start b.passes b.seen still.stood.moment is ok_stood still.stood.from) b.who (bucket_of b.start.shape key) in
