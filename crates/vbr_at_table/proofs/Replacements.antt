@@ -1,5 +1,5 @@
 -- A node that is replaced by the one in hand.
-use Rattle.std.proofs.Common.{◌≡◌, ◌≢◌, ℕ, ◌<◌, true, false, List, [], ◌∷◌, ◌++◌, Option, Some, None, refl, sym, ap, ◌∙◌, subst, cond, option_to_list, eq-eqb, inl, inr, ⊎_elim, arith}
+use Rattle.std.proofs.Common.{◌≡◌, ◌≢◌, ℕ, ◌<◌, true, false, List, [], ◌∷◌, ◌++◌, Option, Some, None, refl, sym, ap, ◌∙◌, subst, cond, option_to_list, append_assoc, eq-eqb, inl, inr, ⊎_elim, arith}
 use Rattle.std.specs.Prelude.{unwrap_or}
 use Rattle.std.specs.List.{Contains}
 use Rattle.std.proofs.lemmas.Bool.{cases_eq}
@@ -8,6 +8,7 @@ use Rattle.vbr_words.specs.Words.{link_of}
 use Rattle.vbr_words.specs.declared.link.Link.{Link}
 use Rattle.vbr_words.specs.declared.place.At.{At}
 use Rattle.vbr_words.specs.declared.place.At.TheVariants.{Head, Slot}
+use Rattle.vbr_machine.specs.Calls.{calls_added}
 use Rattle.vbr_machine.specs.Acceptance.{IsAtIn, IsInHand, MayBear, Accepts}
 use Rattle.vbr_machine.specs.Images.{link_shown_at}
 use Rattle.vbr_machine.specs.Knowledge.{Know}
@@ -23,11 +24,11 @@ use Rattle.vbr_machine.specs.declared.history.Call.{Call}
 use Rattle.vbr_machine.specs.declared.history.Op.TheVariants.{Insert, Remove}
 use Rattle.vbr_machine.specs.declared.knowledge.Holding.{Holding}
 use Rattle.vbr_machine.specs.declared.knowledge.Read.TheVariants.{BirthOf, KeyOf, LinkAt, ValueOf}
-use Rattle.vbr_machine.proofs.Lemmas.{begins_trans, known_accepts, marked_call_is, others_leave_know, put_here, put_other, written_is}
+use Rattle.vbr_machine.proofs.Lemmas.{begins_trans, calls-snoc, calls_since, known_accepts, marked_call_is, others_leave_know, put_here, put_other, written_is}
 use Rattle.vbr_slots.specs.Alone.{IsAlone, nodes}
 use Rattle.vbr_slots.specs.Calls.{Quiet, made_by}
 use Rattle.vbr_slots.specs.PassLaw.{PassLaw}
-use Rattle.vbr_slots.specs.Views.{Did, PassView, Trace, knows}
+use Rattle.vbr_slots.specs.Views.{Did, PassView, Trace, event_of, knows}
 use Rattle.vbr_slots.proofs.Lemmas.{alone_first, alone_then, did_calls, did_moment, did_run, did_same, did_seen, found_now, quiet_on, run_was, same_on, stands_found}
 use Rattle.vbr_at_table.specs.Alone.{StandsNow}
 use Rattle.vbr_at_table.specs.Counts.{ChangesNone}
@@ -102,13 +103,22 @@ both_made {s} {expected} {t} {p} {q} d first second a b =
     let same = others_leave_know p.start p.seen d.rest p.who d.none in
     let ahead = ap (λ (k : Know). call_ahead p.start p.who k (Replace s expected t)) same ∙ a in
     let then = ap (λ (k : Know). call_of p.start p.who k (Replace s expected t)) same ∙ b in
+    let added : calls_added p.start w p.who (Replace s expected t) ≡ first ∷ second ∷ [] = (
+    (λ i. option_to_list (cond (test i) (call_ahead p.start p.who (w.know p.who) (Replace s expected t)) None) ++ option_to_list (cond (test i) (call_of p.start p.who (w.know p.who) (Replace s expected t)) None))
+    ∙ (λ i. option_to_list (ahead i) ++ option_to_list (then i))) in
+    let others = calls_since p.start p.seen (p.seen ++ d.rest) (d.rest, refl) in
     record {
       same = did_same d;
       seen = did_seen d;
       is_run = did_run d;
-      calls = did_calls d ∙ ap (λ l. made_by p ++ l)
-          ((λ i. option_to_list (cond (test i) (call_ahead p.start p.who (w.know p.who) (Replace s expected t)) None) ++ option_to_list (cond (test i) (call_of p.start p.who (w.know p.who) (Replace s expected t)) None))
-          ∙ (λ i. option_to_list (ahead i) ++ option_to_list (then i)));
+      calls = did_calls d ∙ ap (λ l. made_by p ++ l) added;
+      together = record {
+        others = others.0;
+        later = [];
+        calls = (λ i. (world_after (d.same.1 i) (d.seen i)).calls)
+            ∙ calls-snoc p.start (p.seen ++ d.rest) (event_of p.who (Replace s expected t))
+            ∙ (λ i. others.1 i ++ added i);
+      };
     }
 
 pub replace_made : {q : Trace} {s expected t birth key value old : ℕ} {link : Link} (p : Trace) → IsStart p.start → IsRun p.start p.passes p.seen → p.start.shape.values ≡ true → IsFilled ((knows p).own t) birth key link → value_in_hand ((knows p).own t) ≡ Some value → Knows (knows p) (KeyOf s key) → Knows (knows p) (ValueOf s old) → Did (Replace s expected t) p q expected
@@ -119,8 +129,45 @@ replace_made {q} {s} {expected} {t} {birth} {key} {value} {old} {link} p start r
     ∙ ap (λ (o : Option ℕ). Some (record { who = p.who; op = Insert; key = unwrap_or o 0; reply = true; value = payload_kept p.start f.known.value })) f.key_is
     ∙ ap (λ (u : Option ℕ). Some (record { who = p.who; op = Insert; key = key; reply = true; value = u })) (kept_same p.start.shape.values f.known.value value (λ w. sym (ap value_in_hand f.holding_is) ∙ valued)))
 
+-- so it is where steps that make no call came before
 pub two_on : {first second : Call} {p q r : Trace} → Quiet p q → MadeTwo first second q r → MadeTwo first second p r
-two_on {first} {second} {p} {q} {r} a b = record { same = same_on a.same b.same; seen = begins_trans p.seen q.seen r.seen a.seen b.seen; is_run = b.is_run; calls = b.calls ∙ ap (λ l. l ++ first ∷ second ∷ []) a.calls }
+two_on {first} {second} {p} {q} {r} a b =
+    let before = calls_since p.start p.seen q.seen a.seen in
+    let others = b.together.others in
+    record {
+      same = same_on a.same b.same;
+      seen = begins_trans p.seen q.seen r.seen a.seen b.seen;
+      is_run = b.is_run;
+      calls = b.calls ∙ ap (λ l. l ++ first ∷ second ∷ []) a.calls;
+      together = record {
+        others = before.0 ++ others;
+        later = b.together.later;
+        calls = b.together.calls
+            ∙ (λ i. ((world_after (a.same.start i) q.seen).calls ++ others) ++ first ∷ second ∷ b.together.later)
+            ∙ ap (λ l. (l ++ others) ++ first ∷ second ∷ b.together.later) before.1
+            ∙ ap (λ l. l ++ first ∷ second ∷ b.together.later) (append_assoc (world_after p.start p.seen).calls before.0 others);
+      };
+    }
+
+-- and where such steps came after
+pub two_before : {first second : Call} {p q r : Trace} → MadeTwo first second p q → Quiet q r → MadeTwo first second p r
+two_before {first} {second} {p} {q} {r} a b =
+    let more = calls_since q.start q.seen r.seen b.seen in
+    let front = (world_after p.start p.seen).calls ++ a.together.others in
+    record {
+      same = same_on a.same b.same;
+      seen = begins_trans p.seen q.seen r.seen a.seen b.seen;
+      is_run = b.is_run a.is_run;
+      calls = b.calls ∙ a.calls;
+      together = record {
+        others = a.together.others;
+        later = a.together.later ++ more.0;
+        calls = (λ i. (world_after (b.same.start i) r.seen).calls)
+            ∙ more.1
+            ∙ ap (λ l. l ++ more.0) a.together.calls
+            ∙ append_assoc front (first ∷ second ∷ a.together.later) more.0;
+      };
+    }
 
 -- ---- what it teaches
 

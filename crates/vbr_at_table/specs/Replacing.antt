@@ -1,8 +1,8 @@
 -- What a replacement tells: two calls, next to each other.
-use Rattle.std.specs.Prelude.{◌≡◌, ℕ, true, None, [], ◌∷◌, ◌++◌}
+use Rattle.std.specs.Prelude.{◌≡◌, ℕ, true, None, List, [], ◌∷◌, ◌++◌}
 use Rattle.vbr_words.specs.Words.{link_of}
 use Rattle.vbr_machine.specs.Membership.{BirthNamed, KeyAt}
-use Rattle.vbr_machine.specs.Runs.{IsRun, Begins}
+use Rattle.vbr_machine.specs.Runs.{IsRun, Begins, world_after}
 use Rattle.vbr_machine.specs.declared.history.Call.{Call}
 use Rattle.vbr_machine.specs.declared.history.Op.TheVariants.{Insert, Remove}
 use Rattle.vbr_slots.specs.Calls.{IsSame, made_by}
@@ -13,12 +13,19 @@ use Rattle.vbr_at_table.specs.Values.{IsValued, ValueAt, entry_call}
 use Rattle.vbr_at_table.specs.declared.held.Held.{Held}
 use Rattle.vbr_at_table.specs.declared.held.Marked.{Marked}
 
+-- in what the pass has seen these two calls stand next to each other, with no call of any pass between them, and after all that it had seen
+pub record StandTogether (first second : Call) (p q : Trace) : Type 0 where
+  pub others : List Call
+  pub later : List Call
+  pub calls : (world_after q.start q.seen).calls ≡ ((world_after p.start p.seen).calls ++ others) ++ first ∷ second ∷ later
+
 -- the pass has seen more, and made just these two calls, next to each other
 pub record MadeTwo (first second : Call) (p q : Trace) : Type 0 where
   pub same : IsSame p q
   pub seen : Begins p.seen q.seen
   pub is_run : IsRun q.start q.passes q.seen
   pub calls : made_by q ≡ made_by p ++ first ∷ second ∷ []
+  pub together : StandTogether first second p q
 
 -- a node may be replaced: it is held by its unmarked link, this is its key, its value is known, and so is the birth of what its link names
 pub record IsReplaceable (p : Trace) (node : Held) (key next_birth : ℕ) : Type 0 where

@@ -17,7 +17,7 @@ pub use Rattle.vbr_machine.proofs.SlotFlags.{flag_in, flag_shared, flag_won, sam
 pub use Rattle.vbr_machine.proofs.SlotFlags.{flag_clear, flag_set, flags_fit, flags_of_first, flags_whole, no_flags}
 -- Runs go on: what more events do to the world, and that the events of others leave what a pass knows, may do and has called.
 pub use Rattle.vbr_machine.proofs.RunsGoOn.{added_own, begins_for-snoc, begins_for_begins, begins_for_know, begins_for_refl, begins_refl, begins_run, is_run_snoc}
-pub use Rattle.vbr_machine.proofs.RunsGoOn.{begins_trans, calls_after, calls_by-append, is_run_after, is_run_after_others, is_run_before, is_run_first}
+pub use Rattle.vbr_machine.proofs.RunsGoOn.{begins_trans, calls-snoc, calls_after, calls_by-append, calls_since, is_run_after, is_run_after_others, is_run_before, is_run_first}
 pub use Rattle.vbr_machine.proofs.RunsGoOn.{is_run_last, know_after-snoc, know_other, know_own, others_leave_calls, others_leave_it_accepted}
 pub use Rattle.vbr_machine.proofs.RunsGoOn.{others_leave_know, own_calls-snoc, world_after-append, world_after-snoc}
 -- The words after a step: the word at its place is that of its operation, and no other word changes.

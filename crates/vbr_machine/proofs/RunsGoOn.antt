@@ -288,7 +288,20 @@ others_leave_calls start seen rest who none = ap (λ w. calls_by who w.calls) (w
 pub calls-snoc : (start : Start) (run : List Event) (event : Event) → (world_after start (run ++ event ∷ [])).calls ≡ (world_after start run).calls ++ calls_added start (world_after start run) event.pass event.step
 calls-snoc start run event = ap (λ w. w.calls) (world_after-snoc start run event) ∙ calls_after start (world_after start run) event.pass event.step
 
--- and those of its pass
+-- and after more of them: these add theirs at the end
+pub calls_grow : (start : Start) (w : World) (events : List Event) → (more : List Call) × ((world_from start w events).calls ≡ w.calls ++ more)
+calls_grow start w [] = ([], sym (append-nil w.calls))
+calls_grow start w (e ∷ es) =
+    let more = calls_grow start (after start w e.pass e.step) es in
+    let added = calls_added start w e.pass e.step in
+    (added ++ more.0, more.1 ∙ ap (λ l. l ++ more.0) (calls_after start w e.pass e.step) ∙ append_assoc w.calls added more.0)
+
+pub calls_since : (start : Start) (seen run : List Event) → Begins seen run → (more : List Call) × ((world_after start run).calls ≡ (world_after start seen).calls ++ more)
+calls_since start seen run b =
+    let more = calls_grow start (world_after start seen) b.0 in
+    (more.0, ap (λ (l : List Event). (world_after start l).calls) b.1 ∙ ap (λ (w : World). w.calls) (world_after-append start seen b.0) ∙ more.1)
+
+-- those of a pass after one more event of its own
 pub own_calls-snoc : (start : Start) (run : List Event) (event : Event) → own_calls start (run ++ event ∷ []) event.pass ≡ own_calls start run event.pass ++ calls_added start (world_after start run) event.pass event.step
 own_calls-snoc start run event =
     let w = world_after start run in

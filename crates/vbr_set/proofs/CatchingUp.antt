@@ -8,7 +8,7 @@ use Rattle.vbr_machine.specs.Machine.{World, after}
 use Rattle.vbr_machine.specs.Runs.{Begins, IsRun, world_after, world_from}
 use Rattle.vbr_machine.specs.declared.event.Event.{Event}
 use Rattle.vbr_machine.specs.declared.history.Call.{Call}
-use Rattle.vbr_machine.proofs.Lemmas.{begins_trans, calls_after, calls_by-append, every_run, others_leave_calls, world_after-append}
+use Rattle.vbr_machine.proofs.Lemmas.{begins_trans, calls_by-append, calls_since, every_run, others_leave_calls}
 use Rattle.vbr_slots.specs.Calls.{IsSame, Quiet}
 use Rattle.vbr_slots.specs.Tokens.{SeenView, Since}
 use Rattle.vbr_slots.specs.Views.{IsOf, KeepsPool, PassView, TableView, Trace}
@@ -17,18 +17,9 @@ use Rattle.vbr_set.specs.Histories.{calls_of}
 use Rattle.vbr_set.specs.Tokens.{BeginsWith, CatchesUp, Follows, IsChain, IsTokenOf, Precedes, end_of}
 use Rattle.vbr_set.proofs.Histories.{reads_right, start_of}
 
-grow : (start : Start) (w : World) (events : List Event) → BeginsWith w.calls (world_from start w events).calls
-grow start w [] = ([], sym (append-nil w.calls))
-grow start w (e ∷ es) =
-    let more = grow start (after start w e.pass e.step) es in
-    let added = calls_added start w e.pass e.step in
-    (added ++ more.0, more.1 ∙ ap (λ l. l ++ more.0) (calls_after start w e.pass e.step) ∙ append_assoc w.calls added more.0)
-
 -- a run that goes on adds its calls at the end
 pub calls_begin : (start : Start) (seen run : List Event) → Begins seen run → BeginsWith (calls_of start seen) (calls_of start run)
-calls_begin start seen run b =
-    let more = grow start (world_after start seen) b.0 in
-    (more.0, ap (calls_of start) b.1 ∙ ap (λ (w : World). w.calls) (world_after-append start seen b.0) ∙ more.1)
+calls_begin = calls_since
 
 abbrev first_or : Call → List Call → Call
 first_or call [] = call
