@@ -18,7 +18,7 @@ use Rattle.vbr_machine.specs.Knowledge.{Know}
 use Rattle.vbr_at_table.specs.declared.budget.TheConstants.{PIECE}
 use Rattle.vbr_at_table.specs.Keeping.{Keeps, KeepsOwn}
 use Rattle.vbr_at_table.specs.Reading.{ReadsIn}
-use Rattle.vbr_list.specs.Pieces.{Goes, GoesOn, IsSameCall, Tries, pass_in}
+use Rattle.vbr_list.specs.Pieces.{Goes, GoesOn, IsSameCall, Settles, Tries, pass_in, trace_in}
 use Rattle.vbr_list.specs.declared.call.PendingCall.{PendingCall}
 use Rattle.vbr_list.proofs.KeptHands.{hand_refl, hand_on, own_kept}
 
@@ -81,6 +81,12 @@ goes_further same tries v = record { call = call_on same v.call; goes = goes_on 
 
 pub call_refl : {N : Type 0} {kind : Ghosts N} → (c : PendingCall N kind) → IsSameCall c c
 call_refl c = record { at = record { pass = refl; slots = refl }; key = refl; bucket = refl; budget = refl }
+
+-- it may be answered by one step
+pub settles_step : {N : Type 0} {kind : Ghosts N} → {c d : PendingCall N kind} → IsSameCall c d → d.used ≡ c.used + 1 → Took (trace_in c) (trace_in d) 1 → KeepsOwn (pass_in c) (pass_in d) → TakesNoSlot (pass_in c) (pass_in d) → Settles c d
+settles_step {c = c} {d = d} same used took own none =
+    let counts = subst (CountsSteps (trace_in c) (trace_in d) c.used) (sym used) (counts_step c.used 1 took) in
+    record { call = same; counts = counts; hand = own_kept own none; more = omega (arith, used) }
 
 -- the steps of a call are within the budget that it began with
 pub within_call : {N : Type 0} {kind : Ghosts N} → {c d : PendingCall N kind} → IsSameCall c d → d.used ≤ c.budget

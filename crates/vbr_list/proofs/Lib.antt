@@ -8,6 +8,7 @@ mod Clearing
 mod Observing
 mod Disturbing
 mod Walking
+mod LostWalks
 mod Visits
 mod Passing
 mod Sights

@@ -1,5 +1,5 @@
 -- The steps of an insert, and what its refusals say.
-use Rattle.std.proofs.Common.{◌≡◌, ◌≢◌, ℕ, ◌+◌, ◌-◌, ◌<◌, ◌≤◌, Bool, true, false, List, [], ◌∷◌, length, Result, Ok, Err, inl, refl, sym, subst, arith}
+use Rattle.std.proofs.Common.{◌≡◌, ◌≢◌, ℕ, ◌+◌, ◌-◌, ◌<◌, ◌≤◌, Bool, true, false, List, [], ◌∷◌, length, Result, Ok, Err, inl, refl, sym, ◌∙◌, subst, arith}
 use Rattle.std.specs.Prelude.{IfOk, IfErr}
 use Rattle.std.specs.Result.{is_err, is_ok}
 use Rattle.vbr_words.specs.declared.nodes.Nodes.{Ghosts}
@@ -8,25 +8,22 @@ use Rattle.vbr_machine.specs.History.{set_call}
 use Rattle.vbr_machine.specs.Runs.{Begins, IsRun}
 use Rattle.vbr_machine.specs.declared.history.Call.{Call as ListedCall}
 use Rattle.vbr_machine.specs.declared.history.Op.{Op}
-use Rattle.vbr_slots.specs.Calls.{IsSame, Quiet, Made}
+use Rattle.vbr_slots.specs.Calls.{IsSame, Quiet, Made, Took}
 use Rattle.vbr_slots.specs.Views.{Trace, PassView}
 use Rattle.vbr_slots.proofs.Lemmas.{made_on}
 use Rattle.vbr_at_table.specs.Refusals.{IsSpent, LeavesRoom}
 use Rattle.vbr_at_table.specs.Steps.{CountsSteps, TookWithin}
 use Rattle.vbr_at_table.specs.KeptSlots.{TakesNoSlot}
-use Rattle.vbr_at_table.proofs.Lemmas.{counts_on, had_grown, had_on, slots_kept_on, missed_after, needed_after, shared_taken, shares_more, took_all}
+use Rattle.vbr_at_table.proofs.Lemmas.{counts_on, had_grown, had_on, none_on, slots_kept_on, missed_after, needed_after, shared_taken, shares_more, took_all}
 use Rattle.vbr_at_table.specs.Moments.{WasSo}
 use Rattle.vbr_list.specs.Inserting.{CountsWithin, InsertIsShort, InsertShowsSpent, Prepares, RefusesInsert, TakesNone}
-use Rattle.vbr_list.specs.Pieces.{IsSameCall, Tries, pass_in, trace_in}
+use Rattle.vbr_list.specs.Pieces.{GoesOn, HasRoom, IsSameCall, pass_in, trace_in}
 use Rattle.vbr_list.specs.Refusals.{IsRefusedInsert}
 use Rattle.vbr_list.specs.declared.refusal.Refusal.{Refusal}
 use Rattle.vbr_list.specs.declared.refusal.Refusal.TheVariants.{OutOfSteps, NoSlot, EpochSpent}
 use Rattle.vbr_list.specs.declared.call.PendingCall.{PendingCall}
-use Rattle.vbr_list.proofs.Going.{call_on, counts_step}
+use Rattle.vbr_list.proofs.Going.{call_on, counts_step, within_call}
 use Rattle.vbr_list.proofs.Moments.{so_before}
-
-pub within_tries : {p q : PassView} {a b budget : ℕ} → Tries p q a b budget → CountsWithin p.trace q.trace a b budget
-within_tries x = record { counts = x.goes.counts; within = x.within }
 
 pub within_on : {p q r : Trace} {a b c budget : ℕ} → CountsWithin p q a b budget → CountsSteps q r b c → b ≤ c → c ≤ budget → CountsWithin p r a c budget
 within_on x y low high = record { counts = counts_on x.counts y; within = (let u = x.within.0 in omega arith, high) }
@@ -34,6 +31,10 @@ within_on x y low high = record { counts = counts_on x.counts y; within = (let u
 -- they are those of a pass with the same trace
 pub within_same : {p q r : Trace} {a b budget : ℕ} → r ≡ q → CountsWithin p q a b budget → CountsWithin p r a b budget
 within_same {p} {q} {r} {a} {b} e x = record { counts = subst (λ (t : Trace). CountsSteps p t a b) (sym e) x.counts; within = x.within }
+
+-- those of a call that went on
+pub steps_gone : {N : Type 0} {kind : Ghosts N} → {c d : PendingCall N kind} → GoesOn c d → CountsWithin (trace_in c) (trace_in d) c.used d.used c.budget
+steps_gone x = record { counts = x.goes.counts; within = (x.more, within_call x.call) }
 
 -- ---- before a slot is linked
 
@@ -48,17 +49,29 @@ prepares_none c d same counts none hand = record {
   shared = shares_more (pass_in c) (pass_in d) none.shared;
 }
 
+-- so it is of a call that went on
+pub prepares_still : {N : Type 0} {kind : Ghosts N} → {c d : PendingCall N kind} → GoesOn c d → Prepares c d
+prepares_still {c = c} {d = d} x = prepares_none c d x.call (steps_gone x) x.goes.hand.takes_no_slot x.goes.hand.hand
+
+-- a step that answers comes after that
+pub prepares_answered : {N : Type 0} {kind : Ghosts N} → {c d e : PendingCall N kind} → GoesOn c d → IsSameCall d e → e.used ≡ d.used + 1 → HasRoom d → Took (trace_in d) (trace_in e) 1 → TakesNoSlot (pass_in d) (pass_in e) → (pass_in e).hand ≡ (pass_in d).hand → Prepares c e
+prepares_answered {c = c} {d = d} {e = e} x same used fits took none hand =
+    let budget = x.call.budget in
+    let P : ℕ → Type 0 = λ since. CountsWithin (trace_in c) (trace_in e) c.used since c.budget in
+    prepares_none c e (call_on x.call same) (subst P (sym used) (within_on (steps_gone x) (counts_step d.used 1 took) (omega arith) (omega (arith, fits, budget)))) (none_on x.goes.hand.takes_no_slot none) (hand ∙ x.goes.hand.hand)
+
 -- a slot is taken after that
-pub prepares_on : {N : Type 0} {kind : Ghosts N} → (c d e : PendingCall N kind) → IsSameCall c d → CountsWithin (trace_in c) (trace_in d) c.used d.used c.budget → Quiet (trace_in c) (trace_in d) → TakesNoSlot (pass_in c) (pass_in d) → (pass_in d).hand ≡ (pass_in c).hand → length (pass_in d).pool ≤ length (pass_in e).pool + 1 → Prepares d e → Prepares c e
-prepares_on c d e same counts quiet none hand one x =
+pub prepares_on : {N : Type 0} {kind : Ghosts N} → {c d e : PendingCall N kind} → GoesOn c d → length (pass_in d).pool ≤ length (pass_in e).pool + 1 → Prepares d e → Prepares c e
+prepares_on {c = c} {d = d} {e = e} went one x =
+    let none = went.goes.hand.takes_no_slot in
     let P : ℕ → Type 0 = λ budget. CountsWithin (trace_in d) (trace_in e) d.used e.used budget in
-    let y = subst P same.budget x.counts in
+    let y = subst P went.call.budget x.counts in
     record {
-      call = call_on same x.call;
-      counts = within_on counts y.counts y.within.0 y.within.1;
-      advances = needed_after {p = pass_in c} {q = pass_in d} {r = pass_in e} quiet none x.advances;
+      call = call_on went.call x.call;
+      counts = within_on (steps_gone went) y.counts y.within.0 y.within.1;
+      advances = needed_after {p = pass_in c} {q = pass_in d} {r = pass_in e} went.goes.quiet none x.advances;
       kept = slots_kept_on (pass_in c) (pass_in d) (pass_in e) none.kept x.kept;
-      had = had_on (pass_in c) (pass_in d) (pass_in e) (had_grown (pass_in c) (pass_in d) none.grows hand) x.had;
+      had = had_on (pass_in c) (pass_in d) (pass_in e) (had_grown (pass_in c) (pass_in d) none.grows went.goes.hand.hand) x.had;
       shared = shared_taken (pass_in c) (pass_in d) (pass_in e) none.shared one x.shared;
     }
 

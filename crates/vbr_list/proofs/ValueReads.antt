@@ -1,16 +1,26 @@
 -- Reading a value, and the steps that it takes.
-use Rattle.std.proofs.Common.{◌≡◌, ℕ, ◌+◌, ◌<◌, ◌≤◌, Bool, true, false, Option, Some, arith, refl, sym, subst}
+use Rattle.std.proofs.Common.{◌≡◌, ℕ, ◌+◌, ◌<◌, ◌≤◌, Bool, true, false, Option, Some, arith, refl, sym, ap, ◌∙◌, subst}
+use Rattle.vbr_words.specs.declared.nodes.Nodes.{Ghosts}
 use Rattle.vbr_machine.specs.Start.{Start}
 use Rattle.vbr_words.specs.declared.place.At.{At}
 use Rattle.vbr_machine.specs.Knowledge.{Know}
+use Rattle.vbr_slots.specs.Calls.{Took}
 use Rattle.vbr_slots.specs.Views.{PassView}
 use Rattle.vbr_slots.proofs.Lemmas.{adds_refl, loads_refl, quiet_refl}
-use Rattle.vbr_at_table.proofs.Lemmas.{counts_none, none_refl, took_all}
+use Rattle.vbr_at_table.proofs.Lemmas.{counts_none, counts_on, none_refl, took_all}
 use Rattle.vbr_at_table.specs.Held.{IsSlot}
+use Rattle.vbr_at_table.specs.Keeping.{KeepsOwn}
+use Rattle.vbr_at_table.specs.KeptSlots.{TakesNoSlot}
+use Rattle.vbr_at_table.specs.Steps.{CountsSteps}
 use Rattle.vbr_at_table.specs.Reading.{ReadsIn}
 use Rattle.vbr_at_table.specs.Values.{steps_to_update, steps_to_value}
 use Rattle.vbr_at_table.specs.declared.held.Held.{Held}
 use Rattle.vbr_list.specs.Budgets.{steps_to_value_of, steps_where}
+use Rattle.vbr_list.specs.Inserting.{Publishes}
+use Rattle.vbr_list.specs.Pieces.{Goes, IsSameCall, KeepsHand, Settles, pass_in, trace_in}
+use Rattle.vbr_list.specs.declared.call.PendingCall.{PendingCall}
+use Rattle.vbr_list.proofs.Going.{counts_step, goes_counted, took_same}
+use Rattle.vbr_list.proofs.KeptHands.{hand_on, own_kept}
 use Rattle.vbr_list.specs.Places.{IsCur, IsEnd}
 
 -- no step was made
@@ -24,6 +34,21 @@ reads_still p = record {
   only_loads = loads_refl p.trace;
   looks = λ alone. refl;
 }
+
+-- the steps that the table's shape asks are those of the pass's start
+pub steps_read : {n : ℕ} {table now before : Start} → n ≡ steps_to_value_of table → now ≡ table → now ≡ before → n ≡ steps_to_value_of before
+steps_read e of same = e ∙ ap steps_to_value_of (sym of ∙ same)
+
+-- a value is read, and one step comes after that
+pub read_then_step : {p q r : PassView} (a steps : ℕ) → steps ≡ steps_to_value_of p.trace.start → ReadsIn p q (steps_to_value_of p.trace.start) → Took q.trace r.trace 1 → KeepsOwn q r → TakesNoSlot q r → CountsSteps p.trace r.trace a (a + steps + 1) × KeepsHand p r
+read_then_step {p} {q} a steps e reads took own none =
+    let first : Goes p q a (a + steps) = goes_counted a steps (steps_to_value_of p.trace.start) e reads in
+    (counts_on first.counts (counts_step (a + steps) 1 took), hand_on first.hand (own_kept own none))
+
+pub settles_read : {N : Type 0} {kind : Ghosts N} → {c d : PendingCall N kind} {q : PassView} {steps : ℕ} → IsSameCall c d → d.used ≡ c.used + steps + 1 → steps ≡ steps_to_value_of (trace_in c).start → ReadsIn (pass_in c) q (steps_to_value_of (trace_in c).start) → Took q.trace (trace_in d) 1 → KeepsOwn q (pass_in d) → TakesNoSlot q (pass_in d) → Settles c d
+settles_read {c = c} {d = d} {q = q} {steps = steps} same used e reads took own none =
+    let then = read_then_step {r = pass_in d} c.used steps e reads took own none in
+    record { call = same; counts = subst (CountsSteps (trace_in c) (trace_in d) c.used) (sym used) then.0; hand = then.1; more = omega (arith, used) }
 
 pub few_to_value : (start : Start) → steps_to_value_of start ≤ 2
 few_to_value start = go start.shape.values
@@ -45,3 +70,16 @@ cur_is know key pred cur o present y e = let P : Option Held → Type 0 = λ o. 
 
 pub slot_at : {know : Know} {key : ℕ} {pred cur : Held} {present : Bool} → IsCur know key pred cur present → IsSlot cur.at
 slot_at x = let P : At → Type 0 = IsSlot in subst P (sym x.at) tt
+
+-- a node is published, in the steps that the table's shape asks
+pub publishes_stored : {N : Type 0} {kind : Ghosts N} → {c d : PendingCall N kind} {steps : ℕ} → IsSameCall c d → d.used ≡ c.used + steps → steps ≡ steps_to_update (trace_in c).start → Took (trace_in c) (trace_in d) (steps_to_update (trace_in c).start) → TakesNoSlot (pass_in c) (pass_in d) → Publishes c d
+publishes_stored {c = c} {d = d} {steps = steps} same used e took none =
+    let some = (few_to_update (trace_in c).start).0 in
+    let few = (few_to_update (trace_in c).start).1 in
+    record {
+      call = same;
+      counts = subst (CountsSteps (trace_in c) (trace_in d) c.used) (sym used) (counts_step c.used steps (took_same steps (steps_to_update (trace_in c).start) e took));
+      used = (omega (arith, used, e, some), omega (arith, used, e, few));
+      few = omega (arith, used, e);
+      takes_no_slot = none;
+    }

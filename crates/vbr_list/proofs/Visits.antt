@@ -16,7 +16,7 @@ use Rattle.vbr_list.specs.Visiting.{Meets, StartsAt, met_place}
 use Rattle.vbr_list.specs.Walking.{KnowsEpoch, MovesEpoch, MovesSince, StandsStill, Walks, WalksOnce}
 use Rattle.vbr_list.specs.declared.visiting.Visited.{Visited}
 use Rattle.vbr_list.proofs.Disturbing.{moves_disturb, run_at, unchanged_at}
-use Rattle.vbr_list.proofs.Walking.{knows_now, node_open, start_disturbed, walk_begins, walk_past, walk_to, walk_visited}
+use Rattle.vbr_list.proofs.Walking.{knows_now, node_open, start_disturbed, walk_begins, walk_paid, walk_past, walk_to, walk_visited}
 
 -- ---- a start
 
@@ -32,6 +32,12 @@ module _ {p : PassView} {r : Trace} (law : PassLaw p) (key : ℕ) (quiet : Quiet
 
   pub starts_none : MovesSince p.trace r → disturbed_after p.trace key p.trace.seen < disturbed_after p.trace key r.seen
   starts_none moves = start_disturbed 0 p.trace r law.start started key quiet.same unmoved moves
+
+-- ---- a walk so far
+
+-- its steps are paid
+pub paid_so_far : {p : PassView} {q : Trace} {per key a b : ℕ} {pred here : Held} → PassLaw p → Quiet p.trace q → Walks per p.trace q key a b pred here → WalksOnce per p.trace q key a b
+paid_so_far {p} {q} {per = per} {key = key} law quiet w = walk_paid per p.trace q law.start (run_at p.trace q quiet.same (quiet.is_run law.is_run)) key w
 
 -- ---- a visit
 

@@ -2,7 +2,8 @@
 use Rattle.std.specs.Prelude.{ℕ, ◌+◌, ◌-◌, ◌*◌, List}
 use Rattle.vbr_words.specs.Buckets.{bucket_of}
 use Rattle.vbr_machine.specs.Accounts.{incarnations_after}
-use Rattle.vbr_machine.specs.Disturbances.{disturbances, marked_nodes, own_changes, updates}
+use Rattle.vbr_machine.specs.Disturbances.{disturbances, own_changes, updates}
+use Rattle.vbr_machine.specs.Nodes.{marked_after}
 use Rattle.vbr_machine.specs.declared.event.Event.{Event}
 use Rattle.vbr_slots.specs.Views.{PassView, Trace}
 use Rattle.vbr_at_table.specs.Budgets.{most_to_take_among}
@@ -21,7 +22,7 @@ disturbed p q key = disturbed_after p key q.seen - disturbed_after p key p.seen
 abbrev pub most_disturbed : Trace → Trace → ℕ
 most_disturbed p q = (incarnations_after p.start q.seen).epoch - (incarnations_after p.start p.seen).epoch
     + 2 * (updates (incarnations_after p.start q.seen).calls - updates (incarnations_after p.start p.seen).calls)
-    + marked_nodes (incarnations_after p.start p.seen)
+    + marked_after p.start p.seen
 
 -- enough for a look-up among so many nodes that is disturbed so often: it may begin again once for each time, and meet one more node
 abbrev pub enough_among : ℕ → ℕ → ℕ

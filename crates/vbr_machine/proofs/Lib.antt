@@ -68,6 +68,7 @@ mod AtLoads
 mod MarkedChains
 mod RunForms
 mod MarkedMoments
+mod MarkedNodes
 mod Removals
 mod ListedRuns
 mod ListedGrowth

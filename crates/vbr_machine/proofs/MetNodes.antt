@@ -240,7 +240,7 @@ count_one_more f g (suc n) k e = go (cases_eq n k) (count_one_more f g n k (λ s
     go (inr ne) on = same (g n) (f n) (count_below g n) (count_below f n) (e n (omega arith) ne) on
 
 -- what is taken to different places that pass a test is no more than they are
-count_taken : (f g : ℕ → Bool) (h : ℕ → ℕ) (m n : ℕ) → ((c : ℕ) → c < m → f c ≡ true → (h c < n) × (g (h c) ≡ true)) → ((c d : ℕ) → c < m → d < m → f c ≡ true → f d ≡ true → h c ≡ h d → c ≡ d) → count_below f m ≤ count_below g n
+pub count_taken : (f g : ℕ → Bool) (h : ℕ → ℕ) (m n : ℕ) → ((c : ℕ) → c < m → f c ≡ true → (h c < n) × (g (h c) ≡ true)) → ((c d : ℕ) → c < m → d < m → f c ≡ true → f d ≡ true → h c ≡ h d → c ≡ d) → count_below f m ≤ count_below g n
 count_taken f g h zero n into one = omega arith
 count_taken f g h (suc m) n into one = go (cases_Bool (f m)) (λ t i o. count_taken f t h m n i o)
   where

@@ -10,15 +10,17 @@ use Rattle.vbr_machine.specs.Runs.{Begins, IsRun}
 use Rattle.vbr_machine.specs.Accounts.{chronicle, incarnations_after}
 use Rattle.vbr_machine.specs.Incarnations.{State, Unborn, InHand, GivenUp, Linked, Marked, Unlinked, Stamped, Incarnations, at_opening, opening_state}
 use Rattle.vbr_machine.specs.Chronicles.{Happening, Advances, Gains, Probes, Raises, GivesUp, Bears, Keyed, Valued, Aims, Inserts, Removes, Replaces, Unlinks, Stamps, Confirms, Entry, Allowed, MayStamp, MayTakePlace, becomes, calls_made, incarnations_from, IsLawful, unlinked_at}
-use Rattle.vbr_machine.specs.Disturbances.{changes, counted, disturbances_in, disturbances, how_many, is_removal, is_unlinking, marked_nodes, updates}
-use Rattle.vbr_machine.specs.Nodes.{count_below, is_marked}
+use Rattle.vbr_machine.specs.Disturbances.{changes, counted, disturbances_in, disturbances, how_many, is_removal, is_unlinking, updates}
+use Rattle.vbr_machine.specs.Nodes.{count_below, is_marked, marked_after}
 use Rattle.vbr_machine.specs.Sound.{Sound}
 use Rattle.vbr_machine.specs.declared.event.Event.{Event}
 use Rattle.vbr_machine.specs.declared.history.Call.{Call}
 use Rattle.vbr_machine.proofs.EveryRun.{run_lawful}
 use Rattle.vbr_machine.proofs.ListedNodes.{count_falls, count_same}
+use Rattle.vbr_machine.proofs.MarkedNodes.{marked_births, marked_once}
 use Rattle.vbr_machine.proofs.OutsidePool.{count_none}
 use Rattle.vbr_machine.proofs.Puts.{put_here, put_other}
+use Rattle.vbr_machine.proofs.RunsGoOn.{begins_run}
 use Rattle.vbr_machine.proofs.Since.{since, disturbances_sum}
 use Rattle.vbr_machine.proofs.Slots.{late_born}
 use Rattle.vbr_machine.proofs.SoundAfter.{sound_kept}
@@ -66,47 +68,18 @@ stamped_marked Linked pass stamp epoch at m = absurd m
 stamped_marked Marked pass stamp epoch at m = absurd m
 stamped_marked (Stamped u r) pass stamp epoch at m = absurd m
 
-born_one : {start : Start} {a : Incarnations} → Sound start a → (c : ℕ) (st : State) → a.state c ≡ st → (st ≡ Linked) ⊎ (st ≡ Marked) → c < a.count
-born_one s c Linked e x = late_born s.slots c 0 (rw e tt)
-born_one s c Marked e x = late_born s.slots c 0 (rw e tt)
-born_one s c Unborn e x = absurd (no x)
-  where
-    no : (Unborn ≡ Linked) ⊎ (Unborn ≡ Marked) → ⊥
-    no (inl z) = cc
-    no (inr z) = cc
-born_one s c (InHand p) e x = absurd (no x)
-  where
-    no : (InHand p ≡ Linked) ⊎ (InHand p ≡ Marked) → ⊥
-    no (inl z) = cc
-    no (inr z) = cc
-born_one s c GivenUp e x = absurd (no x)
-  where
-    no : (GivenUp ≡ Linked) ⊎ (GivenUp ≡ Marked) → ⊥
-    no (inl z) = cc
-    no (inr z) = cc
-born_one s c (Unlinked p u) e x = absurd (no x)
-  where
-    no : (Unlinked p u ≡ Linked) ⊎ (Unlinked p u ≡ Marked) → ⊥
-    no (inl z) = cc
-    no (inr z) = cc
-born_one s c (Stamped u r) e x = absurd (no x)
-  where
-    no : (Stamped u r ≡ Linked) ⊎ (Stamped u r ≡ Marked) → ⊥
-    no (inl z) = cc
-    no (inr z) = cc
-
 -- where one is marked that was linked, and one is linked that was in hand
-marked_replaced : {start : Start} {a : Incarnations} → Sound start a → (pass old c : ℕ) → MayTakePlace start a pass old c → count_below (λ d. is_marked (put (put a.state old Marked) c Linked d)) a.count ≡ suc (marked_nodes a)
+marked_replaced : {start : Start} {a : Incarnations} → Sound start a → (pass old c : ℕ) → MayTakePlace start a pass old c → count_below (λ d. is_marked (put (put a.state old Marked) c Linked d)) a.count ≡ suc (marked_births a)
 marked_replaced {start} {a} s pass old c h =
     let apart : c ≢ old = λ q. (let x : InHand pass ≡ Linked = sym h.in_hand ∙ ap a.state q ∙ h.linked in absurd (cc)) in
     marked_put (put a.state old Marked) c Linked a.count (sym (ap is_marked (put_other a.state old Marked c apart ∙ h.in_hand)))
-    ∙ marked_more a.state old Marked a.count (born_one s old Linked h.linked (inl refl)) refl (ap is_marked h.linked)
+    ∙ marked_more a.state old Marked a.count (late_born s.slots old 0 (rw h.linked tt)) refl (ap is_marked h.linked)
 
 -- ---- one event
 
 -- an event that changes a list is paid: by an advance, by a call, or by a marked node that is so no more
 abbrev Pays : Start → ℕ → Incarnations → ℕ → Happening → Type 0
-Pays start bucket a pass what = counted (changes start a bucket what) + marked_nodes (becomes start a pass what) + a.epoch + 2 * updates a.calls ≤ marked_nodes a + (becomes start a pass what).epoch + 2 * updates (becomes start a pass what).calls
+Pays start bucket a pass what = counted (changes start a bucket what) + marked_births (becomes start a pass what) + a.epoch + 2 * updates a.calls ≤ marked_births a + (becomes start a pass what).epoch + 2 * updates (becomes start a pass what).calls
 
 at_most_one : (b : Bool) → counted b ≤ 1
 at_most_one true = omega arith
@@ -130,7 +103,7 @@ pays start keys bucket a pass (Inserts c behind) s h =
     let one = at_most_one (changes start a bucket (Inserts c behind)) in
     omega (arith, m, u, one)
 pays start keys bucket a pass (Removes c) s h =
-    let m = marked_more a.state c Marked a.count (born_one s c Linked h (inl refl)) refl (ap is_marked h) in
+    let m = marked_more a.state c Marked a.count (late_born s.slots c 0 (rw h tt)) refl (ap is_marked h) in
     let u = updates-append a.calls (calls_made start a pass (Removes c)) in
     let one = at_most_one (changes start a bucket (Removes c)) in
     omega (arith, m, u, one)
@@ -140,7 +113,7 @@ pays start keys bucket a pass (Replaces old c) s h =
     let one = at_most_one (changes start a bucket (Replaces old c)) in
     omega (arith, m, u, one)
 pays start keys bucket a pass (Unlinks c behind) s h =
-    let m = marked_fewer a.state c (Unlinked pass a.epoch) a.count (born_one s c Marked h.0 (inr refl)) refl (ap is_marked h.0) in
+    let m = marked_fewer a.state c (Unlinked pass a.epoch) a.count (late_born s.slots c 0 (rw h.0 tt)) refl (ap is_marked h.0) in
     let one = at_most_one (changes start a bucket (Unlinks c behind)) in
     omega (arith, m, one)
 
@@ -152,7 +125,7 @@ no_more_than false q = omega arith
 
 -- a law of chronicles
 all_paid : (start : Start) (keys : Keys) (who bucket : ℕ) (a : Incarnations) (entries : List Entry) → Sound start a → IsLawful start keys a entries →
-    disturbances_in start who bucket a entries + marked_nodes (incarnations_from start a entries) + a.epoch + 2 * updates a.calls ≤ marked_nodes a + (incarnations_from start a entries).epoch + 2 * updates (incarnations_from start a entries).calls
+    disturbances_in start who bucket a entries + marked_births (incarnations_from start a entries) + a.epoch + 2 * updates a.calls ≤ marked_births a + (incarnations_from start a entries).epoch + 2 * updates (incarnations_from start a entries).calls
 all_paid start keys who bucket a [] s l = omega arith
 all_paid start keys who bucket a (entry ∷ entries) s l =
     let b = becomes start a entry.pass entry.what in
@@ -165,20 +138,22 @@ all_paid start keys who bucket a (entry ∷ entries) s l =
 
 -- a law: since a beginning of a run a pass was disturbed no more than the epoch has advanced, and twice for each insert or remove that was answered yes, and once for each node that was marked at first; those that are marked at the end have still to be unlinked
 pub disturbances_paid : (start : Start) (passes : ℕ) (first run : List Event) → IsStart start → IsRun start passes run → Begins first run → (who bucket : ℕ) →
-    disturbances start run who bucket + marked_nodes (incarnations_after start run) + (incarnations_after start first).epoch + 2 * updates (incarnations_after start first).calls ≤ disturbances start first who bucket + marked_nodes (incarnations_after start first) + (incarnations_after start run).epoch + 2 * updates (incarnations_after start run).calls
+    disturbances start run who bucket + marked_after start run + (incarnations_after start first).epoch + 2 * updates (incarnations_after start first).calls ≤ disturbances start first who bucket + marked_after start first + (incarnations_after start run).epoch + 2 * updates (incarnations_after start run).calls
 disturbances_paid start passes first run is ok begins who bucket =
     let x = since start passes first run is ok begins in
     let sum = disturbances_sum x who bucket in
     let paid = all_paid start (opening_keys start) who bucket (incarnations_after start first) x.entries x.sound x.lawful in
-    let m = ap marked_nodes x.makes in
+    let m = ap marked_births x.makes in
+    let before = marked_once start passes first is (begins_run start passes first run begins ok) in
+    let after = marked_once start passes run is ok in
     let e = ap (λ (a : Incarnations). a.epoch) x.makes in
     let u = ap (λ (a : Incarnations). updates a.calls) x.makes in
-    omega (arith, sum, paid, m, e, u)
+    omega (arith, sum, paid, m, before, after, e, u)
 
 -- ---- unlinkings and removals
 
 abbrev Follows : Start → Incarnations → ℕ → Happening → Type 0
-Follows start a pass what = counted (is_unlinking what) + marked_nodes (becomes start a pass what) ≡ counted (is_removal what) + marked_nodes a
+Follows start a pass what = counted (is_unlinking what) + marked_births (becomes start a pass what) ≡ counted (is_removal what) + marked_births a
 
 follows : (start : Start) (keys : Keys) (a : Incarnations) (pass : ℕ) (what : Happening) → Sound start a → Allowed start keys a pass what → Follows start a pass what
 follows start keys a pass Advances s h = refl
@@ -193,11 +168,11 @@ follows start keys a pass (GivesUp c) s h = ap (λ n. 0 + n) (marked_put a.state
 follows start keys a pass (Stamps c stamp) s h = ap (λ n. 0 + n) (marked_put a.state c (Stamped (unlinked_at (a.state c)) stamp) a.count (stamped_marked (a.state c) pass stamp a.epoch (unlinked_at (a.state c)) h))
 follows start keys a pass (Bears v birth) s h = ap (λ n. 0 + n) (marked_next a.state (InHand pass) a.count (a.count + 1) (omega arith) refl)
 follows start keys a pass (Inserts c behind) s h = ap (λ n. 0 + n) (marked_put a.state c Linked a.count (sym (ap is_marked h.in_hand)))
-follows start keys a pass (Removes c) s h = let m = marked_more a.state c Marked a.count (born_one s c Linked h (inl refl)) refl (ap is_marked h) in omega (arith, m)
+follows start keys a pass (Removes c) s h = let m = marked_more a.state c Marked a.count (late_born s.slots c 0 (rw h tt)) refl (ap is_marked h) in omega (arith, m)
 follows start keys a pass (Replaces old c) s h = let m = marked_replaced s pass old c h in omega (arith, m)
-follows start keys a pass (Unlinks c behind) s h = let m = marked_fewer a.state c (Unlinked pass a.epoch) a.count (born_one s c Marked h.0 (inr refl)) refl (ap is_marked h.0) in omega (arith, m)
+follows start keys a pass (Unlinks c behind) s h = let m = marked_fewer a.state c (Unlinked pass a.epoch) a.count (late_born s.slots c 0 (rw h.0 tt)) refl (ap is_marked h.0) in omega (arith, m)
 
-all_follow : (start : Start) (keys : Keys) (a : Incarnations) (entries : List Entry) → Sound start a → IsLawful start keys a entries → how_many is_unlinking entries + marked_nodes (incarnations_from start a entries) ≡ how_many is_removal entries + marked_nodes a
+all_follow : (start : Start) (keys : Keys) (a : Incarnations) (entries : List Entry) → Sound start a → IsLawful start keys a entries → how_many is_unlinking entries + marked_births (incarnations_from start a entries) ≡ how_many is_removal entries + marked_births a
 all_follow start keys a [] s l = refl
 all_follow start keys a (entry ∷ entries) s l =
     let rest = all_follow start keys (becomes start a entry.pass entry.what) entries (sound_kept start keys a entry.pass entry.what s l.0) l.1 in
@@ -205,11 +180,12 @@ all_follow start keys a (entry ∷ entries) s l =
     omega (arith, rest, one)
 
 -- a law: of the nodes that were removed in a run each is unlinked, by the one who did it, or still marked
-pub unlinkings_follow : (start : Start) (passes : ℕ) (run : List Event) → IsStart start → IsRun start passes run → how_many is_unlinking (chronicle start run) + marked_nodes (incarnations_after start run) ≡ how_many is_removal (chronicle start run)
+pub unlinkings_follow : (start : Start) (passes : ℕ) (run : List Event) → IsStart start → IsRun start passes run → how_many is_unlinking (chronicle start run) + marked_after start run ≡ how_many is_removal (chronicle start run)
 unlinkings_follow start passes run is ok =
     let all = all_follow start (opening_keys start) (at_opening start) (chronicle start run) (agrees_at_first start is).sound (run_lawful start passes run is ok) in
-    let none : marked_nodes (at_opening start) ≡ 0 = count_none (λ c. is_marked (opening_state start c)) (key_count start) (λ c l. unmarked (has_opening_key start c)) in
-    omega (arith, all, none)
+    let none : marked_births (at_opening start) ≡ 0 = count_none (λ c. is_marked (opening_state start c)) (key_count start) (λ c l. unmarked (has_opening_key start c)) in
+    let after = marked_once start passes run is ok in
+    omega (arith, all, none, after)
   where
     unmarked : (b : Bool) → is_marked (cond b Linked Unborn) ≡ false
     unmarked true = refl

@@ -9,7 +9,7 @@ use Rattle.vbr_machine.specs.Start.{Start}
 use Rattle.vbr_machine.specs.Accounts.{chronicle}
 use Rattle.vbr_machine.specs.Chronicles.{Happening, Advances, Inserts, Removes, Replaces, Unlinks, Entry, becomes}
 use Rattle.vbr_machine.specs.Incarnations.{State, Linked, Marked, Unlinked, Stamped, Incarnations, at_opening}
-use Rattle.vbr_machine.specs.Nodes.{count_below, is_lower, is_marked}
+use Rattle.vbr_machine.specs.Nodes.{count_below, is_lower}
 use Rattle.vbr_machine.specs.declared.event.Event.{Event}
 use Rattle.vbr_machine.specs.declared.history.Call.{Call}
 use Rattle.vbr_machine.specs.declared.history.Op.{Op}
@@ -128,10 +128,6 @@ is_update _ = false
 abbrev pub updates : List Call → ℕ
 updates [] = 0
 updates (call ∷ calls) = counted (is_update call.op && call.reply) + updates calls
-
--- how many nodes are marked, and still in a list
-abbrev pub marked_nodes : Incarnations → ℕ
-marked_nodes a = count_below (λ c. is_marked (a.state c)) a.count
 
 -- whether an event is an unlinking, or a removal, as a replacement is of the node that it replaces
 abbrev pub is_unlinking : Happening → Bool

@@ -83,7 +83,7 @@ behind start a bucket at = count_below (is_behind start a bucket at) start.shape
 abbrev pub linked_after : Start → List Event → ℕ
 linked_after start run = count_below (λ s. is_linked (state_in (incarnations_after start run) s)) start.shape.slots
 
--- how many nodes are marked, and still in a list
+-- how many are marked, and still in a list
 abbrev pub marked_after : Start → List Event → ℕ
 marked_after start run = count_below (λ s. is_marked (state_in (incarnations_after start run) s)) start.shape.slots
 

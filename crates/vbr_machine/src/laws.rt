@@ -27,12 +27,12 @@ ghost use Rattle.vbr_machine.specs.Sound.{IsListed, Grows, Sound, Tells};
 ghost use Rattle.vbr_machine.specs.Images.{link_shown_at};
 ghost use Rattle.vbr_machine.specs.Notes.{Note, IsHeldBy, IsAmong};
 ghost use Rattle.vbr_machine.specs.Accounts.{chronicle, incarnations_after, notes_after};
-ghost use Rattle.vbr_machine.specs.Disturbances.{disturbances, how_many, is_removal, is_unlinking, marked_nodes, updates};
+ghost use Rattle.vbr_machine.specs.Disturbances.{disturbances, how_many, is_removal, is_unlinking, updates};
 ghost use Rattle.vbr_machine.specs.Agreement.{IsGoodLink, IsLastOf, IsPair, IsHeldIncarnation};
 ghost use Rattle.vbr_machine.specs.Calls.{own_calls};
 ghost use Rattle.vbr_machine.specs.Removals.{IsTakenOut, MarkedLeft, NoneMarked};
 ghost use Rattle.vbr_machine.specs.Runs.{Begins, IsAccepted, IsRun, NoneOf, know_after, world_after};
-ghost use Rattle.vbr_machine.specs.Nodes.{state_in};
+ghost use Rattle.vbr_machine.specs.Nodes.{marked_after, state_in};
 ghost use Rattle.vbr_machine.specs.Safety.{IsSafe};
 ghost use Rattle.vbr_machine.specs.Whereabouts.{InSharedPool, InSet, MarkedInList, Unstamped, IsSomewhere, UnlinksInTurn, is_at, number_at, number_had, sum_of};
 ghost use Rattle.vbr_machine.specs.declared.history.Call.{Call};
@@ -388,7 +388,7 @@ pub fn one_unstamped_at_a_time()
 pub fn unlinkings_follow_removals()
     ensures { (start : Start) (passes : ℕ) (run : List Event) →
         IsStart start → IsRun start passes run →
-        how_many is_unlinking (chronicle start run) + marked_nodes (incarnations_after start run)
+        how_many is_unlinking (chronicle start run) + marked_after start run
         ≡ how_many is_removal (chronicle start run) }
 {}
 
@@ -398,10 +398,10 @@ pub fn unlinkings_follow_removals()
 pub fn disturbances_are_paid()
     ensures { (start : Start) (passes : ℕ) (first run : List Event) (who bucket : ℕ) →
         IsStart start → IsRun start passes run → Begins first run →
-        disturbances start run who bucket + marked_nodes (incarnations_after start run)
+        disturbances start run who bucket + marked_after start run
         + (incarnations_after start first).epoch
         + 2 * updates (incarnations_after start first).calls
-        ≤ disturbances start first who bucket + marked_nodes (incarnations_after start first)
+        ≤ disturbances start first who bucket + marked_after start first
         + (incarnations_after start run).epoch
         + 2 * updates (incarnations_after start run).calls }
 {}

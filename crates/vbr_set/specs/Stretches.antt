@@ -1,7 +1,8 @@
 -- What the calls of all passes did in a stretch of a run, and how often it can have disturbed one of them.
 use Rattle.std.specs.Prelude.{◌≡◌, ℕ, ◌+◌, ◌-◌, ◌*◌, ◌<◌, ◌≤◌, Bool, Err, Option, Result}
 use Rattle.vbr_machine.specs.Accounts.{incarnations_after}
-use Rattle.vbr_machine.specs.Disturbances.{marked_nodes, updates}
+use Rattle.vbr_machine.specs.Disturbances.{updates}
+use Rattle.vbr_machine.specs.Nodes.{marked_after}
 use Rattle.vbr_machine.specs.Runs.{Begins, IsRun}
 use Rattle.vbr_machine.specs.Whereabouts.{sum_of}
 use Rattle.vbr_machine.specs.declared.event.Step.TheVariants.{ReadEpoch}
@@ -67,7 +68,7 @@ pub record Stretch (p q : Trace) (inserts : ℕ → ℕ) : Type 0 where
 abbrev pub most_disturbed_by : (ℕ → ℕ) → Trace → Trace → ℕ
 most_disturbed_by inserts p q = sum_of q.passes inserts
     + 2 * (updates (incarnations_after p.start q.seen).calls - updates (incarnations_after p.start p.seen).calls)
-    + marked_nodes (incarnations_after p.start p.seen)
+    + marked_after p.start p.seen
 
 -- ---- laws of a stretch
 

@@ -3,10 +3,10 @@ use Rattle.std.specs.Option.{is_none, is_some}
 use Rattle.vbr_words.specs.declared.link.Link.{Link}
 use Rattle.vbr_slots.proofs.Lemmas.{quiet_on}
 use Rattle.vbr_at_table.specs.declared.held.Held.{Held}
-use Rattle.vbr_list.specs.Budgets.{steps_to_value_of}
 use Rattle.vbr_list.proofs.Going.{table_on}
 use Rattle.vbr_list.proofs.Nearing.{first_of, then_of}
 use Rattle.vbr_list.proofs.Following.{Follows, follows_head, follows_marked, follows_node, next_paid, peeks_value, peeks_visit, tells_next, tells_none}
+use Rattle.vbr_list.proofs.ValueReads.{steps_read}
 use Rattle.vbr_list.proofs.seeking.walk.Goals as goal
 
 no_slot : (o : Option ℕ) → is_some o ≡ false → o ≡ None
@@ -62,7 +62,7 @@ returns-in_default-read-clause-peeks g c =
     let w = c.value_if_any-read.ensures in
     let few = v.used in
     let fits = c.affords-in-loop-here.ensures.0 c.if-not-affords-2.false in
-    let steps = c.steps_to_value_of.ensures ∙ ap steps_to_value_of (sym c.value_if_any-read.new.at.own.1 ∙ w.reads.quiet.same.start) in
+    let steps = steps_read c.steps_to_value_of.ensures c.value_if_any-read.new.at.own.1 w.reads.quiet.same.start in
     peeks_value c.visit_behind.new.used c.steps_to_value_of.result c.args.budget (peeks_visit c.args.bucket c.args.from c.args.used.now c.loop-here.used c.visit_behind.new.used c.args.budget c.loop-here.here c.loop-here.invariant.1 v.looks few fits) w.reads steps (omega (arith, few, fits))
 
 pub returns-in_default-read-clause-stopped : goal.returns-in_default-read-clause-stopped
@@ -80,7 +80,7 @@ returns-in-Ok-Beyond-clause-peeks g c =
     let w = c.value_if_any-read.ensures in
     let few = v.used in
     let fits = c.affords-in-loop-here.ensures.0 c.if-not-affords-2.false in
-    let steps = c.steps_to_value_of.ensures ∙ ap steps_to_value_of (sym c.value_if_any-read.new.at.own.1 ∙ w.reads.quiet.same.start) in
+    let steps = steps_read c.steps_to_value_of.ensures c.value_if_any-read.new.at.own.1 w.reads.quiet.same.start in
     peeks_value c.visit_behind.new.used c.steps_to_value_of.result c.args.budget (peeks_visit c.args.bucket c.args.from c.args.used.now c.loop-here.used c.visit_behind.new.used c.args.budget c.loop-here.here c.loop-here.invariant.1 v.looks few fits) w.reads steps (omega (arith, few, fits))
 
 pub returns-in-Ok-Beyond-clause-next : goal.returns-in-Ok-Beyond-clause-next
@@ -89,7 +89,7 @@ returns-in-Ok-Beyond-clause-next g c =
     let v = c.visit_behind.ensures in
     let w = c.value_if_any-read.ensures in
     let met = rw c.in-Ok-Beyond.field-0-is at c.in-Ok-Beyond.ensures.met in
-    let steps : c.steps_to_value_of.result ≡ steps_to_value_of c.visit_behind.new.at.stepper.now.trace.start = c.steps_to_value_of.ensures ∙ ap steps_to_value_of (sym c.value_if_any-read.new.at.own.1 ∙ w.reads.quiet.same.start) in
+    let steps = steps_read c.steps_to_value_of.ensures c.value_if_any-read.new.at.own.1 w.reads.quiet.same.start in
     record {
       tells = tells_next c.value_if_any-read.new.at.stepper.now c.args.bucket c.args.from c.args.used.now c.loop-here.used c.visit_behind.new.used c.args.budget (record { key = c.in-Ok-Beyond.key; value = c.in-Ok-read.value; is_last = c.is_none-is_last.result }) c.loop-here.here c.in-Ok-Beyond.node c.law.ensures.start i v.looks.goes.quiet met w.reads.quiet c.in-Ok-read.ensures.value (is_last_so c.is_none-is_last.result c.decode-in-Ok-Beyond.result.slot c.is_none-is_last.ensures ∙ ap (λ (l : Link). is_none l.slot) c.decode-in-Ok-Beyond.ensures.link);
       paid = λ alone.

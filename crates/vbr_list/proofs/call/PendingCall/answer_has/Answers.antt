@@ -1,4 +1,4 @@
-use Rattle.std.proofs.Common.{rules, arith, Bool, sym, subst}
+use Rattle.std.proofs.Common.{rules, refl, Bool, sym, subst}
 use Rattle.vbr_machine.specs.History.{set_call}
 use Rattle.vbr_machine.specs.declared.history.Call.{Call}
 use Rattle.vbr_machine.specs.declared.history.Op.TheVariants.{Has}
@@ -10,8 +10,7 @@ use Rattle.vbr_at_table.specs.declared.held.Held.{Held}
 use Rattle.vbr_list.specs.Told.{kept_call}
 use Rattle.vbr_list.specs.Walking.{LosesHeld}
 use Rattle.vbr_list.proofs.Disturbing.{loses_link}
-use Rattle.vbr_list.proofs.Going.{counts_step}
-use Rattle.vbr_list.proofs.KeptHands.{own_kept}
+use Rattle.vbr_list.proofs.Going.{settles_step}
 use Rattle.vbr_list.proofs.Sights.{sight_answers, sight_held, sight_unmarked}
 use Rattle.vbr_list.proofs.Told.{told_bare}
 use Rattle.vbr_list.proofs.call.PendingCall.answer_has.Goals as goal
@@ -32,12 +31,12 @@ confirm_look_up-outcome-requires-clause-decides g c =
 pub returns-in-Ok-clause-settles : goal.returns-in-Ok-clause-settles
 returns-in-Ok-clause-settles g c =
     let keeps = c.confirm_look_up-outcome.ensures.keeps.keeps in
-    record { call = search rules; counts = counts_step c.args.self.now.used 1 keeps.took; hand = own_kept keeps.own keeps.takes_no_slot; more = omega arith }
+    settles_step (search rules) refl keeps.took keeps.own keeps.takes_no_slot
 
 pub returns-in-Err-clause-settles : goal.returns-in-Err-clause-settles
 returns-in-Err-clause-settles g c =
     let keeps = c.confirm_look_up-outcome.ensures.keeps.keeps in
-    record { call = search rules; counts = counts_step c.args.self.now.used 1 keeps.took; hand = own_kept keeps.own keeps.takes_no_slot; more = omega arith }
+    settles_step (search rules) refl keeps.took keeps.own keeps.takes_no_slot
 
 pub returns-in-Ok-clause-answers : goal.returns-in-Ok-clause-answers
 returns-in-Ok-clause-answers g c =

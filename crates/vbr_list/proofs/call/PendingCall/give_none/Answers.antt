@@ -1,10 +1,9 @@
-use Rattle.std.proofs.Common.{rules, arith, false, subst}
+use Rattle.std.proofs.Common.{rules, refl, false, subst}
 use Rattle.vbr_machine.specs.declared.history.Call.{Call}
 use Rattle.vbr_machine.specs.declared.history.Op.TheVariants.{Get}
 use Rattle.vbr_slots.specs.Calls.{AddsAnswer, Made}
 use Rattle.vbr_list.proofs.Disturbing.{loses_link}
-use Rattle.vbr_list.proofs.Going.{counts_step}
-use Rattle.vbr_list.proofs.KeptHands.{own_kept}
+use Rattle.vbr_list.proofs.Going.{settles_step}
 use Rattle.vbr_list.proofs.Told.{told_bare}
 use Rattle.vbr_list.proofs.call.PendingCall.give_none.Goals as goal
 
@@ -19,12 +18,12 @@ confirm_absent_entry-outcome-requires-clause-op g c = record { other = λ e. abs
 pub returns-in-Ok-clause-settles : goal.returns-in-Ok-clause-settles
 returns-in-Ok-clause-settles g c =
     let keeps = c.confirm_absent_entry-outcome.ensures.keeps.keeps in
-    record { call = search rules; counts = counts_step c.args.self.now.used 1 keeps.took; hand = own_kept keeps.own keeps.takes_no_slot; more = omega arith }
+    settles_step (search rules) refl keeps.took keeps.own keeps.takes_no_slot
 
 pub returns-in-Err-clause-settles : goal.returns-in-Err-clause-settles
 returns-in-Err-clause-settles g c =
     let keeps = c.confirm_absent_entry-outcome.ensures.keeps.keeps in
-    record { call = search rules; counts = counts_step c.args.self.now.used 1 keeps.took; hand = own_kept keeps.own keeps.takes_no_slot; more = omega arith }
+    settles_step (search rules) refl keeps.took keeps.own keeps.takes_no_slot
 
 pub returns-in-Ok-clause-answers : goal.returns-in-Ok-clause-answers
 returns-in-Ok-clause-answers g c =

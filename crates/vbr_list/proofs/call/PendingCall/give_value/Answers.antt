@@ -1,22 +1,20 @@
-use Rattle.std.proofs.Common.{◌≡◌, ◌+◌, Some, rules, arith, sym, ap, ◌∙◌, subst}
+use Rattle.std.proofs.Common.{refl, ◌≡◌, Some, rules, arith, sym, ap, ◌∙◌, subst}
 use Rattle.vbr_machine.specs.Start.{Start}
 use Rattle.vbr_machine.specs.declared.history.Call.{Call}
 use Rattle.vbr_machine.specs.declared.history.Op.TheVariants.{Get}
 use Rattle.vbr_slots.specs.Calls.{AddsAnswer}
 use Rattle.vbr_slots.specs.Views.{knows}
 use Rattle.vbr_slots.proofs.Lemmas.{adds_on, answer_on, loads_on, quiet_on}
-use Rattle.vbr_at_table.proofs.Lemmas.{counts_on, held_kept}
-use Rattle.vbr_list.specs.Pieces.{Goes}
+use Rattle.vbr_at_table.proofs.Lemmas.{held_kept}
 use Rattle.vbr_list.specs.Told.{given_call, given_in}
 use Rattle.vbr_list.specs.Budgets.{steps_to_value_of, steps_where}
-use Rattle.vbr_list.proofs.Going.{counts_step, goes_counted}
-use Rattle.vbr_list.proofs.KeptHands.{hand_on, own_kept}
+use Rattle.vbr_list.proofs.Going.{goes_counted}
 use Rattle.vbr_list.proofs.Disturbing.{loses_later, loses_link, loses_value}
 use Rattle.vbr_list.proofs.Reaching.{key_kept}
 use Rattle.vbr_list.proofs.Sights.{keyed_slot}
 use Rattle.vbr_list.proofs.Sufficing.{any_error}
 use Rattle.vbr_list.proofs.Told.{given_kept, told_since}
-use Rattle.vbr_list.proofs.ValueReads.{few_to_value}
+use Rattle.vbr_list.proofs.ValueReads.{few_to_value, settles_read, steps_read}
 use Rattle.vbr_list.proofs.call.PendingCall.give_value.Goals as goal
 
 pub value_if_any-read-requires-clause-held : goal.value_if_any-read-requires-clause-held
@@ -41,22 +39,16 @@ confirm_present_entry-outcome-requires-clause-asked g c = λ get.
 
 pub returns-in_err-value-clause-settles : goal.returns-in_err-value-clause-settles
 returns-in_err-value-clause-settles g c =
-    let p = c.args.self.now.at.stepper.now in
-    let q = c.value_if_any-read.new.at.stepper.now in
     let reads = c.value_if_any-read.ensures.reads in
-    let steps : c.steps_to_value_of.result ≡ steps_to_value_of p.trace.start = c.steps_to_value_of.ensures ∙ ap steps_to_value_of (sym c.value_if_any-read.new.at.own.1 ∙ reads.quiet.same.start) in
-    let first : Goes p q c.args.self.now.used (c.args.self.now.used + c.steps_to_value_of.result) = goes_counted c.args.self.now.used c.steps_to_value_of.result (steps_to_value_of p.trace.start) steps reads in
+    let steps = steps_read c.steps_to_value_of.ensures c.value_if_any-read.new.at.own.1 reads.quiet.same.start in
+    let first = goes_counted c.args.self.now.used c.steps_to_value_of.result (steps_to_value_of c.args.self.now.at.stepper.now.trace.start) steps reads in
     let two = steps ∙ ap steps_where c.requires.values in
     record { call = search rules; counts = first.counts; hand = first.hand; more = omega (arith, two) }
 
 pub returns-in_err-value-clause-few : goal.returns-in_err-value-clause-few
 returns-in_err-value-clause-few g c =
-    let p = c.args.self.now.at.stepper.now in
-    let q = c.value_if_any-read.new.at.stepper.now in
     let reads = c.value_if_any-read.ensures.reads in
-    let steps : c.steps_to_value_of.result ≡ steps_to_value_of p.trace.start = c.steps_to_value_of.ensures ∙ ap steps_to_value_of (sym c.value_if_any-read.new.at.own.1 ∙ reads.quiet.same.start) in
-    let first : Goes p q c.args.self.now.used (c.args.self.now.used + c.steps_to_value_of.result) = goes_counted c.args.self.now.used c.steps_to_value_of.result (steps_to_value_of p.trace.start) steps reads in
-    let two = steps ∙ ap steps_where c.requires.values in
+    let two = steps_read c.steps_to_value_of.ensures c.value_if_any-read.new.at.own.1 reads.quiet.same.start ∙ ap steps_where c.requires.values in
     omega (arith, two)
 
 pub returns-in_err-value-clause-rolls : goal.returns-in_err-value-clause-rolls
@@ -67,52 +59,28 @@ returns-in_err-value-clause-rolls g c =
 
 pub returns-in-Ok-clause-settles : goal.returns-in-Ok-clause-settles
 returns-in-Ok-clause-settles g c =
-    let p = c.args.self.now.at.stepper.now in
-    let q = c.value_if_any-read.new.at.stepper.now in
     let reads = c.value_if_any-read.ensures.reads in
-    let steps : c.steps_to_value_of.result ≡ steps_to_value_of p.trace.start = c.steps_to_value_of.ensures ∙ ap steps_to_value_of (sym c.value_if_any-read.new.at.own.1 ∙ reads.quiet.same.start) in
-    let first : Goes p q c.args.self.now.used (c.args.self.now.used + c.steps_to_value_of.result) = goes_counted c.args.self.now.used c.steps_to_value_of.result (steps_to_value_of p.trace.start) steps reads in
     let keeps = c.confirm_present_entry-outcome.ensures.keeps.keeps in
-    record {
-      call = search rules;
-      counts = counts_on first.counts (counts_step (c.args.self.now.used + c.steps_to_value_of.result) 1 keeps.took);
-      hand = hand_on first.hand (own_kept keeps.own keeps.takes_no_slot);
-      more = omega arith;
-    }
+    settles_read (search rules) refl (steps_read c.steps_to_value_of.ensures c.value_if_any-read.new.at.own.1 reads.quiet.same.start) reads keeps.took keeps.own keeps.takes_no_slot
 
 pub returns-in-Err-clause-settles : goal.returns-in-Err-clause-settles
 returns-in-Err-clause-settles g c =
-    let p = c.args.self.now.at.stepper.now in
-    let q = c.value_if_any-read.new.at.stepper.now in
     let reads = c.value_if_any-read.ensures.reads in
-    let steps : c.steps_to_value_of.result ≡ steps_to_value_of p.trace.start = c.steps_to_value_of.ensures ∙ ap steps_to_value_of (sym c.value_if_any-read.new.at.own.1 ∙ reads.quiet.same.start) in
-    let first : Goes p q c.args.self.now.used (c.args.self.now.used + c.steps_to_value_of.result) = goes_counted c.args.self.now.used c.steps_to_value_of.result (steps_to_value_of p.trace.start) steps reads in
     let keeps = c.confirm_present_entry-outcome.ensures.keeps.keeps in
-    record {
-      call = search rules;
-      counts = counts_on first.counts (counts_step (c.args.self.now.used + c.steps_to_value_of.result) 1 keeps.took);
-      hand = hand_on first.hand (own_kept keeps.own keeps.takes_no_slot);
-      more = omega arith;
-    }
+    settles_read (search rules) refl (steps_read c.steps_to_value_of.ensures c.value_if_any-read.new.at.own.1 reads.quiet.same.start) reads keeps.took keeps.own keeps.takes_no_slot
 
 pub returns-in-Ok-clause-few : goal.returns-in-Ok-clause-few
 returns-in-Ok-clause-few g c =
-    let p = c.args.self.now.at.stepper.now in
-    let q = c.value_if_any-read.new.at.stepper.now in
     let reads = c.value_if_any-read.ensures.reads in
-    let steps : c.steps_to_value_of.result ≡ steps_to_value_of p.trace.start = c.steps_to_value_of.ensures ∙ ap steps_to_value_of (sym c.value_if_any-read.new.at.own.1 ∙ reads.quiet.same.start) in
-    let first : Goes p q c.args.self.now.used (c.args.self.now.used + c.steps_to_value_of.result) = goes_counted c.args.self.now.used c.steps_to_value_of.result (steps_to_value_of p.trace.start) steps reads in
-    let few = few_to_value p.trace.start in
+    let steps = steps_read c.steps_to_value_of.ensures c.value_if_any-read.new.at.own.1 reads.quiet.same.start in
+    let few = few_to_value c.args.self.now.at.stepper.now.trace.start in
     omega (arith, steps, few)
 
 pub returns-in-Err-clause-few : goal.returns-in-Err-clause-few
 returns-in-Err-clause-few g c =
-    let p = c.args.self.now.at.stepper.now in
-    let q = c.value_if_any-read.new.at.stepper.now in
     let reads = c.value_if_any-read.ensures.reads in
-    let steps : c.steps_to_value_of.result ≡ steps_to_value_of p.trace.start = c.steps_to_value_of.ensures ∙ ap steps_to_value_of (sym c.value_if_any-read.new.at.own.1 ∙ reads.quiet.same.start) in
-    let first : Goes p q c.args.self.now.used (c.args.self.now.used + c.steps_to_value_of.result) = goes_counted c.args.self.now.used c.steps_to_value_of.result (steps_to_value_of p.trace.start) steps reads in
-    let few = few_to_value p.trace.start in
+    let steps = steps_read c.steps_to_value_of.ensures c.value_if_any-read.new.at.own.1 reads.quiet.same.start in
+    let few = few_to_value c.args.self.now.at.stepper.now.trace.start in
     omega (arith, steps, few)
 
 pub returns-in-Ok-clause-only_loads : goal.returns-in-Ok-clause-only_loads

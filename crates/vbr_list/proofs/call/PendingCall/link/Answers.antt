@@ -7,7 +7,8 @@ use Rattle.vbr_at_table.specs.Values.{steps_to_update}
 use Rattle.vbr_list.specs.Inserting.{SearchesFor}
 use Rattle.vbr_list.proofs.Going.{call_on, within_call}
 use Rattle.vbr_list.proofs.Disturbing.{run_at}
-use Rattle.vbr_list.proofs.Walking.{few_to_update_most, search_round_on, searches_end}
+use Rattle.vbr_list.proofs.Walking.{few_to_update_most, search_round_on}
+use Rattle.vbr_list.proofs.LostWalks.{search_ends}
 use Rattle.vbr_list.proofs.Preparing.{within_on, within_same}
 use Rattle.vbr_list.proofs.Told.{stored_same, told_since}
 use Rattle.vbr_list.proofs.call.PendingCall.link.Goals as goal
@@ -77,15 +78,11 @@ returns-in_default-clause-refused g c =
     let tired = c.in_default.ensures.tired in
     let Q : Trace → Type 0 = λ t. Quiet c.args.self.now.at.stepper.now.trace t in
     let p = c.args.self.now.at.stepper.now.trace in
-    let q = c.loop-found.self.at.stepper.now.trace in
-    let m = c.search.new.self.at.stepper.now.trace in
-    let first = c.loop-found.invariant.1 in
-    let whole = quiet_on first s.goes.quiet in
     let S : Trace → Type 0 = λ t. SearchesFor p t c.args.self.now.key c.args.self.now.used (c.args.self.now.budget + 1) 11 in
     record {
       quiet = subst Q (sym c.give_back.ensures.back.trace) (quiet_on c.loop-found.invariant.1 s.goes.quiet);
       says = record { counts = within_same c.give_back.ensures.back.trace (within_on c.loop-found.invariant.2 s.goes.counts s.more (within_call begun)); short = rw c.loop-found.invariant.0.budget at tired.tired };
-      searches = subst S (sym c.give_back.ensures.back.trace) (searches_end p q m c.law.ensures.start (run_at p m whole.same (whole.is_run c.law.ensures.is_run)) c.args.self.now.key first.same first.seen s.goes.quiet.seen c.loop-found.invariant.6 (rw c.loop-found.invariant.0.key at c.in_default.ensures.tired.walks) (c.args.self.now.budget + 1) 8 11 (let t = rw c.loop-found.invariant.0.budget at tired.tired in omega (arith, t)) (omega arith));
+      searches = subst S (sym c.give_back.ensures.back.trace) (search_ends c.law.ensures c.loop-found.invariant.0 c.loop-found.invariant.1 c.search.ensures.goes c.loop-found.invariant.6 c.in_default.ensures.tired.walks (c.args.self.now.budget + 1) 8 11 (let t = rw c.loop-found.invariant.0.budget at tired.tired in omega (arith, t)) (omega arith));
     }
 
 pub returns-then-not-affords-clause-refused : goal.returns-then-not-affords-clause-refused
@@ -95,15 +92,11 @@ returns-then-not-affords-clause-refused g c =
     let short = rw begun.budget at (no_room c.search.new.self.used c.search.new.self.budget c.affords.result c.if-not-affords.true c.affords.ensures.1) in
     let Q : Trace → Type 0 = λ t. Quiet c.args.self.now.at.stepper.now.trace t in
     let p = c.args.self.now.at.stepper.now.trace in
-    let q = c.loop-found.self.at.stepper.now.trace in
-    let m = c.search.new.self.at.stepper.now.trace in
-    let first = c.loop-found.invariant.1 in
-    let whole = quiet_on first s.goes.quiet in
     let S : Trace → Type 0 = λ t. SearchesFor p t c.args.self.now.key c.args.self.now.used (c.args.self.now.budget + 1) 11 in
     record {
       quiet = subst Q (sym c.give_back-then-not-affords.ensures.back.trace) (quiet_on c.loop-found.invariant.1 s.goes.quiet);
       says = record { counts = within_same c.give_back-then-not-affords.ensures.back.trace (within_on c.loop-found.invariant.2 s.goes.counts s.more (within_call begun)); short = short };
-      searches = subst S (sym c.give_back-then-not-affords.ensures.back.trace) (searches_end p q m c.law.ensures.start (run_at p m whole.same (whole.is_run c.law.ensures.is_run)) c.args.self.now.key first.same first.seen s.goes.quiet.seen c.loop-found.invariant.6 (rw c.loop-found.invariant.0.key at c.in-Some.ensures.found.walks) (c.args.self.now.budget + 1) 8 11 (omega (arith, short)) (omega arith));
+      searches = subst S (sym c.give_back-then-not-affords.ensures.back.trace) (search_ends c.law.ensures c.loop-found.invariant.0 c.loop-found.invariant.1 c.search.ensures.goes c.loop-found.invariant.6 c.in-Some.ensures.found.walks (c.args.self.now.budget + 1) 8 11 (omega (arith, short)) (omega arith));
     }
 
 pub returns-in-Ok-clause-links : goal.returns-in-Ok-clause-links
@@ -112,7 +105,6 @@ returns-in-Ok-clause-links g c =
     let more = c.settle_insert.ensures.publishes in
     let begun = call_on c.loop-found.invariant.0 s.call in
     let same = call_on begun more.call in
-    let fits = c.if-not-affords.ensures in
     record {
       call = same;
       counts = within_on (within_on c.loop-found.invariant.2 s.goes.counts s.more (within_call begun)) more.counts (omega arith) (within_call same);
@@ -134,7 +126,6 @@ returns-in-Ok-clause-linked g c =
     let quiet = quiet_on first s in
     let made = rw (call_on c.loop-found.invariant.0 c.search.ensures.goes.call).key at c.in-Ok.ensures.answers.made in
     let p = c.args.self.now.at.stepper.now.trace in
-    let q = c.loop-found.self.at.stepper.now.trace in
     let m = c.search.new.self.at.stepper.now.trace in
     let few = c.settle_insert.ensures.publishes.few in
     let start = ap steps_to_update quiet.same.start in
@@ -144,6 +135,6 @@ returns-in-Ok-clause-linked g c =
         ended = m;
         quiet = quiet;
         to = made.seen;
-        searches = searches_end p q m c.law.ensures.start (run_at p m quiet.same (quiet.is_run c.law.ensures.is_run)) c.args.self.now.key first.same first.seen s.seen c.loop-found.invariant.6 (rw c.loop-found.invariant.0.key at c.in-Some.ensures.found.walks) c.settle_insert.new.self.used (steps_to_update p.start) (steps_to_update p.start + 3) (omega (arith, few, start)) (omega arith);
+        searches = search_ends c.law.ensures c.loop-found.invariant.0 c.loop-found.invariant.1 c.search.ensures.goes c.loop-found.invariant.6 c.in-Some.ensures.found.walks c.settle_insert.new.self.used (steps_to_update p.start) (steps_to_update p.start + 3) (omega (arith, few, start)) (omega arith);
       };
     }

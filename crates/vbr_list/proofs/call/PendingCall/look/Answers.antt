@@ -1,10 +1,9 @@
 use Rattle.vbr_words.specs.Buckets.{bucket_of}
 use Rattle.vbr_machine.proofs.Lemmas.{begins_run, disturbances_grow, since}
-use Rattle.vbr_slots.proofs.Lemmas.{quiet_on}
 use Rattle.vbr_list.specs.Disturbed.{disturbed_after}
 use Rattle.vbr_list.specs.Places.{sighted}
-use Rattle.vbr_list.proofs.Disturbing.{grows_disturbed, run_at}
-use Rattle.vbr_list.proofs.Walking.{repeated_last, repeated_none, repeated_on, stood_from}
+use Rattle.vbr_list.proofs.Walking.{repeated_none, stood_from}
+use Rattle.vbr_list.proofs.LostWalks.{last_walk, lost_on, run_whole, walks_again}
 use Rattle.vbr_list.proofs.Going.{call_on, call_refl, goes_further, within_call}
 use Rattle.vbr_list.proofs.Observing.{observes_on}
 use Rattle.vbr_list.proofs.Passing.{peeks_on, peeks_refl}
@@ -18,12 +17,7 @@ loop-sight-preserved g c =
     let v = c.walk.ensures.goes in
     let same = call_on c.loop-sight.invariant.0 v.call in
     let stopped = rw c.in-Err-Again.field-0-is at c.in-Err-Again.ensures.stopped in
-    let p = c.args.self.now.at.stepper.now.trace in
-    let q = c.loop-sight.self.at.stepper.now.trace in
-    let r = c.walk.new.self.at.stepper.now.trace in
-    let first = c.loop-sight.invariant.1.tries.goes.quiet in
-    let whole = quiet_on first v.goes.quiet in
-    (same, peeks_on c.loop-sight.invariant.1 v.goes c.walk.ensures.observes v.more (within_call same), repeated_on 5 p q r c.law.ensures.start (run_at p r whole.same (whole.is_run c.law.ensures.is_run)) c.args.self.now.key first.same first.seen v.goes.quiet.seen c.loop-sight.invariant.2 (rw c.loop-sight.invariant.0.key at stopped.1) (rw c.loop-sight.invariant.0.key at stopped.2))
+    (same, peeks_on c.loop-sight.invariant.1 v.goes c.walk.ensures.observes v.more (within_call same), lost_on c.law.ensures c.loop-sight.invariant.0 c.loop-sight.invariant.1.tries.goes.quiet c.walk.ensures.goes c.loop-sight.invariant.2 stopped.1 stopped.2)
 
 pub returns-in-Ok-clause-goes : goal.returns-in-Ok-clause-goes
 returns-in-Ok-clause-goes g c = goes_further c.loop-sight.invariant.0 c.loop-sight.invariant.1.tries c.walk.ensures.goes
@@ -41,16 +35,13 @@ pub returns-in-Ok-clause-sight : goal.returns-in-Ok-clause-sight
 returns-in-Ok-clause-sight g c =
     let x = c.in-Ok.ensures.sight in
     let then_stood = rw c.loop-sight.invariant.0.key at x.stood in
-    let paid = rw c.loop-sight.invariant.0.key at x.paid in
     let p = c.args.self.now.at.stepper.now.trace in
     let q = c.loop-sight.self.at.stepper.now.trace in
     let r = c.walk.new.self.at.stepper.now.trace in
     let first = c.loop-sight.invariant.1.tries.goes.quiet in
-    let then = c.walk.ensures.goes.goes.quiet in
-    let whole = quiet_on first then in
     let is = c.law.ensures.start in
-    let ok = run_at p r whole.same (whole.is_run c.law.ensures.is_run) in
     let key = c.args.self.now.key in
+    let ok = run_whole c.law.ensures c.loop-sight.invariant.0 c.loop-sight.invariant.1.tries.goes.quiet c.walk.ensures.goes in
     let stood = stood_from p q r key (sighted c.in-Ok.sight) first.same first.seen then_stood in
     let ok_stood = begins_run p.start p.passes stood.moment r.seen stood.to ok in
     record {
@@ -59,26 +50,11 @@ returns-in-Ok-clause-sight g c =
       looks = record {
         stood = stood;
         lost = c.loop-sight.invariant.2.lost;
-        repeats = repeated_last 5 p q r is ok key first.same first.seen then.seen c.loop-sight.invariant.2 paid (disturbed_after p key then_stood.moment) (disturbances_grow (since p.start p.passes q.seen then_stood.moment is ok_stood then_stood.from) p.who (bucket_of p.start.shape key));
+        repeats = last_walk c.law.ensures c.loop-sight.invariant.0 c.loop-sight.invariant.1.tries.goes.quiet c.walk.ensures.goes c.loop-sight.invariant.2 x.paid (disturbed_after p key then_stood.moment) (disturbances_grow (since p.start p.passes q.seen then_stood.moment is ok_stood then_stood.from) p.who (bucket_of p.start.shape key));
       };
     }
 
 pub returns-in-Err-Tired-clause-tired : goal.returns-in-Err-Tired-clause-tired
 returns-in-Err-Tired-clause-tired g c =
     let x = rw c.in-Err-Tired.field-0-is at c.in-Err-Tired.ensures.stopped in
-    let p = c.args.self.now.at.stepper.now.trace in
-    let q = c.loop-sight.self.at.stepper.now.trace in
-    let r = c.walk.new.self.at.stepper.now.trace in
-    let first = c.loop-sight.invariant.1.tries.goes.quiet in
-    let then = c.walk.ensures.goes.goes.quiet in
-    let whole = quiet_on first then in
-    let is = c.law.ensures.start in
-    let ok = run_at p r whole.same (whole.is_run c.law.ensures.is_run) in
-    let key = c.args.self.now.key in
-    record {
-      tired = rw c.loop-sight.invariant.0.budget at x.0;
-      looks = record {
-        lost = c.loop-sight.invariant.2.lost;
-        repeats = repeated_last 5 p q r is ok key first.same first.seen then.seen c.loop-sight.invariant.2 (rw c.loop-sight.invariant.0.key at x.1) (disturbed_after p key r.seen) (grows_disturbed p r is ok key q.seen then.seen);
-      };
-    }
+    record { tired = rw c.loop-sight.invariant.0.budget at x.0; looks = walks_again c.law.ensures c.loop-sight.invariant.0 c.loop-sight.invariant.1.tries.goes.quiet c.walk.ensures.goes c.loop-sight.invariant.2 x.1 }

@@ -1,4 +1,4 @@
-use Rattle.std.proofs.Common.{◌≡◌, ◌+◌, ℕ, ◌≤◌, Bool, true, false, Option, Some, rules, arith, sym, ap, ◌∙◌, subst, inl, inr, ⊎_elim}
+use Rattle.std.proofs.Common.{refl, ◌≡◌, ◌+◌, ℕ, ◌≤◌, true, false, Option, Some, rules, arith, sym, ap, ◌∙◌, subst, inl, inr, ⊎_elim}
 use Rattle.vbr_machine.specs.Start.{Start}
 use Rattle.vbr_words.specs.Buckets.{bucket_of}
 use Rattle.vbr_words.specs.declared.place.At.{At}
@@ -16,21 +16,16 @@ use Rattle.vbr_list.specs.Walking.{LosesNext}
 use Rattle.vbr_list.specs.Budgets.{steps_to_value_of, steps_where}
 use Rattle.vbr_list.proofs.Clearing.{leaves_clear}
 use Rattle.vbr_list.proofs.Disturbing.{lost_place_later, moves_epoch, moves_on, run_at}
-use Rattle.vbr_list.proofs.Going.{counts_step, goes_counted}
-use Rattle.vbr_list.proofs.KeptHands.{hand_on, own_kept}
+use Rattle.vbr_list.proofs.Going.{goes_counted}
+use Rattle.vbr_list.proofs.KeptHands.{hand_on}
 use Rattle.vbr_list.proofs.Marks.{apart, marks_behind}
 use Rattle.vbr_list.proofs.Moments.{key_found}
 use Rattle.vbr_list.proofs.Nearing.{fresh_marked, listed_same, named_elsewhere, read_leaves, stands_on}
 use Rattle.vbr_list.proofs.Reaching.{key_kept, pred_inside, pred_on, slot_same}
 use Rattle.vbr_list.proofs.Sufficing.{any_error}
 use Rattle.vbr_list.proofs.Told.{given_same, told_since}
-use Rattle.vbr_list.proofs.ValueReads.{cur_is, slot_at}
+use Rattle.vbr_list.proofs.ValueReads.{cur_is, few_to_value, read_then_step, settles_read, slot_at, steps_read}
 use Rattle.vbr_list.proofs.call.PendingCall.mark_and_unlink.Goals as goal
-
--- a value is read in two steps at most
-few_steps : (values : Bool) → steps_where values ≤ 2
-few_steps true = omega arith
-few_steps false = omega arith
 
 pub value_if_any-read-requires-clause-held : goal.value_if_any-read-requires-clause-held
 value_if_any-read-requires-clause-held g c =
@@ -82,7 +77,7 @@ returns-in_err-value-clause-settles g c =
     let p = c.args.self.now.at.stepper.now in
     let q = c.value_if_any-read.new.at.stepper.now in
     let reads = c.value_if_any-read.ensures.reads in
-    let steps : c.steps_to_value_of.result ≡ steps_to_value_of p.trace.start = c.steps_to_value_of.ensures ∙ ap steps_to_value_of (sym c.value_if_any-read.new.at.own.1 ∙ reads.quiet.same.start) in
+    let steps = steps_read c.steps_to_value_of.ensures c.value_if_any-read.new.at.own.1 reads.quiet.same.start in
     let first : Goes p q c.args.self.now.used (c.args.self.now.used + c.steps_to_value_of.result) = goes_counted c.args.self.now.used c.steps_to_value_of.result (steps_to_value_of p.trace.start) steps reads in
     let two = steps ∙ ap steps_where c.in_err-value.ensures.moved.some in
     record { call = search rules; counts = first.counts; hand = first.hand; more = omega (arith, two) }
@@ -93,24 +88,15 @@ returns-in_err-value-clause-rolls g c =
     let p = c.args.self.now.at.stepper.now in
     let q = c.value_if_any-read.new.at.stepper.now in
     let quiet = c.value_if_any-read.ensures.reads.quiet in
-    let steps : c.steps_to_value_of.result ≡ steps_to_value_of p.trace.start = c.steps_to_value_of.ensures ∙ ap steps_to_value_of (sym c.value_if_any-read.new.at.own.1 ∙ quiet.same.start) in
+    let steps = steps_read c.steps_to_value_of.ensures c.value_if_any-read.new.at.own.1 quiet.same.start in
     let two = steps ∙ ap steps_where lost.some in
     any_error c.from_residual.result (λ rollback. record { quiet = quiet; few = omega (arith, two); loses = inl (inl (moves_on p.trace q.trace quiet.same quiet.seen (moves_epoch _ lost.rolls))) })
 
 pub returns-in_err-marked-clause-settles : goal.returns-in_err-marked-clause-settles
 returns-in_err-marked-clause-settles g c =
-    let p = c.args.self.now.at.stepper.now in
-    let q = c.value_if_any-read.new.at.stepper.now in
     let reads = c.value_if_any-read.ensures.reads in
-    let steps : c.steps_to_value_of.result ≡ steps_to_value_of p.trace.start = c.steps_to_value_of.ensures ∙ ap steps_to_value_of (sym c.value_if_any-read.new.at.own.1 ∙ reads.quiet.same.start) in
-    let first : Goes p q c.args.self.now.used (c.args.self.now.used + c.steps_to_value_of.result) = goes_counted c.args.self.now.used c.steps_to_value_of.result (steps_to_value_of p.trace.start) steps reads in
     let mark = c.mark_entry-outcome.ensures.keeps in
-    record {
-      call = search rules;
-      counts = counts_on first.counts (counts_step (c.args.self.now.used + c.steps_to_value_of.result) 1 mark.took);
-      hand = hand_on first.hand (own_kept mark.own mark.takes_no_slot);
-      more = omega arith;
-    }
+    settles_read (search rules) refl (steps_read c.steps_to_value_of.ensures c.value_if_any-read.new.at.own.1 reads.quiet.same.start) reads mark.took mark.own mark.takes_no_slot
 
 pub returns-in_err-marked-clause-rolls : goal.returns-in_err-marked-clause-rolls
 returns-in_err-marked-clause-rolls g c =
@@ -119,8 +105,8 @@ returns-in_err-marked-clause-rolls g c =
     let p = c.args.self.now.at.stepper.now.trace in
     let r = c.mark_entry-outcome.new.at.stepper.now.trace in
     let Q : Option Held → Type 0 = LosesNext p r in
-    let steps : c.steps_to_value_of.result ≡ steps_to_value_of p.start = c.steps_to_value_of.ensures ∙ ap steps_to_value_of (sym c.value_if_any-read.new.at.own.1 ∙ reads.quiet.same.start) in
-    let two = few_steps p.start.shape.values in
+    let steps = steps_read c.steps_to_value_of.ensures c.value_if_any-read.new.at.own.1 reads.quiet.same.start in
+    let two = few_to_value p.start in
     any_error c.from_residual-in_err-marked.result (λ rollback. record {
       quiet = quiet_on reads.quiet lost.quiet;
       few = omega (arith, steps, two);
@@ -129,19 +115,11 @@ returns-in_err-marked-clause-rolls g c =
 
 pub returns-then-affords-clause-settles : goal.returns-then-affords-clause-settles
 returns-then-affords-clause-settles g c =
-    let p = c.args.self.now.at.stepper.now in
-    let q = c.value_if_any-read.new.at.stepper.now in
     let reads = c.value_if_any-read.ensures.reads in
-    let steps : c.steps_to_value_of.result ≡ steps_to_value_of p.trace.start = c.steps_to_value_of.ensures ∙ ap steps_to_value_of (sym c.value_if_any-read.new.at.own.1 ∙ reads.quiet.same.start) in
-    let first : Goes p q c.args.self.now.used (c.args.self.now.used + c.steps_to_value_of.result) = goes_counted c.args.self.now.used c.steps_to_value_of.result (steps_to_value_of p.trace.start) steps reads in
     let mark = c.mark_entry-outcome.ensures.keeps in
+    let then = read_then_step c.args.self.now.used c.steps_to_value_of.result (steps_read c.steps_to_value_of.ensures c.value_if_any-read.new.at.own.1 reads.quiet.same.start) reads mark.took mark.own mark.takes_no_slot in
     let more = c.unlink_marked.ensures.goes in
-    record {
-      call = search rules;
-      counts = counts_on (counts_on first.counts (counts_step (c.args.self.now.used + c.steps_to_value_of.result) 1 mark.took)) more.goes.counts;
-      hand = hand_on (hand_on first.hand (own_kept mark.own mark.takes_no_slot)) more.goes.hand;
-      more = let m = more.more in omega (arith, m);
-    }
+    record { call = search rules; counts = counts_on then.0 more.goes.counts; hand = hand_on then.1 more.goes.hand; more = let m = more.more in omega (arith, m) }
 
 pub returns-then-affords-clause-answers : goal.returns-then-affords-clause-answers
 returns-then-affords-clause-answers g c =
@@ -159,7 +137,7 @@ returns-then-affords-clause-answers g c =
     let q = c.value_if_any-read.new.at.stepper.now in
     let r = c.mark_entry-outcome.new.at.stepper.now in
     let reads = c.value_if_any-read.ensures.reads in
-    let steps : c.steps_to_value_of.result ≡ steps_to_value_of p.trace.start = c.steps_to_value_of.ensures ∙ ap steps_to_value_of (sym c.value_if_any-read.new.at.own.1 ∙ same.start) in
+    let steps = steps_read c.steps_to_value_of.ensures c.value_if_any-read.new.at.own.1 same.start in
     let first : Goes p q c.args.self.now.used (c.args.self.now.used + c.steps_to_value_of.result) = goes_counted c.args.self.now.used c.steps_to_value_of.result (steps_to_value_of p.trace.start) steps reads in
     let mark = c.mark_entry-outcome.ensures.keeps in
     let pred = pred_on c.args.self.now.key f.pred made.same mark.keeps (pred_on c.args.self.now.key f.pred same keeps c.requires.locates.pred) in
@@ -194,18 +172,9 @@ returns-then-affords-clause-answers g c =
 
 pub returns-else-affords-clause-settles : goal.returns-else-affords-clause-settles
 returns-else-affords-clause-settles g c =
-    let p = c.args.self.now.at.stepper.now in
-    let q = c.value_if_any-read.new.at.stepper.now in
     let reads = c.value_if_any-read.ensures.reads in
-    let steps : c.steps_to_value_of.result ≡ steps_to_value_of p.trace.start = c.steps_to_value_of.ensures ∙ ap steps_to_value_of (sym c.value_if_any-read.new.at.own.1 ∙ reads.quiet.same.start) in
-    let first : Goes p q c.args.self.now.used (c.args.self.now.used + c.steps_to_value_of.result) = goes_counted c.args.self.now.used c.steps_to_value_of.result (steps_to_value_of p.trace.start) steps reads in
     let won = c.mark_entry-outcome.ensures.keeps in
-    record {
-      call = search rules;
-      counts = counts_on first.counts (counts_step (c.args.self.now.used + c.steps_to_value_of.result) 1 won.took);
-      hand = hand_on first.hand (own_kept won.own won.takes_no_slot);
-      more = omega arith;
-    }
+    settles_read (search rules) refl (steps_read c.steps_to_value_of.ensures c.value_if_any-read.new.at.own.1 reads.quiet.same.start) reads won.took won.own won.takes_no_slot
 
 pub returns-else-affords-clause-answers : goal.returns-else-affords-clause-answers
 returns-else-affords-clause-answers g c =
@@ -220,10 +189,10 @@ returns-else-affords-clause-answers g c =
     let told = told_since c.value_if_any-read.ensures.reads.quiet (given_same same Remove c.args.self.now.key (Some c.in_ok-value.value)) made in
     record {
       made = told;
-      paid = inl (let steps : c.steps_to_value_of.result ≡ steps_to_value_of c.args.self.now.at.stepper.now.trace.start = c.steps_to_value_of.ensures ∙ ap steps_to_value_of (sym c.value_if_any-read.new.at.own.1 ∙ same.start) in omega (arith, steps));
+      paid = inl (let steps = steps_read c.steps_to_value_of.ensures c.value_if_any-read.new.at.own.1 same.start in omega (arith, steps));
       unlists = λ yes room. (let f = c.if-affords.false in let z = c.affords.ensures.1 room in let w : false ≡ true = sym f ∙ z in absurd (cc));
       soon = λ fresh stands alone.
-          let steps : c.steps_to_value_of.result ≡ steps_to_value_of c.args.self.now.at.stepper.now.trace.start = c.steps_to_value_of.ensures ∙ ap steps_to_value_of (sym c.value_if_any-read.new.at.own.1 ∙ same.start) in
+          let steps = steps_read c.steps_to_value_of.ensures c.value_if_any-read.new.at.own.1 same.start in
           let short = no_room (c.args.self.now.used + c.steps_to_value_of.result + 1) c.args.self.now.budget c.affords.result c.if-affords.false c.affords.ensures.1 in
           record { few = omega (arith, steps); fewer = λ yes room. omega (arith, steps, short, room) };
     }

@@ -1,17 +1,17 @@
-use Rattle.std.proofs.Common.{ℕ, ◌+◌, Bool, inr, sym, ◌∙◌, subst, arith}
+use Rattle.std.proofs.Common.{◌+◌, Bool, inr, sym, ◌∙◌, subst, arith}
 use Rattle.std.proofs.lemmas.Result.{err_from_is_err_and}
 use Rattle.vbr_slots.proofs.Lemmas.{quiet_on}
 use Rattle.vbr_at_table.specs.Budgets.{steps_to_take_among}
 use Rattle.vbr_at_table.specs.Gained.{gained}
-use Rattle.vbr_at_table.proofs.Lemmas.{no_room, none_on, some_grown}
+use Rattle.vbr_at_table.proofs.Lemmas.{no_room, some_grown}
 use Rattle.vbr_at_table.specs.Moments.{WasSo}
 use Rattle.vbr_list.specs.Disturbed.{steps_for_slot}
-use Rattle.vbr_list.specs.Inserting.{CountsWithin}
-use Rattle.vbr_list.proofs.Going.{call_on, counts_step, goes_on, goes_step, tries_on, within_call}
+use Rattle.vbr_list.proofs.Going.{call_on, goes_further, goes_step, tries_on, within_call}
 use Rattle.vbr_list.proofs.Disturbing.{run_at}
-use Rattle.vbr_list.proofs.Walking.{in_vain, search_round_on, searches_end, searches_later}
+use Rattle.vbr_list.proofs.Walking.{in_vain, search_round_on, searches_later}
+use Rattle.vbr_list.proofs.LostWalks.{search_ends}
 use Rattle.vbr_list.proofs.Moments.{found_since, was_so}
-use Rattle.vbr_list.proofs.Preparing.{if_err, if_ok, made_since, prepares_none, prepares_on, refuses_after, within_on, within_tries}
+use Rattle.vbr_list.proofs.Preparing.{if_err, if_ok, made_since, prepares_answered, prepares_on, prepares_still, refuses_after, steps_gone}
 use Rattle.vbr_list.proofs.Sufficing.{take_after, take_least}
 use Rattle.vbr_list.proofs.call.PendingCall.prepare.Goals as goal
 
@@ -36,154 +36,113 @@ loop-found-preserved g c =
     )
 
 pub returns-in_default-clause-prepares : goal.returns-in_default-clause-prepares
-returns-in_default-clause-prepares g c =
-    let s = c.search.ensures.goes in
-    let begun = goes_on c.loop-found.invariant.1.goes s.goes in
-    let same = call_on c.loop-found.invariant.0 s.call in
-    prepares_none c.args.self.now c.search.new.self same (within_on (within_tries c.loop-found.invariant.1) s.goes.counts s.more (within_call same)) begun.hand.takes_no_slot begun.hand.hand
+returns-in_default-clause-prepares g c = prepares_still (goes_further c.loop-found.invariant.0 c.loop-found.invariant.1 c.search.ensures.goes)
 
 pub returns-then-not-affords-clause-prepares : goal.returns-then-not-affords-clause-prepares
-returns-then-not-affords-clause-prepares g c =
-    let s = c.search.ensures.goes in
-    let begun = goes_on c.loop-found.invariant.1.goes s.goes in
-    let same = call_on c.loop-found.invariant.0 s.call in
-    prepares_none c.args.self.now c.search.new.self same (within_on (within_tries c.loop-found.invariant.1) s.goes.counts s.more (within_call same)) begun.hand.takes_no_slot begun.hand.hand
+returns-then-not-affords-clause-prepares g c = prepares_still (goes_further c.loop-found.invariant.0 c.loop-found.invariant.1 c.search.ensures.goes)
 
 pub returns-in_err-hand-clause-prepares : goal.returns-in_err-hand-clause-prepares
-returns-in_err-hand-clause-prepares g c =
-    let s = c.search.ensures.goes in
-    let begun = goes_on c.loop-found.invariant.1.goes s.goes in
-    let same = call_on c.loop-found.invariant.0 s.call in
-    prepares_on c.args.self.now c.search.new.self c.provide.new.self same (within_on (within_tries c.loop-found.invariant.1) s.goes.counts s.more (within_call same)) begun.quiet begun.hand.takes_no_slot begun.hand.hand c.provide.ensures.one c.provide.ensures.prepares
+returns-in_err-hand-clause-prepares g c = prepares_on (goes_further c.loop-found.invariant.0 c.loop-found.invariant.1 c.search.ensures.goes) c.provide.ensures.one c.provide.ensures.prepares
 
 pub returns-then-not-found-clause-prepares : goal.returns-then-not-found-clause-prepares
-returns-then-not-found-clause-prepares g c =
-    let s = c.search.ensures.goes in
-    let begun = goes_on c.loop-found.invariant.1.goes s.goes in
-    let same = call_on c.loop-found.invariant.0 s.call in
-    prepares_on c.args.self.now c.search.new.self c.provide.new.self same (within_on (within_tries c.loop-found.invariant.1) s.goes.counts s.more (within_call same)) begun.quiet begun.hand.takes_no_slot begun.hand.hand c.provide.ensures.one c.provide.ensures.prepares
+returns-then-not-found-clause-prepares g c = prepares_on (goes_further c.loop-found.invariant.0 c.loop-found.invariant.1 c.search.ensures.goes) c.provide.ensures.one c.provide.ensures.prepares
 
 pub returns-then-is_ok-clause-prepares : goal.returns-then-is_ok-clause-prepares
 returns-then-is_ok-clause-prepares g c =
-    let s = c.search.ensures.goes in
     let d = c.deny.ensures in
-    let begun = goes_on c.loop-found.invariant.1.goes s.goes in
-    let same = call_on c.loop-found.invariant.0 s.call in
-    let fits = c.affords.ensures.0 c.if-not-affords.false in
-    let counts = within_on (within_tries c.loop-found.invariant.1) s.goes.counts s.more (within_call same) in
-    let budget = same.budget in
-    let P : ℕ → Type 0 = λ used. CountsWithin c.args.self.now.at.stepper.now.trace c.deny.new.self.at.stepper.now.trace c.args.self.now.used used c.args.self.now.budget in
-    prepares_none c.args.self.now c.deny.new.self (call_on same d.call) (subst P (sym d.used) (within_on counts (counts_step c.search.new.self.used 1 d.keeps.took) (omega arith) (omega (arith, fits, budget)))) (none_on begun.hand.takes_no_slot d.keeps.takes_no_slot) (d.keeps.own.hand ∙ begun.hand.hand)
+    prepares_answered (goes_further c.loop-found.invariant.0 c.loop-found.invariant.1 c.search.ensures.goes) d.call d.used (c.affords.ensures.0 c.if-not-affords.false) d.keeps.took d.keeps.takes_no_slot d.keeps.own.hand
 
 pub returns-in_default-clause-refused : goal.returns-in_default-clause-refused
 returns-in_default-clause-refused g c =
-    let s = c.search.ensures.goes in
-    let begun = goes_on c.loop-found.invariant.1.goes s.goes in
-    let same = call_on c.loop-found.invariant.0 s.call in
+    let gone = goes_further c.loop-found.invariant.0 c.loop-found.invariant.1 c.search.ensures.goes in
     let tired = c.in_default.ensures.tired in
     let p = c.args.self.now.at.stepper.now in
-    let q = c.loop-found.self.at.stepper.now.trace in
     let m = c.search.new.self.at.stepper.now.trace in
-    let first = c.loop-found.invariant.1.goes.quiet in
     let least = take_least p m in
     record {
-      quiet = begun.quiet;
-      hand = begun.hand.hand ∙ c.requires.empty_hand;
-      says = record { counts = within_on (within_tries c.loop-found.invariant.1) s.goes.counts s.more (within_call same); short = rw c.loop-found.invariant.0.budget at tired.tired };
-      searches = searches_end p.trace q m c.law.ensures.start (run_at p.trace m begun.quiet.same (begun.quiet.is_run c.law.ensures.is_run)) c.args.self.now.key first.same first.seen s.goes.quiet.seen c.loop-found.invariant.2 (rw c.loop-found.invariant.0.key at tired.walks) (c.args.self.now.budget + 1) 8 (steps_for_slot p m + 10) (let t = rw c.loop-found.invariant.0.budget at tired.tired in omega (arith, t)) (omega (arith, least));
+      quiet = gone.goes.quiet;
+      hand = gone.goes.hand.hand ∙ c.requires.empty_hand;
+      says = record { counts = steps_gone gone; short = rw c.loop-found.invariant.0.budget at tired.tired };
+      searches = search_ends c.law.ensures c.loop-found.invariant.0 c.loop-found.invariant.1.goes.quiet c.search.ensures.goes c.loop-found.invariant.2 tired.walks (c.args.self.now.budget + 1) 8 (steps_for_slot p m + 10) (let t = rw c.loop-found.invariant.0.budget at tired.tired in omega (arith, t)) (omega (arith, least));
     }
 
 pub returns-then-not-affords-clause-refused : goal.returns-then-not-affords-clause-refused
 returns-then-not-affords-clause-refused g c =
-    let s = c.search.ensures.goes in
-    let begun = goes_on c.loop-found.invariant.1.goes s.goes in
-    let same = call_on c.loop-found.invariant.0 s.call in
-    let short = rw same.budget at (no_room c.search.new.self.used c.search.new.self.budget c.affords.result c.if-not-affords.true c.affords.ensures.1) in
+    let gone = goes_further c.loop-found.invariant.0 c.loop-found.invariant.1 c.search.ensures.goes in
+    let short = rw gone.call.budget at (no_room c.search.new.self.used c.search.new.self.budget c.affords.result c.if-not-affords.true c.affords.ensures.1) in
     let p = c.args.self.now.at.stepper.now in
-    let q = c.loop-found.self.at.stepper.now.trace in
     let m = c.search.new.self.at.stepper.now.trace in
-    let first = c.loop-found.invariant.1.goes.quiet in
     let least = take_least p m in
     record {
-      quiet = begun.quiet;
-      hand = begun.hand.hand ∙ c.requires.empty_hand;
-      says = record { counts = within_on (within_tries c.loop-found.invariant.1) s.goes.counts s.more (within_call same); short = short };
-      searches = searches_end p.trace q m c.law.ensures.start (run_at p.trace m begun.quiet.same (begun.quiet.is_run c.law.ensures.is_run)) c.args.self.now.key first.same first.seen s.goes.quiet.seen c.loop-found.invariant.2 (rw c.loop-found.invariant.0.key at c.in-Some.ensures.found.walks) (c.args.self.now.budget + 1) 8 (steps_for_slot p m + 10) (omega (arith, short)) (omega (arith, least));
+      quiet = gone.goes.quiet;
+      hand = gone.goes.hand.hand ∙ c.requires.empty_hand;
+      says = record { counts = steps_gone gone; short = short };
+      searches = search_ends c.law.ensures c.loop-found.invariant.0 c.loop-found.invariant.1.goes.quiet c.search.ensures.goes c.loop-found.invariant.2 c.in-Some.ensures.found.walks (c.args.self.now.budget + 1) 8 (steps_for_slot p m + 10) (omega (arith, short)) (omega (arith, least));
     }
 
 pub returns-in_err-hand-clause-refused : goal.returns-in_err-hand-clause-refused
 returns-in_err-hand-clause-refused g c =
-    let s = c.search.ensures.goes in
-    let begun = goes_on c.loop-found.invariant.1.goes s.goes in
-    let same = call_on c.loop-found.invariant.0 s.call in
+    let gone = goes_further c.loop-found.invariant.0 c.loop-found.invariant.1 c.search.ensures.goes in
     let error = err_from_is_err_and c.from_residual.result c.from_residual.ensures.1 in
     let refusal = c.in_err-hand.field-0.0 in
     let none = c.in_err-hand.ensures.refused in
     let d = c.provide.ensures.quiet in
     let p = c.args.self.now.at.stepper.now in
-    let q = c.loop-found.self.at.stepper.now.trace in
     let m = c.search.new.self.at.stepper.now in
     let r = c.provide.new.self.at.stepper.now in
     let first = c.loop-found.invariant.1.goes.quiet in
-    let whole = quiet_on begun.quiet d in
-    let some = some_grown p m begun.hand.takes_no_slot.grows in
-    let taken = take_after p m r.trace begun.quiet some in
-    let counts = within_on (within_tries c.loop-found.invariant.1) s.goes.counts s.more (within_call same) in
-    let so = was_so c.args.self.now.key c.in-Some.found c.law.ensures.start begun.quiet.same (found_since c.args.self.now.key c.in-Some.found first (rw c.loop-found.invariant.0.key at c.in-Some.ensures.found.found)) in
+    let whole = quiet_on gone.goes.quiet d in
+    let some = some_grown p m gone.goes.hand.takes_no_slot.grows in
+    let taken = take_after p m r.trace gone.goes.quiet some in
+    let counts = steps_gone gone in
+    let so = was_so c.args.self.now.key c.in-Some.found c.law.ensures.start gone.goes.quiet.same (found_since c.args.self.now.key c.in-Some.found first (rw c.loop-found.invariant.0.key at c.in-Some.ensures.found.found)) in
     let P : Bool → Type 0 = WasSo p.trace m.trace c.args.self.now.key in
     rw (error.1, error.2) (record {
       quiet = whole;
       hand = none.hand;
-      says = refuses_after p m r begun.quiet some counts (subst P c.if-not-found.true so) d refusal (rw same.budget at none.says);
+      says = refuses_after p m r gone.goes.quiet some counts (subst P c.if-not-found.true so) d refusal (rw gone.call.budget at none.says);
       searches = in_vain p.trace r.trace c.args.self.now.key c.args.self.now.used c.search.new.self.used c.args.self.now.budget (steps_to_take_among m.trace.start m.pool (gained m.trace r.trace)) (steps_for_slot p r.trace + 10)
-          (λ since_then more le least. searches_later p.trace m.trace r.trace c.law.ensures.start (run_at p.trace r.trace whole.same (whole.is_run c.law.ensures.is_run)) c.args.self.now.key begun.quiet.seen d.seen (steps_for_slot p r.trace + 10) (omega arith)
-          (searches_end p.trace q m.trace c.law.ensures.start (run_at p.trace m.trace begun.quiet.same (begun.quiet.is_run c.law.ensures.is_run)) c.args.self.now.key first.same first.seen s.goes.quiet.seen c.loop-found.invariant.2 (rw c.loop-found.invariant.0.key at c.in-Some.ensures.found.walks) since_then more (steps_for_slot p r.trace + 10) le least))
-          refusal (omega (arith, taken)) (rw same.budget at none.enough);
+          (λ since_then more le least. searches_later p.trace m.trace r.trace c.law.ensures.start (run_at p.trace r.trace whole.same (whole.is_run c.law.ensures.is_run)) c.args.self.now.key gone.goes.quiet.seen d.seen (steps_for_slot p r.trace + 10) (omega arith)
+          (search_ends c.law.ensures c.loop-found.invariant.0 c.loop-found.invariant.1.goes.quiet c.search.ensures.goes c.loop-found.invariant.2 c.in-Some.ensures.found.walks since_then more (steps_for_slot p r.trace + 10) le least))
+          refusal (omega (arith, taken)) (rw gone.call.budget at none.enough);
     })
 
 pub returns-then-is_ok-clause-prepared : goal.returns-then-is_ok-clause-prepared
 returns-then-is_ok-clause-prepared g c =
-    let s = c.search.ensures.goes in
     let d = c.deny.ensures in
-    let begun = goes_on c.loop-found.invariant.1.goes s.goes in
-    let same = call_on c.loop-found.invariant.0 s.call in
+    let gone = goes_further c.loop-found.invariant.0 c.loop-found.invariant.1 c.search.ensures.goes in
     let made = if_ok c.deny.result (sym c.is_ok.ensures.value ∙ c.if-is_ok.true) d.made in
     let p = c.args.self.now.at.stepper.now in
-    let q = c.loop-found.self.at.stepper.now.trace in
     let m = c.search.new.self.at.stepper.now.trace in
     let r = c.deny.new.self.at.stepper.now.trace in
-    let first = c.loop-found.invariant.1.goes.quiet in
     let least = take_least p r in
     let used = d.used in
     record {
-      is = (made_since begun.quiet (rw same.key at made), d.keeps.own.hand ∙ begun.hand.hand ∙ c.requires.empty_hand);
+      is = (made_since gone.goes.quiet (rw gone.call.key at made), d.keeps.own.hand ∙ gone.goes.hand.hand ∙ c.requires.empty_hand);
       searched = record {
         ended = m;
-        quiet = begun.quiet;
+        quiet = gone.goes.quiet;
         to = made.seen;
-        searches = searches_end p.trace q m c.law.ensures.start (run_at p.trace m begun.quiet.same (begun.quiet.is_run c.law.ensures.is_run)) c.args.self.now.key first.same first.seen s.goes.quiet.seen c.loop-found.invariant.2 (rw c.loop-found.invariant.0.key at c.in-Some.ensures.found.walks) c.deny.new.self.used 1 (steps_for_slot p r + 3) (omega (arith, used)) (omega (arith, least));
+        searches = search_ends c.law.ensures c.loop-found.invariant.0 c.loop-found.invariant.1.goes.quiet c.search.ensures.goes c.loop-found.invariant.2 c.in-Some.ensures.found.walks c.deny.new.self.used 1 (steps_for_slot p r + 3) (omega (arith, used)) (omega (arith, least));
       };
     }
 
 pub returns-then-not-found-clause-prepared : goal.returns-then-not-found-clause-prepared
 returns-then-not-found-clause-prepared g c =
-    let s = c.search.ensures.goes in
-    let begun = goes_on c.loop-found.invariant.1.goes s.goes in
+    let gone = goes_further c.loop-found.invariant.0 c.loop-found.invariant.1 c.search.ensures.goes in
     let d = c.provide.ensures.quiet in
     let hand = c.in_ok-hand.ensures.hand in
     let p = c.args.self.now.at.stepper.now in
-    let q = c.loop-found.self.at.stepper.now.trace in
     let m = c.search.new.self.at.stepper.now in
     let r = c.provide.new.self.at.stepper.now in
-    let first = c.loop-found.invariant.1.goes.quiet in
-    let taken = take_after p m r.trace begun.quiet (some_grown p m begun.hand.takes_no_slot.grows) in
+    let taken = take_after p m r.trace gone.goes.quiet (some_grown p m gone.goes.hand.takes_no_slot.grows) in
     let few = hand.few in
     record {
-      is = (quiet_on begun.quiet d, hand.has);
+      is = (quiet_on gone.goes.quiet d, hand.has);
       searched = record {
         ended = m.trace;
-        quiet = begun.quiet;
+        quiet = gone.goes.quiet;
         to = d.seen;
-        searches = searches_end p.trace q m.trace c.law.ensures.start (run_at p.trace m.trace begun.quiet.same (begun.quiet.is_run c.law.ensures.is_run)) c.args.self.now.key first.same first.seen s.goes.quiet.seen c.loop-found.invariant.2 (rw c.loop-found.invariant.0.key at c.in-Some.ensures.found.walks) c.provide.new.self.used (steps_for_slot p r.trace) (steps_for_slot p r.trace + 3) (omega (arith, few, taken)) (omega arith);
+        searches = search_ends c.law.ensures c.loop-found.invariant.0 c.loop-found.invariant.1.goes.quiet c.search.ensures.goes c.loop-found.invariant.2 c.in-Some.ensures.found.walks c.provide.new.self.used (steps_for_slot p r.trace) (steps_for_slot p r.trace + 3) (omega (arith, few, taken)) (omega arith);
       };
     }

@@ -1,10 +1,8 @@
-use Rattle.std.proofs.Common.{ℕ, sym, ◌∙◌, subst, arith}
+use Rattle.std.proofs.Common.{sym, ◌∙◌, arith}
 use Rattle.std.proofs.lemmas.Result.{err_from_is_err_and}
 use Rattle.vbr_slots.proofs.Lemmas.{quiet_on}
-use Rattle.vbr_at_table.proofs.Lemmas.{none_on}
-use Rattle.vbr_list.specs.Inserting.{CountsWithin}
-use Rattle.vbr_list.proofs.Going.{call_on, counts_step, goes_on, goes_step, tries_on, within_call}
-use Rattle.vbr_list.proofs.Preparing.{if_err, if_ok, made_since, prepares_none, prepares_on, within_on, within_tries}
+use Rattle.vbr_list.proofs.Going.{call_on, goes_further, goes_step, tries_on, within_call}
+use Rattle.vbr_list.proofs.Preparing.{if_err, if_ok, made_since, prepares_answered, prepares_on, prepares_still}
 use Rattle.vbr_list.proofs.call.PendingCall.ready.Goals as goal
 
 pub loop-found-preserved : goal.loop-found-preserved
@@ -20,71 +18,46 @@ loop-found-preserved g c =
     )
 
 pub returns-in_default-clause-prepares : goal.returns-in_default-clause-prepares
-returns-in_default-clause-prepares g c =
-    let s = c.search.ensures.goes in
-    let begun = goes_on c.loop-found.invariant.1.goes s.goes in
-    let same = call_on c.loop-found.invariant.0 s.call in
-    prepares_none c.args.self.now c.search.new.self same (within_on (within_tries c.loop-found.invariant.1) s.goes.counts s.more (within_call same)) begun.hand.takes_no_slot begun.hand.hand
+returns-in_default-clause-prepares g c = prepares_still (goes_further c.loop-found.invariant.0 c.loop-found.invariant.1 c.search.ensures.goes)
 
 pub returns-then-not-affords-clause-prepares : goal.returns-then-not-affords-clause-prepares
-returns-then-not-affords-clause-prepares g c =
-    let s = c.search.ensures.goes in
-    let begun = goes_on c.loop-found.invariant.1.goes s.goes in
-    let same = call_on c.loop-found.invariant.0 s.call in
-    prepares_none c.args.self.now c.search.new.self same (within_on (within_tries c.loop-found.invariant.1) s.goes.counts s.more (within_call same)) begun.hand.takes_no_slot begun.hand.hand
+returns-then-not-affords-clause-prepares g c = prepares_still (goes_further c.loop-found.invariant.0 c.loop-found.invariant.1 c.search.ensures.goes)
 
 pub returns-in_err-hand-clause-prepares : goal.returns-in_err-hand-clause-prepares
-returns-in_err-hand-clause-prepares g c =
-    let s = c.search.ensures.goes in
-    let begun = goes_on c.loop-found.invariant.1.goes s.goes in
-    let same = call_on c.loop-found.invariant.0 s.call in
-    prepares_on c.args.self.now c.search.new.self c.provide.new.self same (within_on (within_tries c.loop-found.invariant.1) s.goes.counts s.more (within_call same)) begun.quiet begun.hand.takes_no_slot begun.hand.hand c.provide.ensures.one c.provide.ensures.prepares
+returns-in_err-hand-clause-prepares g c = prepares_on (goes_further c.loop-found.invariant.0 c.loop-found.invariant.1 c.search.ensures.goes) c.provide.ensures.one c.provide.ensures.prepares
 
 pub returns-then-found-clause-prepares : goal.returns-then-found-clause-prepares
-returns-then-found-clause-prepares g c =
-    let s = c.search.ensures.goes in
-    let begun = goes_on c.loop-found.invariant.1.goes s.goes in
-    let same = call_on c.loop-found.invariant.0 s.call in
-    prepares_on c.args.self.now c.search.new.self c.provide.new.self same (within_on (within_tries c.loop-found.invariant.1) s.goes.counts s.more (within_call same)) begun.quiet begun.hand.takes_no_slot begun.hand.hand c.provide.ensures.one c.provide.ensures.prepares
+returns-then-found-clause-prepares g c = prepares_on (goes_further c.loop-found.invariant.0 c.loop-found.invariant.1 c.search.ensures.goes) c.provide.ensures.one c.provide.ensures.prepares
 
 pub returns-then-is_ok-clause-prepares : goal.returns-then-is_ok-clause-prepares
 returns-then-is_ok-clause-prepares g c =
-    let s = c.search.ensures.goes in
     let d = c.answer_absent.ensures in
-    let begun = goes_on c.loop-found.invariant.1.goes s.goes in
-    let same = call_on c.loop-found.invariant.0 s.call in
-    let fits = c.affords.ensures.0 c.if-not-affords.false in
-    let counts = within_on (within_tries c.loop-found.invariant.1) s.goes.counts s.more (within_call same) in
-    let budget = same.budget in
-    let P : ℕ → Type 0 = λ used. CountsWithin c.args.self.now.at.stepper.now.trace c.answer_absent.new.self.at.stepper.now.trace c.args.self.now.used used c.args.self.now.budget in
-    prepares_none c.args.self.now c.answer_absent.new.self (call_on same d.call) (subst P (sym d.used) (within_on counts (counts_step c.search.new.self.used 1 d.keeps.took) (omega arith) (omega (arith, fits, budget)))) (none_on begun.hand.takes_no_slot d.keeps.takes_no_slot) (d.keeps.own.hand ∙ begun.hand.hand)
+    prepares_answered (goes_further c.loop-found.invariant.0 c.loop-found.invariant.1 c.search.ensures.goes) d.call d.used (c.affords.ensures.0 c.if-not-affords.false) d.keeps.took d.keeps.takes_no_slot d.keeps.own.hand
 
 pub returns-in_default-clause-refused : goal.returns-in_default-clause-refused
 returns-in_default-clause-refused g c =
-    let begun = goes_on c.loop-found.invariant.1.goes c.search.ensures.goes.goes in
-    record { quiet = begun.quiet; hand = begun.hand.hand ∙ c.requires.empty_hand }
+    let gone = goes_further c.loop-found.invariant.0 c.loop-found.invariant.1 c.search.ensures.goes in
+    record { quiet = gone.goes.quiet; hand = gone.goes.hand.hand ∙ c.requires.empty_hand }
 
 pub returns-then-not-affords-clause-refused : goal.returns-then-not-affords-clause-refused
 returns-then-not-affords-clause-refused g c =
-    let begun = goes_on c.loop-found.invariant.1.goes c.search.ensures.goes.goes in
-    record { quiet = begun.quiet; hand = begun.hand.hand ∙ c.requires.empty_hand }
+    let gone = goes_further c.loop-found.invariant.0 c.loop-found.invariant.1 c.search.ensures.goes in
+    record { quiet = gone.goes.quiet; hand = gone.goes.hand.hand ∙ c.requires.empty_hand }
 
 pub returns-in_err-hand-clause-refused : goal.returns-in_err-hand-clause-refused
 returns-in_err-hand-clause-refused g c =
-    let begun = goes_on c.loop-found.invariant.1.goes c.search.ensures.goes.goes in
+    let gone = goes_further c.loop-found.invariant.0 c.loop-found.invariant.1 c.search.ensures.goes in
     let error = err_from_is_err_and c.from_residual.result c.from_residual.ensures.1 in
-    rw error.1 (record { quiet = quiet_on begun.quiet c.provide.ensures.quiet; hand = c.in_err-hand.ensures.refused.hand })
+    rw error.1 (record { quiet = quiet_on gone.goes.quiet c.provide.ensures.quiet; hand = c.in_err-hand.ensures.refused.hand })
 
 pub returns-then-is_ok-clause-is : goal.returns-then-is_ok-clause-is
 returns-then-is_ok-clause-is g c =
-    let s = c.search.ensures.goes in
     let d = c.answer_absent.ensures in
-    let begun = goes_on c.loop-found.invariant.1.goes s.goes in
-    let same = call_on c.loop-found.invariant.0 s.call in
+    let gone = goes_further c.loop-found.invariant.0 c.loop-found.invariant.1 c.search.ensures.goes in
     let made = if_ok c.answer_absent.result (sym c.is_ok.ensures.value ∙ c.if-is_ok.true) d.made in
-    record { made = made_since begun.quiet (rw same.key at made); spent = d.keeps.own.hand ∙ begun.hand.hand ∙ c.requires.empty_hand }
+    record { made = made_since gone.goes.quiet (rw gone.call.key at made); spent = d.keeps.own.hand ∙ gone.goes.hand.hand ∙ c.requires.empty_hand }
 
 pub returns-then-found-clause-is : goal.returns-then-found-clause-is
 returns-then-found-clause-is g c =
-    let begun = goes_on c.loop-found.invariant.1.goes c.search.ensures.goes.goes in
-    (quiet_on begun.quiet c.provide.ensures.quiet, c.in_ok-hand.ensures.hand.has)
+    let gone = goes_further c.loop-found.invariant.0 c.loop-found.invariant.1 c.search.ensures.goes in
+    (quiet_on gone.goes.quiet c.provide.ensures.quiet, c.in_ok-hand.ensures.hand.has)

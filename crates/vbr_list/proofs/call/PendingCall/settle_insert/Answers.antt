@@ -1,4 +1,4 @@
-use Rattle.std.proofs.Common.{◌≡◌, false, ap, rules, arith, sym, subst, ◌∙◌}
+use Rattle.std.proofs.Common.{refl, false, ap, rules, arith, sym, subst, ◌∙◌}
 use Rattle.vbr_machine.specs.History.{set_call}
 use Rattle.vbr_machine.specs.declared.history.Op.TheVariants.{Insert}
 use Rattle.vbr_slots.specs.Calls.{Made}
@@ -6,9 +6,9 @@ use Rattle.vbr_at_table.specs.Values.{steps_to_update}
 use Rattle.vbr_slots.specs.Views.{Trace}
 use Rattle.vbr_at_table.specs.Steps.{CountsSteps}
 use Rattle.vbr_at_table.proofs.Lemmas.{had_back, had_grown, had_on, had_spent, none_back, none_on}
-use Rattle.vbr_list.proofs.Going.{counts_step, took_same}
+use Rattle.vbr_list.proofs.Going.{counts_step}
 use Rattle.vbr_list.proofs.Told.{told_as, told_bare}
-use Rattle.vbr_list.proofs.ValueReads.{few_to_update}
+use Rattle.vbr_list.proofs.ValueReads.{few_to_update, publishes_stored}
 use Rattle.vbr_list.proofs.call.PendingCall.settle_insert.Goals as goal
 
 pub returns-then-found-clause-publishes : goal.returns-then-found-clause-publishes
@@ -36,31 +36,13 @@ returns-then-found-clause-had g c =
 
 pub returns-in-Ok-clause-publishes : goal.returns-in-Ok-clause-publishes
 returns-in-Ok-clause-publishes g c =
-    let start = c.args.self.now.at.stepper.now.trace.start in
-    let steps : c.steps_to_update.result ≡ steps_to_update start = c.steps_to_update.ensures ∙ ap steps_to_update (sym c.args.self.now.at.own.1) in
-    let some = (few_to_update start).0 in
-    let few = (few_to_update start).1 in
-    record {
-      call = search rules;
-      counts = counts_step c.args.self.now.used c.steps_to_update.result (took_same c.steps_to_update.result (steps_to_update start) steps c.update_entry.ensures.stores.took);
-      used = (omega (arith, steps, some), omega (arith, steps, few));
-      few = omega (arith, steps);
-      takes_no_slot = c.update_entry.ensures.stores.takes_no_slot;
-    }
+    let stores = c.update_entry.ensures.stores in
+    publishes_stored (search rules) refl (c.steps_to_update.ensures ∙ ap steps_to_update (sym c.args.self.now.at.own.1)) stores.took stores.takes_no_slot
 
 pub returns-in-Err-clause-publishes : goal.returns-in-Err-clause-publishes
 returns-in-Err-clause-publishes g c =
-    let start = c.args.self.now.at.stepper.now.trace.start in
-    let steps : c.steps_to_update.result ≡ steps_to_update start = c.steps_to_update.ensures ∙ ap steps_to_update (sym c.args.self.now.at.own.1) in
-    let some = (few_to_update start).0 in
-    let few = (few_to_update start).1 in
-    record {
-      call = search rules;
-      counts = counts_step c.args.self.now.used c.steps_to_update.result (took_same c.steps_to_update.result (steps_to_update start) steps c.update_entry.ensures.stores.took);
-      used = (omega (arith, steps, some), omega (arith, steps, few));
-      few = omega (arith, steps);
-      takes_no_slot = c.update_entry.ensures.stores.takes_no_slot;
-    }
+    let stores = c.update_entry.ensures.stores in
+    publishes_stored (search rules) refl (c.steps_to_update.ensures ∙ ap steps_to_update (sym c.args.self.now.at.own.1)) stores.took stores.takes_no_slot
 
 pub returns-in-Ok-clause-answers : goal.returns-in-Ok-clause-answers
 returns-in-Ok-clause-answers g c = record { made = c.in-Ok.ensures.inserted.made; spent = c.in-Ok.ensures.inserted.spent }

@@ -15,8 +15,8 @@ use Rattle.vbr_list.proofs.Disturbing.{loses_place_disturb, moves_on, moves_on_d
 use Rattle.vbr_list.proofs.Going.{call_on, goes_further, goes_on, tries_on, within_call}
 use Rattle.vbr_list.proofs.Moments.{cur_found}
 use Rattle.vbr_list.proofs.Reaching.{node_found, node_reached, pred_inside, pred_on, stood_since, traverses_on}
-use Rattle.vbr_list.proofs.Walking.{knows_now, stands_still_on, walk_helped, walk_paid, walk_visited}
-use Rattle.vbr_list.proofs.Visits.{met_knows, met_open, met_paid, met_past, met_to, starts_none, starts_walk, visit_changes_none, visit_paid, visited_run}
+use Rattle.vbr_list.proofs.Walking.{knows_now, stands_still_on, walk_helped, walk_visited}
+use Rattle.vbr_list.proofs.Visits.{met_knows, met_open, met_paid, met_past, met_to, paid_so_far, starts_none, starts_walk, visit_changes_none, visit_paid, visited_run}
 use Rattle.vbr_list.proofs.call.PendingCall.traverse.Goals as goal
 
 pub help-requires-clause-pred : goal.help-requires-clause-pred
@@ -118,16 +118,13 @@ returns-in-Ok-Beyond-clause-found g c =
 pub returns-clause-found : goal.returns-clause-found
 returns-clause-found g c =
     let i = c.loop-pred.invariant.1 in
-    let p = c.args.self.now.at.stepper.now.trace in
-    let q = c.loop-pred.self.at.stepper.now.trace in
-    let first = i.tries.goes.quiet in
     record {
       found = search rules;
       used = refl;
       knew = i.walks.knew;
       pred = i.walks.stands;
       cur = tt;
-      paid = walk_paid 9 p q c.law.ensures.start (run_at p q first.same (first.is_run c.law.ensures.is_run)) c.args.self.now.key i.walks;
+      paid = paid_so_far c.law.ensures i.tries.goes.quiet i.walks;
     }
 
 pub returns-in_default-clause-stopped : goal.returns-in_default-clause-stopped
@@ -136,12 +133,7 @@ returns-in_default-clause-stopped g c =
     (omega (arith, used), omega (arith, used), starts_none c.law.ensures c.args.self.now.key c.start.ensures.goes.goes.quiet c.start.ensures.observes c.in_default.ensures.moved.moves)
 
 pub returns-then-not-affords-2-clause-stopped : goal.returns-then-not-affords-2-clause-stopped
-returns-then-not-affords-2-clause-stopped g c =
-    let i = c.loop-pred.invariant.1 in
-    let p = c.args.self.now.at.stepper.now.trace in
-    let q = c.loop-pred.self.at.stepper.now.trace in
-    let first = i.tries.goes.quiet in
-    (search rules, walk_paid 9 p q c.law.ensures.start (run_at p q first.same (first.is_run c.law.ensures.is_run)) c.args.self.now.key i.walks)
+returns-then-not-affords-2-clause-stopped g c = (search rules, paid_so_far c.law.ensures c.loop-pred.invariant.1.tries.goes.quiet c.loop-pred.invariant.1.walks)
 
 pub returns-in-Err-clause-stopped : goal.returns-in-Err-clause-stopped
 returns-in-Err-clause-stopped g c =

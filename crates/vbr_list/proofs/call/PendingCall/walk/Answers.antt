@@ -7,8 +7,8 @@ use Rattle.vbr_at_table.specs.declared.held.Held.{Held}
 use Rattle.vbr_list.proofs.Going.{call_on, goes_further}
 use Rattle.vbr_words.specs.Words.{link_of}
 use Rattle.vbr_list.proofs.Disturbing.{grows_disturbed, run_at}
-use Rattle.vbr_list.proofs.Walking.{stood_on, walk_paid}
-use Rattle.vbr_list.proofs.Visits.{met_open, met_paid, met_past, met_to, starts_none, starts_walk, visit_moved, visit_paid}
+use Rattle.vbr_list.proofs.Walking.{stood_on}
+use Rattle.vbr_list.proofs.Visits.{met_open, met_paid, met_past, met_to, paid_so_far, starts_none, starts_walk, visit_moved, visit_paid}
 use Rattle.vbr_list.proofs.Observing.{observes_on}
 use Rattle.vbr_list.proofs.Reaching.{node_found, node_reached}
 use Rattle.vbr_list.proofs.Passing.{look_at, look_past, absent_at_end, absent_before, present_at, looks_on}
@@ -119,15 +119,12 @@ returns-in-Ok-Beyond-clause-sight g c =
 pub returns-clause-sight : goal.returns-clause-sight
 returns-clause-sight g c =
     let none = no_slot c.decode.result.slot (sym c.is_some.ensures ∙ c.loop-here-test.false) in
-    let p = c.args.self.now.at.stepper.now in
-    let q = c.loop-here.self.at.stepper.now in
-    let first = c.loop-here.invariant.1.peeks.tries.goes.quiet in
     let w = c.loop-here.invariant.1.walks in
     record {
       sees = absent_at_end c.loop-here.pred c.loop-here.here c.loop-here.invariant.1.look (ap (λ (l : Link). l.slot) (sym c.decode.ensures.link) ∙ none);
       fresh = c.loop-here.invariant.1.fresh;
       stood = w.stands.stood;
-      paid = walk_paid 5 p.trace q.trace c.law.ensures.start (run_at p.trace q.trace first.same (first.is_run c.law.ensures.is_run)) c.args.self.now.key w;
+      paid = paid_so_far c.law.ensures c.loop-here.invariant.1.peeks.tries.goes.quiet w;
     }
 
 pub returns-in-Err-clause-stopped : goal.returns-in-Err-clause-stopped
@@ -151,8 +148,4 @@ returns-in_default-clause-stopped g c =
     (omega (arith, used), omega (arith, used), starts_none c.law.ensures c.args.self.now.key c.start.ensures.goes.goes.quiet c.start.ensures.observes c.in_default.ensures.moved.moves)
 
 pub returns-then-not-affords-2-clause-stopped : goal.returns-then-not-affords-2-clause-stopped
-returns-then-not-affords-2-clause-stopped g c =
-    let p = c.args.self.now.at.stepper.now in
-    let q = c.loop-here.self.at.stepper.now in
-    let first = c.loop-here.invariant.1.peeks.tries.goes.quiet in
-    (search rules, walk_paid 5 p.trace q.trace c.law.ensures.start (run_at p.trace q.trace first.same (first.is_run c.law.ensures.is_run)) c.args.self.now.key c.loop-here.invariant.1.walks)
+returns-then-not-affords-2-clause-stopped g c = (search rules, paid_so_far c.law.ensures c.loop-here.invariant.1.peeks.tries.goes.quiet c.loop-here.invariant.1.walks)
