@@ -27,14 +27,13 @@ use Rattle.vbr_at_table.specs.Marks.{LeavesOthers}
 use Rattle.vbr_at_table.specs.declared.held.Held.{Held}
 use Rattle.vbr_list.specs.Budgets.{listed_for, steps_to_value_of}
 use Rattle.vbr_list.specs.Disturbed.{changed_after, disturbed, disturbed_after, remove_costs_among}
-use Rattle.vbr_list.specs.Places.{IsPred}
 use Rattle.vbr_list.specs.Pieces.{trace_in}
-use Rattle.vbr_list.specs.Removing.{MarksAndSearches, MarksBehind, SearchesOn}
+use Rattle.vbr_list.specs.Removing.{MarksAndSearches, MarksBehind}
 use Rattle.vbr_list.specs.Traversing.{Finds, LastWalk, SearchTires}
 use Rattle.vbr_list.specs.Walking.{KnowsEpoch, LosesPlace, StandsStill, WalksAgain, met_since, nodes_after}
 use Rattle.vbr_list.specs.declared.call.PendingCall.{PendingCall}
 use Rattle.vbr_list.specs.declared.found.Found.{Found}
-use Rattle.vbr_list.proofs.Disturbing.{changed_same, disturbed_same, loses_place_disturb, met_before, met_less, met_quiet, run_at, unchanged_at}
+use Rattle.vbr_list.proofs.Disturbing.{changed_same, disturbed_same, loses_place_disturb, met_before, met_less, unchanged_at}
 use Rattle.vbr_list.proofs.Walking.{HasRepeated}
 
 -- ---- a search
