@@ -21,4 +21,5 @@ mod LonePasses
 mod Told
 mod Marks
 mod ValueReads
+mod Replacements
 pub mod Lemmas

@@ -82,16 +82,24 @@ was_empty : (before now : List ℕ) → (before ≢ [] → now ≢ []) → now �
 was_empty [] now some empty = refl
 was_empty (s ∷ before) now some empty = absurd (some (λ e. absurd (cc)) empty)
 
--- a refusal to take a slot, where the key was found absent before
-pub refuses_after : (p q r : PassView) {key a b budget : ℕ} → Quiet p.trace q.trace → (p.pool ≢ [] → q.pool ≢ []) → CountsWithin p.trace q.trace a b budget → WasSo p.trace q.trace key false → Quiet q.trace r.trace → (refusal : Refusal) → TakesNone q r b budget refusal → RefusesInsert p r key a budget refusal
-refuses_after p q r quiet some x absent more (OutOfSteps used) y = record { counts = within_on x y.counts.counts y.counts.within.0 y.counts.within.1; short = y.short }
-refuses_after p q r quiet some x absent more NoSlot y = record {
-  absent = so_before absent more;
+-- a refusal to take a slot, after what made no call
+pub takes_after : (p q r : PassView) {a b budget : ℕ} → Quiet p.trace q.trace → (p.pool ≢ [] → q.pool ≢ []) → CountsWithin p.trace q.trace a b budget → Quiet q.trace r.trace → (refusal : Refusal) → TakesNone q r b budget refusal → TakesNone p r a budget refusal
+takes_after p q r quiet some x more (OutOfSteps used) y = record { counts = within_on x y.counts.counts y.counts.within.0 y.counts.within.1; short = y.short }
+takes_after p q r quiet some x more NoSlot y = record {
   empty = was_empty p.pool q.pool some y.empty;
   still = y.still;
   outside = λ slot low. missed_after quiet (y.outside slot (let P : Start → Type 0 = λ start. slot < start.shape.slots in subst P (sym quiet.same.start) low));
 }
-refuses_after p q r quiet some x absent more (EpochSpent epoch) y = (so_before absent more, record { spent = y.spent; since = y.since; counts = within_on x y.counts.counts y.counts.within.0 y.counts.within.1; room = y.room })
+takes_after p q r quiet some x more (EpochSpent epoch) y = record { spent = y.spent; since = y.since; counts = within_on x y.counts.counts y.counts.within.0 y.counts.within.1; room = y.room }
+
+-- where the key was absent, it is one of an insert
+says_absent : (p r : PassView) (key a budget : ℕ) → WasSo p.trace r.trace key false → (refusal : Refusal) → TakesNone p r a budget refusal → RefusesInsert p r key a budget refusal
+says_absent p r key a budget absent (OutOfSteps used) y = y
+says_absent p r key a budget absent NoSlot y = record { absent = absent; empty = y.empty; still = y.still; outside = y.outside }
+says_absent p r key a budget absent (EpochSpent epoch) y = (absent, y)
+
+pub refuses_after : (p q r : PassView) {key a b budget : ℕ} → Quiet p.trace q.trace → (p.pool ≢ [] → q.pool ≢ []) → CountsWithin p.trace q.trace a b budget → WasSo p.trace q.trace key false → Quiet q.trace r.trace → (refusal : Refusal) → TakesNone q r b budget refusal → RefusesInsert p r key a budget refusal
+refuses_after p q r {key} {a} {b} {budget} quiet some x absent more refusal y = says_absent p r key a budget (so_before absent more) refusal (takes_after p q r quiet some x more refusal y)
 
 -- a refusal behind no steps is one of the whole call
 pub refused_first : (p q : PassView) (key budget : ℕ) (refusal : Refusal) → RefusesInsert p q key 0 budget refusal → IsRefusedInsert p q key budget refusal

@@ -52,6 +52,14 @@ enough_to_insert_among nodes times taking = enough_past (nodes + times) taking +
 abbrev pub insert_costs_among : ℕ → ℕ → ℕ → ℕ → ℕ
 insert_costs_among nodes times taking storing = insert_costs_past (nodes + times) taking storing + searches_more nodes times
 
+-- what a replacement has to do more than alone where it is disturbed so often: for each time one more search among all nodes that it can meet, and twelve steps
+abbrev pub replaces_more : ℕ → ℕ → ℕ
+replaces_more nodes times = times * (9 * (nodes + times) + 12)
+
+-- enough to replace the value of a key among so many nodes, for a pass that is disturbed so often and takes a slot in so many steps
+abbrev pub enough_to_replace_among : ℕ → ℕ → ℕ → ℕ
+enough_to_replace_among nodes times taking = enough_past (nodes + times) taking + replaces_more nodes times
+
 -- the most steps in which the call takes a slot, while other passes take slots out of the shared pool
 abbrev pub steps_for_slot : PassView → Trace → ℕ
 steps_for_slot p q = most_to_take_among p.trace.start p.pool (gained p.trace q)

@@ -1,21 +1,30 @@
 -- A replacement: what its pieces tell, and the call.
-use Rattle.std.specs.Prelude.{◌≡◌, ℕ, true, false, Option, Some, None, Result, IfOk, IfErr}
+use Rattle.std.specs.Prelude.{◌≡◌, ◌≢◌, ℕ, ◌+◌, ◌*◌, ◌≤◌, true, false, [], Option, Some, None, Result, Ok, Err, IfOk, IfErr}
 use Rattle.vbr_words.specs.declared.nodes.Nodes.{Ghosts}
 use Rattle.vbr_machine.specs.declared.history.Op.TheVariants.{Insert, Remove}
 use Rattle.vbr_machine.specs.History.{set_call}
+use Rattle.vbr_slots.specs.Alone.{IsAlone}
 use Rattle.vbr_slots.specs.Calls.{IsSame, Made, Quiet}
 use Rattle.vbr_slots.specs.Views.{PassView, Trace, knows}
+use Rattle.vbr_at_table.specs.Advances.{AdvancesWhereNeeded}
 use Rattle.vbr_at_table.specs.Hands.{HandView}
 use Rattle.vbr_at_table.specs.Held.{HoldsMarked}
-use Rattle.vbr_at_table.specs.KeptSlots.{KeepsSlots, TakesNoSlot}
+use Rattle.vbr_at_table.specs.KeptSlots.{HasAllButOne, HasStill, KeepsSlots, SharesWhereFull, TakesNoSlot}
+use Rattle.vbr_at_table.specs.Moments.{WasSo}
+use Rattle.vbr_at_table.specs.Refusals.{HasNoSlot, IsOutOfSteps, IsSpent, LeavesRoom}
 use Rattle.vbr_at_table.specs.Replacing.{MadeTwo}
 use Rattle.vbr_at_table.specs.Steps.{CountsSteps, TookWithin}
 use Rattle.vbr_at_table.specs.Values.{entry_call}
 use Rattle.vbr_at_table.specs.declared.held.Marked.{Marked}
-use Rattle.vbr_list.specs.Inserting.{HasHandAndRoom}
+use Rattle.vbr_list.specs.Budgets.{IsAnsweredOrSpent, LacksSteps, enough_to_insert, enough_with_a_slot, listed_for}
+use Rattle.vbr_list.specs.Disturbed.{disturbed, disturbed_after, enough_to_replace_among, steps_for_slot}
+use Rattle.vbr_list.specs.Inserting.{HasHandAndRoom, InsertIsShort, SearchedFor, SearchesInVain, TakesNone}
 use Rattle.vbr_list.specs.Pieces.{IsPiece, IsSameCall, Replies, pass_in, trace_in}
+use Rattle.vbr_list.specs.Walking.{LosesPlace, met_since}
 use Rattle.vbr_list.specs.declared.call.PendingCall.{PendingCall}
+use Rattle.vbr_list.specs.declared.found.Found.{Found}
 use Rattle.vbr_list.specs.declared.refusal.Refusal.{Refusal}
+use Rattle.vbr_list.specs.declared.refusal.Refusal.TheVariants.{OutOfSteps, NoSlot, EpochSpent}
 
 -- a piece that may replace a node: its steps are counted, and it takes no slot
 pub record MayReplaceNode {N : Type 0} {kind : Ghosts N} (c d : PendingCall N kind) : Type 0 where
@@ -30,15 +39,10 @@ pub record Replaces {N : Type 0} {kind : Ghosts N} (value : ℕ) (c d : PendingC
   pub held : HoldsMarked (knows (trace_in d)) told.1
   pub spent : (pass_in d).hand ≡ None
 
--- nothing was replaced, no call was made, and the hand comes back
-pub record ReplacesNone {N : Type 0} {kind : Ghosts N} (c d : PendingCall N kind) (back : HandView) : Type 0 where
+-- the key isn't answered absent, and no call was made, as the place before it is lost
+pub record DeniesAbsent {N : Type 0} {kind : Ghosts N} (c d : PendingCall N kind) (found : Found) : Type 0 where
   pub quiet : Quiet (trace_in c) (trace_in d)
-  pub hand : HasHandAndRoom (pass_in d) back
-
--- no call was made, and the hand is empty
-pub record MakesNone {N : Type 0} {kind : Ghosts N} (c d : PendingCall N kind) : Type 0 where
-  pub quiet : Quiet (trace_in c) (trace_in d)
-  pub hand : (pass_in d).hand ≡ None
+  pub loses : LosesPlace (trace_in c) (trace_in d) found.pred
 
 -- the pass has answered no, and its hand is empty
 pub record FindsAbsent {N : Type 0} {kind : Ghosts N} (c d : PendingCall N kind) : Type 0 where
@@ -50,10 +54,52 @@ abbrev pub IsReady : {N : Type 0} {kind : Ghosts N} → PendingCall N kind → P
 IsReady c d None = FindsAbsent c d
 IsReady c d (Some hand) = Quiet (trace_in c) (trace_in d) × HasHandAndRoom (pass_in d) hand
 
+-- so it is, once it has come to the key and then taken a slot
+pub record ReadiesHand {N : Type 0} {kind : Ghosts N} (c d : PendingCall N kind) (hand : Option HandView) : Type 0 where
+  pub is : IsReady c d hand
+  pub searched : SearchedFor (trace_in c) (trace_in d) c.key c.used d.used (steps_for_slot (pass_in c) (trace_in d) + 3)
+
+-- a refusal that isn't for want of steps comes where the key was found present
+abbrev pub WasPresentFor : Trace → Trace → ℕ → Refusal → Type 0
+WasPresentFor p q key (OutOfSteps used) = Unit {0}
+WasPresentFor p q key NoSlot = WasSo p q key true
+WasPresentFor p q key (EpochSpent epoch) = WasSo p q key true
+
+-- no slot is in hand, and no call was made; a budget with seven steps more has enough
+pub record ReadiesNone {N : Type 0} {kind : Ghosts N} (c d : PendingCall N kind) (refusal : Refusal) : Type 0 where
+  pub quiet : Quiet (trace_in c) (trace_in d)
+  pub hand : (pass_in d).hand ≡ None
+  pub says : TakesNone (pass_in c) (pass_in d) c.used c.budget refusal
+  pub present : WasPresentFor (trace_in c) (trace_in d) c.key refusal
+  pub searches : SearchesInVain (trace_in c) (trace_in d) c.key c.used c.budget (steps_for_slot (pass_in c) (trace_in d) + 10) refusal
+
 -- the pass has answered no, or has replaced the value
 abbrev pub ReplaceAnswers : {N : Type 0} {kind : Ghosts N} → ℕ → PendingCall N kind → PendingCall N kind → Option (ℕ × Marked) → Type 0
 ReplaceAnswers value c d None = FindsAbsent c d
 ReplaceAnswers value c d (Some told) = Replaces value c d told
+
+-- each slot that the pass had it has still, but for the one that it published, if it replaced a value
+abbrev pub HasUnspent : {A E : Type 0} → PassView → PassView → Result (Option A) E → Type 0
+HasUnspent p q (Ok None) = HasStill p q
+HasUnspent p q (Ok (Some old)) = HasAllButOne p q
+HasUnspent p q (Err error) = HasStill p q
+
+-- so it is of a piece that replaced a value, or didn't
+abbrev pub HasUnused : {A E : Type 0} → PassView → PassView → Result A E → Type 0
+HasUnused p q (Ok old) = HasAllButOne p q
+HasUnused p q (Err error) = HasStill p q
+
+-- searches for a key with a slot in hand, each but the last disturbed: so many steps for each node of each of them, twelve for each that was disturbed, and so many more
+pub record SearchesWith (p q : Trace) (key before since more : ℕ) : Type 0 where
+  pub lost : ℕ
+  pub few : disturbed_after p key p.seen + lost ≤ disturbed_after p key q.seen
+  pub paid : since ≤ before + 9 * met_since p q key + lost * (9 * met_since p q key + 12) + more
+
+-- nothing is replaced, for want of steps, and no call was made
+pub record ReplacesNone {N : Type 0} {kind : Ghosts N} (c d : PendingCall N kind) (refusal : Refusal) : Type 0 where
+  pub quiet : Quiet (trace_in c) (trace_in d)
+  pub says : InsertIsShort (pass_in c) (pass_in d) c.used c.budget refusal
+  pub searches : SearchesWith (trace_in c) (trace_in d) c.key c.used (c.budget + 1) 11
 
 -- ---- the call
 
@@ -61,6 +107,33 @@ ReplaceAnswers value c d (Some told) = Replaces value c d told
 abbrev pub ReplaceMakes : Trace → Trace → ℕ → ℕ → Option ℕ → Type 0
 ReplaceMakes p q key value None = Made (set_call p.who Remove key false) p q
 ReplaceMakes p q key value (Some old) = MadeTwo (entry_call p.start p.who Remove key true old) (entry_call p.start p.who Insert key true value) p q
+
+-- the key was present at a moment, the own pool was empty and is, and each slot was outside the shared pool at a moment
+pub record PresentWithoutSlot (p q : PassView) (key : ℕ) : Type 0 where
+  pub present : WasSo p.trace q.trace key true
+  pub none : HasNoSlot p q
+
+-- the key was present at a moment, and the epoch is spent, which was told where the budget had room for the piece that would advance it
+pub record PresentAndSpent (p q : PassView) (key budget epoch : ℕ) : Type 0 where
+  pub present : WasSo p.trace q.trace key true
+  pub spent : IsSpent q epoch
+  pub room : LeavesRoom p q budget
+
+-- what a refusal of a replacement says
+abbrev pub IsRefusedReplace : PassView → PassView → ℕ → ℕ → Refusal → Type 0
+IsRefusedReplace p q key budget (OutOfSteps used) = IsOutOfSteps p q budget used
+IsRefusedReplace p q key budget NoSlot = PresentWithoutSlot p q key
+IsRefusedReplace p q key budget (EpochSpent epoch) = PresentAndSpent p q key budget epoch
+
+-- what a replacement promises besides: it advances the epoch only where that is needed, has each slot that it had but for the one that it published, puts one into the shared pool only where its own has no more than two places left, and is refused where it must be; alone it has steps enough with a budget that is known before, and with a slot in the own pool it is answered, unless the epoch is spent; and so it is of a pass that was disturbed so often, where with an empty own pool one step more is counted for each slot that others took out of the shared pool
+pub record SparesReplace (p q : PassView) (key budget : ℕ) (answer : Result (Option ℕ) Refusal) : Type 0 where
+  pub advances : AdvancesWhereNeeded p q
+  pub had : HasUnspent p q answer
+  pub shared : SharesWhereFull 2 p q
+  pub refused : IfErr answer (IsRefusedReplace p q key budget)
+  pub within : IfErr answer (λ refusal. IsAlone p.trace q.trace → LacksSteps (enough_to_insert p key) budget refusal)
+  pub disturbed_within : IfErr answer (λ refusal. LacksSteps (enough_to_replace_among (listed_for p.trace key) (disturbed p.trace q.trace key) (steps_for_slot p q.trace)) budget refusal)
+  pub ready : p.pool ≢ [] → IsAlone p.trace q.trace → enough_with_a_slot p.trace key ≤ budget → IsAnsweredOrSpent answer
 
 -- the pass is the same; where the call was answered, it made what the answer tells, and where it was refused, no call; it has no slot in hand, made no more steps than its budget, and lost no slot
 pub record CallsReplace (p q : PassView) (key value budget : ℕ) (answer : Result (Option ℕ) Refusal) : Type 0 where
@@ -70,3 +143,4 @@ pub record CallsReplace (p q : PassView) (key value budget : ℕ) (answer : Resu
   pub hand : q.hand ≡ None
   pub steps : TookWithin p.trace q.trace budget
   pub kept : KeepsSlots p q
+  pub spares : SparesReplace p q key budget answer

@@ -6,9 +6,9 @@ ghost use Rattle.vbr_slots.specs.Calls.{Quiet, Took};
 ghost use Rattle.vbr_slots.specs.Views.{IsOf};
 ghost use Rattle.vbr_at_table.specs.Answering.{KeepsIn};
 ghost use Rattle.vbr_at_table.specs.CallSteps.{steps_to_birth};
-ghost use Rattle.vbr_list.specs.Inserting.{HasHandAndRoom, Links, Prepares};
+ghost use Rattle.vbr_list.specs.Inserting.{GivesHandBack, HasHandAndRoom, Links, Prepares};
 ghost use Rattle.vbr_list.specs.Pieces.{HasRoom, IsSameCall, Replies, pass_in, trace_in};
-ghost use Rattle.vbr_list.specs.Replacing.{CallsReplace, IsReady, MakesNone, MayReplaceNode, ReplaceAnswers, Replaces, ReplacesNone};
+ghost use Rattle.vbr_list.specs.Replacing.{CallsReplace, DeniesAbsent, HasUnspent, HasUnused, MayReplaceNode, ReadiesHand, ReadiesNone, ReplaceAnswers, Replaces, ReplacesNone};
 ghost use Rattle.vbr_list.specs.Traversing.{LocatesFor};
 
 use crate::call::PendingCall;
@@ -47,9 +47,11 @@ impl<N: Nodes> PendingCall<'_, N> {
         requires hand { HasHandAndRoom (pass_in self.old) hand }
         requires room { HasRoom self.old }
         ensures tries { MayReplaceNode self.old self.new }
+        ensures had { HasUnused (pass_in self.old) (pass_in self.new) result }
         ensures replaced { IfOk result (Replaces value self.old self.new) }
-        ensures back { IfErr result (ReplacesNone self.old self.new) }
+        ensures back { IfErr result (GivesHandBack self.old self.new found.now) }
     {
+        self.at.law();
         let Some(cur) = &found.cur else {
             unreachable!()
         };
@@ -80,8 +82,9 @@ impl<N: Nodes> PendingCall<'_, N> {
         ensures keeps { KeepsIn (pass_in self.old) (pass_in self.new) 1 }
         ensures used { self.new.used ≡ self.old.used + 1 }
         ensures made { IfOk result (λ _. Replies Remove self.old self.new false) }
-        ensures quiet { IfErr result (λ _. Quiet (trace_in self.old) (trace_in self.new)) }
+        ensures rolls { IfErr result (λ _. DeniesAbsent self.old self.new found.now) }
     {
+        self.at.law();
         self.used += 1;
         confirm_absent_entry(&mut self.at, Op::Remove, self.key, &found.pred)
     }
@@ -91,8 +94,8 @@ impl<N: Nodes> PendingCall<'_, N> {
     fn ready(&mut self) -> Result<Option<Hand>, Refusal>
         requires empty_hand { (pass_in self.old).hand ≡ None }
         ensures prepares { Prepares self.old self.new }
-        ensures is { IfOk result (IsReady self.old self.new) }
-        ensures refused { IfErr result (λ _. MakesNone self.old self.new) }
+        ensures ready { IfOk result (ReadiesHand self.old self.new) }
+        ensures refused { IfErr result (ReadiesNone self.old self.new) }
     {
         self.at.law();
         loop {
@@ -125,8 +128,9 @@ impl<N: Nodes> PendingCall<'_, N> {
         requires hand { HasHandAndRoom (pass_in self.old) hand }
         requires room { HasRoom self.old }
         ensures tries { MayReplaceNode self.old self.new }
+        ensures had { HasUnspent (pass_in self.old) (pass_in self.new) result }
         ensures answers { IfOk result (ReplaceAnswers value self.old self.new) }
-        ensures back { IfErr result (ReplacesNone self.old self.new) }
+        ensures back { IfErr result (GivesHandBack self.old self.new found.now) }
     {
         if found.present {
             return match self.replace_found(found, value, hand) {
@@ -147,9 +151,11 @@ impl<N: Nodes> PendingCall<'_, N> {
         requires values { (trace_in self.old).start.shape.values ≡ true }
         requires hand { HasHandAndRoom (pass_in self.old) hand }
         ensures links { Links self.old self.new }
+        ensures had { HasUnspent (pass_in self.old) (pass_in self.new) result }
         ensures answers { IfOk result (ReplaceAnswers value self.old self.new) }
-        ensures refused { IfErr result (λ _. MakesNone self.old self.new) }
+        ensures refused { IfErr result (ReplacesNone self.old self.new) }
     {
+        self.at.law();
         loop {
             let Some(found) = self.search() else {
                 give_back(&mut self.at, hand);
@@ -175,7 +181,10 @@ impl<N: Nodes> PendingCall<'_, N> {
 /// own pool. The node that it replaced is marked, and left to those that meet it.
 ///
 /// Its refusals are OutOfSteps, and, where the key was present, NoSlot and EpochSpent: then no call
-/// was made, and the value stays.
+/// was made, and the value stays. The budgets that are enough are those of [`crate::insert`]: while the
+/// other passes stand still, 18n + slots + 82 with n nodes in the key's bucket, and 18n + 82 with a slot
+/// in the pass's own pool, unless the epoch is spent. It advances the epoch at most once, and only where
+/// no slot that it could take is stamped below the epoch that it read.
 pub fn replace(
     slots: &Slots<Entries>,
     pass: &mut Pass,

@@ -1,16 +1,16 @@
 use Rattle.std.proofs.Common.{rules}
-use Rattle.std.specs.Prelude.{Result, Ok, Err, IfOk, IfErr, OnOk}
+use Rattle.std.specs.Prelude.{Result, Ok, Err, IfOk, OnOk}
 use Rattle.vbr_slots.specs.Views.{knows}
+use Rattle.vbr_at_table.specs.Answering.{FindsAnother}
+use Rattle.vbr_at_table.proofs.Lemmas.{unchanged_by_none}
+use Rattle.vbr_list.proofs.Disturbing.{lost_place, run_at}
 use Rattle.vbr_list.proofs.Passing.{before_named}
+use Rattle.vbr_list.proofs.Sufficing.{each_error}
 use Rattle.vbr_list.proofs.call.PendingCall.answer_absent.Goals as goal
 
 on_ok : {A E P Q : Type 0} (x : Result A E) → (P → Q) → OnOk x P → IfOk x (λ _. Q)
 on_ok (Ok value) f p = f p
 on_ok (Err error) f p = tt
-
-err_as : {T E Q : Type 0} {P : E → Type 0} (x : Result T E) → ((e : E) → P e → Q) → IfErr x P → IfErr x (λ _. Q)
-err_as (Ok value) f p = tt
-err_as (Err error) f p = f error p
 
 pub confirm_absent_entry-requires-clause-gap : goal.confirm_absent_entry-requires-clause-gap
 confirm_absent_entry-requires-clause-gap g c =
@@ -28,5 +28,13 @@ confirm_absent_entry-requires-clause-op g c = record { other = λ e. absurd (cc)
 pub returns-clause-made : goal.returns-clause-made
 returns-clause-made g c = on_ok c.confirm_absent_entry.result (λ answers. answers.made) c.confirm_absent_entry.ensures.answers
 
-pub returns-clause-quiet : goal.returns-clause-quiet
-returns-clause-quiet g c = err_as c.confirm_absent_entry.result (λ r lost. lost.quiet) c.confirm_absent_entry.ensures.lost
+pub returns-clause-rolls : goal.returns-clause-rolls
+returns-clause-rolls g c =
+    let p = c.args.self.now.at.stepper.now.trace in
+    let r = c.confirm_absent_entry.new.at.stepper.now.trace in
+    let pred = c.args.found.now.pred in
+    each_error (FindsAnother p r pred) _ c.confirm_absent_entry.result
+    (λ rollback lost. record {
+      quiet = lost.quiet;
+      loses = lost_place pred rollback lost.lost (unchanged_by_none c.law.ensures.start (run_at p r lost.quiet.same (lost.quiet.is_run c.law.ensures.is_run)) lost.quiet.same lost.quiet.seen lost.adds_none);
+    }) c.confirm_absent_entry.ensures.lost

@@ -1,8 +1,19 @@
-use Rattle.std.proofs.Common.{sym, ◌∙◌, arith}
+use Rattle.std.proofs.Common.{ℕ, ◌+◌, Bool, inl, sym, ◌∙◌, subst, arith}
 use Rattle.std.proofs.lemmas.Result.{err_from_is_err_and}
 use Rattle.vbr_slots.proofs.Lemmas.{quiet_on}
-use Rattle.vbr_list.proofs.Going.{call_on, goes_further, goes_step, tries_on, within_call}
-use Rattle.vbr_list.proofs.Preparing.{if_err, if_ok, made_since, prepares_answered, prepares_on, prepares_still}
+use Rattle.vbr_at_table.specs.Budgets.{steps_to_take_among}
+use Rattle.vbr_at_table.specs.Gained.{gained}
+use Rattle.vbr_at_table.proofs.Lemmas.{no_room, none_on, some_grown}
+use Rattle.vbr_at_table.specs.Moments.{WasSo}
+use Rattle.vbr_list.specs.Disturbed.{steps_for_slot}
+use Rattle.vbr_list.specs.Inserting.{CountsWithin}
+use Rattle.vbr_list.proofs.Going.{call_on, counts_step, goes_on, goes_step, tries_on, within_call}
+use Rattle.vbr_list.proofs.Disturbing.{run_at}
+use Rattle.vbr_list.proofs.Walking.{in_vain, search_round_on, searches_end, searches_later}
+use Rattle.vbr_list.proofs.Moments.{found_since, so_before, was_so}
+use Rattle.vbr_list.proofs.Preparing.{if_err, if_ok, made_since, prepares_none, prepares_on, takes_after, within_on, within_tries}
+use Rattle.vbr_list.proofs.Replacements.{present_for}
+use Rattle.vbr_list.proofs.Sufficing.{take_after, take_least}
 use Rattle.vbr_list.proofs.call.PendingCall.ready.Goals as goal
 
 pub loop-found-preserved : goal.loop-found-preserved
@@ -12,52 +23,171 @@ loop-found-preserved g c =
     let fits = c.affords.ensures.0 c.if-not-affords.false in
     let begun = call_on c.loop-found.invariant.0 s.call in
     let found = tries_on c.loop-found.invariant.1 s.goes s.more (within_call begun) in
-    let quiet = if_err c.answer_absent.result (sym c.is_ok.ensures.value ∙ c.if-is_ok.false) d.quiet in (
+    let rolls = if_err c.answer_absent.result (sym c.is_ok.ensures.value ∙ c.if-is_ok.false) d.rolls in (
       call_on begun d.call,
-      rw d.used (tries_on found (goes_step c.search.new.self.used 1 quiet d.keeps.took d.keeps.own d.keeps.takes_no_slot) (omega arith) (let e = begun.budget in omega (arith, fits, e))),
+      rw d.used (tries_on found (goes_step c.search.new.self.used 1 rolls.quiet d.keeps.took d.keeps.own d.keeps.takes_no_slot) (omega arith) (let e = begun.budget in omega (arith, fits, e))),
+      let p = c.args.self.now.at.stepper.now.trace in
+          let q = c.loop-found.self.at.stepper.now.trace in
+          let m = c.search.new.self.at.stepper.now.trace in
+          let r = c.answer_absent.new.self.at.stepper.now.trace in
+          let first = c.loop-found.invariant.1.goes.quiet in
+          let whole = quiet_on (quiet_on first s.goes.quiet) rolls.quiet in
+          let used = d.used in
+          search_round_on p q m r c.law.ensures.start (run_at p r whole.same (whole.is_run c.law.ensures.is_run)) c.args.self.now.key 4 first.same s.goes.quiet.same whole.same first.seen s.goes.quiet.seen rolls.quiet.seen d.keeps.takes_no_slot.count c.loop-found.invariant.2 c.in-Some.found (rw c.loop-found.invariant.0.key at c.in-Some.ensures.found.last) (omega (arith, used)) (inl rolls.loses),
     )
 
 pub returns-in_default-clause-prepares : goal.returns-in_default-clause-prepares
-returns-in_default-clause-prepares g c = prepares_still (goes_further c.loop-found.invariant.0 c.loop-found.invariant.1 c.search.ensures.goes)
+returns-in_default-clause-prepares g c =
+    let s = c.search.ensures.goes in
+    let begun = goes_on c.loop-found.invariant.1.goes s.goes in
+    let same = call_on c.loop-found.invariant.0 s.call in
+    prepares_none c.args.self.now c.search.new.self same (within_on (within_tries c.loop-found.invariant.1) s.goes.counts s.more (within_call same)) begun.hand.takes_no_slot begun.hand.hand
 
 pub returns-then-not-affords-clause-prepares : goal.returns-then-not-affords-clause-prepares
-returns-then-not-affords-clause-prepares g c = prepares_still (goes_further c.loop-found.invariant.0 c.loop-found.invariant.1 c.search.ensures.goes)
+returns-then-not-affords-clause-prepares g c =
+    let s = c.search.ensures.goes in
+    let begun = goes_on c.loop-found.invariant.1.goes s.goes in
+    let same = call_on c.loop-found.invariant.0 s.call in
+    prepares_none c.args.self.now c.search.new.self same (within_on (within_tries c.loop-found.invariant.1) s.goes.counts s.more (within_call same)) begun.hand.takes_no_slot begun.hand.hand
 
 pub returns-in_err-hand-clause-prepares : goal.returns-in_err-hand-clause-prepares
-returns-in_err-hand-clause-prepares g c = prepares_on (goes_further c.loop-found.invariant.0 c.loop-found.invariant.1 c.search.ensures.goes) c.provide.ensures.one c.provide.ensures.prepares
+returns-in_err-hand-clause-prepares g c =
+    let s = c.search.ensures.goes in
+    let begun = goes_on c.loop-found.invariant.1.goes s.goes in
+    let same = call_on c.loop-found.invariant.0 s.call in
+    prepares_on c.args.self.now c.search.new.self c.provide.new.self same (within_on (within_tries c.loop-found.invariant.1) s.goes.counts s.more (within_call same)) begun.quiet begun.hand.takes_no_slot begun.hand.hand c.provide.ensures.one c.provide.ensures.prepares
 
 pub returns-then-found-clause-prepares : goal.returns-then-found-clause-prepares
-returns-then-found-clause-prepares g c = prepares_on (goes_further c.loop-found.invariant.0 c.loop-found.invariant.1 c.search.ensures.goes) c.provide.ensures.one c.provide.ensures.prepares
+returns-then-found-clause-prepares g c =
+    let s = c.search.ensures.goes in
+    let begun = goes_on c.loop-found.invariant.1.goes s.goes in
+    let same = call_on c.loop-found.invariant.0 s.call in
+    prepares_on c.args.self.now c.search.new.self c.provide.new.self same (within_on (within_tries c.loop-found.invariant.1) s.goes.counts s.more (within_call same)) begun.quiet begun.hand.takes_no_slot begun.hand.hand c.provide.ensures.one c.provide.ensures.prepares
 
 pub returns-then-is_ok-clause-prepares : goal.returns-then-is_ok-clause-prepares
 returns-then-is_ok-clause-prepares g c =
+    let s = c.search.ensures.goes in
     let d = c.answer_absent.ensures in
-    prepares_answered (goes_further c.loop-found.invariant.0 c.loop-found.invariant.1 c.search.ensures.goes) d.call d.used (c.affords.ensures.0 c.if-not-affords.false) d.keeps.took d.keeps.takes_no_slot d.keeps.own.hand
+    let begun = goes_on c.loop-found.invariant.1.goes s.goes in
+    let same = call_on c.loop-found.invariant.0 s.call in
+    let fits = c.affords.ensures.0 c.if-not-affords.false in
+    let counts = within_on (within_tries c.loop-found.invariant.1) s.goes.counts s.more (within_call same) in
+    let budget = same.budget in
+    let P : ℕ → Type 0 = λ used. CountsWithin c.args.self.now.at.stepper.now.trace c.answer_absent.new.self.at.stepper.now.trace c.args.self.now.used used c.args.self.now.budget in
+    prepares_none c.args.self.now c.answer_absent.new.self (call_on same d.call) (subst P (sym d.used) (within_on counts (counts_step c.search.new.self.used 1 d.keeps.took) (omega arith) (omega (arith, fits, budget)))) (none_on begun.hand.takes_no_slot d.keeps.takes_no_slot) (d.keeps.own.hand ∙ begun.hand.hand)
 
 pub returns-in_default-clause-refused : goal.returns-in_default-clause-refused
 returns-in_default-clause-refused g c =
-    let gone = goes_further c.loop-found.invariant.0 c.loop-found.invariant.1 c.search.ensures.goes in
-    record { quiet = gone.goes.quiet; hand = gone.goes.hand.hand ∙ c.requires.empty_hand }
+    let s = c.search.ensures.goes in
+    let begun = goes_on c.loop-found.invariant.1.goes s.goes in
+    let same = call_on c.loop-found.invariant.0 s.call in
+    let tired = c.in_default.ensures.tired in
+    let p = c.args.self.now.at.stepper.now in
+    let q = c.loop-found.self.at.stepper.now.trace in
+    let m = c.search.new.self.at.stepper.now.trace in
+    let first = c.loop-found.invariant.1.goes.quiet in
+    let least = take_least p m in
+    record {
+      quiet = begun.quiet;
+      hand = begun.hand.hand ∙ c.requires.empty_hand;
+      says = record { counts = within_on (within_tries c.loop-found.invariant.1) s.goes.counts s.more (within_call same); short = rw c.loop-found.invariant.0.budget at tired.tired };
+      present = tt;
+      searches = searches_end p.trace q m c.law.ensures.start (run_at p.trace m begun.quiet.same (begun.quiet.is_run c.law.ensures.is_run)) c.args.self.now.key first.same first.seen s.goes.quiet.seen c.loop-found.invariant.2 (rw c.loop-found.invariant.0.key at tired.walks) (c.args.self.now.budget + 1) 8 (steps_for_slot p m + 10) (let t = rw c.loop-found.invariant.0.budget at tired.tired in omega (arith, t)) (omega (arith, least));
+    }
 
 pub returns-then-not-affords-clause-refused : goal.returns-then-not-affords-clause-refused
 returns-then-not-affords-clause-refused g c =
-    let gone = goes_further c.loop-found.invariant.0 c.loop-found.invariant.1 c.search.ensures.goes in
-    record { quiet = gone.goes.quiet; hand = gone.goes.hand.hand ∙ c.requires.empty_hand }
+    let s = c.search.ensures.goes in
+    let begun = goes_on c.loop-found.invariant.1.goes s.goes in
+    let same = call_on c.loop-found.invariant.0 s.call in
+    let short = rw same.budget at (no_room c.search.new.self.used c.search.new.self.budget c.affords.result c.if-not-affords.true c.affords.ensures.1) in
+    let p = c.args.self.now.at.stepper.now in
+    let q = c.loop-found.self.at.stepper.now.trace in
+    let m = c.search.new.self.at.stepper.now.trace in
+    let first = c.loop-found.invariant.1.goes.quiet in
+    let least = take_least p m in
+    record {
+      quiet = begun.quiet;
+      hand = begun.hand.hand ∙ c.requires.empty_hand;
+      says = record { counts = within_on (within_tries c.loop-found.invariant.1) s.goes.counts s.more (within_call same); short = short };
+      present = tt;
+      searches = searches_end p.trace q m c.law.ensures.start (run_at p.trace m begun.quiet.same (begun.quiet.is_run c.law.ensures.is_run)) c.args.self.now.key first.same first.seen s.goes.quiet.seen c.loop-found.invariant.2 (rw c.loop-found.invariant.0.key at c.in-Some.ensures.found.walks) (c.args.self.now.budget + 1) 8 (steps_for_slot p m + 10) (omega (arith, short)) (omega (arith, least));
+    }
 
 pub returns-in_err-hand-clause-refused : goal.returns-in_err-hand-clause-refused
 returns-in_err-hand-clause-refused g c =
-    let gone = goes_further c.loop-found.invariant.0 c.loop-found.invariant.1 c.search.ensures.goes in
+    let s = c.search.ensures.goes in
+    let begun = goes_on c.loop-found.invariant.1.goes s.goes in
+    let same = call_on c.loop-found.invariant.0 s.call in
     let error = err_from_is_err_and c.from_residual.result c.from_residual.ensures.1 in
-    rw error.1 (record { quiet = quiet_on gone.goes.quiet c.provide.ensures.quiet; hand = c.in_err-hand.ensures.refused.hand })
+    let refusal = c.in_err-hand.field-0.0 in
+    let none = c.in_err-hand.ensures.refused in
+    let d = c.provide.ensures.quiet in
+    let p = c.args.self.now.at.stepper.now in
+    let q = c.loop-found.self.at.stepper.now.trace in
+    let m = c.search.new.self.at.stepper.now in
+    let r = c.provide.new.self.at.stepper.now in
+    let first = c.loop-found.invariant.1.goes.quiet in
+    let whole = quiet_on begun.quiet d in
+    let some = some_grown p m begun.hand.takes_no_slot.grows in
+    let taken = take_after p m r.trace begun.quiet some in
+    let counts = within_on (within_tries c.loop-found.invariant.1) s.goes.counts s.more (within_call same) in
+    let so = was_so c.args.self.now.key c.in-Some.found c.law.ensures.start begun.quiet.same (found_since c.args.self.now.key c.in-Some.found first (rw c.loop-found.invariant.0.key at c.in-Some.ensures.found.found)) in
+    let P : Bool → Type 0 = WasSo p.trace m.trace c.args.self.now.key in
+    rw (error.1, error.2) (record {
+      quiet = whole;
+      hand = none.hand;
+      says = takes_after p m r begun.quiet some counts d refusal (rw same.budget at none.says);
+      present = present_for (so_before (subst P c.if-found.true so) d) refusal;
+      searches = in_vain p.trace r.trace c.args.self.now.key c.args.self.now.used c.search.new.self.used c.args.self.now.budget (steps_to_take_among m.trace.start m.pool (gained m.trace r.trace)) (steps_for_slot p r.trace + 10)
+          (λ since_then more le least. searches_later p.trace m.trace r.trace c.law.ensures.start (run_at p.trace r.trace whole.same (whole.is_run c.law.ensures.is_run)) c.args.self.now.key begun.quiet.seen d.seen (steps_for_slot p r.trace + 10) (omega arith)
+          (searches_end p.trace q m.trace c.law.ensures.start (run_at p.trace m.trace begun.quiet.same (begun.quiet.is_run c.law.ensures.is_run)) c.args.self.now.key first.same first.seen s.goes.quiet.seen c.loop-found.invariant.2 (rw c.loop-found.invariant.0.key at c.in-Some.ensures.found.walks) since_then more (steps_for_slot p r.trace + 10) le least))
+          refusal (omega (arith, taken)) (rw same.budget at none.enough);
+    })
 
-pub returns-then-is_ok-clause-is : goal.returns-then-is_ok-clause-is
-returns-then-is_ok-clause-is g c =
+pub returns-then-is_ok-clause-ready : goal.returns-then-is_ok-clause-ready
+returns-then-is_ok-clause-ready g c =
+    let s = c.search.ensures.goes in
     let d = c.answer_absent.ensures in
-    let gone = goes_further c.loop-found.invariant.0 c.loop-found.invariant.1 c.search.ensures.goes in
+    let begun = goes_on c.loop-found.invariant.1.goes s.goes in
+    let same = call_on c.loop-found.invariant.0 s.call in
     let made = if_ok c.answer_absent.result (sym c.is_ok.ensures.value ∙ c.if-is_ok.true) d.made in
-    record { made = made_since gone.goes.quiet (rw gone.call.key at made); spent = d.keeps.own.hand ∙ gone.goes.hand.hand ∙ c.requires.empty_hand }
+    let p = c.args.self.now.at.stepper.now in
+    let q = c.loop-found.self.at.stepper.now.trace in
+    let m = c.search.new.self.at.stepper.now.trace in
+    let r = c.answer_absent.new.self.at.stepper.now.trace in
+    let first = c.loop-found.invariant.1.goes.quiet in
+    let least = take_least p r in
+    let used = d.used in
+    record {
+      is = record { made = made_since begun.quiet (rw same.key at made); spent = d.keeps.own.hand ∙ begun.hand.hand ∙ c.requires.empty_hand };
+      searched = record {
+        ended = m;
+        quiet = begun.quiet;
+        to = made.seen;
+        searches = searches_end p.trace q m c.law.ensures.start (run_at p.trace m begun.quiet.same (begun.quiet.is_run c.law.ensures.is_run)) c.args.self.now.key first.same first.seen s.goes.quiet.seen c.loop-found.invariant.2 (rw c.loop-found.invariant.0.key at c.in-Some.ensures.found.walks) c.answer_absent.new.self.used 1 (steps_for_slot p r + 3) (omega (arith, used)) (omega (arith, least));
+      };
+    }
 
-pub returns-then-found-clause-is : goal.returns-then-found-clause-is
-returns-then-found-clause-is g c =
-    let gone = goes_further c.loop-found.invariant.0 c.loop-found.invariant.1 c.search.ensures.goes in
-    (quiet_on gone.goes.quiet c.provide.ensures.quiet, c.in_ok-hand.ensures.hand.has)
+pub returns-then-found-clause-ready : goal.returns-then-found-clause-ready
+returns-then-found-clause-ready g c =
+    let s = c.search.ensures.goes in
+    let begun = goes_on c.loop-found.invariant.1.goes s.goes in
+    let d = c.provide.ensures.quiet in
+    let hand = c.in_ok-hand.ensures.hand in
+    let p = c.args.self.now.at.stepper.now in
+    let q = c.loop-found.self.at.stepper.now.trace in
+    let m = c.search.new.self.at.stepper.now in
+    let r = c.provide.new.self.at.stepper.now in
+    let first = c.loop-found.invariant.1.goes.quiet in
+    let taken = take_after p m r.trace begun.quiet (some_grown p m begun.hand.takes_no_slot.grows) in
+    let few = hand.few in
+    record {
+      is = (quiet_on begun.quiet d, hand.has);
+      searched = record {
+        ended = m.trace;
+        quiet = begun.quiet;
+        to = d.seen;
+        searches = searches_end p.trace q m.trace c.law.ensures.start (run_at p.trace m.trace begun.quiet.same (begun.quiet.is_run c.law.ensures.is_run)) c.args.self.now.key first.same first.seen s.goes.quiet.seen c.loop-found.invariant.2 (rw c.loop-found.invariant.0.key at c.in-Some.ensures.found.walks) c.provide.new.self.used (steps_for_slot p r.trace) (steps_for_slot p r.trace + 3) (omega (arith, few, taken)) (omega arith);
+      };
+    }

@@ -1,19 +1,23 @@
-use Rattle.std.proofs.Common.{◌≡◌, ℕ, ◌+◌, ◌<◌, Bool, true, List, length, rules, arith, sym, ap, ◌∙◌, subst}
+use Rattle.std.proofs.Common.{◌≡◌, ℕ, ◌+◌, ◌<◌, Bool, true, List, Option, Some, length, rules, arith, inl, inr, sym, ap, ◌∙◌, subst}
 use Rattle.vbr_machine.specs.Start.{Start}
 use Rattle.vbr_machine.specs.Learning.{birth_in_hand}
 use Rattle.vbr_machine.specs.declared.history.Op.TheVariants.{Insert, Remove}
 use Rattle.vbr_slots.specs.Views.{PassView, knows}
 use Rattle.vbr_slots.specs.declared.pass.TheConstants.{POOL}
-use Rattle.vbr_slots.proofs.Lemmas.{quiet_on}
+use Rattle.vbr_slots.proofs.Lemmas.{adds_on, quiet_on}
 use Rattle.vbr_at_table.specs.CallSteps.{steps_to_birth}
 use Rattle.vbr_at_table.specs.Hands.{HandView}
 use Rattle.vbr_at_table.specs.Replacing.{MadeTwo}
 use Rattle.vbr_at_table.specs.Values.{entry_call, steps_to_update, steps_to_value}
-use Rattle.vbr_at_table.proofs.Lemmas.{counts_on, held_kept, key_on, none_on, two_on, value_on}
+use Rattle.vbr_at_table.proofs.Lemmas.{counts_on, had_spent, held_kept, keeps_on, key_on, none_on, two_on, unchanged_by_none, value_on}
 use Rattle.vbr_list.specs.Inserting.{HasHandAndRoom}
 use Rattle.vbr_list.specs.Pieces.{KeepsHand}
 use Rattle.vbr_list.proofs.Going.{counts_step, goes_counted, goes_on, goes_read, took_same}
+use Rattle.vbr_at_table.specs.declared.held.Held.{Held}
+use Rattle.vbr_list.specs.Walking.{LosesNext}
+use Rattle.vbr_list.proofs.Disturbing.{lost_place_later, moves_epoch, moves_on, run_at}
 use Rattle.vbr_list.proofs.Moments.{key_found}
+use Rattle.vbr_list.proofs.Replacements.{had_same, moves_later}
 use Rattle.vbr_list.proofs.ValueReads.{cur_is, slot_at}
 use Rattle.vbr_list.proofs.call.PendingCall.replace_found.Goals as goal
 
@@ -67,14 +71,23 @@ returns-in_default-named-clause-tries g c =
     let few = c.steps_to_birth.ensures.few in
     record { call = search rules; counts = both.counts; used = (omega arith, omega (arith, few)); takes_no_slot = both.hand.takes_no_slot }
 
+pub returns-in_default-read-clause-back : goal.returns-in_default-read-clause-back
+returns-in_default-read-clause-back g c =
+    let p = c.args.self.now.at.stepper.now.trace in
+    let q = c.value_of-read.new.at.stepper.now.trace in
+    let one = goes_read c.args.self.now.used c.value_of-read.ensures.reads in
+    record { quiet = one.quiet; hand = hand_kept c.args.hand one.hand c.requires.hand; loses = inl (inl (moves_on p q one.quiet.same one.quiet.seen (moves_epoch _ c.in_default-read.ensures.moved))) }
+
 pub returns-in_default-named-clause-back : goal.returns-in_default-named-clause-back
 returns-in_default-named-clause-back g c =
+    let q = c.value_of-read.new.at.stepper.now.trace in
+    let r = c.birth_after-named.new.at.stepper.now.trace in
     let used = c.args.self.now.used in
     let n = c.steps_to_birth.result in
     let one = goes_read used c.value_of-read.ensures.reads in
     let two = goes_counted (used + 2) n (steps_to_birth c.in-Some.cur.word) c.steps_to_birth.ensures.is c.birth_after-named.ensures.reads in
     let both = goes_on one two in
-    record { quiet = both.quiet; hand = hand_kept c.args.hand both.hand c.requires.hand }
+    record { quiet = both.quiet; hand = hand_kept c.args.hand both.hand c.requires.hand; loses = inl (inl (moves_later one.quiet c.in-Ok.ensures.value.keeps.epoch (moves_on q r two.quiet.same two.quiet.seen (moves_epoch _ c.in_default-named.ensures.moved.rolls)))) }
 
 pub returns-in-Ok-replace_entry-clause-tries : goal.returns-in-Ok-replace_entry-clause-tries
 returns-in-Ok-replace_entry-clause-tries g c =
@@ -125,13 +138,49 @@ returns-in-Ok-replace_entry-clause-replaced g c =
     let E : ℕ → Type 0 = λ who. C who p.start in
     record { made = subst E quiet.same.who (subst D quiet.same.start all); held = told.held; spent = told.spent }
 
+pub returns-in-Ok-replace_entry-clause-had : goal.returns-in-Ok-replace_entry-clause-had
+returns-in-Ok-replace_entry-clause-had g c =
+    let p = c.args.self.now.at.stepper.now in
+    let q = c.birth_after-named.new.at.stepper.now in
+    let one = c.value_of-read.ensures.reads.own in
+    let two = c.birth_after-named.ensures.reads.own in
+    had_spent p c.replace_entry.new.at.stepper.now c.args.hand.slot c.requires.hand.is.slot (c.replace_entry.ensures.stores.pool ∙ two.pool ∙ one.pool)
+
+pub returns-in-Err-clause-had : goal.returns-in-Err-clause-had
+returns-in-Err-clause-had g c =
+    let p = c.args.self.now.at.stepper.now in
+    let r = c.replace_entry.new.at.stepper.now in
+    let one = c.value_of-read.ensures.reads.own in
+    let two = c.birth_after-named.ensures.reads.own in
+    let lost = c.in-Err.ensures.lost in
+    had_same p r (c.replace_entry.ensures.stores.pool ∙ two.pool ∙ one.pool) (lost.hand.slot ∙ ap (λ (h : HandView). Some h.slot) lost.same ∙ sym c.requires.hand.is.slot)
+
+pub returns-in_default-read-clause-had : goal.returns-in_default-read-clause-had
+returns-in_default-read-clause-had g c = let one = c.value_of-read.ensures.reads.own in had_same c.args.self.now.at.stepper.now c.value_of-read.new.at.stepper.now one.pool one.hand
+
+pub returns-in_default-named-clause-had : goal.returns-in_default-named-clause-had
+returns-in_default-named-clause-had g c =
+    let one = c.value_of-read.ensures.reads.own in
+    let two = c.birth_after-named.ensures.reads.own in
+    had_same c.args.self.now.at.stepper.now c.birth_after-named.new.at.stepper.now (two.pool ∙ one.pool) (two.hand ∙ one.hand)
+
 pub returns-in-Err-clause-back : goal.returns-in-Err-clause-back
 returns-in-Err-clause-back g c =
-    let one = goes_read 0 c.value_of-read.ensures.reads in
-    let two = goes_read 0 c.birth_after-named.ensures.reads in
+    let p = c.args.self.now.at.stepper.now.trace in
+    let q = c.birth_after-named.new.at.stepper.now.trace in
+    let r = c.replace_entry.new.at.stepper.now.trace in
+    let first = c.value_of-read.ensures.reads in
+    let then = c.birth_after-named.ensures.reads in
+    let one = goes_read 0 first in
+    let two = goes_read 0 then in
     let lost = c.in-Err.ensures.lost in
     let P : List ℕ → Type 0 = λ l. length l < POOL in
+    let Q : Option Held → Type 0 = LosesNext p r in
+    let read = quiet_on one.quiet two.quiet in
+    let run_q = run_at p q read.same (read.is_run c.law.ensures.is_run) in
+    let none = unchanged_by_none c.law.ensures.start run_q read.same read.seen (adds_on first.adds_none then.adds_none) in
     record {
-      quiet = quiet_on (quiet_on one.quiet two.quiet) lost.exchange.quiet;
+      quiet = quiet_on read lost.exchange.quiet;
       hand = record { is = lost.hand; room = subst P (sym c.replace_entry.ensures.stores.pool) (two.hand.room (one.hand.room c.requires.hand.room)) };
+      loses = inr (subst Q (sym c.in-Some.is) (lost_place_later c.in-Some.cur _ read (keeps_on c.in-Ok.ensures.value.keeps c.in-Ok-named.ensures.birth.keeps) none lost.exchange.lost lost.exchange.unchanged));
     }

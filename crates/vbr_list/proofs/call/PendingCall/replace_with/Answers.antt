@@ -1,4 +1,4 @@
-use Rattle.std.proofs.Common.{◌≡◌, ℕ, true, false, rules, Option, Some, None, ap, sym, subst, ◌∙◌, arith}
+use Rattle.std.proofs.Common.{◌≡◌, ℕ, true, false, rules, Option, Some, None, ap, sym, subst, ◌∙◌, ◌+◌, arith}
 use Rattle.vbr_words.specs.declared.nodes.Nodes.{Ghosts}
 use Rattle.vbr_machine.specs.Start.{Start}
 use Rattle.vbr_machine.specs.History.{set_call}
@@ -9,12 +9,15 @@ use Rattle.vbr_slots.proofs.Lemmas.{quiet_on}
 use Rattle.vbr_at_table.specs.Replacing.{MadeTwo}
 use Rattle.vbr_at_table.specs.Values.{entry_call}
 use Rattle.vbr_at_table.specs.declared.held.Marked.{Marked}
-use Rattle.vbr_at_table.proofs.Lemmas.{none_back, none_on, two_on}
+use Rattle.vbr_at_table.proofs.Lemmas.{had_back, had_grown, had_on, no_room, none_back, none_on, two_on}
 use Rattle.vbr_list.specs.Pieces.{pass_in, trace_in}
-use Rattle.vbr_list.specs.Replacing.{ReplaceAnswers}
+use Rattle.vbr_list.specs.Replacing.{ReplaceAnswers, SearchesWith}
 use Rattle.vbr_list.specs.declared.call.PendingCall.{PendingCall}
 use Rattle.vbr_list.proofs.Going.{call_on, within_call}
 use Rattle.vbr_list.proofs.Preparing.{made_since, within_on, within_same}
+use Rattle.vbr_list.proofs.Disturbing.{run_at}
+use Rattle.vbr_list.proofs.Replacements.{had_since, searches_with_end}
+use Rattle.vbr_list.proofs.Walking.{search_round_on}
 use Rattle.vbr_list.proofs.call.PendingCall.replace_with.Goals as goal
 
 -- an answer leaves the hand empty
@@ -42,12 +45,20 @@ loop-found-preserved g c =
     let more = c.settle_replace.ensures.tries in
     let fits = c.if-not-affords.ensures in
     let begun = call_on c.loop-found.invariant.0 s.call in
-    let same = call_on begun more.call in (
+    let same = call_on begun more.call in
+    let p = c.args.self.now.at.stepper.now in
+    let q = c.search.new.self.at.stepper.now in
+    let r = c.settle_replace.new.self.at.stepper.now in (
       same,
       quiet_on c.loop-found.invariant.1 (quiet_on s.goes.quiet back.quiet),
       within_on (within_on c.loop-found.invariant.2 s.goes.counts s.more (within_call begun)) more.counts (omega arith) (within_call same),
       none_on (none_on c.loop-found.invariant.3 s.goes.hand.takes_no_slot) more.takes_no_slot,
       back.hand,
+      had_on p q r (had_on p c.loop-found.self.at.stepper.now q c.loop-found.invariant.5 (had_grown c.loop-found.self.at.stepper.now q s.goes.hand.takes_no_slot.grows s.goes.hand.hand)) (rw c.in-Err.is at c.settle_replace.ensures.had),
+      let first = c.loop-found.invariant.1 in
+          let whole = quiet_on (quiet_on first s.goes.quiet) back.quiet in
+          let few = more.used.1 in
+          search_round_on p.trace c.loop-found.self.at.stepper.now.trace q.trace r.trace c.law.ensures.start (run_at p.trace r.trace whole.same (whole.is_run c.law.ensures.is_run)) c.args.self.now.key 8 first.same s.goes.quiet.same whole.same first.seen s.goes.quiet.seen back.quiet.seen more.takes_no_slot.count c.loop-found.invariant.6 c.in-Some.found (rw c.loop-found.invariant.0.key at c.in-Some.ensures.found.last) (omega (arith, few)) back.loses,
     )
 
 pub settle_replace-requires-clause-values : goal.settle_replace-requires-clause-values
@@ -75,6 +86,18 @@ returns-then-not-affords-clause-links g c =
       spent = search rules;
     }
 
+pub returns-in_default-clause-had : goal.returns-in_default-clause-had
+returns-in_default-clause-had g c =
+    let s = c.search.ensures.goes.goes.hand in
+    let q = c.search.new.self.at.stepper.now in
+    had_on c.args.self.now.at.stepper.now q c.give_back.new.at.stepper.now (had_on c.args.self.now.at.stepper.now c.loop-found.self.at.stepper.now q c.loop-found.invariant.5 (had_grown c.loop-found.self.at.stepper.now q s.takes_no_slot.grows s.hand)) (had_back q c.give_back.new.at.stepper.now c.loop-found.hand.slot (s.hand ∙ c.loop-found.invariant.4.is.slot) c.give_back.ensures.back.pool)
+
+pub returns-then-not-affords-clause-had : goal.returns-then-not-affords-clause-had
+returns-then-not-affords-clause-had g c =
+    let s = c.search.ensures.goes.goes.hand in
+    let q = c.search.new.self.at.stepper.now in
+    had_on c.args.self.now.at.stepper.now q c.give_back-then-not-affords.new.at.stepper.now (had_on c.args.self.now.at.stepper.now c.loop-found.self.at.stepper.now q c.loop-found.invariant.5 (had_grown c.loop-found.self.at.stepper.now q s.takes_no_slot.grows s.hand)) (had_back q c.give_back-then-not-affords.new.at.stepper.now c.loop-found.hand.slot (s.hand ∙ c.loop-found.invariant.4.is.slot) c.give_back-then-not-affords.ensures.back.pool)
+
 pub returns-in-Ok-clause-links : goal.returns-in-Ok-clause-links
 returns-in-Ok-clause-links g c =
     let s = c.search.ensures.goes in
@@ -91,15 +114,46 @@ returns-in-Ok-clause-links g c =
 
 pub returns-in_default-clause-refused : goal.returns-in_default-clause-refused
 returns-in_default-clause-refused g c =
-    let quiet = quiet_on c.loop-found.invariant.1 c.search.ensures.goes.goes.quiet in
+    let s = c.search.ensures.goes in
+    let begun = call_on c.loop-found.invariant.0 s.call in
+    let tired = c.in_default.ensures.tired in
     let Q : Trace → Type 0 = λ t. Quiet c.args.self.now.at.stepper.now.trace t in
-    record { quiet = subst Q (sym c.give_back.ensures.back.trace) quiet; hand = search rules }
+    let p = c.args.self.now.at.stepper.now.trace in
+    let q = c.loop-found.self.at.stepper.now.trace in
+    let m = c.search.new.self.at.stepper.now.trace in
+    let first = c.loop-found.invariant.1 in
+    let whole = quiet_on first s.goes.quiet in
+    let S : Trace → Type 0 = λ t. SearchesWith p t c.args.self.now.key c.args.self.now.used (c.args.self.now.budget + 1) 11 in
+    record {
+      quiet = subst Q (sym c.give_back.ensures.back.trace) (quiet_on c.loop-found.invariant.1 s.goes.quiet);
+      says = record { counts = within_same c.give_back.ensures.back.trace (within_on c.loop-found.invariant.2 s.goes.counts s.more (within_call begun)); short = rw c.loop-found.invariant.0.budget at tired.tired };
+      searches = subst S (sym c.give_back.ensures.back.trace) (searches_with_end p q m c.law.ensures.start (run_at p m whole.same (whole.is_run c.law.ensures.is_run)) c.args.self.now.key first.same first.seen s.goes.quiet.seen c.loop-found.invariant.6 (rw c.loop-found.invariant.0.key at c.in_default.ensures.tired.walks) (c.args.self.now.budget + 1) 8 11 (let t = rw c.loop-found.invariant.0.budget at tired.tired in omega (arith, t)) (omega arith));
+    }
 
 pub returns-then-not-affords-clause-refused : goal.returns-then-not-affords-clause-refused
 returns-then-not-affords-clause-refused g c =
-    let quiet = quiet_on c.loop-found.invariant.1 c.search.ensures.goes.goes.quiet in
+    let s = c.search.ensures.goes in
+    let begun = call_on c.loop-found.invariant.0 s.call in
+    let short = rw begun.budget at (no_room c.search.new.self.used c.search.new.self.budget c.affords.result c.if-not-affords.true c.affords.ensures.1) in
     let Q : Trace → Type 0 = λ t. Quiet c.args.self.now.at.stepper.now.trace t in
-    record { quiet = subst Q (sym c.give_back-then-not-affords.ensures.back.trace) quiet; hand = search rules }
+    let p = c.args.self.now.at.stepper.now.trace in
+    let q = c.loop-found.self.at.stepper.now.trace in
+    let m = c.search.new.self.at.stepper.now.trace in
+    let first = c.loop-found.invariant.1 in
+    let whole = quiet_on first s.goes.quiet in
+    let S : Trace → Type 0 = λ t. SearchesWith p t c.args.self.now.key c.args.self.now.used (c.args.self.now.budget + 1) 11 in
+    record {
+      quiet = subst Q (sym c.give_back-then-not-affords.ensures.back.trace) (quiet_on c.loop-found.invariant.1 s.goes.quiet);
+      says = record { counts = within_same c.give_back-then-not-affords.ensures.back.trace (within_on c.loop-found.invariant.2 s.goes.counts s.more (within_call begun)); short = short };
+      searches = subst S (sym c.give_back-then-not-affords.ensures.back.trace) (searches_with_end p q m c.law.ensures.start (run_at p m whole.same (whole.is_run c.law.ensures.is_run)) c.args.self.now.key first.same first.seen s.goes.quiet.seen c.loop-found.invariant.6 (rw c.loop-found.invariant.0.key at c.in-Some.ensures.found.walks) (c.args.self.now.budget + 1) 8 11 (omega (arith, short)) (omega arith));
+    }
+
+pub returns-in-Ok-clause-had : goal.returns-in-Ok-clause-had
+returns-in-Ok-clause-had g c =
+    let s = c.search.ensures.goes.goes.hand in
+    let q = c.search.new.self.at.stepper.now in
+    let then = had_since c.args.self.now.at.stepper.now q c.settle_replace.new.self.at.stepper.now c.settle_replace.result (had_on c.args.self.now.at.stepper.now c.loop-found.self.at.stepper.now q c.loop-found.invariant.5 (had_grown c.loop-found.self.at.stepper.now q s.takes_no_slot.grows s.hand)) c.settle_replace.ensures.had in
+    rw c.in-Ok.is at then
 
 pub returns-in-Ok-clause-answers : goal.returns-in-Ok-clause-answers
 returns-in-Ok-clause-answers g c =

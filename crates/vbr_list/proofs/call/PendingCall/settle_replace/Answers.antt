@@ -1,7 +1,7 @@
-use Rattle.std.proofs.Common.{rules, arith, sym, subst}
+use Rattle.std.proofs.Common.{rules, arith, sym, subst, ◌∙◌}
 use Rattle.vbr_slots.specs.Views.{Trace}
 use Rattle.vbr_at_table.specs.Steps.{CountsSteps}
-use Rattle.vbr_at_table.proofs.Lemmas.{none_back, none_on}
+use Rattle.vbr_at_table.proofs.Lemmas.{had_back, had_grown, had_on, none_back, none_on}
 use Rattle.vbr_list.proofs.Going.{counts_step}
 use Rattle.vbr_list.proofs.call.PendingCall.settle_replace.Goals as goal
 
@@ -16,3 +16,10 @@ returns-clause-tries g c =
       used = (omega arith, omega arith);
       takes_no_slot = none_on d.keeps.takes_no_slot (none_back c.answer_absent.new.self.at.stepper.now c.give_back.new.at.stepper.now c.args.hand.slot back.trace back.pool back.kept);
     }
+
+pub returns-clause-had : goal.returns-clause-had
+returns-clause-had g c =
+    let p = c.args.self.now.at.stepper.now in
+    let q = c.answer_absent.new.self.at.stepper.now in
+    let d = c.answer_absent.ensures.keeps in
+    had_on p q c.give_back.new.at.stepper.now (had_grown p q d.takes_no_slot.grows d.own.hand) (had_back q c.give_back.new.at.stepper.now c.args.hand.slot (d.own.hand ∙ c.requires.hand.is.slot) c.give_back.ensures.back.pool)
