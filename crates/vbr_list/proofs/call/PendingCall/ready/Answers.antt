@@ -3,15 +3,14 @@ use Rattle.std.proofs.lemmas.Result.{err_from_is_err_and}
 use Rattle.vbr_slots.proofs.Lemmas.{quiet_on}
 use Rattle.vbr_at_table.specs.Budgets.{steps_to_take_among}
 use Rattle.vbr_at_table.specs.Gained.{gained}
-use Rattle.vbr_at_table.proofs.Lemmas.{no_room, none_on, some_grown}
+use Rattle.vbr_at_table.proofs.Lemmas.{no_room, some_grown}
 use Rattle.vbr_at_table.specs.Moments.{WasSo}
 use Rattle.vbr_list.specs.Disturbed.{steps_for_slot}
-use Rattle.vbr_list.specs.Inserting.{CountsWithin}
-use Rattle.vbr_list.proofs.Going.{call_on, counts_step, goes_on, goes_step, tries_on, within_call}
+use Rattle.vbr_list.proofs.Going.{call_on, goes_further, goes_on, goes_step, tries_on, within_call}
 use Rattle.vbr_list.proofs.Disturbing.{run_at}
 use Rattle.vbr_list.proofs.Walking.{in_vain, search_round_on, searches_end, searches_later}
 use Rattle.vbr_list.proofs.Moments.{found_since, so_before, was_so}
-use Rattle.vbr_list.proofs.Preparing.{if_err, if_ok, made_since, prepares_none, prepares_on, takes_after, within_on, within_tries}
+use Rattle.vbr_list.proofs.Preparing.{if_err, if_ok, made_since, prepares_answered, prepares_on, prepares_still, steps_gone, takes_after}
 use Rattle.vbr_list.proofs.Replacements.{present_for}
 use Rattle.vbr_list.proofs.Sufficing.{take_after, take_least}
 use Rattle.vbr_list.proofs.call.PendingCall.ready.Goals as goal
@@ -37,44 +36,21 @@ loop-found-preserved g c =
     )
 
 pub returns-in_default-clause-prepares : goal.returns-in_default-clause-prepares
-returns-in_default-clause-prepares g c =
-    let s = c.search.ensures.goes in
-    let begun = goes_on c.loop-found.invariant.1.goes s.goes in
-    let same = call_on c.loop-found.invariant.0 s.call in
-    prepares_none c.args.self.now c.search.new.self same (within_on (within_tries c.loop-found.invariant.1) s.goes.counts s.more (within_call same)) begun.hand.takes_no_slot begun.hand.hand
+returns-in_default-clause-prepares g c = prepares_still (goes_further c.loop-found.invariant.0 c.loop-found.invariant.1 c.search.ensures.goes)
 
 pub returns-then-not-affords-clause-prepares : goal.returns-then-not-affords-clause-prepares
-returns-then-not-affords-clause-prepares g c =
-    let s = c.search.ensures.goes in
-    let begun = goes_on c.loop-found.invariant.1.goes s.goes in
-    let same = call_on c.loop-found.invariant.0 s.call in
-    prepares_none c.args.self.now c.search.new.self same (within_on (within_tries c.loop-found.invariant.1) s.goes.counts s.more (within_call same)) begun.hand.takes_no_slot begun.hand.hand
+returns-then-not-affords-clause-prepares g c = prepares_still (goes_further c.loop-found.invariant.0 c.loop-found.invariant.1 c.search.ensures.goes)
 
 pub returns-in_err-hand-clause-prepares : goal.returns-in_err-hand-clause-prepares
-returns-in_err-hand-clause-prepares g c =
-    let s = c.search.ensures.goes in
-    let begun = goes_on c.loop-found.invariant.1.goes s.goes in
-    let same = call_on c.loop-found.invariant.0 s.call in
-    prepares_on c.args.self.now c.search.new.self c.provide.new.self same (within_on (within_tries c.loop-found.invariant.1) s.goes.counts s.more (within_call same)) begun.quiet begun.hand.takes_no_slot begun.hand.hand c.provide.ensures.one c.provide.ensures.prepares
+returns-in_err-hand-clause-prepares g c = prepares_on (goes_further c.loop-found.invariant.0 c.loop-found.invariant.1 c.search.ensures.goes) c.provide.ensures.one c.provide.ensures.prepares
 
 pub returns-then-found-clause-prepares : goal.returns-then-found-clause-prepares
-returns-then-found-clause-prepares g c =
-    let s = c.search.ensures.goes in
-    let begun = goes_on c.loop-found.invariant.1.goes s.goes in
-    let same = call_on c.loop-found.invariant.0 s.call in
-    prepares_on c.args.self.now c.search.new.self c.provide.new.self same (within_on (within_tries c.loop-found.invariant.1) s.goes.counts s.more (within_call same)) begun.quiet begun.hand.takes_no_slot begun.hand.hand c.provide.ensures.one c.provide.ensures.prepares
+returns-then-found-clause-prepares g c = prepares_on (goes_further c.loop-found.invariant.0 c.loop-found.invariant.1 c.search.ensures.goes) c.provide.ensures.one c.provide.ensures.prepares
 
 pub returns-then-is_ok-clause-prepares : goal.returns-then-is_ok-clause-prepares
 returns-then-is_ok-clause-prepares g c =
-    let s = c.search.ensures.goes in
     let d = c.answer_absent.ensures in
-    let begun = goes_on c.loop-found.invariant.1.goes s.goes in
-    let same = call_on c.loop-found.invariant.0 s.call in
-    let fits = c.affords.ensures.0 c.if-not-affords.false in
-    let counts = within_on (within_tries c.loop-found.invariant.1) s.goes.counts s.more (within_call same) in
-    let budget = same.budget in
-    let P : ℕ → Type 0 = λ used. CountsWithin c.args.self.now.at.stepper.now.trace c.answer_absent.new.self.at.stepper.now.trace c.args.self.now.used used c.args.self.now.budget in
-    prepares_none c.args.self.now c.answer_absent.new.self (call_on same d.call) (subst P (sym d.used) (within_on counts (counts_step c.search.new.self.used 1 d.keeps.took) (omega arith) (omega (arith, fits, budget)))) (none_on begun.hand.takes_no_slot d.keeps.takes_no_slot) (d.keeps.own.hand ∙ begun.hand.hand)
+    prepares_answered (goes_further c.loop-found.invariant.0 c.loop-found.invariant.1 c.search.ensures.goes) d.call d.used (c.affords.ensures.0 c.if-not-affords.false) d.keeps.took d.keeps.takes_no_slot d.keeps.own.hand
 
 pub returns-in_default-clause-refused : goal.returns-in_default-clause-refused
 returns-in_default-clause-refused g c =
@@ -90,7 +66,7 @@ returns-in_default-clause-refused g c =
     record {
       quiet = begun.quiet;
       hand = begun.hand.hand ∙ c.requires.empty_hand;
-      says = record { counts = within_on (within_tries c.loop-found.invariant.1) s.goes.counts s.more (within_call same); short = rw c.loop-found.invariant.0.budget at tired.tired };
+      says = record { counts = steps_gone (goes_further c.loop-found.invariant.0 c.loop-found.invariant.1 s); short = rw c.loop-found.invariant.0.budget at tired.tired };
       present = tt;
       searches = searches_end p.trace q m c.law.ensures.start (run_at p.trace m begun.quiet.same (begun.quiet.is_run c.law.ensures.is_run)) c.args.self.now.key first.same first.seen s.goes.quiet.seen c.loop-found.invariant.2 (rw c.loop-found.invariant.0.key at tired.walks) (c.args.self.now.budget + 1) 8 (steps_for_slot p m + 10) (let t = rw c.loop-found.invariant.0.budget at tired.tired in omega (arith, t)) (omega (arith, least));
     }
@@ -109,7 +85,7 @@ returns-then-not-affords-clause-refused g c =
     record {
       quiet = begun.quiet;
       hand = begun.hand.hand ∙ c.requires.empty_hand;
-      says = record { counts = within_on (within_tries c.loop-found.invariant.1) s.goes.counts s.more (within_call same); short = short };
+      says = record { counts = steps_gone (goes_further c.loop-found.invariant.0 c.loop-found.invariant.1 s); short = short };
       present = tt;
       searches = searches_end p.trace q m c.law.ensures.start (run_at p.trace m begun.quiet.same (begun.quiet.is_run c.law.ensures.is_run)) c.args.self.now.key first.same first.seen s.goes.quiet.seen c.loop-found.invariant.2 (rw c.loop-found.invariant.0.key at c.in-Some.ensures.found.walks) (c.args.self.now.budget + 1) 8 (steps_for_slot p m + 10) (omega (arith, short)) (omega (arith, least));
     }
@@ -131,7 +107,7 @@ returns-in_err-hand-clause-refused g c =
     let whole = quiet_on begun.quiet d in
     let some = some_grown p m begun.hand.takes_no_slot.grows in
     let taken = take_after p m r.trace begun.quiet some in
-    let counts = within_on (within_tries c.loop-found.invariant.1) s.goes.counts s.more (within_call same) in
+    let counts = steps_gone (goes_further c.loop-found.invariant.0 c.loop-found.invariant.1 s) in
     let so = was_so c.args.self.now.key c.in-Some.found c.law.ensures.start begun.quiet.same (found_since c.args.self.now.key c.in-Some.found first (rw c.loop-found.invariant.0.key at c.in-Some.ensures.found.found)) in
     let P : Bool → Type 0 = WasSo p.trace m.trace c.args.self.now.key in
     rw (error.1, error.2) (record {
