@@ -17,6 +17,7 @@ mod Cursors
 mod ComingBy
 mod Preparing
 mod Sufficing
+mod Tiring
 mod LonePasses
 mod Told
 mod Marks

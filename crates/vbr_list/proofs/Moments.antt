@@ -17,7 +17,7 @@ use Rattle.vbr_list.specs.Found.{CurStood, IsFound}
 use Rattle.vbr_list.specs.Places.{IsCur, IsEnd}
 use Rattle.vbr_list.specs.Traversing.{HasComeTo}
 use Rattle.vbr_list.specs.declared.found.Found.{Found}
-use Rattle.vbr_list.proofs.Reaching.{stood_since, pred_on}
+use Rattle.vbr_list.proofs.Reaching.{key_kept, stood_since, pred_on}
 
 -- ---- what was found
 
@@ -77,3 +77,7 @@ key_found know key pred cur o present y e f =
     let P : Option Held → Type 0 = λ o. IsEnd know key pred o present in
     let Q : Bool → Type 0 = λ b. IsCur know key pred cur b in
     key_known know key pred cur (subst Q f (subst P e y))
+
+-- which it has later too
+pub key_found_since : {know later : Know} (key : ℕ) (pred cur : Held) (o : Option Held) (present : Bool) → Keeps know later → IsEnd know key pred o present → o ≡ Some cur → present ≡ true → KeyAt later cur.at key
+key_found_since {know} key pred cur o present keeps y e f = key_kept cur.at key keeps (key_found know key pred cur o present y e f)

@@ -4,8 +4,8 @@ use Rattle.vbr_words.specs.declared.nodes.Nodes.{Ghosts}
 use Rattle.vbr_machine.specs.Start.{Start}
 use Rattle.vbr_words.specs.declared.place.At.{At}
 use Rattle.vbr_machine.specs.Knowledge.{Know}
-use Rattle.vbr_slots.specs.Calls.{Took}
-use Rattle.vbr_slots.specs.Views.{PassView}
+use Rattle.vbr_slots.specs.Calls.{IsSame, Took}
+use Rattle.vbr_slots.specs.Views.{PassView, Trace}
 use Rattle.vbr_slots.proofs.Lemmas.{adds_refl, loads_refl, quiet_refl}
 use Rattle.vbr_at_table.proofs.Lemmas.{counts_none, counts_on, none_refl, took_all}
 use Rattle.vbr_at_table.specs.Held.{IsSlot}
@@ -38,6 +38,10 @@ reads_still p = record {
 -- the steps that the table's shape asks are those of the pass's start
 pub steps_read : {n : ℕ} {table now before : Start} → n ≡ steps_to_value_of table → now ≡ table → now ≡ before → n ≡ steps_to_value_of before
 steps_read e of same = e ∙ ap steps_to_value_of (sym of ∙ same)
+
+-- what is so where nodes have values is so later, where they have
+pub valued_since : {X : Type 0} {p q : Trace} → IsSame p q → (p.start.shape.values ≡ true → X) → q.start.shape.values ≡ true → X
+valued_since same valued has = valued (sym (ap (λ (d : Start). d.shape.values) same.start) ∙ has)
 
 -- a value is read, and one step comes after that
 pub read_then_step : {p q r : PassView} (a steps : ℕ) → steps ≡ steps_to_value_of p.trace.start → ReadsIn p q (steps_to_value_of p.trace.start) → Took q.trace r.trace 1 → KeepsOwn q r → TakesNoSlot q r → CountsSteps p.trace r.trace a (a + steps + 1) × KeepsHand p r

@@ -1,29 +1,25 @@
-use Rattle.std.proofs.Common.{rules, ◌≡◌, ℕ, ◌+◌, ◌*◌, ◌<◌, ◌≤◌, true, false, refl, sym, ◌∙◌, arith, ap, subst}
+use Rattle.std.proofs.Common.{rules, ◌≡◌, ℕ, ◌+◌, ◌*◌, ◌≤◌, refl, ◌∙◌, arith, ap, subst}
 use Rattle.vbr_machine.proofs.Lemmas.{begins_refl}
 use Rattle.vbr_slots.proofs.Lemmas.{adds_on, alone_first, answer_on, loads_on, quiet_on, same_on, same_refl}
-use Rattle.vbr_at_table.proofs.Lemmas.{counts_on, none_on, took_all}
+use Rattle.vbr_at_table.proofs.Lemmas.{counts_on, no_room, none_on, took_all}
 use Rattle.vbr_words.specs.Dimensions.{Dimensions}
 use Rattle.vbr_machine.specs.Start.{Start}
 use Rattle.vbr_list.proofs.Going.{bucket_is, call_on, call_refl, goes_on, within_call, within_of}
 use Rattle.vbr_list.proofs.Observing.{observed, observes_on}
 use Rattle.vbr_list.specs.Budgets.{answer_costs, listed_for}
-use Rattle.vbr_list.specs.Disturbed.{costs_among, disturbed, enough_among}
+use Rattle.vbr_list.specs.Disturbed.{costs_among, disturbed}
 use Rattle.vbr_list.specs.LookingUp.{steps_to_answer}
 use Rattle.vbr_list.specs.Places.{sighted}
 use Rattle.vbr_list.specs.Told.{given_call, kept_call, look_up_op}
 use Rattle.vbr_slots.specs.Calls.{AddsAnswer}
-use Rattle.vbr_at_table.specs.declared.budget.TheConstants.{PIECE}
 use Rattle.vbr_list.proofs.Disturbing.{alone_undisturbed, own_at, run_at, unchanged_at}
-use Rattle.vbr_list.proofs.Walking.{costs_among_on, lacks_steps, paid_answer, repeated_none, round_on}
+use Rattle.vbr_list.proofs.Walking.{costs_among_on, paid_answer, repeated_none, round_on}
 use Rattle.vbr_list.proofs.Passing.{peeks_on, peeks_refl}
 use Rattle.vbr_list.proofs.LonePasses.{alone}
 use Rattle.vbr_list.proofs.Sights.{costs_alone, few_to_answer}
+use Rattle.vbr_list.proofs.Tiring.{look_up_tires}
 use Rattle.vbr_list.proofs.Told.{given_same, told_since}
 use Rattle.vbr_list.proofs.looking_up.look_up.Goals as goal
-
--- where nothing disturbed it
-not_alone : (n times : ℕ) {budget : ℕ} → times ≡ 0 → budget < enough_among n times → budget < 5 * n + 11
-not_alone n times {budget} none lacks = let P : ℕ → Type 0 = λ t. budget < enough_among n t in let x = subst P none lacks in omega (arith, x)
 
 pub settle_look_up-requires-clause-asked : goal.settle_look_up-requires-clause-asked
 settle_look_up-requires-clause-asked g c = λ gives. ap (λ (d : Start). d.shape.values) (quiet_on c.loop-sight.invariant.3.tries.goes.quiet c.look.ensures.goes.goes.quiet).same.start ∙ c.requires.asked gives
@@ -80,70 +76,20 @@ returns-in-Ok-clause-took g c =
 pub returns-in_default-clause-calls : goal.returns-in_default-clause-calls
 returns-in_default-clause-calls g c =
     let same : c.at-1.given.0 ≡ c.look.new.self.at.stepper.now = search rules in
-    let p = c.args.at.now.stepper.now in
-    let q = c.loop-sight.call.at.stepper.now in
-    let r = c.look.new.self.at.stepper.now in
-    let first = c.loop-sight.invariant.3.tries.goes.quiet in
-    let whole = quiet_on first c.look.ensures.goes.goes.quiet in
-    let adds = adds_on c.loop-sight.invariant.3.observes.adds_none c.look.ensures.observes.adds_none in
-    let tired = rw (c.loop-sight.invariant.0.key ∙ c.loop-sight.invariant.1) at c.in_default.ensures.tired.looks in
-    let lacks = lacks_steps p.trace q.trace r.trace c.law.ensures.start (run_at p.trace r.trace whole.same (whole.is_run c.law.ensures.is_run)) c.args.key (steps_to_answer c.args.gives) first.same first.seen c.look.ensures.goes.goes.quiet.seen (own_at p.trace p.trace r.trace (same_refl p.trace) whole.same adds) c.loop-sight.invariant.4 tired.lost r.trace.seen (begins_refl r.trace.seen) tired.repeats c.args.budget (few_to_answer c.args.gives) (rw (c.loop-sight.invariant.0.budget ∙ c.loop-sight.invariant.2) at c.in_default.ensures.tired.tired) in
-    rw same (record {
-      same = (quiet_on c.loop-sight.invariant.3.tries.goes.quiet c.look.ensures.goes.goes.quiet).same;
-      made = tt;
-      alone = tt;
-      quiet = (goes_on c.loop-sight.invariant.3.tries.goes c.look.ensures.goes.goes).quiet;
-      hand = search rules;
-      steps = within_of c.look.new.self.used c.args.budget (rw c.loop-sight.invariant.2 at (within_call (call_on c.loop-sight.invariant.0 c.look.ensures.goes.call))) (goes_on c.loop-sight.invariant.3.tries.goes c.look.ensures.goes.goes).counts;
-      spares = record {
-        only_loads = (observes_on c.loop-sight.invariant.3.observes c.look.ensures.observes).only_loads;
-        adds = tt;
-        adds_none = (observes_on c.loop-sight.invariant.3.observes c.look.ensures.observes).adds_none;
-        takes_no_slot = (goes_on c.loop-sight.invariant.3.tries.goes c.look.ensures.goes.goes).hand.takes_no_slot;
-        refused = (record {
-          took = took_all (goes_on c.loop-sight.invariant.3.tries.goes c.look.ensures.goes.goes).counts;
-          within = rw c.loop-sight.invariant.2 at (within_call (call_on c.loop-sight.invariant.0 c.look.ensures.goes.call));
-          short = rw (c.loop-sight.invariant.0.budget ∙ c.loop-sight.invariant.2) at c.in_default.ensures.tired.tired;
-        });
-        within = (λ alone. not_alone (listed_for p.trace c.args.key) (disturbed p.trace r.trace c.args.key) (alone_undisturbed p.trace r.trace c.args.key alone) lacks);
-        disturbed_within = lacks;
-        costs = tt;
-        disturbed_costs = tt;
-      };
-    })
+    let r = c.look.new.self.at.stepper.now.trace.seen in
+    let tired = c.in_default.ensures.tired in
+    let looks = rw (c.loop-sight.invariant.0.key ∙ c.loop-sight.invariant.1) at tired.looks in
+    let within = rw c.loop-sight.invariant.2 at (within_call (call_on c.loop-sight.invariant.0 c.look.ensures.goes.call)) in
+    rw same (look_up_tires c.law.ensures c.args.key c.loop-sight.invariant.3.tries c.look.ensures.goes.goes within (rw (c.loop-sight.invariant.0.budget ∙ c.loop-sight.invariant.2) at tired.tired) (search rules) (few_to_answer c.args.gives) c.loop-sight.invariant.3.observes c.look.ensures.observes c.loop-sight.invariant.4 looks.lost r (begins_refl r) looks.repeats)
 
 pub returns-then-not-affords-clause-calls : goal.returns-then-not-affords-clause-calls
 returns-then-not-affords-clause-calls g c =
     let same : c.at-then-not-affords-1.given.0 ≡ c.look.new.self.at.stepper.now = search rules in
-    let p = c.args.at.now.stepper.now in
-    let q = c.loop-sight.call.at.stepper.now in
-    let r = c.look.new.self.at.stepper.now in
-    let first = c.loop-sight.invariant.3.tries.goes.quiet in
-    let whole = quiet_on first c.look.ensures.goes.goes.quiet in
-    let adds = adds_on c.loop-sight.invariant.3.observes.adds_none c.look.ensures.observes.adds_none in
-    let sight = rw (c.loop-sight.invariant.0.key ∙ c.loop-sight.invariant.1) at c.in-Some.ensures.sight.looks in
-    let full : ¬ (c.look.new.self.used + PIECE ≤ c.look.new.self.budget) = λ h. (let f = c.if-not-affords.true in let z = c.affords.ensures.1 h in let w : false ≡ true = sym f ∙ z in cc) in
-    let short : c.args.budget < c.look.new.self.used + 8 = (let e = (c.look.ensures.goes.call.budget ∙ c.loop-sight.invariant.0.budget ∙ c.loop-sight.invariant.2) in omega (arith, full, e)) in
-    let lacks = lacks_steps p.trace q.trace r.trace c.law.ensures.start (run_at p.trace r.trace whole.same (whole.is_run c.law.ensures.is_run)) c.args.key (steps_to_answer c.args.gives) first.same first.seen c.look.ensures.goes.goes.quiet.seen (own_at p.trace p.trace r.trace (same_refl p.trace) whole.same adds) c.loop-sight.invariant.4 sight.lost sight.stood.moment sight.stood.to sight.repeats c.args.budget (few_to_answer c.args.gives) short in
-    rw same (record {
-      same = (quiet_on c.loop-sight.invariant.3.tries.goes.quiet c.look.ensures.goes.goes.quiet).same;
-      made = tt;
-      alone = tt;
-      quiet = (goes_on c.loop-sight.invariant.3.tries.goes c.look.ensures.goes.goes).quiet;
-      hand = search rules;
-      steps = within_of c.look.new.self.used c.args.budget (rw c.loop-sight.invariant.2 at (within_call (call_on c.loop-sight.invariant.0 c.look.ensures.goes.call))) (goes_on c.loop-sight.invariant.3.tries.goes c.look.ensures.goes.goes).counts;
-      spares = record {
-        only_loads = (observes_on c.loop-sight.invariant.3.observes c.look.ensures.observes).only_loads;
-        adds = tt;
-        adds_none = (observes_on c.loop-sight.invariant.3.observes c.look.ensures.observes).adds_none;
-        takes_no_slot = (goes_on c.loop-sight.invariant.3.tries.goes c.look.ensures.goes.goes).hand.takes_no_slot;
-        refused = search rules;
-        within = (λ alone. not_alone (listed_for p.trace c.args.key) (disturbed p.trace r.trace c.args.key) (alone_undisturbed p.trace r.trace c.args.key alone) lacks);
-        disturbed_within = lacks;
-        costs = tt;
-        disturbed_costs = tt;
-      };
-    })
+    let looks = rw (c.loop-sight.invariant.0.key ∙ c.loop-sight.invariant.1) at c.in-Some.ensures.sight.looks in
+    let budget = c.look.ensures.goes.call.budget ∙ c.loop-sight.invariant.0.budget ∙ c.loop-sight.invariant.2 in
+    let short = no_room c.look.new.self.used c.look.new.self.budget c.affords.result c.if-not-affords.true c.affords.ensures.1 in
+    let within = rw c.loop-sight.invariant.2 at (within_call (call_on c.loop-sight.invariant.0 c.look.ensures.goes.call)) in
+    rw same (look_up_tires c.law.ensures c.args.key c.loop-sight.invariant.3.tries c.look.ensures.goes.goes within (rw budget at short) (search rules) (few_to_answer c.args.gives) c.loop-sight.invariant.3.observes c.look.ensures.observes c.loop-sight.invariant.4 looks.lost looks.stood.moment looks.stood.to looks.repeats)
 
 pub returns-in-Ok-clause-calls : goal.returns-in-Ok-clause-calls
 returns-in-Ok-clause-calls g c =

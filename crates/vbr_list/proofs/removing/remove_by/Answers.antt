@@ -1,23 +1,23 @@
-use Rattle.std.proofs.Common.{rules, refl, sym, ◌∙◌, ⊎_elim, arith, ap}
+use Rattle.std.proofs.Common.{rules, refl, ◌∙◌, ⊎_elim, arith, ap}
 use Rattle.std.specs.Prelude.{◌⊎◌}
 use Rattle.vbr_slots.proofs.Lemmas.{alone_first, alone_then, quiet_on, same_on}
-use Rattle.vbr_at_table.proofs.Lemmas.{counts_on, none_on, took_all}
+use Rattle.vbr_at_table.proofs.Lemmas.{counts_on, no_room, none_on, took_all}
 use Rattle.vbr_words.specs.Dimensions.{Dimensions}
 use Rattle.vbr_list.proofs.Going.{bucket_is, call_on, goes_on, room_left, tries_on, within_call, within_of}
 use Rattle.vbr_list.proofs.Clearing.{leaves_since}
-use Rattle.vbr_list.proofs.Disturbing.{alone_undisturbed, run_at}
-use Rattle.vbr_list.proofs.Walking.{enough_alone, remove_lacks, search_round_on, searches_alone}
+use Rattle.vbr_list.proofs.Disturbing.{run_at}
+use Rattle.vbr_list.proofs.Walking.{search_round_on, searches_alone}
 use Rattle.vbr_list.proofs.LonePasses.{alone}
-use Rattle.std.proofs.Common.{◌≡◌, ℕ, ◌+◌, ◌*◌, ◌<◌, ◌≤◌, true, false, subst}
+use Rattle.std.proofs.Common.{◌≡◌, ℕ, ◌+◌, ◌*◌, ◌<◌, ◌≤◌, subst}
 use Rattle.vbr_slots.specs.Alone.{IsAlone}
-use Rattle.vbr_list.specs.Disturbed.{disturbed, enough_to_search_among, remove_costs_among}
+use Rattle.vbr_list.specs.Disturbed.{disturbed, remove_costs_among}
 use Rattle.vbr_list.specs.Budgets.{listed_for, remove_costs, steps_to_value_of}
 use Rattle.vbr_list.specs.Removing.{MarksAndSearches, RemovesSoon, steps_to_remove}
 use Rattle.vbr_list.proofs.Marks.{late_paid, soon_paid}
 use Rattle.vbr_list.proofs.Sufficing.{no_more_listed}
 use Rattle.vbr_list.proofs.Nearing.{then_of}
 use Rattle.vbr_machine.specs.declared.history.Op.TheVariants.{Remove}
-use Rattle.vbr_at_table.specs.declared.budget.TheConstants.{PIECE}
+use Rattle.vbr_list.proofs.Tiring.{remove_tires}
 use Rattle.vbr_list.proofs.Told.{given_same, told_since}
 use Rattle.vbr_list.proofs.removing.remove_by.Goals as goal
 
@@ -67,71 +67,19 @@ returns-in-Ok-clause-took g c =
 pub returns-in_default-clause-calls : goal.returns-in_default-clause-calls
 returns-in_default-clause-calls g c =
     let same : c.at-1.given.0 ≡ c.search.new.self.at.stepper.now = search rules in
-    let p = c.args.at.now.stepper.now.trace in
-    let q = c.loop-found.call.at.stepper.now.trace in
-    let m = c.search.new.self.at.stepper.now.trace in
-    let first = c.loop-found.invariant.3.goes.quiet in
-    let went = c.search.ensures.goes.goes.quiet in
-    let whole = quiet_on first went in
     let key = c.loop-found.invariant.0.key ∙ c.loop-found.invariant.1 in
-    let budget = c.loop-found.invariant.0.budget ∙ c.loop-found.invariant.2 in
-    let disturbed_short : c.args.budget < enough_to_search_among (listed_for p c.args.key) (disturbed p m c.args.key) =
-    remove_lacks p q m c.law.ensures.start (run_at p m whole.same (whole.is_run c.law.ensures.is_run)) c.args.key first.same first.seen went.seen whole c.loop-found.invariant.4 (rw key at c.in_default.ensures.tired.walks) c.args.budget (rw budget at c.in_default.ensures.tired.tired) in
-    rw same (record {
-      same = (quiet_on c.loop-found.invariant.3.goes.quiet c.search.ensures.goes.goes.quiet).same;
-      made = tt;
-      alone = tt;
-      quiet = (goes_on c.loop-found.invariant.3.goes c.search.ensures.goes.goes).quiet;
-      hand = search rules;
-      steps = within_of c.search.new.self.used c.args.budget (rw c.loop-found.invariant.2 at (within_call (call_on c.loop-found.invariant.0 c.search.ensures.goes.call))) (goes_on c.loop-found.invariant.3.goes c.search.ensures.goes.goes).counts;
-      spares = record {
-        takes_no_slot = (goes_on c.loop-found.invariant.3.goes c.search.ensures.goes.goes).hand.takes_no_slot;
-        unlists = tt;
-        refused = (record {
-          took = took_all (goes_on c.loop-found.invariant.3.goes c.search.ensures.goes.goes).counts;
-          within = rw c.loop-found.invariant.2 at (within_call (call_on c.loop-found.invariant.0 c.search.ensures.goes.call));
-          short = rw (c.loop-found.invariant.0.budget ∙ c.loop-found.invariant.2) at c.in_default.ensures.tired.tired;
-        });
-        within = λ alone. enough_alone (listed_for p c.args.key) (disturbed p m c.args.key) (alone_undisturbed p m c.args.key alone) disturbed_short;
-        disturbed_within = disturbed_short;
-        costs = tt;
-        disturbed_costs = tt;
-        fewer = tt;
-      };
-    })
+    let tired = c.in_default.ensures.tired in
+    let within = rw c.loop-found.invariant.2 at (within_call (call_on c.loop-found.invariant.0 c.search.ensures.goes.call)) in
+    rw same (remove_tires c.law.ensures c.args.key c.loop-found.invariant.3 c.search.ensures.goes.goes within (rw (c.loop-found.invariant.0.budget ∙ c.loop-found.invariant.2) at tired.tired) (search rules) c.loop-found.invariant.4 (rw key at tired.walks))
 
 pub returns-then-not-affords-clause-calls : goal.returns-then-not-affords-clause-calls
 returns-then-not-affords-clause-calls g c =
     let same : c.at-then-not-affords-1.given.0 ≡ c.search.new.self.at.stepper.now = search rules in
-    let p = c.args.at.now.stepper.now.trace in
-    let q = c.loop-found.call.at.stepper.now.trace in
-    let m = c.search.new.self.at.stepper.now.trace in
-    let first = c.loop-found.invariant.3.goes.quiet in
-    let went = c.search.ensures.goes.goes.quiet in
-    let whole = quiet_on first went in
     let key = c.loop-found.invariant.0.key ∙ c.loop-found.invariant.1 in
-    let no_more : ¬ (c.search.new.self.used + PIECE ≤ c.search.new.self.budget) = λ h. (let f = c.if-not-affords.true in let z = c.affords.ensures.1 h in let w : false ≡ true = sym f ∙ z in cc) in
-    let most = c.search.ensures.goes.call.budget ∙ c.loop-found.invariant.0.budget ∙ c.loop-found.invariant.2 in
-    let disturbed_short : c.args.budget < enough_to_search_among (listed_for p c.args.key) (disturbed p m c.args.key) =
-    remove_lacks p q m c.law.ensures.start (run_at p m whole.same (whole.is_run c.law.ensures.is_run)) c.args.key first.same first.seen went.seen whole c.loop-found.invariant.4 (rw key at c.in-Some.ensures.found.walks) c.args.budget (omega (arith, no_more, most)) in
-    rw same (record {
-      same = (quiet_on c.loop-found.invariant.3.goes.quiet c.search.ensures.goes.goes.quiet).same;
-      made = tt;
-      alone = tt;
-      quiet = (goes_on c.loop-found.invariant.3.goes c.search.ensures.goes.goes).quiet;
-      hand = search rules;
-      steps = within_of c.search.new.self.used c.args.budget (rw c.loop-found.invariant.2 at (within_call (call_on c.loop-found.invariant.0 c.search.ensures.goes.call))) (goes_on c.loop-found.invariant.3.goes c.search.ensures.goes.goes).counts;
-      spares = record {
-        takes_no_slot = (goes_on c.loop-found.invariant.3.goes c.search.ensures.goes.goes).hand.takes_no_slot;
-        unlists = tt;
-        refused = search rules;
-        within = λ alone. enough_alone (listed_for p c.args.key) (disturbed p m c.args.key) (alone_undisturbed p m c.args.key alone) disturbed_short;
-        disturbed_within = disturbed_short;
-        costs = tt;
-        disturbed_costs = tt;
-        fewer = tt;
-      };
-    })
+    let budget = c.search.ensures.goes.call.budget ∙ c.loop-found.invariant.0.budget ∙ c.loop-found.invariant.2 in
+    let short = no_room c.search.new.self.used c.search.new.self.budget c.affords.result c.if-not-affords.true c.affords.ensures.1 in
+    let within = rw c.loop-found.invariant.2 at (within_call (call_on c.loop-found.invariant.0 c.search.ensures.goes.call)) in
+    rw same (remove_tires c.law.ensures c.args.key c.loop-found.invariant.3 c.search.ensures.goes.goes within (rw budget at short) (search rules) c.loop-found.invariant.4 (rw key at c.in-Some.ensures.found.walks))
 
 pub returns-in-Ok-clause-calls : goal.returns-in-Ok-clause-calls
 returns-in-Ok-clause-calls g c =

@@ -1,5 +1,4 @@
 use Rattle.std.proofs.Common.{refl, ◌≡◌, ◌+◌, ℕ, ◌≤◌, true, false, Option, Some, rules, arith, sym, ap, ◌∙◌, subst, inl, inr, ⊎_elim}
-use Rattle.vbr_machine.specs.Start.{Start}
 use Rattle.vbr_words.specs.Buckets.{bucket_of}
 use Rattle.vbr_words.specs.declared.place.At.{At}
 use Rattle.vbr_words.specs.declared.place.At.TheVariants.{Head}
@@ -19,12 +18,12 @@ use Rattle.vbr_list.proofs.Disturbing.{lost_place_later, moves_epoch, moves_on, 
 use Rattle.vbr_list.proofs.Going.{goes_counted}
 use Rattle.vbr_list.proofs.KeptHands.{hand_on}
 use Rattle.vbr_list.proofs.Marks.{apart, marks_behind}
-use Rattle.vbr_list.proofs.Moments.{key_found}
+use Rattle.vbr_list.proofs.Moments.{key_found, key_found_since}
 use Rattle.vbr_list.proofs.Nearing.{fresh_marked, listed_same, named_elsewhere, read_leaves, stands_on}
 use Rattle.vbr_list.proofs.Reaching.{key_kept, pred_inside, pred_on, slot_same}
 use Rattle.vbr_list.proofs.Sufficing.{any_error}
 use Rattle.vbr_list.proofs.Told.{given_same, told_since}
-use Rattle.vbr_list.proofs.ValueReads.{cur_is, few_to_value, read_then_step, settles_read, slot_at, steps_read}
+use Rattle.vbr_list.proofs.ValueReads.{cur_is, few_to_value, read_then_step, settles_read, slot_at, steps_read, valued_since}
 use Rattle.vbr_list.proofs.call.PendingCall.mark_and_unlink.Goals as goal
 
 pub value_if_any-read-requires-clause-held : goal.value_if_any-read-requires-clause-held
@@ -41,24 +40,21 @@ pub mark_entry-outcome-requires-clause-node : goal.mark_entry-outcome-requires-c
 mark_entry-outcome-requires-clause-node g c =
     let f = c.args.found.now in
     let y = cur_is (knows c.args.self.now.at.stepper.now.trace) c.args.self.now.key f.pred c.in-Some.cur f.cur f.present c.requires.locates.end c.in-Some.is in
-    let key = key_found (knows c.args.self.now.at.stepper.now.trace) c.args.self.now.key f.pred c.in-Some.cur f.cur f.present c.requires.locates.end c.in-Some.is c.requires.present in
     let keeps = c.in_ok-value.ensures.value.keeps in
-    let there = key_kept c.in-Some.cur.at c.args.self.now.key keeps key in
+    let there = key_found_since c.args.self.now.key f.pred c.in-Some.cur f.cur f.present keeps c.requires.locates.end c.in-Some.is c.requires.present in
     record { held = held_kept c.in-Some.cur keeps y.held; key = (c.args.self.now.key, there); unmarked = y.unmarked }
 
 pub mark_entry-outcome-requires-clause-valued : goal.mark_entry-outcome-requires-clause-valued
-mark_entry-outcome-requires-clause-valued g c = λ has. (c.in_ok-value.value, c.in_ok-value.ensures.value.value (sym (ap (λ (d : Start). d.shape.values) c.value_if_any-read.ensures.reads.quiet.same.start) ∙ has))
+mark_entry-outcome-requires-clause-valued g c = λ has. (c.in_ok-value.value, valued_since c.value_if_any-read.ensures.reads.quiet.same c.in_ok-value.ensures.value.value has)
 
 pub unlink_marked-requires-clause-marked : goal.unlink_marked-requires-clause-marked
 unlink_marked-requires-clause-marked g c =
     let f = c.args.found.now in
     let y = cur_is (knows c.args.self.now.at.stepper.now.trace) c.args.self.now.key f.pred c.in-Some.cur f.cur f.present c.requires.locates.end c.in-Some.is in
-    let key = key_found (knows c.args.self.now.at.stepper.now.trace) c.args.self.now.key f.pred c.in-Some.cur f.cur f.present c.requires.locates.end c.in-Some.is c.requires.present in
     let keeps = c.in_ok-value.ensures.value.keeps in
-    let there = key_kept c.in-Some.cur.at c.args.self.now.key keeps key in
+    let there = key_found_since c.args.self.now.key f.pred c.in-Some.cur f.cur f.present keeps c.requires.locates.end c.in-Some.is c.requires.present in
     let same = c.value_if_any-read.ensures.reads.quiet.same in
-    let valued = λ (has : c.value_if_any-read.new.at.stepper.now.trace.start.shape.values ≡ true). c.in_ok-value.ensures.value.value (sym (ap (λ (d : Start). d.shape.values) same.start) ∙ has) in
-    let made = c.in_ok-marked.ensures.removed.made c.args.self.now.key c.in_ok-value.value there valued in
+    let made = c.in_ok-marked.ensures.removed.made c.args.self.now.key c.in_ok-value.value there (valued_since same c.in_ok-value.ensures.value.value) in
     let mark = c.mark_entry-outcome.ensures.keeps in
     let removed = c.in_ok-marked.ensures.removed in
     let pred = pred_on c.args.self.now.key f.pred made.same mark.keeps (pred_on c.args.self.now.key f.pred same keeps c.requires.locates.pred) in
@@ -127,10 +123,9 @@ returns-then-affords-clause-answers g c =
     let y = cur_is (knows c.args.self.now.at.stepper.now.trace) c.args.self.now.key f.pred c.in-Some.cur f.cur f.present c.requires.locates.end c.in-Some.is in
     let key = key_found (knows c.args.self.now.at.stepper.now.trace) c.args.self.now.key f.pred c.in-Some.cur f.cur f.present c.requires.locates.end c.in-Some.is c.requires.present in
     let keeps = c.in_ok-value.ensures.value.keeps in
-    let there = key_kept c.in-Some.cur.at c.args.self.now.key keeps key in
+    let there = key_found_since c.args.self.now.key f.pred c.in-Some.cur f.cur f.present keeps c.requires.locates.end c.in-Some.is c.requires.present in
     let same = c.value_if_any-read.ensures.reads.quiet.same in
-    let valued = λ (has : c.value_if_any-read.new.at.stepper.now.trace.start.shape.values ≡ true). c.in_ok-value.ensures.value.value (sym (ap (λ (d : Start). d.shape.values) same.start) ∙ has) in
-    let made = c.in_ok-marked.ensures.removed.made c.args.self.now.key c.in_ok-value.value there valued in
+    let made = c.in_ok-marked.ensures.removed.made c.args.self.now.key c.in_ok-value.value there (valued_since same c.in_ok-value.ensures.value.value) in
     let told = told_since c.value_if_any-read.ensures.reads.quiet (given_same same Remove c.args.self.now.key (Some c.in_ok-value.value)) made in
     let then = c.unlink_marked.ensures.goes.goes.quiet in
     let p = c.args.self.now.at.stepper.now in
@@ -179,13 +174,10 @@ returns-else-affords-clause-settles g c =
 pub returns-else-affords-clause-answers : goal.returns-else-affords-clause-answers
 returns-else-affords-clause-answers g c =
     let f = c.args.found.now in
-    let y = cur_is (knows c.args.self.now.at.stepper.now.trace) c.args.self.now.key f.pred c.in-Some.cur f.cur f.present c.requires.locates.end c.in-Some.is in
-    let key = key_found (knows c.args.self.now.at.stepper.now.trace) c.args.self.now.key f.pred c.in-Some.cur f.cur f.present c.requires.locates.end c.in-Some.is c.requires.present in
     let keeps = c.in_ok-value.ensures.value.keeps in
-    let there = key_kept c.in-Some.cur.at c.args.self.now.key keeps key in
+    let there = key_found_since c.args.self.now.key f.pred c.in-Some.cur f.cur f.present keeps c.requires.locates.end c.in-Some.is c.requires.present in
     let same = c.value_if_any-read.ensures.reads.quiet.same in
-    let valued = λ (has : c.value_if_any-read.new.at.stepper.now.trace.start.shape.values ≡ true). c.in_ok-value.ensures.value.value (sym (ap (λ (d : Start). d.shape.values) same.start) ∙ has) in
-    let made = c.in_ok-marked.ensures.removed.made c.args.self.now.key c.in_ok-value.value there valued in
+    let made = c.in_ok-marked.ensures.removed.made c.args.self.now.key c.in_ok-value.value there (valued_since same c.in_ok-value.ensures.value.value) in
     let told = told_since c.value_if_any-read.ensures.reads.quiet (given_same same Remove c.args.self.now.key (Some c.in_ok-value.value)) made in
     record {
       made = told;

@@ -1,0 +1,71 @@
+-- A remove and a look-up that are refused for want of steps: the budget was below what is enough, alone and disturbed.
+use Rattle.std.proofs.Common.{◌≡◌, ℕ, ◌+◌, ◌*◌, ◌<◌, ◌≤◌, Bool, List, None, Result, Err, subst, arith}
+use Rattle.vbr_machine.specs.Runs.{Begins, IsRun}
+use Rattle.vbr_machine.specs.declared.event.Event.{Event}
+use Rattle.vbr_machine.specs.declared.history.Call.{Call}
+use Rattle.vbr_slots.specs.PassLaw.{PassLaw}
+use Rattle.vbr_slots.specs.Views.{PassView}
+use Rattle.vbr_slots.proofs.Lemmas.{same_refl}
+use Rattle.vbr_at_table.specs.declared.budget.TheConstants.{PIECE}
+use Rattle.vbr_at_table.proofs.Lemmas.{took_all}
+use Rattle.vbr_list.specs.Budgets.{listed_for}
+use Rattle.vbr_list.specs.Disturbed.{disturbed, disturbed_after, enough_among}
+use Rattle.vbr_list.specs.Leaving.{SparesRemove}
+use Rattle.vbr_list.specs.Pieces.{Goes, Observes, Tries}
+use Rattle.vbr_list.specs.Refusals.{IsTired}
+use Rattle.vbr_list.specs.Sparing.{CallsAs, SparesLookUp}
+use Rattle.vbr_list.specs.Walking.{Repeats, WalksAgain}
+use Rattle.vbr_list.specs.declared.refusal.Refusal.{Refusal}
+use Rattle.vbr_list.specs.declared.refusal.Refusal.TheVariants.{OutOfSteps}
+use Rattle.vbr_list.proofs.Disturbing.{alone_undisturbed, own_at, run_at}
+use Rattle.vbr_list.proofs.Going.{goes_on, within_of}
+use Rattle.vbr_list.proofs.Observing.{observes_on}
+use Rattle.vbr_list.proofs.Walking.{HasRepeated, enough_alone, lacks_steps, remove_lacks}
+
+-- where nothing disturbed a look-up
+not_alone : (n times : ℕ) {budget : ℕ} → times ≡ 0 → budget < enough_among n times → budget < 5 * n + 11
+not_alone n times {budget} none lacks = let P : ℕ → Type 0 = λ t. budget < enough_among n t in let x = subst P none lacks in omega (arith, x)
+
+-- a call that has tried so far goes on, and then its budget has no room for one more piece
+module _ {p q r : PassView} (law : PassLaw p) (key : ℕ) {a b budget : ℕ} (tries : Tries p q 0 a budget) (went : Goes q r a b) (within : b ≤ budget) (short : budget < b + PIECE) (hand : r.hand ≡ None) where
+  whole : Goes p r 0 b
+  whole = goes_on tries.goes went
+
+  ok : IsRun p.trace.start p.trace.passes r.trace.seen
+  ok = run_at p.trace r.trace whole.quiet.same (whole.quiet.is_run law.is_run)
+
+  tired : IsTired p r budget (OutOfSteps b)
+  tired = record { took = took_all whole.counts; within = within; short = short }
+
+  refused : {A : Type 0} {told : A → Call} {S : Result A Refusal → Type 0} → S (Err (OutOfSteps b)) → CallsAs told S p r budget (Err (OutOfSteps b))
+  refused spares = record { same = whole.quiet.same; made = tt; alone = tt; quiet = whole.quiet; hand = hand; steps = within_of b budget within whole.counts; spares = spares }
+
+  pub remove_tires : {A : Type 0} {told : A → Call} {yes : A → Bool} → HasRepeated 9 p.trace q.trace key 6 0 a → WalksAgain 9 q.trace r.trace key a b → CallsAs told (SparesRemove yes p r key budget) p r budget (Err (OutOfSteps b))
+  remove_tires {A} {told} {yes} lost walks =
+      let lacks = remove_lacks p.trace q.trace r.trace law.start ok key tries.goes.quiet.same tries.goes.quiet.seen went.quiet.seen whole.quiet lost walks budget short in
+      refused {S = SparesRemove yes p r key budget} (record {
+        takes_no_slot = whole.hand.takes_no_slot;
+        unlists = tt;
+        refused = tired;
+        within = λ alone. enough_alone (listed_for p.trace key) (disturbed p.trace r.trace key) (alone_undisturbed p.trace r.trace key alone) lacks;
+        disturbed_within = lacks;
+        costs = tt;
+        disturbed_costs = tt;
+        fewer = tt;
+      })
+
+  pub look_up_tires : {A : Type 0} {told : A → Call} {most each : ℕ} → each ≤ 3 → Observes p.trace q.trace → Observes q.trace r.trace → HasRepeated 5 p.trace q.trace key (3 + each) 0 a → (lost : ℕ) (moment : List Event) → Begins moment r.trace.seen → Repeats 5 q.trace r.trace key 3 a b (lost + 1) (disturbed_after q.trace key moment + 1) → CallsAs told (SparesLookUp told most p r key budget) p r budget (Err (OutOfSteps b))
+  look_up_tires {A} {told} {most} {each} few before now rounds lost moment to repeats =
+      let seen = observes_on before now in
+      let lacks = lacks_steps p.trace q.trace r.trace law.start ok key each tries.goes.quiet.same tries.goes.quiet.seen went.quiet.seen (own_at p.trace p.trace r.trace (same_refl p.trace) whole.quiet.same seen.adds_none) rounds lost moment to repeats budget few short in
+      refused {S = SparesLookUp told most p r key budget} (record {
+        only_loads = seen.only_loads;
+        adds = tt;
+        adds_none = seen.adds_none;
+        takes_no_slot = whole.hand.takes_no_slot;
+        refused = tired;
+        within = λ alone. not_alone (listed_for p.trace key) (disturbed p.trace r.trace key) (alone_undisturbed p.trace r.trace key alone) lacks;
+        disturbed_within = lacks;
+        costs = tt;
+        disturbed_costs = tt;
+      })
