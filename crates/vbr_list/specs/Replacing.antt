@@ -20,11 +20,17 @@ use Rattle.vbr_list.specs.Budgets.{IsAnsweredOrSpent, LacksSteps, enough_to_inse
 use Rattle.vbr_list.specs.Disturbed.{disturbed, disturbed_after, enough_to_replace_among, steps_for_slot}
 use Rattle.vbr_list.specs.Inserting.{HasHandAndRoom, InsertIsShort, SearchedFor, SearchesInVain, TakesNone}
 use Rattle.vbr_list.specs.Pieces.{IsPiece, IsSameCall, Replies, pass_in, trace_in}
+use Rattle.vbr_list.specs.Traversing.{LocatesFor}
 use Rattle.vbr_list.specs.Walking.{LosesPlace, met_since}
 use Rattle.vbr_list.specs.declared.call.PendingCall.{PendingCall}
 use Rattle.vbr_list.specs.declared.found.Found.{Found}
 use Rattle.vbr_list.specs.declared.refusal.Refusal.{Refusal}
 use Rattle.vbr_list.specs.declared.refusal.Refusal.TheVariants.{OutOfSteps, NoSlot, EpochSpent}
+
+-- what was found locates the key, at a node that has it
+pub record LocatesNode {N : Type 0} {kind : Ghosts N} (c : PendingCall N kind) (found : Found) : Type 0 where
+  pub locates : LocatesFor c found
+  pub present : found.present ≡ true
 
 -- a piece that may replace a node: its steps are counted, and it takes no slot
 pub record MayReplaceNode {N : Type 0} {kind : Ghosts N} (c d : PendingCall N kind) : Type 0 where

@@ -8,7 +8,7 @@ ghost use Rattle.vbr_at_table.specs.Answering.{KeepsIn};
 ghost use Rattle.vbr_at_table.specs.CallSteps.{steps_to_birth};
 ghost use Rattle.vbr_list.specs.Inserting.{GivesHandBack, HasHandAndRoom, Links, Prepares};
 ghost use Rattle.vbr_list.specs.Pieces.{HasRoom, IsSameCall, Replies, pass_in, trace_in};
-ghost use Rattle.vbr_list.specs.Replacing.{CallsReplace, DeniesAbsent, HasUnspent, HasUnused, MayReplaceNode, ReadiesHand, ReadiesNone, ReplaceAnswers, Replaces, ReplacesNone};
+ghost use Rattle.vbr_list.specs.Replacing.{CallsReplace, DeniesAbsent, HasUnspent, HasUnused, LocatesNode, MayReplaceNode, ReadiesHand, ReadiesNone, ReplaceAnswers, Replaces, ReplacesNone};
 ghost use Rattle.vbr_list.specs.Traversing.{LocatesFor};
 
 use crate::call::PendingCall;
@@ -42,8 +42,7 @@ impl<N: Nodes> PendingCall<'_, N> {
         hand: Hand,
     ) -> Result<(u64, Marked), Hand>
         requires values { (trace_in self.old).start.shape.values ≡ true }
-        requires locates { LocatesFor self.old found.now }
-        requires present { found.now.present ≡ true }
+        requires node { LocatesNode self.old found.now }
         requires hand { HasHandAndRoom (pass_in self.old) hand }
         requires room { HasRoom self.old }
         ensures tries { MayReplaceNode self.old self.new }

@@ -31,25 +31,25 @@ value_of-read-requires-clause-values g c = ap (λ (d : Start). d.shape.values) (
 pub value_of-read-requires-clause-held : goal.value_of-read-requires-clause-held
 value_of-read-requires-clause-held g c =
     let f = c.args.found.now in
-    (cur_is (knows c.args.self.now.at.stepper.now.trace) c.args.self.now.key f.pred c.in-Some.cur f.cur f.present c.requires.locates.end c.in-Some.is).held
+    (cur_is (knows c.args.self.now.at.stepper.now.trace) c.args.self.now.key f.pred c.in-Some.cur f.cur f.present c.requires.node.locates.end c.in-Some.is).held
 
 pub value_of-read-requires-clause-slot : goal.value_of-read-requires-clause-slot
 value_of-read-requires-clause-slot g c =
     let f = c.args.found.now in
-    slot_at (cur_is (knows c.args.self.now.at.stepper.now.trace) c.args.self.now.key f.pred c.in-Some.cur f.cur f.present c.requires.locates.end c.in-Some.is)
+    slot_at (cur_is (knows c.args.self.now.at.stepper.now.trace) c.args.self.now.key f.pred c.in-Some.cur f.cur f.present c.requires.node.locates.end c.in-Some.is)
 
 pub birth_after-named-requires : goal.birth_after-named-requires
 birth_after-named-requires g c =
     let f = c.args.found.now in
-    let y = cur_is (knows c.args.self.now.at.stepper.now.trace) c.args.self.now.key f.pred c.in-Some.cur f.cur f.present c.requires.locates.end c.in-Some.is in
+    let y = cur_is (knows c.args.self.now.at.stepper.now.trace) c.args.self.now.key f.pred c.in-Some.cur f.cur f.present c.requires.node.locates.end c.in-Some.is in
     record { held = held_kept c.in-Some.cur c.in-Ok.ensures.value.keeps y.held }
 
 pub replace_entry-requires-clause-node : goal.replace_entry-requires-clause-node
 replace_entry-requires-clause-node g c =
     let f = c.args.found.now in
     let know = knows c.args.self.now.at.stepper.now.trace in
-    let y = cur_is know c.args.self.now.key f.pred c.in-Some.cur f.cur f.present c.requires.locates.end c.in-Some.is in
-    let there = key_found know c.args.self.now.key f.pred c.in-Some.cur f.cur f.present c.requires.locates.end c.in-Some.is c.requires.present in
+    let y = cur_is know c.args.self.now.key f.pred c.in-Some.cur f.cur f.present c.requires.node.locates.end c.in-Some.is in
+    let there = key_found know c.args.self.now.key f.pred c.in-Some.cur f.cur f.present c.requires.node.locates.end c.in-Some.is c.requires.node.present in
     let one = c.in-Ok.ensures.value.keeps in
     let two = c.in-Ok-named.ensures.birth.keeps in
     let key = key_on c.in-Some.cur.at c.args.self.now.key two (key_on c.in-Some.cur.at c.args.self.now.key one there) in
