@@ -67,29 +67,27 @@ told_since quiet same made = told_as same (made_on quiet made)
 
 -- ---- another answer
 
-pub calls_as : {A : Type 0} {f g : A → Call} {S T : Result A Refusal → Type 0} {p q : PassView} {budget : ℕ} (answer : Result A Refusal) → CallsAs f S p q budget answer → ((reply : A) → f reply ≡ g reply) → (S answer → T answer) → CallsAs g T p q budget answer
-calls_as {p = p} {q = q} (Ok reply) x same spares = record {
+calls_read : {A B : Type 0} {f : A → Call} {g : B → Call} {S : Result A Refusal → Type 0} {T : Result B Refusal → Type 0} {p q : PassView} {budget : ℕ} (reply : A) (given : B) → f reply ≡ g given → (S (Ok reply) → T (Ok given)) → CallsAs f S p q budget (Ok reply) → CallsAs g T p q budget (Ok given)
+calls_read {p = p} reply given same spares x = record {
   same = x.same;
-  made = told_as (same reply) x.made;
-  alone = subst (λ (call : Call). AnswersAlone p.trace call.op call.key call.reply) (same reply) x.alone;
+  made = told_as same x.made;
+  alone = subst (λ (call : Call). AnswersAlone p.trace call.op call.key call.reply) same x.alone;
   quiet = tt;
   hand = x.hand;
   steps = x.steps;
   spares = spares x.spares;
 }
-calls_as (Err refusal) x same spares = record { same = x.same; made = tt; alone = tt; quiet = x.quiet; hand = x.hand; steps = x.steps; spares = spares x.spares }
+
+calls_refused : {A B : Type 0} {f : A → Call} {g : B → Call} {S : Result A Refusal → Type 0} {T : Result B Refusal → Type 0} {p q : PassView} {budget : ℕ} {refusal : Refusal} → (S (Err refusal) → T (Err refusal)) → CallsAs f S p q budget (Err refusal) → CallsAs g T p q budget (Err refusal)
+calls_refused spares x = record { same = x.same; made = tt; alone = tt; quiet = x.quiet; hand = x.hand; steps = x.steps; spares = spares x.spares }
+
+pub calls_as : {A : Type 0} {f g : A → Call} {S T : Result A Refusal → Type 0} {p q : PassView} {budget : ℕ} (answer : Result A Refusal) → CallsAs f S p q budget answer → ((reply : A) → f reply ≡ g reply) → (S answer → T answer) → CallsAs g T p q budget answer
+calls_as {S = S} {T = T} (Ok reply) x same spares = calls_read {S = S} {T = T} reply reply (same reply) spares x
+calls_as {S = S} {T = T} (Err refusal) x same spares = calls_refused {S = S} {T = T} spares x
 
 pub calls_yes : {f : Option ℕ → Call} {g : Bool → Call} {S : Result (Option ℕ) Refusal → Type 0} {T : Result Bool Refusal → Type 0} {p q : PassView} {budget : ℕ} (answer : Result (Option ℕ) Refusal) → CallsAs f S p q budget answer → ((given : Option ℕ) → f given ≡ g (is_some given)) → (S answer → T (is_yes answer)) → CallsAs g T p q budget (is_yes answer)
-calls_yes {p = p} {q = q} (Ok given) x same spares = record {
-  same = x.same;
-  made = told_as (same given) x.made;
-  alone = subst (λ (call : Call). AnswersAlone p.trace call.op call.key call.reply) (same given) x.alone;
-  quiet = tt;
-  hand = x.hand;
-  steps = x.steps;
-  spares = spares x.spares;
-}
-calls_yes (Err refusal) x same spares = record { same = x.same; made = tt; alone = tt; quiet = x.quiet; hand = x.hand; steps = x.steps; spares = spares x.spares }
+calls_yes {S = S} {T = T} (Ok given) x same spares = calls_read {S = S} {T = T} given (is_some given) (same given) spares x
+calls_yes {S = S} {T = T} (Err refusal) x same spares = calls_refused {S = S} {T = T} spares x
 
 -- and with its value
 pub calls_entry : {A : Type 0} {told : A → Call} {S : Result A Refusal → Type 0} {p q : PassView} {budget : ℕ} (answer : Result A Refusal) → PassLaw p → CallsAs told S p q budget answer → CallsEntry told S p q budget answer
@@ -98,10 +96,11 @@ calls_entry (Err refusal) law x = record { calls = x; gives = tt }
 
 -- ---- what a call promises besides
 
-pub look_up_as : {A : Type 0} {f g : A → Call} {most : ℕ} {p q : PassView} {key budget : ℕ} (answer : Result A Refusal) → SparesLookUp f most p q key budget answer → ((reply : A) → f reply ≡ g reply) → SparesLookUp g most p q key budget answer
-look_up_as {p = p} {q = q} (Ok reply) x same = record {
+-- of an answer, told as another, and of a refusal
+look_up_read : {A B : Type 0} {f : A → Call} {g : B → Call} {most : ℕ} {p q : PassView} {key budget : ℕ} (reply : A) (given : B) → f reply ≡ g given → SparesLookUp f most p q key budget (Ok reply) → SparesLookUp g most p q key budget (Ok given)
+look_up_read {p = p} {q = q} reply given same x = record {
   only_loads = x.only_loads;
-  adds = subst (λ (call : Call). AddsAnswer call p.trace q.trace) (same reply) x.adds;
+  adds = subst (λ (call : Call). AddsAnswer call p.trace q.trace) same x.adds;
   adds_none = tt;
   takes_no_slot = x.takes_no_slot;
   refused = tt;
@@ -110,21 +109,17 @@ look_up_as {p = p} {q = q} (Ok reply) x same = record {
   costs = x.costs;
   disturbed_costs = x.disturbed_costs;
 }
-look_up_as (Err refusal) x same = record { only_loads = x.only_loads; adds = tt; adds_none = x.adds_none; takes_no_slot = x.takes_no_slot; refused = x.refused; within = x.within; disturbed_within = x.disturbed_within; costs = tt; disturbed_costs = tt }
+
+look_up_refused : {A B : Type 0} {f : A → Call} {g : B → Call} {most : ℕ} {p q : PassView} {key budget : ℕ} {refusal : Refusal} → SparesLookUp f most p q key budget (Err refusal) → SparesLookUp g most p q key budget (Err refusal)
+look_up_refused x = record { only_loads = x.only_loads; adds = tt; adds_none = x.adds_none; takes_no_slot = x.takes_no_slot; refused = x.refused; within = x.within; disturbed_within = x.disturbed_within; costs = tt; disturbed_costs = tt }
+
+pub look_up_as : {A : Type 0} {f g : A → Call} {most : ℕ} {p q : PassView} {key budget : ℕ} (answer : Result A Refusal) → SparesLookUp f most p q key budget answer → ((reply : A) → f reply ≡ g reply) → SparesLookUp g most p q key budget answer
+look_up_as (Ok reply) x same = look_up_read reply reply (same reply) x
+look_up_as (Err refusal) x same = look_up_refused x
 
 pub look_up_yes : {f : Option ℕ → Call} {g : Bool → Call} {most : ℕ} {p q : PassView} {key budget : ℕ} (answer : Result (Option ℕ) Refusal) → SparesLookUp f most p q key budget answer → ((given : Option ℕ) → f given ≡ g (is_some given)) → SparesLookUp g most p q key budget (is_yes answer)
-look_up_yes {p = p} {q = q} (Ok given) x same = record {
-  only_loads = x.only_loads;
-  adds = subst (λ (call : Call). AddsAnswer call p.trace q.trace) (same given) x.adds;
-  adds_none = tt;
-  takes_no_slot = x.takes_no_slot;
-  refused = tt;
-  within = tt;
-  disturbed_within = tt;
-  costs = x.costs;
-  disturbed_costs = x.disturbed_costs;
-}
-look_up_yes (Err refusal) x same = record { only_loads = x.only_loads; adds = tt; adds_none = x.adds_none; takes_no_slot = x.takes_no_slot; refused = x.refused; within = x.within; disturbed_within = x.disturbed_within; costs = tt; disturbed_costs = tt }
+look_up_yes (Ok given) x same = look_up_read given (is_some given) (same given) x
+look_up_yes (Err refusal) x same = look_up_refused x
 
 pub remove_yes : {p q : PassView} {key budget : ℕ} (answer : Result (Option ℕ) Refusal) → SparesRemove is_some p q key budget answer → SparesRemove (λ removed. removed) p q key budget (is_yes answer)
 remove_yes (Ok given) x = record { takes_no_slot = x.takes_no_slot; unlists = x.unlists; refused = tt; within = tt; disturbed_within = tt; costs = x.costs; disturbed_costs = x.disturbed_costs; fewer = x.fewer }

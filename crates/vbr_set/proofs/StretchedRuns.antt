@@ -1,5 +1,5 @@
 -- In a stretch of a run the epoch advances no more often than inserts are begun, by the calls of all passes.
-use Rattle.std.proofs.Common.{◌≡◌, ◌≢◌, ℕ, zero, suc, ◌+◌, ◌-◌, ◌<◌, ◌≤◌, ◌==◌, ◌&&◌, Bool, true, false, cond, List, [], ◌∷◌, ◌++◌, Option, Ok, Err, Result, refl, ap, sym, subst, ◌∙◌, arith, eq-eqb, inl, inr, append_assoc}
+use Rattle.std.proofs.Common.{◌≡◌, ℕ, ◌+◌, ◌≤◌, ◌==◌, ◌&&◌, Bool, true, cond, List, [], ◌∷◌, ◌++◌, Ok, Err, Result, refl, ap, sym, subst, ◌∙◌, arith, eq-eqb, inl, inr, append_assoc}
 use Rattle.std.specs.Prelude.{count_by}
 use Rattle.std.proofs.lemmas.Bool.{ne_eqb}
 use Rattle.std.proofs.lemmas.List.Sums.{sum_by-append}
@@ -18,9 +18,9 @@ use Rattle.vbr_machine.specs.declared.history.Op.TheVariants.{Get, Has, Insert, 
 use Rattle.vbr_machine.proofs.Lemmas.{IsAdvance, begins_refl, disturbances_paid, is_run_after, moved_by_steps}
 use Rattle.vbr_slots.specs.PassLaw.{PassLaw}
 use Rattle.vbr_slots.specs.Tokens.{SeenView}
-use Rattle.vbr_slots.specs.Views.{Did, KeepsPool, PassView, TableView, Trace, event_of}
+use Rattle.vbr_slots.specs.Views.{Did, PassView, TableView, Trace, event_of}
 use Rattle.vbr_slots.proofs.Lemmas.{same_refl}
-use Rattle.vbr_at_table.specs.Advances.{AdvancesOnce, AdvancesWhereNeeded}
+use Rattle.vbr_at_table.specs.Advances.{AdvancesWhereNeeded}
 use Rattle.vbr_at_table.specs.Counts.{advances, is_advance}
 use Rattle.vbr_at_table.proofs.Lemmas.{did_none}
 use Rattle.vbr_list.specs.Budgets.{listed_for}

@@ -3,12 +3,11 @@ use Rattle.std.specs.Prelude.{◌≡◌, ℕ, ◌+◌, ◌-◌, ◌*◌, ◌<◌
 use Rattle.vbr_machine.specs.Accounts.{incarnations_after}
 use Rattle.vbr_machine.specs.Disturbances.{updates}
 use Rattle.vbr_machine.specs.Nodes.{marked_after}
-use Rattle.vbr_machine.specs.Runs.{Begins, IsRun}
+use Rattle.vbr_machine.specs.Runs.{Begins}
 use Rattle.vbr_machine.specs.Whereabouts.{sum_of}
 use Rattle.vbr_machine.specs.declared.event.Step.TheVariants.{ReadEpoch}
 use Rattle.vbr_machine.specs.declared.history.Op.{Op}
 use Rattle.vbr_machine.specs.declared.history.Op.TheVariants.{Has, Insert, Remove}
-use Rattle.vbr_slots.specs.Calls.{IsSame}
 use Rattle.vbr_slots.specs.PassLaw.{PassLaw}
 use Rattle.vbr_slots.specs.Tokens.{SeenView}
 use Rattle.vbr_slots.specs.Views.{Did, KeepsPool, PassView, TableView, Trace}
