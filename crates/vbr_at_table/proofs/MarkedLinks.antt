@@ -52,21 +52,70 @@ marked_alone {p} {q} {s} node is at d alone =
       listed = λ bucket h. (λ i. behind (d.same.1 i) (nodes_next d alone i) bucket (Head h)) ∙ mark_leaves p.start p.passes p.seen is (run_was d alone) p.who bucket h s node.word (accepted_now d alone);
     }
 
--- whatever others did before
-pub marked_leaves : {p q : Trace} {s r : ℕ} (node : Held) → IsStart p.start → node.at ≡ Slot s → Did (Mark s node.word) p q r → LeavesOthers p q node
-marked_leaves {p} {q} {s} node is at d =
+-- whatever others did before, a step that leaves the links of all other places than a node's
+leaves_by : {p q : Trace} {r : ℕ} (step : Step) (node : Held) → IsStart p.start → ((w : World) (place : At) → place ≢ node.at → link_at (after p.start w p.who step) place ≡ link_at w place) → Did step p q r → LeavesOthers p q node
+leaves_by {p} {q} step node is left d =
     let moment = p.seen ++ d.rest in
-    let event = event_of p.who (Mark s node.word) in
+    let event = event_of p.who step in
     let ok : IsRun p.start p.passes (moment ++ event ∷ []) = subst (IsRun p.start p.passes) d.seen d.is_run in
     let ok_moment = is_run_before p.start p.passes moment (event ∷ []) ok in
     let before = run_agrees p.start p.passes moment is ok_moment in
     let now = run_agrees p.start p.passes q.seen is d.is_run in
     let w = world_after p.start moment in
-    let next : world_after p.start q.seen ≡ after p.start w p.who (Mark s node.word) = ap (world_after p.start) d.seen ∙ world_after-snoc p.start moment event in
+    let next : world_after p.start q.seen ≡ after p.start w p.who step = ap (world_after p.start) d.seen ∙ world_after-snoc p.start moment event in
     record {
       moment = moment;
       from = (d.rest, refl);
       to = (event ∷ [], d.seen);
       own = λ bucket. own_unchanged (since p.start p.passes p.seen moment is ok_moment (d.rest, refl)) p.who bucket (others_leave_entries p.start p.seen d.rest p.who d.none);
-      links = λ place other. link_is now place ∙ ap (λ (v : World). link_at v place) next ∙ link_left p.start w p.who s node.word place (λ e. other (e ∙ sym at)) ∙ sym (link_is before place);
+      links = λ place other. link_is now place ∙ ap (λ (v : World). link_at v place) next ∙ left w place other ∙ sym (link_is before place);
+    }
+
+pub marked_leaves : {p q : Trace} {s r : ℕ} (node : Held) → IsStart p.start → node.at ≡ Slot s → Did (Mark s node.word) p q r → LeavesOthers p q node
+marked_leaves {p} {q} {s} node is at d = leaves_by (Mark s node.word) node is (λ w place other. link_left p.start w p.who s node.word place (λ e. other (e ∙ sym at))) d
+
+-- a replacement does so
+replaced_link : (start : Start) (w : World) (p s expected t : ℕ) (at : At) → at ≢ Slot s → link_at (after start w p (Replace s expected t)) at ≡ link_at w at
+replaced_link start w p s expected t (Head b) other = by_both (found start w (Replace s expected t) == expected) (λ v. v.head b) _ w (w.head b) refl refl
+replaced_link start w p s expected t (Slot i) other = by_both (found start w (Replace s expected t) == expected) (λ v. v.link i) _ w (w.link i) (put_other w.link s (link_written (w.know p) (Replace s expected t)) i (λ e. other (ap Slot e))) refl
+
+pub replaced_leaves : {p q : Trace} {s t r : ℕ} (node : Held) → IsStart p.start → node.at ≡ Slot s → Did (Replace s node.word t) p q r → LeavesOthers p q node
+replaced_leaves {p} {q} {s} {t} node is at d = leaves_by (Replace s node.word t) node is (λ w place other. replaced_link p.start w p.who s node.word t place (λ e. other (e ∙ sym at))) d
+
+-- and so it is since what changed no list
+pub leaves_since : {p q r : Trace} (node : Held) → Quiet p q → ChangesNone p q → LeavesOthers q r node → LeavesOthers p r node
+leaves_since {p} {q} {r} node quiet none x = record {
+  moment = x.moment;
+  from = begins_trans p.seen q.seen x.moment quiet.seen x.from;
+  to = x.to;
+  own = λ bucket. (sym (λ i. own_changes (quiet.same.start i) x.moment (quiet.same.who i) bucket) ∙ x.own bucket) ∙ none.same bucket;
+  links = λ place other. sym (λ i. link_shown_at (incarnations_after (quiet.same.start i) r.seen) place) ∙ x.links place other ∙ (λ i. link_shown_at (incarnations_after (quiet.same.start i) x.moment) place);
+}
+
+-- ---- the node that is replaced
+
+-- it was replaced by the step, and is held at its slot
+pub replaced_at : {p q : Trace} {s expected t : ℕ} → IsStart p.start → (epoch : ℕ) → (knows p).epoch ≡ epoch → Did (Replace s expected t) p q expected → ReplacedAt p.start p.seen q.seen p.who epoch s
+replaced_at {p} {q} {s} {expected} {t} is epoch same d =
+    let before = p.seen ++ d.rest in
+    let event = event_of p.who (Replace s expected t) in
+    let P : List Event → Type 0 = IsRun p.start p.passes in
+    let run = subst P d.seen d.is_run in
+    let ok = is_run_before p.start p.passes before (event ∷ []) run in
+    let found_it = won expected _ d.shows.answers in
+    let a = incarnations_after p.start before in
+    let out = replaced_out p.start p.passes before is ok p.who s expected t found_it (is_run_last p.start p.passes before event run).1 in
+    let known : (know_after p.start before p.who).epoch ≡ epoch = ap (λ (k : Know). k.epoch) (others_leave_know p.start p.seen d.rest p.who d.none) ∙ same in
+    let H : Incarnations × ℕ → Type 0 = λ x. IsHeldIncarnation x.0 x.1 s (last_in a s) in
+    let R : Incarnations → Type 0 = λ i. IsRemoved (i.state (last_in a s)) in
+    record {
+      node = last_in a s;
+      replaced = record {
+        since = just p.who (Replaces (last_in a s) (last_in a t));
+        adds = sym (λ i. own_entries (d.same.1 i) q.seen (d.same.3 i)) ∙ did_entries d ∙ ap (λ l. entries_of p ++ l) (replaced_entry p.start p.passes before is ok p.who s expected t found_it);
+        by = last_in a t;
+        among = (0, omega arith, refl);
+      };
+      held = subst H (λ i. (incarnations_after p.start (sym d.seen i), known i)) out.0;
+      removed = subst R (λ i. incarnations_after p.start (sym d.seen i)) out.1;
     }

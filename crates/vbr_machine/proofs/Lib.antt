@@ -69,6 +69,7 @@ mod MarkedChains
 mod RunForms
 mod MarkedMoments
 mod Removals
+mod ReplacedNodes
 mod ListedRuns
 mod ListedGrowth
 mod ListedLinks
