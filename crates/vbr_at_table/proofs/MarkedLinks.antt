@@ -1,24 +1,30 @@
--- A mark leaves the epoch, the link of each other place than its node's, and as many nodes in each list.
+-- A mark leaves the epoch, the link of each other place than its node's, and as many nodes in each list; a replacement leaves those links too.
 use Rattle.std.proofs.Common.{◌≡◌, ◌≢◌, ℕ, [], ◌∷◌, ◌++◌, refl, sym, subst, ap, ◌∙◌}
 use Rattle.std.specs.Prelude.{◌==◌}
 use Rattle.vbr_machine.specs.Start.{Start, IsStart}
 use Rattle.vbr_words.specs.Words.{link_of}
 use Rattle.vbr_words.specs.declared.place.At.{At}
 use Rattle.vbr_words.specs.declared.place.At.TheVariants.{Head, Slot}
+use Rattle.vbr_machine.specs.Accounts.{incarnations_after}
 use Rattle.vbr_machine.specs.Agreement.{Agrees}
+use Rattle.vbr_machine.specs.Disturbances.{own_changes}
 use Rattle.vbr_machine.specs.Images.{link_shown_at}
 use Rattle.vbr_machine.specs.Incarnations.{Incarnations}
+use Rattle.vbr_machine.specs.Learning.{link_written}
 use Rattle.vbr_machine.specs.Links.{marked}
 use Rattle.vbr_machine.specs.Machine.{World, after, found, link_at}
 use Rattle.vbr_machine.specs.Nodes.{behind}
 use Rattle.vbr_machine.specs.Notes.{Notes}
 use Rattle.vbr_machine.specs.Runs.{IsRun, world_after}
-use Rattle.vbr_machine.specs.declared.event.Step.TheVariants.{Mark}
-use Rattle.vbr_machine.proofs.Lemmas.{by_both, is_run_before, mark_leaves, others_leave_entries, own_unchanged, put_other, run_agrees, since, world_after-snoc}
+use Rattle.vbr_machine.specs.declared.event.Step.{Step}
+use Rattle.vbr_machine.specs.declared.event.Step.TheVariants.{Mark, Replace}
+use Rattle.vbr_machine.proofs.Lemmas.{begins_trans, by_both, is_run_before, mark_leaves, others_leave_entries, own_unchanged, put_other, run_agrees, since, world_after-snoc}
 use Rattle.vbr_slots.specs.Alone.{IsAlone}
+use Rattle.vbr_slots.specs.Calls.{Quiet}
 use Rattle.vbr_slots.specs.Views.{Trace, Did, event_of}
 use Rattle.vbr_slots.proofs.Lemmas.{accepted_now, did_run, nodes_next, run_was, seen_next}
 use Rattle.vbr_at_table.specs.Alone.{MarksAlone}
+use Rattle.vbr_at_table.specs.Counts.{ChangesNone}
 use Rattle.vbr_at_table.specs.Marks.{LeavesOthers}
 use Rattle.vbr_at_table.specs.declared.held.Held.{Held}
 use Rattle.vbr_at_table.proofs.AloneReads.{shape_on}
@@ -91,31 +97,3 @@ leaves_since {p} {q} {r} node quiet none x = record {
   own = λ bucket. (sym (λ i. own_changes (quiet.same.start i) x.moment (quiet.same.who i) bucket) ∙ x.own bucket) ∙ none.same bucket;
   links = λ place other. sym (λ i. link_shown_at (incarnations_after (quiet.same.start i) r.seen) place) ∙ x.links place other ∙ (λ i. link_shown_at (incarnations_after (quiet.same.start i) x.moment) place);
 }
-
--- ---- the node that is replaced
-
--- it was replaced by the step, and is held at its slot
-pub replaced_at : {p q : Trace} {s expected t : ℕ} → IsStart p.start → (epoch : ℕ) → (knows p).epoch ≡ epoch → Did (Replace s expected t) p q expected → ReplacedAt p.start p.seen q.seen p.who epoch s
-replaced_at {p} {q} {s} {expected} {t} is epoch same d =
-    let before = p.seen ++ d.rest in
-    let event = event_of p.who (Replace s expected t) in
-    let P : List Event → Type 0 = IsRun p.start p.passes in
-    let run = subst P d.seen d.is_run in
-    let ok = is_run_before p.start p.passes before (event ∷ []) run in
-    let found_it = won expected _ d.shows.answers in
-    let a = incarnations_after p.start before in
-    let out = replaced_out p.start p.passes before is ok p.who s expected t found_it (is_run_last p.start p.passes before event run).1 in
-    let known : (know_after p.start before p.who).epoch ≡ epoch = ap (λ (k : Know). k.epoch) (others_leave_know p.start p.seen d.rest p.who d.none) ∙ same in
-    let H : Incarnations × ℕ → Type 0 = λ x. IsHeldIncarnation x.0 x.1 s (last_in a s) in
-    let R : Incarnations → Type 0 = λ i. IsRemoved (i.state (last_in a s)) in
-    record {
-      node = last_in a s;
-      replaced = record {
-        since = just p.who (Replaces (last_in a s) (last_in a t));
-        adds = sym (λ i. own_entries (d.same.1 i) q.seen (d.same.3 i)) ∙ did_entries d ∙ ap (λ l. entries_of p ++ l) (replaced_entry p.start p.passes before is ok p.who s expected t found_it);
-        by = last_in a t;
-        among = (0, omega arith, refl);
-      };
-      held = subst H (λ i. (incarnations_after p.start (sym d.seen i), known i)) out.0;
-      removed = subst R (λ i. incarnations_after p.start (sym d.seen i)) out.1;
-    }
