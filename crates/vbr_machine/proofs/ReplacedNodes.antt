@@ -1,7 +1,6 @@
 -- A node that is replaced, and what shows that it has left its list.
-use Rattle.std.proofs.Common.{◌≡◌, ◌≢◌, ℕ, ◌<◌, true, List, [], ◌∷◌, ◌++◌, Option, Some, None, sym, ap, ◌∙◌, subst, eq-eqb, append-nil, append_assoc, Bool, ◌≤◌, refl, inl, inr, arith}
+use Rattle.std.proofs.Common.{◌≡◌, ◌≢◌, ℕ, ◌<◌, true, List, [], ◌∷◌, ◌++◌, Some, sym, ap, ◌∙◌, subst, eq-eqb, append_assoc, Bool, refl, inl, inr, arith}
 use Rattle.std.specs.Prelude.{◌==◌, ◌⊎◌, if◌then◌else◌}
-use Rattle.std.specs.List.{Contains}
 use Rattle.std.proofs.lemmas.List.Elements.{Contains-append_left, Contains-append_right}
 use Rattle.vbr_machine.specs.Start.{Start, IsStart}
 use Rattle.vbr_words.specs.declared.link.Link.{Link}
@@ -12,14 +11,14 @@ use Rattle.vbr_machine.specs.Accounts.{happens, incarnations_after, just, notes_
 use Rattle.vbr_machine.specs.Agreement.{IsHeldIncarnation}
 use Rattle.vbr_machine.specs.Chronicles.{Entry, Replaces, becomes, entries_by, incarnations_from}
 use Rattle.vbr_machine.specs.Incarnations.{State, Unborn, InHand, GivenUp, Linked, Marked, Unlinked, Stamped, Incarnations, last_in}
-use Rattle.vbr_machine.specs.Machine.{World, found}
+use Rattle.vbr_machine.specs.Machine.{found}
 use Rattle.vbr_machine.specs.Membership.{Knows, StandsBefore, StandsBehind}
 use Rattle.vbr_machine.specs.Moments.{WasShown}
 use Rattle.vbr_machine.specs.Opened.{opening_keys}
-use Rattle.vbr_machine.specs.Removals.{HasLeft, HasReplaced, ReplacedAt}
+use Rattle.vbr_machine.specs.Removals.{HasLeft, HasReplaced}
 use Rattle.vbr_machine.specs.Put.{put}
 use Rattle.vbr_machine.specs.Runs.{Begins, IsRun, know_after, world_after}
-use Rattle.vbr_machine.specs.Sound.{Grows, IsListed, IsRemoved}
+use Rattle.vbr_machine.specs.Sound.{Grows, IsRemoved}
 use Rattle.vbr_machine.specs.declared.event.Event.{Event}
 use Rattle.vbr_machine.specs.declared.event.Step.TheVariants.{Replace}
 use Rattle.vbr_machine.specs.declared.knowledge.Read.TheVariants.{KeyOf, LinkAt}
@@ -28,7 +27,7 @@ use Rattle.vbr_machine.proofs.Growth.{grows}
 use Rattle.vbr_machine.proofs.HeldReads.{stays_held}
 use Rattle.vbr_machine.proofs.KnownReads.{known_key, one_held}
 use Rattle.vbr_machine.proofs.Puts.{put_here, put_other}
-use Rattle.vbr_machine.proofs.Removals.{left_in_runs, own_since, since, removed_inserted, removed_left}
+use Rattle.vbr_machine.proofs.Removals.{left_in_runs, own_since, since, removed_inserted}
 use Rattle.vbr_machine.proofs.ReplaceSteps.{may_take}
 use Rattle.vbr_machine.proofs.RunForms.{marked_ahead, named_first, none_listed, skipped_unlisted}
 use Rattle.vbr_machine.proofs.RunsGoOn.{begins_run}
@@ -87,41 +86,46 @@ module _ (start : Start) (passes : ℕ) (is : IsStart start) where
         among = Contains-append_left x.since more (record { pass = pass; what = Replaces node x.by }) x.among;
       }
 
-  -- a law: a replaced node stays held while the epoch stays
-  pub replaced_on : (before moment run : List Event) (pass epoch s : ℕ) → IsRun start passes run → Begins moment run → epoch ≤ (incarnations_after start moment).epoch → ReplacedAt start before moment pass epoch s → ReplacedAt start before run pass epoch s
-  replaced_on before moment run pass epoch s ok begins low x =
-      let P : List Event → Type 0 = IsRun start passes in
-      let Q : List Event → Type 0 = λ r. Grows (incarnations_after start moment) (incarnations_after start r) in
-      let g = run_agrees start passes moment is (begins_run start passes moment run begins ok) in
-      let grown : Grows (incarnations_after start moment) (incarnations_after start run) = subst Q (sym begins.1) (run_grows start passes moment begins.0 is (subst P begins.1 ok)) in
-      record {
-        node = x.node;
-        replaced = replaced_later before moment run pass x.node begins x.replaced;
-        held = stays_held g.sound grown epoch s x.node low x.held;
-        removed = (grown.removed x.node x.removed).0;
-      }
-
-  -- a law: an epoch that a pass knows is none to come
-  pub epoch_low : (run : List Event) → IsRun start passes run → (p : ℕ) → (know_after start run p).epoch ≤ (incarnations_after start run).epoch
-  epoch_low run ok p = ((run_agrees start passes run is ok).knows p).epoch
-
 -- ---- its leaving
 
--- the premises: an incarnation that was removed by a moment is held at a slot at the end, by a known key
-module _ (start : Start) (passes : ℕ) (first run : List Event) (is : IsStart start) (ok : IsRun start passes run) (p s key c : ℕ) (removed : IsRemoved ((incarnations_after start first).state c)) (held : IsHeldIncarnation (incarnations_after start run) (know_after start run p).epoch s c) (known : Knows (know_after start run p) (KeyOf s key)) where
+-- what is held at a slot has the known key
+pub held_key : (start : Start) (passes : ℕ) (run : List Event) → IsStart start → IsRun start passes run → (p s key c : ℕ) → IsHeldIncarnation (incarnations_after start run) (know_after start run p).epoch s c → Knows (know_after start run p) (KeyOf s key) → (incarnations_after start run).key c ≡ key
+held_key start passes run is ok p s key c held known = let g = run_agrees start passes run is ok in known_key g.sound (g.knows p) s c key held known
+
+-- what has left its list by a moment has left it at the end
+pub left_on : (start : Start) (passes : ℕ) → IsStart start → (moment run : List Event) (c : ℕ) → IsRun start passes run → Begins moment run → HasLeft ((incarnations_after start moment).state c) → HasLeft ((incarnations_after start run).state c)
+left_on start passes is moment run c ok last left =
+    let P : List Event → Type 0 = IsRun start passes in
+    let R : List Event → Type 0 = λ r. HasLeft ((incarnations_after start r).state c) in
+    subst R (sym last.1) (left_in_runs start passes is moment last.0 c (subst P last.1 ok) left)
+
+-- what was removed by a moment is removed at the end
+pub removed_on : (start : Start) (passes : ℕ) → IsStart start → (moment run : List Event) (c : ℕ) → IsRun start passes run → Begins moment run → IsRemoved ((incarnations_after start moment).state c) → IsRemoved ((incarnations_after start run).state c)
+removed_on start passes is moment run c ok begins removed =
+    let P : List Event → Type 0 = IsRun start passes in
+    let Q : List Event → Type 0 = λ r. Grows (incarnations_after start moment) (incarnations_after start r) in
+    let grown : Grows (incarnations_after start moment) (incarnations_after start run) = subst Q (sym begins.1) (run_grows start passes moment begins.0 is (subst P begins.1 ok)) in
+    (grown.removed c removed).0
+
+-- what is held at a slot by a moment is held there at the end, in the epoch that was known then
+pub held_on : (start : Start) (passes : ℕ) → IsStart start → (moment run : List Event) (p s c : ℕ) → IsRun start passes run → Begins moment run → IsHeldIncarnation (incarnations_after start moment) (know_after start moment p).epoch s c → IsHeldIncarnation (incarnations_after start run) (know_after start moment p).epoch s c
+held_on start passes is moment run p s c ok begins held =
+    let P : List Event → Type 0 = IsRun start passes in
+    let Q : List Event → Type 0 = λ r. Grows (incarnations_after start moment) (incarnations_after start r) in
+    let g = run_agrees start passes moment is (begins_run start passes moment run begins ok) in
+    stays_held g.sound (subst Q (sym begins.1) (run_grows start passes moment begins.0 is (subst P begins.1 ok))) (know_after start moment p).epoch s c (g.knows p).epoch held
+
+-- the premises: an incarnation of a key was removed by a moment
+module _ (start : Start) (passes : ℕ) (first run : List Event) (is : IsStart start) (ok : IsRun start passes run) (p key c : ℕ) (removed : IsRemoved ((incarnations_after start first).state c)) (of_key : (incarnations_after start first).key c ≡ key) where
   grown : (moment : List Event) → Begins first moment → Begins moment run → Grows (incarnations_after start first) (incarnations_after start moment)
   grown moment begins last =
       let P : List Event → Type 0 = IsRun start passes in
       let Q : List Event → Type 0 = λ r. Grows (incarnations_after start first) (incarnations_after start r) in
       subst Q (sym begins.1) (run_grows start passes first begins.0 is (subst P begins.1 (begins_run start passes moment run last ok)))
 
-  -- its key is the known one, at each moment since
-  has_key : (moment : List Event) → Begins first moment → Begins moment run → (whole : Begins first run) → (incarnations_after start moment).key c ≡ key
-  has_key moment begins last whole =
-      let g = run_agrees start passes run is ok in
-      let now : (incarnations_after start run).key c ≡ key = known_key g.sound (g.knows p) s c key held known in
-      let inserted = removed_inserted ((incarnations_after start first).state c) removed in
-      (grown moment begins last).key c inserted ∙ sym ((grown run whole ([], sym (append-nil run))).key c inserted) ∙ now
+  -- it has its key at each moment since
+  pub has_key : (moment : List Event) → Begins first moment → Begins moment run → (incarnations_after start moment).key c ≡ key
+  has_key moment begins last = (grown moment begins last).key c (removed_inserted ((incarnations_after start first).state c) removed) ∙ of_key
 
   -- it is marked at a moment since, or has left by the end
   marked_or_left : (moment : List Event) → Begins first moment → Begins moment run → ((incarnations_after start moment).state c ≡ Marked) ⊎ HasLeft ((incarnations_after start run).state c)
@@ -138,38 +142,35 @@ module _ (start : Start) (passes : ℕ) (first run : List Event) (is : IsStart s
 
       go : ((incarnations_after start moment).state c ≡ Marked) ⊎ HasLeft ((incarnations_after start moment).state c) → ((incarnations_after start moment).state c ≡ Marked) ⊎ HasLeft ((incarnations_after start run).state c)
       go (inl m) = inl m
-      go (inr left) =
-          let P : List Event → Type 0 = IsRun start passes in
-          let R : List Event → Type 0 = λ r. HasLeft ((incarnations_after start r).state c) in
-          inr (subst R (sym last.1) (left_in_runs start passes is moment last.0 c (subst P last.1 ok) left))
+      go (inr left) = inr (left_on start passes is moment run c ok last left)
 
   -- where a place before it shows a link that names what its marked link names, it has left
-  pub skipped_left : (moment : List Event) (at : At) (link : Link) → WasShown start moment run p at link → Begins first moment → (frozen : Link) → StandsBehind start (know_after start run p) at key → Knows (know_after start run p) (LinkAt (Slot s) frozen) → frozen.mark ≡ true → frozen.slot ≡ link.slot → HasLeft ((incarnations_after start run).state c)
-  skipped_left moment at link was begins frozen behind k mark same = go (marked_or_left moment begins was.begins)
+  pub skipped_left : (s : ℕ) → IsHeldIncarnation (incarnations_after start run) (know_after start run p).epoch s c → Knows (know_after start run p) (KeyOf s key) → (moment : List Event) (at : At) (link : Link) → WasShown start moment run p at link → Begins first moment → (frozen : Link) → StandsBehind start (know_after start run p) at key → Knows (know_after start run p) (LinkAt (Slot s) frozen) → frozen.mark ≡ true → frozen.slot ≡ link.slot → HasLeft ((incarnations_after start run).state c)
+  skipped_left s held known moment at link was begins frozen behind k mark same = go (marked_or_left moment begins was.begins)
     where
       go : ((incarnations_after start moment).state c ≡ Marked) ⊎ HasLeft ((incarnations_after start run).state c) → HasLeft ((incarnations_after start run).state c)
       go (inl m) = absurd (skipped_unlisted start passes moment run is ok p at link was s key c frozen behind k mark same known held (rw m tt))
       go (inr left) = left
 
   -- and so it has where the key stands between a place and what its link names
-  pub passed_left : (moment : List Event) (at : At) (link : Link) → WasShown start moment run p at link → Begins first moment → Begins first run → StandsBehind start (know_after start run p) at key → StandsBefore (know_after start run p) key link.slot → HasLeft ((incarnations_after start run).state c)
-  passed_left moment at link was begins whole behind before = go (marked_or_left moment begins was.begins)
+  pub passed_left : (moment : List Event) (at : At) (link : Link) → WasShown start moment run p at link → Begins first moment → StandsBehind start (know_after start run p) at key → StandsBefore (know_after start run p) key link.slot → HasLeft ((incarnations_after start run).state c)
+  passed_left moment at link was begins behind before = go (marked_or_left moment begins was.begins)
     where
       go : ((incarnations_after start moment).state c ≡ Marked) ⊎ HasLeft ((incarnations_after start run).state c) → HasLeft ((incarnations_after start run).state c)
-      go (inl m) = absurd (none_listed start passes moment run is ok p at link was key c behind before (rw m tt) (has_key moment begins was.begins whole))
+      go (inl m) = absurd (none_listed start passes moment run is ok p at link was key c behind before (rw m tt) (has_key moment begins was.begins))
       go (inr left) = left
 
   -- or where the link names a node of the key, which showed an unmarked link
-  pub found_left : (moment there : List Event) (at : At) (link other : Link) (t : ℕ) → WasShown start moment run p at link → WasShown start there run p (Slot t) other → Begins first moment → Begins first there → Begins first run → StandsBehind start (know_after start run p) at key → link.slot ≡ Some t → Knows (know_after start run p) (KeyOf t key) → HasLeft ((incarnations_after start run).state c)
-  found_left moment there at link other t was stood begins after whole behind named k = go (marked_or_left moment begins was.begins) (marked_or_left there after stood.begins)
+  pub found_left : (moment there : List Event) (at : At) (link other : Link) (t : ℕ) → WasShown start moment run p at link → WasShown start there run p (Slot t) other → Begins first moment → Begins first there → StandsBehind start (know_after start run p) at key → link.slot ≡ Some t → Knows (know_after start run p) (KeyOf t key) → HasLeft ((incarnations_after start run).state c)
+  found_left moment there at link other t was stood begins after behind named k = go (marked_or_left moment begins was.begins) (marked_or_left there after stood.begins)
     where
       go : ((incarnations_after start moment).state c ≡ Marked) ⊎ HasLeft ((incarnations_after start run).state c) → ((incarnations_after start there).state c ≡ Marked) ⊎ HasLeft ((incarnations_after start run).state c) → HasLeft ((incarnations_after start run).state c)
       go (inr left) y = left
       go (inl m) (inr left) = left
       go (inl m) (inl n) =
           let g = run_agrees start passes run is ok in
-          let x = named_first start passes moment run is ok p at link was t key c behind named k (rw m tt) (has_key moment begins was.begins whole) in
-          let y = marked_ahead start passes there run is ok p (Slot t) other stood t key c refl k n (has_key there after stood.begins whole) in
+          let x = named_first start passes moment run is ok p at link was t key c behind named k (rw m tt) (has_key moment begins was.begins) in
+          let y = marked_ahead start passes there run is ok p (Slot t) other stood t key c refl k n (has_key there after stood.begins) in
           let one : x.0 ≡ y.0 = one_held g.sound (know_after start run p).epoch t x.0 y.0 x.1 y.1 in
           let low = x.2 in
           let P : ℕ → Type 0 = λ i. (incarnations_after start run).rank c < (incarnations_after start run).rank i in
