@@ -29,4 +29,4 @@ pub use Rattle.vbr_at_table.proofs.Gained.{alone_gained, gained_on, gained_since
 -- What adds nothing to the chronicle changes no list.
 pub use Rattle.vbr_at_table.proofs.Unchanged.{unchanged_by_none}
 -- A replacement, after what made no call; and what was known of a node stays known.
-pub use Rattle.vbr_at_table.proofs.Replacements.{key_on, two_on, value_on}
+pub use Rattle.vbr_at_table.proofs.Replacements.{key_on, replaced_since, two_before, two_on, value_on}

@@ -8,7 +8,14 @@ use Rattle.vbr_words.specs.Words.{link_of}
 use Rattle.vbr_words.specs.declared.link.Link.{Link}
 use Rattle.vbr_words.specs.declared.place.At.{At}
 use Rattle.vbr_words.specs.declared.place.At.TheVariants.{Head, Slot}
+use Rattle.vbr_machine.specs.Accounts.{incarnations_after, just, own_entries}
+use Rattle.vbr_machine.specs.Agreement.{IsHeldIncarnation}
 use Rattle.vbr_machine.specs.Calls.{calls_added}
+use Rattle.vbr_machine.specs.Chronicles.{Replaces}
+use Rattle.vbr_machine.specs.Incarnations.{Incarnations, last_in}
+use Rattle.vbr_machine.specs.Removals.{ReplacedAt}
+use Rattle.vbr_machine.specs.Sound.{IsRemoved}
+use Rattle.vbr_machine.specs.declared.event.Event.{Event}
 use Rattle.vbr_machine.specs.Acceptance.{IsAtIn, IsInHand, MayBear, Accepts}
 use Rattle.vbr_machine.specs.Images.{link_shown_at}
 use Rattle.vbr_machine.specs.Knowledge.{Know}
@@ -18,18 +25,18 @@ use Rattle.vbr_machine.specs.Machine.{found}
 use Rattle.vbr_machine.specs.Membership.{BirthAt, BirthNamed, KeyAt, Knows, MayReplaceKnown}
 use Rattle.vbr_machine.specs.Opened.{payload_kept}
 use Rattle.vbr_machine.specs.Put.{put}
-use Rattle.vbr_machine.specs.Runs.{IsRun, world_after}
+use Rattle.vbr_machine.specs.Runs.{IsRun, know_after, world_after}
 use Rattle.vbr_machine.specs.declared.event.Step.TheVariants.{Replace}
 use Rattle.vbr_machine.specs.declared.history.Call.{Call}
 use Rattle.vbr_machine.specs.declared.history.Op.TheVariants.{Insert, Remove}
 use Rattle.vbr_machine.specs.declared.knowledge.Holding.{Holding}
 use Rattle.vbr_machine.specs.declared.knowledge.Read.TheVariants.{BirthOf, KeyOf, LinkAt, ValueOf}
-use Rattle.vbr_machine.proofs.Lemmas.{begins_trans, calls-snoc, calls_since, known_accepts, marked_call_is, others_leave_know, put_here, put_other, written_is}
+use Rattle.vbr_machine.proofs.Lemmas.{begins_trans, calls-snoc, calls_since, is_run_before, is_run_last, known_accepts, marked_call_is, others_leave_know, put_here, put_other, replaced_earlier, replaced_entry, replaced_out, written_is}
 use Rattle.vbr_slots.specs.Alone.{IsAlone, nodes}
-use Rattle.vbr_slots.specs.Calls.{Quiet, made_by}
+use Rattle.vbr_slots.specs.Calls.{Quiet, entries_of, made_by}
 use Rattle.vbr_slots.specs.PassLaw.{PassLaw}
 use Rattle.vbr_slots.specs.Views.{Did, PassView, Trace, event_of, knows}
-use Rattle.vbr_slots.proofs.Lemmas.{alone_first, alone_then, did_calls, did_moment, did_run, did_same, did_seen, found_now, quiet_on, run_was, same_on, stands_found}
+use Rattle.vbr_slots.proofs.Lemmas.{alone_first, alone_then, did_calls, did_entries, did_moment, did_run, did_same, did_seen, found_now, quiet_on, run_was, same_on, stands_found}
 use Rattle.vbr_at_table.specs.Alone.{StandsNow}
 use Rattle.vbr_at_table.specs.Counts.{ChangesNone}
 use Rattle.vbr_at_table.specs.Exchanges.{LosesExchange}
@@ -46,6 +53,7 @@ use Rattle.vbr_at_table.proofs.Advancing.{did_stamps, grows_same, same_advances,
 use Rattle.vbr_at_table.proofs.InTurn.{did_turn}
 use Rattle.vbr_at_table.proofs.Keeping.{held_kept, keeps_on, keeps_refl}
 use Rattle.vbr_at_table.proofs.ExchangeCalls.{run_after}
+use Rattle.vbr_at_table.proofs.MarkedLinks.{leaves_since, replaced_leaves}
 use Rattle.vbr_at_table.proofs.MadeCalls.{failed, other, replace_adds_none}
 use Rattle.vbr_at_table.proofs.Moments.{found_after, lost, won}
 use Rattle.vbr_at_table.proofs.NoValues.{kept_same, value_asked}
@@ -225,12 +233,48 @@ replace_lost {p} {q} {r} {s} {t} {word} node at start fill same keeps stands d n
       replace_wins start (alone_then fill.same.who fill.seen (did_seen d) alone) s node.word t d ne (subst P at (stands (alone_first fill.seen (did_seen d) alone) stood));
 }
 
+-- ---- the node that is replaced
+
+-- it was replaced by the step, and is held at its slot
+pub replaced_at : {p q : Trace} {s expected t : ℕ} → IsStart p.start → (epoch : ℕ) → (knows p).epoch ≡ epoch → Did (Replace s expected t) p q expected → ReplacedAt p.start p.seen q.seen p.who epoch s
+replaced_at {p} {q} {s} {expected} {t} is epoch same d =
+    let before = p.seen ++ d.rest in
+    let event = event_of p.who (Replace s expected t) in
+    let P : List Event → Type 0 = IsRun p.start p.passes in
+    let run = subst P d.seen d.is_run in
+    let ok = is_run_before p.start p.passes before (event ∷ []) run in
+    let found_it = won expected _ d.shows.answers in
+    let a = incarnations_after p.start before in
+    let out = replaced_out p.start p.passes before is ok p.who s expected t found_it (is_run_last p.start p.passes before event run).1 in
+    let known : (know_after p.start before p.who).epoch ≡ epoch = ap (λ (k : Know). k.epoch) (others_leave_know p.start p.seen d.rest p.who d.none) ∙ same in
+    let H : Incarnations × ℕ → Type 0 = λ x. IsHeldIncarnation x.0 x.1 s (last_in a s) in
+    let R : Incarnations → Type 0 = λ i. IsRemoved (i.state (last_in a s)) in
+    record {
+      node = last_in a s;
+      replaced = record {
+        since = just p.who (Replaces (last_in a s) (last_in a t));
+        adds = sym (λ i. own_entries (d.same.1 i) q.seen (d.same.3 i)) ∙ did_entries d ∙ ap (λ l. entries_of p ++ l) (replaced_entry p.start p.passes before is ok p.who s expected t found_it);
+        by = last_in a t;
+        among = (0, omega arith, refl);
+      };
+      held = subst H (λ i. (incarnations_after p.start (sym d.seen i), known i)) out.0;
+      removed = subst R (λ i. incarnations_after p.start (sym d.seen i)) out.1;
+    }
+
+-- so it was since what made no call
+pub replaced_since : {epoch s : ℕ} (p q r : Trace) → IsStart p.start → Quiet p q → ReplacedAt q.start q.seen r.seen q.who epoch s → ReplacedAt p.start p.seen r.seen p.who epoch s
+replaced_since {epoch} {s} p q r is quiet x =
+    let P : Start → Type 0 = λ start. ReplacedAt start q.seen r.seen q.who epoch s in
+    let Q : ℕ → Type 0 = λ who. ReplacedAt p.start q.seen r.seen who epoch s in
+    let y = subst Q quiet.same.who (subst P quiet.same.start x) in
+    record { node = y.node; replaced = replaced_earlier p.start p.passes is p.seen q.seen r.seen p.who y.node quiet.seen y.replaced; held = y.held; removed = y.removed }
+
 -- ---- a won one, after what filled the hand
 
-module _ (p q r : PassView) (node : Held) (s t key birth next value word : ℕ) (law : PassLaw q) (fill : Quiet p.trace q.trace) (keeps : Keeps (knows p.trace) (knows q.trace)) (h : IsHeld (knows q.trace) node) (at : node.at ≡ Slot s) (f : IsFilled ((knows q.trace).own t) birth key (link_to (link_of node.word).slot birth next)) where
-  pub replace_told : q.trace.start.shape.values ≡ true → value_in_hand ((knows q.trace).own t) ≡ Some value → KeyAt (knows p.trace) node.at key → link_of word ≡ marked (link_to (Some t) node.birth birth) → Did (Replace s node.word t) q.trace r.trace node.word → r.hand ≡ None
+module _ (p q r : PassView) (node : Held) (s t key birth next value word : ℕ) (start : IsStart p.trace.start) (law : PassLaw q) (fill : Quiet p.trace q.trace) (keeps : Keeps (knows p.trace) (knows q.trace)) (h : IsHeld (knows q.trace) node) (at : node.at ≡ Slot s) (f : IsFilled ((knows q.trace).own t) birth key (link_to (link_of node.word).slot birth next)) where
+  pub replace_told : ChangesNone p.trace q.trace → q.trace.start.shape.values ≡ true → value_in_hand ((knows q.trace).own t) ≡ Some value → KeyAt (knows p.trace) node.at key → link_of word ≡ marked (link_to (Some t) node.birth birth) → Did (Replace s node.word t) q.trace r.trace node.word → r.hand ≡ None
       → ReplacesEntry p r node key value (record { slot = s; birth = node.birth; word = word; epoch = node.epoch })
-  replace_told has valued k link d spent =
+  replace_told none has valued k link d spent =
       let K : At → Type 0 = λ i. KeyAt (knows p.trace) i key in
       let B : At → Type 0 = λ i. BirthAt (knows r.trace) i node.birth in
       let L : Link → Type 0 = λ l. Knows (knows r.trace) (LinkAt (Slot s) l) in
@@ -249,6 +293,8 @@ module _ (p q r : PassView) (node : Held) (s t key birth next value word : ℕ) 
           mark = ap (λ (l : Link). l.mark) link;
         };
         spent = spent;
+        old = replaced_since p.trace q.trace r.trace start fill (replaced_at law.start (knows r.trace).epoch (sym ((replace_keeps d).epoch)) d);
+        leaves = leaves_since node fill none (replaced_leaves node law.start at d);
       }
 
 -- ---- what was known stays known

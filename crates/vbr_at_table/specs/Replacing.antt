@@ -2,13 +2,15 @@
 use Rattle.std.specs.Prelude.{◌≡◌, ℕ, true, None, List, [], ◌∷◌, ◌++◌}
 use Rattle.vbr_words.specs.Words.{link_of}
 use Rattle.vbr_machine.specs.Membership.{BirthNamed, KeyAt}
-use Rattle.vbr_machine.specs.Runs.{IsRun, Begins, world_after}
+use Rattle.vbr_machine.specs.Removals.{ReplacedAt}
+use Rattle.vbr_machine.specs.Runs.{Begins, IsRun, world_after}
 use Rattle.vbr_machine.specs.declared.history.Call.{Call}
 use Rattle.vbr_machine.specs.declared.history.Op.TheVariants.{Insert, Remove}
 use Rattle.vbr_slots.specs.Calls.{IsSame, made_by}
 use Rattle.vbr_slots.specs.Views.{PassView, Trace, knows}
 use Rattle.vbr_at_table.specs.Answering.{IsPresent}
 use Rattle.vbr_at_table.specs.Held.{HoldsMarked, held_of}
+use Rattle.vbr_at_table.specs.Marks.{LeavesOthers}
 use Rattle.vbr_at_table.specs.Values.{IsValued, ValueAt, entry_call}
 use Rattle.vbr_at_table.specs.declared.held.Held.{Held}
 use Rattle.vbr_at_table.specs.declared.held.Marked.{Marked}
@@ -35,9 +37,11 @@ pub record IsReplaceable (p : Trace) (node : Held) (key next_birth : ℕ) : Type
   pub valued : IsValued p node.at
   pub birth : BirthNamed (knows p) (link_of node.word).slot next_birth
 
--- the pass removed the key of the node that was held with the value that was known of it, and inserted it with this one; its hand is empty, and the node is held by its marked link
+-- the pass removed the key of the node that was held with the value that was known of it, and inserted it with this one; its hand is empty, and the node is held by its marked link: it is the one that was replaced; and the step leaves all other links
 pub record ReplacesEntry (p q : PassView) (node : Held) (key value : ℕ) (now : Marked) : Type 0 where
   pub made : (old : ℕ) → ValueAt (knows p.trace) node.at old → MadeTwo (entry_call p.trace.start p.trace.who Remove key true old) (entry_call p.trace.start p.trace.who Insert key true value) p.trace q.trace
   pub at : (held_of now).at ≡ node.at
   pub held : HoldsMarked (knows q.trace) now
   pub spent : q.hand ≡ None
+  pub old : ReplacedAt p.trace.start p.trace.seen q.trace.seen p.trace.who (knows q.trace).epoch now.slot
+  pub leaves : LeavesOthers p.trace q.trace node

@@ -38,10 +38,10 @@ use Rattle.vbr_list.proofs.Moments.{key_known, stands_before}
 -- ---- what a read link shows
 
 module _ {p q : Trace} (held : Held) (start : IsStart p.start) (same : IsSame p q) (read : IsRead p q held) (unmarked : (link_of held.word).mark ≡ false) where
-  was_known : (moment : List Event) → know_after q.start moment q.who ≡ know_after p.start moment p.who
+  pub was_known : (moment : List Event) → know_after q.start moment q.who ≡ know_after p.start moment p.who
   was_known moment = λ i. know_after (same.start i) moment (same.who i)
 
-  was_shown : WasShown q.start read.stood.moment q.seen q.who held.at (link_of held.word)
+  pub was_shown : WasShown q.start read.stood.moment q.seen q.who held.at (link_of held.word)
   was_shown = record {
     begins = read.stood.within.to;
     epoch = ap (λ (k : Know). k.epoch) (was_known read.stood.moment) ∙ read.stood.epoch ∙ read.known.epoch;

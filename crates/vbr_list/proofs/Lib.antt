@@ -5,6 +5,7 @@ mod Reaching
 mod Nearing
 mod Moments
 mod Clearing
+mod Sweeping
 mod Observing
 mod Disturbing
 mod Walking
@@ -23,4 +24,5 @@ mod Told
 mod Marks
 mod ValueReads
 mod Replacements
+mod ReplacedValues
 pub mod Lemmas

@@ -5,14 +5,16 @@ use Rattle.vbr_machine.specs.Start.{Start, IsStart}
 use Rattle.vbr_machine.specs.Accounts.{incarnations_after}
 use Rattle.vbr_machine.specs.Runs.{Begins, IsRun}
 use Rattle.vbr_machine.proofs.Lemmas.{begins_run, begins_trans}
+use Rattle.vbr_machine.specs.declared.history.Call.{Call}
 use Rattle.vbr_slots.specs.Alone.{IsAlone}
 use Rattle.vbr_slots.specs.Calls.{IsSame, Quiet}
 use Rattle.vbr_slots.specs.Views.{PassView, Trace, knows}
-use Rattle.vbr_slots.proofs.Lemmas.{quiet_on}
+use Rattle.vbr_slots.proofs.Lemmas.{quiet_on, same_on}
 use Rattle.vbr_at_table.specs.Budgets.{most_to_take}
-use Rattle.vbr_at_table.specs.KeptSlots.{HasStill}
+use Rattle.vbr_at_table.specs.KeptSlots.{HasAllButOne, HasStill}
 use Rattle.vbr_at_table.specs.Moments.{WasSo}
 use Rattle.vbr_at_table.proofs.Lemmas.{counts_on, grows_same, had_grown, took_all}
+use Rattle.vbr_at_table.specs.Replacing.{MadeTwo}
 use Rattle.vbr_list.specs.Budgets.{LacksSteps, enough_past, enough_to_insert, listed_for}
 use Rattle.vbr_list.specs.Disturbed.{disturbed, enough_to_replace_among, replaces_more, steps_for_slot}
 use Rattle.vbr_list.specs.Inserting.{CountsWithin, InsertIsShort, SearchedFor, SearchesFor, SearchesInVain, TakesNone}
@@ -35,7 +37,20 @@ moves_later {p} {q} {r} quiet epoch m = record {
   other = λ e. m.other (ap (λ (start : Start). (incarnations_after start m.moment).epoch) quiet.same.start ∙ e ∙ sym epoch);
 }
 
+-- ---- two calls
+
+-- a run of a later moment, by the start of an earlier one
+pub run_two : (p r : Trace) → IsSame p r → IsRun r.start r.passes r.seen → IsRun p.start p.passes r.seen
+run_two p r same ok =
+    let P : Start → Type 0 = λ start. IsRun start p.passes r.seen in
+    let Q : ℕ → Type 0 = λ passes. IsRun r.start passes r.seen in
+    subst P same.start (subst Q same.passes ok)
+
 -- ---- slots
+
+-- what was spent, and then kept
+pub all_but_then : (p q r : PassView) → HasAllButOne p q → HasStill q r → HasAllButOne p r
+all_but_then p q r first then = (first.0, λ slot has other. then slot (first.1 slot has other))
 
 -- the pool and the hand are the same
 pub had_same : (p q : PassView) → q.pool ≡ p.pool → q.hand ≡ p.hand → HasStill p q

@@ -16,7 +16,7 @@ use Rattle.vbr_at_table.specs.Held.{IsHeld, HoldsMarked, Names}
 use Rattle.vbr_at_table.specs.declared.held.Held.{Held}
 use Rattle.vbr_at_table.specs.declared.held.Marked.{Marked}
 use Rattle.vbr_at_table.specs.declared.rollback.Rollback.{Rollback}
-use Rattle.vbr_list.specs.Leaving.{WasClear}
+use Rattle.vbr_list.specs.Leaving.{LeavesAt, WasClear}
 use Rattle.vbr_list.specs.Pieces.{Goes}
 use Rattle.vbr_list.specs.Places.{IsPred}
 use Rattle.vbr_list.specs.Traversing.{HasComeTo}
@@ -62,10 +62,11 @@ pub record IsLostPlace (p q : PassView) (pred : Held) : Type 0 where
 abbrev pub HelpsNone : PassView → PassView → Held → Rollback → Type 0
 HelpsNone p q pred rollback = IsLostPlace p q pred
 
--- the marked node was unlinked and retired, so no marked node of its key was in a list but one that was replaced, where it was taken out; where the epoch stayed, that helped, and alone it stays; and alone fewer nodes are in each list that the place is held in
+-- the marked node was unlinked and retired, so no marked node of its key was in a list but one that was replaced, where it was taken out, and it has left its list, if it stood behind the place by its key; where the epoch stayed, that helped, and alone it stays; and alone fewer nodes are in each list that the place is held in
 pub record Retires (p q : PassView) (pred : Held) (gone : Marked) (place : Held) : Type 0 where
   pub helps : place.epoch ≡ (knows q.trace).epoch → Helps p q pred gone place
   pub late : place.epoch ≢ (knows q.trace).epoch → MovesOn p.trace q.trace
   pub stays : IsFresh p.trace → StandsNow p.trace pred → IsAlone p.trace q.trace → place.epoch ≡ (knows q.trace).epoch
   pub fewer : StandsNow p.trace pred → IsAlone p.trace q.trace → (bucket h : ℕ) → HeldIn (knows p.trace) pred.at bucket → ahead q.trace bucket (Head h) < ahead p.trace bucket (Head h)
   pub clear : (key : ℕ) → KeyAt (knows p.trace) (Slot gone.slot) key → StandsBehind p.trace.start (knows p.trace) pred.at key → IsTakenOut (nodes p.trace) (knows p.trace).epoch gone.slot → WasClear p.trace q.trace key
+  pub left : (key : ℕ) → KeyAt (knows p.trace) (Slot gone.slot) key → StandsBehind p.trace.start (knows p.trace) pred.at key → LeavesAt p.trace q.trace gone.slot

@@ -1,11 +1,13 @@
 -- A removed node leaves its list: what a remove promises besides its answer.
 use Rattle.std.specs.Prelude.{◌≡◌, ℕ, ◌<◌, ◌≤◌, Bool, true, List, Result, IfOk, IfErr}
 use Rattle.vbr_machine.specs.Accounts.{incarnations_after}
-use Rattle.vbr_machine.specs.Removals.{MarkedLeft, NoneMarked}
+use Rattle.vbr_machine.specs.Agreement.{IsHeldIncarnation}
+use Rattle.vbr_machine.specs.Removals.{HasLeft, MarkedLeft, NoneMarked, ReplacedLeft}
+use Rattle.vbr_machine.specs.Sound.{IsRemoved}
 use Rattle.vbr_machine.specs.declared.event.Event.{Event}
-use Rattle.vbr_slots.specs.Alone.{IsAlone}
+use Rattle.vbr_slots.specs.Alone.{IsAlone, nodes}
 use Rattle.vbr_slots.specs.Calls.{Moment}
-use Rattle.vbr_slots.specs.Views.{PassView, Trace}
+use Rattle.vbr_slots.specs.Views.{PassView, Trace, knows}
 use Rattle.vbr_at_table.specs.KeptSlots.{TakesNoSlot}
 use Rattle.vbr_at_table.specs.Refusals.{LeavesRoom}
 use Rattle.vbr_at_table.specs.Steps.{TookWithin}
@@ -23,6 +25,18 @@ pub record WasClear (p q : Trace) (key : ℕ) : Type 0 where
 -- since then the pass has marked an incarnation of the key, which has left all lists
 abbrev pub Leaves : Trace → Trace → ℕ → Type 0
 Leaves p q key = MarkedLeft p.start p.seen q.seen p.who key
+
+-- each node of the key that was removed before has left all lists
+abbrev pub Sweeps : Trace → Trace → ℕ → Type 0
+Sweeps p q key = (node : ℕ) → IsRemoved ((nodes p).state node) → (nodes p).key node ≡ key → HasLeft ((nodes q).state node)
+
+-- the node that was held at a slot, if it was removed, has left all lists
+abbrev pub LeavesAt : Trace → Trace → ℕ → Type 0
+LeavesAt p q slot = (node : ℕ) → IsHeldIncarnation (nodes p) (knows p).epoch slot node → IsRemoved ((nodes p).state node) → HasLeft ((nodes q).state node)
+
+-- since then the pass has replaced an incarnation of the key, which has left all lists
+abbrev pub LeavesReplaced : Trace → Trace → ℕ → Type 0
+LeavesReplaced p q key = ReplacedLeft p.start p.seen q.seen p.who key
 
 -- what a remove promises besides: it advances no epoch and loses no slot; where it answers yes, the node that it marked has left its list, unless its steps leave no room in the budget for one more piece; it is refused for want of steps alone, and alone it has steps enough with a budget that is known before, and its answer costs no more than is known before, and with two steps more one that is yes leaves fewer nodes in the list; and a pass that was disturbed so often has steps enough with a budget for that, and its answer costs no more than that allows
 pub record SparesRemove {A : Type 0} (yes : A → Bool) (p q : PassView) (key budget : ℕ) (answer : Result A Refusal) : Type 0 where

@@ -1,25 +1,32 @@
 -- A replacement: what its pieces tell, and the call.
-use Rattle.std.specs.Prelude.{◌≡◌, ◌≢◌, ℕ, ◌+◌, ◌*◌, ◌≤◌, true, false, [], Option, Some, None, Result, Ok, Err, IfOk, IfErr}
+use Rattle.std.specs.Prelude.{◌≡◌, ◌≢◌, ℕ, ◌+◌, ◌*◌, ◌<◌, ◌≤◌, true, false, [], Option, Some, None, Result, Ok, Err, IfOk, IfErr, is_some}
 use Rattle.vbr_words.specs.declared.nodes.Nodes.{Ghosts}
 use Rattle.vbr_machine.specs.declared.history.Op.TheVariants.{Insert, Remove}
 use Rattle.vbr_machine.specs.History.{set_call}
+use Rattle.vbr_words.specs.declared.place.At.TheVariants.{Slot}
+use Rattle.vbr_machine.specs.Membership.{KeyAt, StandsBehind}
+use Rattle.vbr_machine.specs.Removals.{ReplacedAt}
 use Rattle.vbr_slots.specs.Alone.{IsAlone}
 use Rattle.vbr_slots.specs.Calls.{IsSame, Made, Quiet}
 use Rattle.vbr_slots.specs.Views.{PassView, Trace, knows}
 use Rattle.vbr_at_table.specs.Advances.{AdvancesWhereNeeded}
 use Rattle.vbr_at_table.specs.Hands.{HandView}
-use Rattle.vbr_at_table.specs.Held.{HoldsMarked}
 use Rattle.vbr_at_table.specs.KeptSlots.{HasAllButOne, HasStill, KeepsSlots, SharesWhereFull, TakesNoSlot}
 use Rattle.vbr_at_table.specs.Moments.{WasSo}
 use Rattle.vbr_at_table.specs.Refusals.{HasNoSlot, IsOutOfSteps, IsSpent, LeavesRoom}
 use Rattle.vbr_at_table.specs.Replacing.{MadeTwo}
 use Rattle.vbr_at_table.specs.Steps.{CountsSteps, TookWithin}
 use Rattle.vbr_at_table.specs.Values.{entry_call}
+use Rattle.vbr_at_table.specs.declared.budget.TheConstants.{PIECE}
+use Rattle.vbr_at_table.specs.declared.held.Held.{Held}
 use Rattle.vbr_at_table.specs.declared.held.Marked.{Marked}
 use Rattle.vbr_list.specs.Budgets.{IsAnsweredOrSpent, LacksSteps, enough_to_insert, enough_with_a_slot, listed_for}
 use Rattle.vbr_list.specs.Disturbed.{disturbed, disturbed_after, enough_to_replace_among, steps_for_slot}
-use Rattle.vbr_list.specs.Inserting.{HasHandAndRoom, InsertIsShort, SearchedFor, SearchesInVain, TakesNone}
-use Rattle.vbr_list.specs.Pieces.{IsPiece, IsSameCall, Replies, pass_in, trace_in}
+use Rattle.vbr_list.specs.Helping.{MayHelp}
+use Rattle.vbr_list.specs.Inserting.{GivesHandBack, HasHandAndRoom, InsertIsShort, SearchedFor, SearchesInVain, TakesNone}
+use Rattle.vbr_list.specs.Leaving.{LeavesReplaced}
+use Rattle.vbr_list.specs.Pieces.{HasRoom, IsPiece, IsSameCall, pass_in, Replies, trace_in}
+use Rattle.vbr_list.specs.Removing.{MarksBehind}
 use Rattle.vbr_list.specs.Traversing.{LocatesFor}
 use Rattle.vbr_list.specs.Walking.{LosesPlace, met_since}
 use Rattle.vbr_list.specs.declared.call.PendingCall.{PendingCall}
@@ -39,11 +46,40 @@ pub record MayReplaceNode {N : Type 0} {kind : Ghosts N} (c d : PendingCall N ki
   pub used : IsPiece c.used d.used
   pub takes_no_slot : TakesNoSlot (pass_in c) (pass_in d)
 
--- the key had the first value, and has the second: the pass has removed it and inserted it, next to each other; its hand is empty, and the old node is held by its marked link
-pub record Replaces {N : Type 0} {kind : Ghosts N} (value : ℕ) (c d : PendingCall N kind) (told : ℕ × Marked) : Type 0 where
-  pub made : MadeTwo (entry_call (trace_in c).start (trace_in c).who Remove c.key true told.0) (entry_call (trace_in c).start (trace_in c).who Insert c.key true value) (trace_in c) (trace_in d)
-  pub held : HoldsMarked (knows (trace_in d)) told.1
+-- the key had the first value, and has the second: the pass has removed it and inserted it, next to each other; its hand is empty
+pub record MakesBoth {N : Type 0} {kind : Ghosts N} (value : ℕ) (c d : PendingCall N kind) (old : ℕ) : Type 0 where
+  pub made : MadeTwo (entry_call (trace_in c).start (trace_in c).who Remove c.key true old) (entry_call (trace_in c).start (trace_in c).who Insert c.key true value) (trace_in c) (trace_in d)
   pub spent : (pass_in d).hand ≡ None
+
+-- the old node is held by its marked link, behind a place before the key
+pub record IsOldNode {N : Type 0} {kind : Ghosts N} (c : PendingCall N kind) (pred : Held) (gone : Marked) : Type 0 where
+  pub may : MayHelp (trace_in c) pred gone
+  pub key : KeyAt (knows (trace_in c)) (Slot gone.slot) c.key
+  pub behind : StandsBehind (trace_in c).start (knows (trace_in c)) pred.at c.key
+
+-- so it is, and that is the node which was replaced; the place before it shows what it showed before
+pub record Replaces {N : Type 0} {kind : Ghosts N} (value : ℕ) (c d : PendingCall N kind) (found : Found) (told : ℕ × Marked) : Type 0 where
+  pub both : MakesBoth value c d told.0
+  pub old : IsOldNode d found.pred told.1
+  pub replaced : ReplacedAt (trace_in c).start (trace_in c).seen (trace_in d).seen (trace_in c).who (knows (trace_in d)).epoch told.1.slot
+  pub marks : MarksBehind (trace_in c) (trace_in d) c.key found.pred
+
+-- the replaced node has left its list, unless the budget has no room for one more piece
+pub record ReplacesAndLeaves {N : Type 0} {kind : Ghosts N} (value : ℕ) (c d : PendingCall N kind) (old : ℕ) : Type 0 where
+  pub both : MakesBoth value c d old
+  pub leaves : HasRoom d → LeavesReplaced (trace_in c) (trace_in d) c.key
+
+-- a call that may have replaced a value: its steps are counted, and it takes no slot
+pub record MaySettleReplace {N : Type 0} {kind : Ghosts N} (c d : PendingCall N kind) : Type 0 where
+  pub call : IsSameCall c d
+  pub counts : CountsSteps (trace_in c) (trace_in d) c.used d.used
+  pub more : c.used < d.used
+  pub takes_no_slot : TakesNoSlot (pass_in c) (pass_in d)
+
+-- nothing was replaced in eight steps at most
+pub record SettlesNone {N : Type 0} {kind : Ghosts N} (c d : PendingCall N kind) (found : Found) (back : HandView) : Type 0 where
+  pub given : GivesHandBack c d found back
+  pub few : d.used ≤ c.used + PIECE
 
 -- the key isn't answered absent, and no call was made, as the place before it is lost
 pub record DeniesAbsent {N : Type 0} {kind : Ghosts N} (c d : PendingCall N kind) (found : Found) : Type 0 where
@@ -80,9 +116,9 @@ pub record ReadiesNone {N : Type 0} {kind : Ghosts N} (c d : PendingCall N kind)
   pub searches : SearchesInVain (trace_in c) (trace_in d) c.key c.used c.budget (steps_for_slot (pass_in c) (trace_in d) + 10) refusal
 
 -- the pass has answered no, or has replaced the value
-abbrev pub ReplaceAnswers : {N : Type 0} {kind : Ghosts N} → ℕ → PendingCall N kind → PendingCall N kind → Option (ℕ × Marked) → Type 0
+abbrev pub ReplaceAnswers : {N : Type 0} {kind : Ghosts N} → ℕ → PendingCall N kind → PendingCall N kind → Option ℕ → Type 0
 ReplaceAnswers value c d None = FindsAbsent c d
-ReplaceAnswers value c d (Some told) = Replaces value c d told
+ReplaceAnswers value c d (Some old) = ReplacesAndLeaves value c d old
 
 -- each slot that the pass had it has still, but for the one that it published, if it replaced a value
 abbrev pub HasUnspent : {A E : Type 0} → PassView → PassView → Result (Option A) E → Type 0
@@ -131,7 +167,7 @@ IsRefusedReplace p q key budget (OutOfSteps used) = IsOutOfSteps p q budget used
 IsRefusedReplace p q key budget NoSlot = PresentWithoutSlot p q key
 IsRefusedReplace p q key budget (EpochSpent epoch) = PresentAndSpent p q key budget epoch
 
--- what a replacement promises besides: it advances the epoch only where that is needed, has each slot that it had but for the one that it published, puts one into the shared pool only where its own has no more than two places left, and is refused where it must be; alone it has steps enough with a budget that is known before, and with a slot in the own pool it is answered, unless the epoch is spent; and so it is of a pass that was disturbed so often, where with an empty own pool one step more is counted for each slot that others took out of the shared pool
+-- what a replacement promises besides: it advances the epoch only where that is needed, has each slot that it had but for the one that it published, puts one into the shared pool only where its own has no more than two places left, and is refused where it must be; alone it has steps enough with a budget that is known before, and with a slot in the own pool it is answered, unless the epoch is spent; where it answers a value, the node that it replaced has left its list, unless its steps leave no room in the budget for one more piece; and so it is of a pass that was disturbed so often, where with an empty own pool one step more is counted for each slot that others took out of the shared pool
 pub record SparesReplace (p q : PassView) (key budget : ℕ) (answer : Result (Option ℕ) Refusal) : Type 0 where
   pub advances : AdvancesWhereNeeded p q
   pub had : HasUnspent p q answer
@@ -140,6 +176,7 @@ pub record SparesReplace (p q : PassView) (key budget : ℕ) (answer : Result (O
   pub within : IfErr answer (λ refusal. IsAlone p.trace q.trace → LacksSteps (enough_to_insert p key) budget refusal)
   pub disturbed_within : IfErr answer (λ refusal. LacksSteps (enough_to_replace_among (listed_for p.trace key) (disturbed p.trace q.trace key) (steps_for_slot p q.trace)) budget refusal)
   pub ready : p.pool ≢ [] → IsAlone p.trace q.trace → enough_with_a_slot p.trace key ≤ budget → IsAnsweredOrSpent answer
+  pub leaves : IfOk answer (λ told. is_some told ≡ true → LeavesRoom p q budget → LeavesReplaced p.trace q.trace key)
 
 -- the pass is the same; where the call was answered, it made what the answer tells, and where it was refused, no call; it has no slot in hand, made no more steps than its budget, and lost no slot
 pub record CallsReplace (p q : PassView) (key value budget : ℕ) (answer : Result (Option ℕ) Refusal) : Type 0 where

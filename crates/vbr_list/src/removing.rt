@@ -6,7 +6,7 @@ ghost use Rattle.vbr_slots.specs.Calls.{Took};
 ghost use Rattle.vbr_slots.specs.Views.{IsOf};
 ghost use Rattle.vbr_at_table.specs.declared.budget.TheConstants.{PIECE};
 ghost use Rattle.vbr_list.specs.Sparing.{Calls, CallsAs, CallsRemove};
-ghost use Rattle.vbr_list.specs.Leaving.{SparesRemove, WasClear};
+ghost use Rattle.vbr_list.specs.Leaving.{SparesRemove, Sweeps, WasClear};
 ghost use Rattle.vbr_list.specs.Pieces.{Goes, GoesOn, HasRoom, Settles, trace_in};
 ghost use Rattle.vbr_list.specs.Removing.{Clears, ClearsSoon, IsMarkedFor, RemoveAnswers, RemoveRollsBack, UnlinksOrSearches};
 ghost use Rattle.vbr_list.specs.Told.{given_in};
@@ -25,7 +25,8 @@ use vbr_slots::{AtTable, Pass, Slots};
 use vbr_words::{Entries, Nodes};
 
 // Walks to the key as `find` does, with what is left of a budget, and so helps to unlink each marked
-// node that it meets: when it has come to the key, no marked node of the key was in a list at a moment.
+// node that it meets: when it has come to the key, no marked node of the key was in a list at a moment,
+// but one that was replaced, and each that was removed before has left.
 // Gives how many steps are used then. Few removes lose their unlinking, so it is done apart from them.
 #[cold]
 #[inline(never)]
@@ -35,6 +36,7 @@ fn walk_apart<N: Nodes>(at: &mut AtTable<'_, N>, key: u64, budget: u32, used: u3
     ensures goes { Goes (pass_of at.old) (pass_of at.new) used result }
     ensures within { (used ≤ result) × (result ≤ budget) }
     ensures clear { result + PIECE ≤ budget → WasClear (trace_of at.old) (trace_of at.new) key }
+    ensures sweeps { result + PIECE ≤ budget → Sweeps (trace_of at.old) (trace_of at.new) key }
     ensures walks { WalksAgain 9 (trace_of at.old) (trace_of at.new) key used result }
 {
     at.law();
@@ -55,12 +57,18 @@ fn walk_apart<N: Nodes>(at: &mut AtTable<'_, N>, key: u64, budget: u32, used: u3
 // As `walk_apart`, by a copy of what is lent, so that a remove that wins its unlinking has all of its
 // own in registers.
 #[inline(always)]
-fn walk_by_copy<N: Nodes>(at: &mut AtTable<'_, N>, key: u64, budget: u32, used: u32) -> u32
+pub(crate) fn walk_by_copy<N: Nodes>(
+    at: &mut AtTable<'_, N>,
+    key: u64,
+    budget: u32,
+    used: u32,
+) -> u32
     requires within { used ≤ budget }
     ensures table { IsSameTable at.old at.new }
     ensures goes { Goes (pass_of at.old) (pass_of at.new) used result }
     ensures within { (used ≤ result) × (result ≤ budget) }
     ensures clear { result + PIECE ≤ budget → WasClear (trace_of at.old) (trace_of at.new) key }
+    ensures sweeps { result + PIECE ≤ budget → Sweeps (trace_of at.old) (trace_of at.new) key }
     ensures walks { WalksAgain 9 (trace_of at.old) (trace_of at.new) key used result }
 {
     let slots = at.slots;

@@ -7,16 +7,21 @@ ghost use Rattle.vbr_slots.specs.Views.{IsOf};
 ghost use Rattle.vbr_at_table.specs.Answering.{KeepsIn};
 ghost use Rattle.vbr_at_table.specs.CallSteps.{steps_to_birth};
 ghost use Rattle.vbr_list.specs.Inserting.{GivesHandBack, HasHandAndRoom, Links, Prepares};
-ghost use Rattle.vbr_list.specs.Pieces.{HasRoom, IsSameCall, Replies, pass_in, trace_in};
-ghost use Rattle.vbr_list.specs.Replacing.{CallsReplace, DeniesAbsent, HasUnspent, HasUnused, LocatesNode, MayReplaceNode, ReadiesHand, ReadiesNone, ReplaceAnswers, Replaces, ReplacesNone};
+ghost use Rattle.vbr_list.specs.Leaving.{LeavesAt};
+ghost use Rattle.vbr_list.specs.Pieces.{GoesOn, HasRoom, IsSameCall, pass_in, Replies, trace_in};
+ghost use Rattle.vbr_list.specs.Removing.{UnlinksOrSearches};
+ghost use Rattle.vbr_list.specs.Replacing.{CallsReplace, DeniesAbsent, HasUnspent, HasUnused, IsOldNode, LocatesNode, MayReplaceNode, MaySettleReplace, ReadiesHand, ReadiesNone, ReplaceAnswers, Replaces, ReplacesAndLeaves, ReplacesNone, SettlesNone};
 ghost use Rattle.vbr_list.specs.Traversing.{LocatesFor};
 
 use crate::call::PendingCall;
 use crate::found::Found;
+use crate::helping::unlink_and_retire;
 use crate::refusal::Refusal;
+use crate::removing::walk_by_copy;
 use vbr_at_table::budget::affords;
 use vbr_at_table::{
-    Hand, Marked, Rollback, birth_after, confirm_absent_entry, give_back, replace_entry, value_of,
+    Hand, Held, Marked, Rollback, birth_after, confirm_absent_entry, give_back, replace_entry,
+    value_of,
 };
 use vbr_machine::Op;
 use vbr_slots::{AtTable, Pass, Slots};
@@ -47,7 +52,7 @@ impl<N: Nodes> PendingCall<'_, N> {
         requires room { HasRoom self.old }
         ensures tries { MayReplaceNode self.old self.new }
         ensures had { HasUnused (pass_in self.old) (pass_in self.new) result }
-        ensures replaced { IfOk result (Replaces value self.old self.new) }
+        ensures replaced { IfOk result (Replaces value self.old self.new found.now) }
         ensures back { IfErr result (GivesHandBack self.old self.new found.now) }
     {
         self.at.law();
@@ -114,26 +119,65 @@ impl<N: Nodes> PendingCall<'_, N> {
         }
     }
 
+    // Unlinks and retires the node that was replaced, if the budget has room; where that is lost, walks
+    // on until it is out of its list, by this pass or another.
+    #[inline]
+    fn unlink_replaced(&mut self, pred: &Held, marked: Marked)
+        requires old { IsOldNode self.old pred.now marked }
+        ensures goes { GoesOn self.old self.new }
+        ensures leaves { HasRoom self.new → LeavesAt (trace_in self.old) (trace_in self.new)
+            marked.slot }
+        ensures paid { UnlinksOrSearches (trace_in self.old) (trace_in self.new) self.old.key
+            self.old.used self.new.used pred.now }
+    {
+        self.at.law();
+        if !affords(self.budget, self.used) {
+            return;
+        }
+        let (outcome, made) = unlink_and_retire(&mut self.at, pred, marked);
+        self.used += made;
+        if outcome.is_err() {
+            self.used = walk_by_copy(&mut self.at, self.key, self.budget, self.used);
+        }
+    }
+
+    // Replaces the node that was found, and takes it out of its list, as far as the budget has room;
+    // gives the value that was there. Else the hand comes back.
+    #[inline]
+    fn replace_and_unlink(&mut self, found: &Found, value: u64, hand: Hand) -> Result<u64, Hand>
+        requires values { (trace_in self.old).start.shape.values ≡ true }
+        requires node { LocatesNode self.old found.now }
+        requires hand { HasHandAndRoom (pass_in self.old) hand }
+        requires room { HasRoom self.old }
+        ensures settles { MaySettleReplace self.old self.new }
+        ensures had { HasUnused (pass_in self.old) (pass_in self.new) result }
+        ensures replaced { IfOk result (ReplacesAndLeaves value self.old self.new) }
+        ensures back { IfErr result (SettlesNone self.old self.new found.now) }
+    {
+        self.at.law();
+        let (old, marked) = match self.replace_found(found, value, hand) {
+            Ok(told) => told,
+            Err(back) => return Err(back),
+        };
+        self.unlink_replaced(&found.pred, marked);
+        Ok(old)
+    }
+
     // Answers by what was found, with a slot in hand; else the hand comes back.
     #[inline]
-    fn settle_replace(
-        &mut self,
-        found: &Found,
-        value: u64,
-        hand: Hand,
-    ) -> Result<Option<(u64, Marked)>, Hand>
+    fn settle_replace(&mut self, found: &Found, value: u64, hand: Hand) -> Result<Option<u64>, Hand>
         requires values { (trace_in self.old).start.shape.values ≡ true }
         requires locates { LocatesFor self.old found.now }
         requires hand { HasHandAndRoom (pass_in self.old) hand }
         requires room { HasRoom self.old }
-        ensures tries { MayReplaceNode self.old self.new }
+        ensures settles { MaySettleReplace self.old self.new }
         ensures had { HasUnspent (pass_in self.old) (pass_in self.new) result }
         ensures answers { IfOk result (ReplaceAnswers value self.old self.new) }
-        ensures back { IfErr result (GivesHandBack self.old self.new found.now) }
+        ensures back { IfErr result (SettlesNone self.old self.new found.now) }
     {
         if found.present {
-            return match self.replace_found(found, value, hand) {
-                Ok(told) => Ok(Some(told)),
+            return match self.replace_and_unlink(found, value, hand) {
+                Ok(old) => Ok(Some(old)),
                 Err(back) => Err(back),
             };
         }
@@ -146,7 +190,7 @@ impl<N: Nodes> PendingCall<'_, N> {
 
     // Replaces the value of the key by the slot in hand, or answers no where the key has gone
     // meanwhile. The hand is spent.
-    fn replace_with(&mut self, value: u64, mut hand: Hand) -> Result<Option<(u64, Marked)>, Refusal>
+    fn replace_with(&mut self, value: u64, mut hand: Hand) -> Result<Option<u64>, Refusal>
         requires values { (trace_in self.old).start.shape.values ≡ true }
         requires hand { HasHandAndRoom (pass_in self.old) hand }
         ensures links { Links self.old self.new }
@@ -177,7 +221,8 @@ impl<N: Nodes> PendingCall<'_, N> {
 /// two calls in the history, next to each other: the key is removed with the value that it had, and
 /// inserted with the new one. No call of another pass finds it absent between. It takes a slot once it
 /// has found the key present, and traverses anew with it; a slot that is left over goes back to the
-/// own pool. The node that it replaced is marked, and left to those that meet it.
+/// own pool. The node that it replaced has then left its list: where another comes between, the call goes
+/// on as [`crate::find`] does, until the node is out, unless less than a piece is left of the budget.
 ///
 /// Its refusals are OutOfSteps, and, where the key was present, NoSlot and EpochSpent: then no call
 /// was made, and the value stays. The budgets that are enough are those of [`crate::insert`]: while the
@@ -230,10 +275,6 @@ fn replace_value(
     match call.ready() {
         Err(refusal) => (Err(refusal), call.used),
         Ok(None) => (Ok(None), call.used),
-        Ok(Some(hand)) => match call.replace_with(value, hand) {
-            Err(refusal) => (Err(refusal), call.used),
-            Ok(None) => (Ok(None), call.used),
-            Ok(Some((old, _))) => (Ok(Some(old)), call.used),
-        },
+        Ok(Some(hand)) => (call.replace_with(value, hand), call.used),
     }
 }

@@ -28,7 +28,7 @@ use Rattle.vbr_machine.specs.Removals.{IsTakenOut, NoneMarked}
 use Rattle.vbr_machine.specs.Agreement.{IsHeldIncarnation, IsHeldAt, IsHeldNext, IsGoodLink, IsPair, FitsNotes, Agrees}
 use Rattle.vbr_machine.specs.declared.knowledge.Read.TheVariants.{LinkAt, KeyOf, ValueOf}
 use Rattle.vbr_machine.proofs.Slots.{late_inserted, listed_late, late_born}
-use Rattle.vbr_machine.proofs.Lists.{next_listed, no_key_between, next_has_key, up_to_next}
+use Rattle.vbr_machine.proofs.Lists.{lower_rank, next_listed, no_key_between, next_has_key, up_to_next}
 use Rattle.vbr_machine.proofs.HeldReads.{still_last, stays_held, stays_next}
 use Rattle.vbr_machine.proofs.FoundReads.{link_among}
 use Rattle.vbr_machine.proofs.Growth.{grows_after}
@@ -156,6 +156,9 @@ module _ {start : Start} {a b : Incarnations} {know : Know} {notes : Notes} (the
     none_was_listed : (key : ℕ) → StandsBehind start know at key → BelongsBefore a key opened.0 → (d : ℕ) → IsListed (a.state d) → a.key d ≡ key → ⊥
     none_was_listed key behind before = let p = pair_open a at of opened.0 opened.1 in no_key_between then (before_of at of) key p.0 (behind_then at of key held behind) (rw p.1 before)
 
+    pub none_listed : (key c : ℕ) → StandsBehind start know at key → StandsBefore know key link.slot → IsListed (a.state c) → a.key c ≡ key → ⊥
+    none_listed key c behind before = none_was_listed key behind (before_then link.slot opened.0 key opened.2 before) c
+
     -- a key between the place and what the link names wasn't
     pub no_key_was_there : (key : ℕ) → StandsBehind start know at key → StandsBefore know key link.slot → set_after (opening_keys start) a.calls key ≡ false
     no_key_was_there key behind before = go (cases_Bool (set_after (opening_keys start) a.calls key))
@@ -225,6 +228,42 @@ module _ {start : Start} {a b : Incarnations} {know : Know} {notes : Notes} (the
             let there_too : IsInserted (a.state up.0) = next_inserted a know.epoch link.slot up.0 (subst P (sym p.1 ∙ up.1) h) in
             not_both up.0 up.0 (now.lists.ordered c up.0 follows).1 refl up.2 (grown.key c inserted) (grown.rank c inserted) (grown.key up.0 there_too) (grown.rank up.0 there_too)
 
+    -- where the link names a node of a known key, no node of the key that was in a list stands ahead of that one
+    pub named_first : (s key c : ℕ) → StandsBehind start know at key → link.slot ≡ Some s → Knows know (KeyOf s key) → IsListed (a.state c) → a.key c ≡ key → (i : ℕ) × IsHeldIncarnation b know.epoch s i × (b.rank i ≤ b.rank c)
+    named_first s key c behind named j listed e = go opened.0 opened.1 opened.2
+      where
+        first : (i : ℕ) → a.key i ≡ key → (a.key i < a.key c) ⊎ ((a.key i ≡ a.key c) × (a.rank i ≤ a.rank c)) → b.rank i ≡ a.rank i → b.rank c ≡ a.rank c → b.rank i ≤ b.rank c
+        first i k le x y = grind arith
+
+        go : (o : Option ℕ) → IsPair a at of o → IsHeldNext a know.epoch link.slot o → (i : ℕ) × IsHeldIncarnation b know.epoch s i × (b.rank i ≤ b.rank c)
+        go o pair h =
+            let p = pair_open a at of o pair in
+            let there : BelongsBehind start a (before_of at of) (a.key c) = rw e (behind_then at of key held behind) in
+            let up = up_to_next then (before_of at of) c p.0 there listed in
+            let P : Option ℕ → Type 0 = IsHeldNext a know.epoch link.slot in
+            let Q : Option ℕ → Type 0 = λ v. IsHeldNext a know.epoch v (Some up.0) in
+            let here : IsHeldIncarnation a know.epoch s up.0 = subst Q named (subst P (sym p.1 ∙ up.1) h) in
+            (up.0, stays_held then grown know.epoch s up.0 low here, first up.0 (key_then s up.0 key here j) up.2 (grown.rank up.0 (late_inserted (a.state up.0) know.epoch here.late)) (grown.rank c (late_inserted (a.state c) 0 (listed_late (a.state c) 0 listed))))
+
+    -- and where the place is a slot of the key, each marked node of the key stands ahead of the one there
+    pub marked_ahead : (s key c : ℕ) → at ≡ Slot s → Knows know (KeyOf s key) → a.state c ≡ Marked → a.key c ≡ key → (i : ℕ) × IsHeldIncarnation b know.epoch s i × (b.rank c < b.rank i)
+    marked_ahead s key c is j m e = go at of is held opened.1
+      where
+        ahead : (i : ℕ) → a.state i ≡ Linked → (c ≡ i) ⊎ (a.rank c < a.rank i) → b.rank i ≡ a.rank i → b.rank c ≡ a.rank c → b.rank c < b.rank i
+        ahead i l (inl same) x y = absurd (let z : Marked ≡ Linked = sym m ∙ ap a.state same ∙ l in cc)
+        ahead i l (inr less) x y = omega (arith, less, x, y)
+
+        go : (at : At) (of : Option ℕ) → at ≡ Slot s → IsHeldAt a know.epoch at of → IsPair a at of opened.0 → (i : ℕ) × IsHeldIncarnation b know.epoch s i × (b.rank c < b.rank i)
+        go (Head b) of e h p = absurd (cc)
+        go (Slot t) None e h p = absurd h
+        go (Slot t) (Some i) q h p =
+            let same : t ≡ s = cc in
+            let P : ℕ → Type 0 = λ t. IsHeldIncarnation a know.epoch t i in
+            let here = subst P same h in
+            let linked : a.state i ≡ Linked = (pair_open a (Slot t) (Some i) opened.0 p).0 in
+            let listed : IsListed (a.state c) = rw m tt in
+            (i, stays_held then grown know.epoch s i low here, ahead i linked (lower_rank then i c linked listed (key_then s i key here j ∙ sym e)) (grown.rank i (late_inserted (a.state i) know.epoch here.late)) (grown.rank c (late_inserted (a.state c) 0 (listed_late (a.state c) 0 listed))))
+
 -- a held place has an incarnation that is held there, if it is a slot
 pub place_held : {a : Incarnations} {know : Know} {notes : Notes} → FitsNotes a know notes → (at : At) → IsHeldPlace know at → (of : Option ℕ) × IsHeldAt a know.epoch at of
 place_held k (Head b) h = (None, tt)
@@ -270,6 +309,16 @@ module _ {start : Start} {v w : World} {a b : Incarnations} {early late : ℕ �
   -- nor was the node of a slot that stands behind the place, and whose known marked link names what the link names
   pub skipped_unlisted_then : (s key c : ℕ) (frozen : Link) → StandsBehind start (w.know p) at key → Knows (w.know p) (LinkAt (Slot s) frozen) → frozen.mark ≡ true → frozen.slot ≡ link.slot → Knows (w.know p) (KeyOf s key) → IsHeldIncarnation b (w.know p).epoch s c → IsListed (a.state c) → ⊥
   skipped_unlisted_then s key c frozen i k m same j h l = skipped_unlisted then.sound grown now.sound (now.knows p) low then.tells at there.0 link there.1 shows unmarked known s key c frozen i k m same j h l
+
+  -- nor was one of a key between the place and what the link names
+  pub none_listed_then : (key c : ℕ) → StandsBehind start (w.know p) at key → StandsBefore (w.know p) key link.slot → IsListed (a.state c) → a.key c ≡ key → ⊥
+  none_listed_then key c i j l e = none_listed then.sound grown now.sound (now.knows p) low then.tells at there.0 link there.1 shows unmarked known key c i j l e
+
+  pub named_first_then : (s key c : ℕ) → StandsBehind start (w.know p) at key → link.slot ≡ Some s → Knows (w.know p) (KeyOf s key) → IsListed (a.state c) → a.key c ≡ key → (i : ℕ) × IsHeldIncarnation b (w.know p).epoch s i × (b.rank i ≤ b.rank c)
+  named_first_then s key c i q j l e = named_first then.sound grown now.sound (now.knows p) low then.tells at there.0 link there.1 shows unmarked known s key c i q j l e
+
+  pub marked_ahead_then : (s key c : ℕ) → at ≡ Slot s → Knows (w.know p) (KeyOf s key) → a.state c ≡ Marked → a.key c ≡ key → (i : ℕ) × IsHeldIncarnation b (w.know p).epoch s i × (b.rank c < b.rank i)
+  marked_ahead_then s key c q j m e = marked_ahead then.sound grown now.sound (now.knows p) low then.tells at there.0 link there.1 shows unmarked known s key c q j m e
 
 -- ---- in one world
 

@@ -37,6 +37,8 @@ pub use Rattle.vbr_machine.proofs.RunForms.{marked_call_is, none_marked_between,
 pub use Rattle.vbr_machine.proofs.MarkedMoments.{absent_at_moments}
 -- Removed incarnations: the one that a remove marked has left its list, once no marked one of its key is in a list but one that was replaced.
 pub use Rattle.vbr_machine.proofs.Removals.{left_since, marked_left, out_on}
+-- A node that is replaced: what the step adds to the chronicle, and what shows that the node has left its list.
+pub use Rattle.vbr_machine.proofs.ReplacedNodes.{found_left, has_key, held_key, held_on, left_on, passed_left, removed_on, replaced_earlier, replaced_entry, replaced_later, replaced_out, skipped_left}
 -- What runs say of how many nodes stand behind a place that a pass holds, whose link is still the one that it has checked.
 pub use Rattle.vbr_machine.proofs.ListedRuns.{mark_out, named_there, one_fewer_behind, raise_epoch, raise_leaves, raise_links, read_leaves, stamp_epoch}
 pub use Rattle.vbr_machine.proofs.ListedRuns.{stamp_leaves, stamp_links, unlink_makes, unlink_takes_listed, unlink_takes_one}

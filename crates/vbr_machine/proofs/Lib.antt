@@ -70,6 +70,7 @@ mod RunForms
 mod MarkedMoments
 mod MarkedNodes
 mod Removals
+mod ReplacedNodes
 mod ListedRuns
 mod ListedGrowth
 mod ListedLinks

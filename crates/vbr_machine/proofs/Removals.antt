@@ -62,7 +62,7 @@ left_after start keys a (entry ∷ entries) s l c h =
     left_after start keys (becomes start a entry.pass entry.what) entries (sound_kept start keys a entry.pass entry.what s l.0) l.1 c (left_stays start keys a entry.pass entry.what s l.0 c h)
 
 -- what was removed and isn't marked has left its list
-removed_left : (st : State) → IsRemoved st → st ≢ Marked → HasLeft st
+pub removed_left : (st : State) → IsRemoved st → st ≢ Marked → HasLeft st
 removed_left Unborn r ne = absurd r
 removed_left (InHand p) r ne = absurd r
 removed_left GivenUp r ne = absurd r
@@ -72,7 +72,7 @@ removed_left (Unlinked p u) r ne = tt
 removed_left (Stamped u r) q ne = tt
 
 -- what was removed was inserted
-removed_inserted : (st : State) → IsRemoved st → IsInserted st
+pub removed_inserted : (st : State) → IsRemoved st → IsInserted st
 removed_inserted st r = grind arith
 
 -- ---- the mark of a remove that was answered yes
@@ -283,7 +283,7 @@ module _ (start : Start) (keys : Keys) (who : ℕ) (call : Call) (remove : call.
 
 module _ (start : Start) (passes : ℕ) (is : IsStart start) where
   -- the events that come after a beginning, and what they make
-  since : List Event → List Event → List Entry
+  pub since : List Event → List Event → List Entry
   since before rest = chronicle_from start (world_after start before) (incarnations_after start before) rest
 
   made_since : (before rest : List Event) → incarnations_after start (before ++ rest) ≡ incarnations_from start (incarnations_after start before) (since before rest)
@@ -294,7 +294,7 @@ module _ (start : Start) (passes : ℕ) (is : IsStart start) where
   unfolding since
   lawful_since before rest ok g = (runs_agree start passes (world_after start before) (incarnations_after start before) (notes_after start before) rest g (is_run_after start passes before rest ok)).0
 
-  own_since : (before rest : List Event) (pass : ℕ) → own_entries start (before ++ rest) pass ≡ own_entries start before pass ++ entries_by pass (since before rest)
+  pub own_since : (before rest : List Event) (pass : ℕ) → own_entries start (before ++ rest) pass ≡ own_entries start before pass ++ entries_by pass (since before rest)
   unfolding since
   own_since before rest pass =
       ap (entries_by pass) (chronicle_from-append start (opening start) (at_opening start) before rest)
@@ -304,7 +304,7 @@ module _ (start : Start) (passes : ℕ) (is : IsStart start) where
   agrees run ok = run_agrees start passes run is ok
 
   -- what has left its list by a moment has left it at the end
-  left_in_runs : (moment rest : List Event) (node : ℕ) → IsRun start passes (moment ++ rest) → HasLeft ((incarnations_after start moment).state node) → HasLeft ((incarnations_after start (moment ++ rest)).state node)
+  pub left_in_runs : (moment rest : List Event) (node : ℕ) → IsRun start passes (moment ++ rest) → HasLeft ((incarnations_after start moment).state node) → HasLeft ((incarnations_after start (moment ++ rest)).state node)
   left_in_runs moment rest node ok left =
       let g = agrees moment (is_run_before start passes moment rest ok) in
       rw (made_since moment rest) (left_after start (opening_keys start) (incarnations_after start moment) (since moment rest) g.sound (lawful_since moment rest ok g) node left)

@@ -1,5 +1,5 @@
 -- What runs say to the layers above: of what a pass knows by membership, of the keys that were in the set when a link was loaded, and of chains of marked links.
-use Rattle.std.proofs.Common.{◌≡◌, ℕ, true, false, List, [], ◌∷◌, ◌++◌, Some, refl, sym, subst}
+use Rattle.std.proofs.Common.{◌≡◌, ℕ, ◌<◌, ◌≤◌, true, false, List, [], ◌∷◌, ◌++◌, Some, refl, sym, subst}
 use Rattle.std.specs.Prelude.{unwrap_or}
 use Rattle.std.proofs.lemmas.List.Elements.{All-contains, All-from_recursion}
 use Rattle.vbr_machine.specs.Start.{Start, IsStart}
@@ -18,7 +18,7 @@ use Rattle.vbr_machine.specs.Machine.{World, opening, link_at, found, after}
 use Rattle.vbr_machine.specs.Runs.{AreAccepted, IsRun, world_after, know_after}
 use Rattle.vbr_machine.specs.Moments.{WasShown}
 use Rattle.vbr_machine.specs.Membership.{Knows, IsHeldSlot, IsHeldPlace, HeldIn, LeadsTo, KeyAt, StandsBehind, StandsBefore, WritesLink, AcceptsKnown}
-use Rattle.vbr_machine.specs.Incarnations.{Incarnations, at_opening}
+use Rattle.vbr_machine.specs.Incarnations.{Incarnations, Marked, at_opening}
 use Rattle.vbr_machine.specs.Chronicles.{incarnations_from}
 use Rattle.vbr_machine.specs.Sound.{IsListed, Grows}
 use Rattle.vbr_machine.specs.Notes.{Notes, no_notes, notes_with}
@@ -194,3 +194,17 @@ module _ (start : Start) (passes : ℕ) (moment run : List Event) (is : IsStart 
   pub skipped_unlisted : (s key c : ℕ) (frozen : Link) → StandsBehind start (know_after start run p) at key → Knows (know_after start run p) (LinkAt (Slot s) frozen) → frozen.mark ≡ true → frozen.slot ≡ link.slot → Knows (know_after start run p) (KeyOf s key) →
       IsHeldIncarnation (incarnations_after start run) (know_after start run p).epoch s c → IsListed ((incarnations_after start moment).state c) → ⊥
   skipped_unlisted s key c frozen i k m same j h l = loads.skipped_unlisted_then then (run_agrees start passes run is ok) grown p at link was.epoch was.held was.shown was.known was.unmarked s key c frozen i k m same j h l
+
+  -- nor was one of a key between the place and what the link names
+  pub none_listed : (key c : ℕ) → StandsBehind start (know_after start run p) at key → StandsBefore (know_after start run p) key link.slot → IsListed ((incarnations_after start moment).state c) → (incarnations_after start moment).key c ≡ key → ⊥
+  none_listed key c i j l e = loads.none_listed_then then (run_agrees start passes run is ok) grown p at link was.epoch was.held was.shown was.known was.unmarked key c i j l e
+
+  -- where the link names a node of a known key, no node of the key that was in a list at that moment stands ahead of that one
+  pub named_first : (s key c : ℕ) → StandsBehind start (know_after start run p) at key → link.slot ≡ Some s → Knows (know_after start run p) (KeyOf s key) → IsListed ((incarnations_after start moment).state c) → (incarnations_after start moment).key c ≡ key →
+      (i : ℕ) × IsHeldIncarnation (incarnations_after start run) (know_after start run p).epoch s i × ((incarnations_after start run).rank i ≤ (incarnations_after start run).rank c)
+  named_first s key c i q j l e = loads.named_first_then then (run_agrees start passes run is ok) grown p at link was.epoch was.held was.shown was.known was.unmarked s key c i q j l e
+
+  -- and where the place is a slot of the key, each node of the key that was marked at that moment stands ahead of the one there
+  pub marked_ahead : (s key c : ℕ) → at ≡ Slot s → Knows (know_after start run p) (KeyOf s key) → (incarnations_after start moment).state c ≡ Marked → (incarnations_after start moment).key c ≡ key →
+      (i : ℕ) × IsHeldIncarnation (incarnations_after start run) (know_after start run p).epoch s i × ((incarnations_after start run).rank c < (incarnations_after start run).rank i)
+  marked_ahead s key c q j m e = loads.marked_ahead_then then (run_agrees start passes run is ok) grown p at link was.epoch was.held was.shown was.known was.unmarked s key c q j m e

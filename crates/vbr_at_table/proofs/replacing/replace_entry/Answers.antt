@@ -1,5 +1,5 @@
 use Rattle.std.proofs.Common.{◌≡◌, ℕ, ◌+◌, Some, arith, sym, ap, ◌∙◌, subst, refl, rules}
-use Rattle.vbr_machine.specs.Start.{Start}
+use Rattle.vbr_machine.specs.Start.{Start, IsStart}
 use Rattle.vbr_words.specs.Words.{link_of, word_of}
 use Rattle.vbr_machine.specs.Acceptance.{IsAtIn}
 use Rattle.vbr_words.specs.declared.place.At.{At}
@@ -83,8 +83,8 @@ returns-in-Ok-clause-replaced g c =
     let Q : ℕ → Type 0 = λ s. IsFilled ((knows p.trace).own s) c.args.hand.birth c.args.key (link_to (link_of c.args.held.now.word).slot c.args.hand.birth c.args.next_birth) in
     let V : ℕ → Type 0 = λ s. value_in_hand ((knows p.trace).own s) ≡ Some c.args.value in
     let has = ap (λ (d : Start). d.shape.values) c.fill.ensures.fills.fills.quiet.same.start ∙ c.requires.node.has_values in
-    replace_told c.args.at.now.stepper.now p c.replace.new.self.stepper.now c.args.held.now c.in-Slot.slot c.slot-new.result c.args.key c.args.hand.birth c.args.next_birth c.args.value c.marked_link_to-word.result c.law.ensures c.fill.ensures.fills.fills.quiet k (held_kept c.args.held.now k c.requires.node.present.held) c.in-Slot.is (subst Q (sym c.slot-new.ensures) c.fill.ensures.fills.fills.filled)
-    has (subst V (sym c.slot-new.ensures) (c.fill.ensures.fills.valued c.requires.node.has_values)) c.requires.node.key_is (c.marked_link_to-word.ensures.link ∙ ap (λ (b : ℕ). marked (link_to (Some c.slot-new.result) c.args.held.now.birth b)) c.birth.ensures) c.in-Ok.ensures.found.did (search rules)
+    replace_told c.args.at.now.stepper.now p c.replace.new.self.stepper.now c.args.held.now c.in-Slot.slot c.slot-new.result c.args.key c.args.hand.birth c.args.next_birth c.args.value c.marked_link_to-word.result (subst IsStart c.fill.ensures.fills.fills.quiet.same.start c.law.ensures.start) c.law.ensures c.fill.ensures.fills.fills.quiet k (held_kept c.args.held.now k c.requires.node.present.held) c.in-Slot.is (subst Q (sym c.slot-new.ensures) c.fill.ensures.fills.fills.filled)
+    c.fill.ensures.fills.fills.unchanged has (subst V (sym c.slot-new.ensures) (c.fill.ensures.fills.valued c.requires.node.has_values)) c.requires.node.key_is (c.marked_link_to-word.ensures.link ∙ ap (λ (b : ℕ). marked (link_to (Some c.slot-new.result) c.args.held.now.birth b)) c.birth.ensures) c.in-Ok.ensures.found.did (search rules)
 
 pub returns-in-Err-clause-lost : goal.returns-in-Err-clause-lost
 returns-in-Err-clause-lost g c = record {

@@ -19,6 +19,7 @@ use Rattle.vbr_list.proofs.Going.{counts_step, took_same}
 use Rattle.vbr_list.proofs.KeptHands.{helped_hand, retired_hand}
 use Rattle.vbr_list.proofs.Nearing.{first_of, then_of}
 use Rattle.vbr_list.proofs.Reaching.{helped, retired_keeps}
+use Rattle.vbr_list.proofs.Sweeping.{left_skipped}
 use Rattle.vbr_list.proofs.helping.unlink_and_retire.Goals as goal
 
 pub returns-in-Ok-clause-goes : goal.returns-in-Ok-clause-goes
@@ -66,6 +67,11 @@ returns-in-Ok-clause-unlinks g c =
           (subst P (sym won.at) (subst Q (sym a.same.start) (behind_kept p.trace.start c.args.pred.now.at key won.keeps behind)))
           (won.keeps.reads _ c.requires.may.marked.held.link) c.requires.may.marked.mark (sym won.next) (won.keeps.reads (KeyOf c.args.marked.slot key) k)
           (out_kept p.trace q.trace c.args.marked.slot c.law.ensures.start c.law.ensures.is_run a won.keeps.epoch out)) b;
+      left = λ key k behind.
+          let P : At → Type 0 = λ t. StandsBehind q.trace.start (knows q.trace) t key in
+          let Q : Start → Type 0 = λ s. StandsBehind s (knows q.trace) c.args.pred.now.at key in
+          left_skipped p.trace q.trace r.trace c.in-Ok.place c.args.marked key c.law.ensures.start c.law.ensures.is_run a b won.keeps won.read won.still c.requires.may.marked (sym won.next)
+          (subst P (sym won.at) (subst Q (sym a.same.start) (behind_kept p.trace.start c.args.pred.now.at key won.keeps behind))) k;
     }
 
 pub returns-in-Err-clause-lost : goal.returns-in-Err-clause-lost

@@ -3,6 +3,7 @@ use Rattle.vbr_words.specs.Dimensions.{Dimensions}
 use Rattle.vbr_list.proofs.Clearing.{clear_walked}
 use Rattle.vbr_list.proofs.Going.{bucket_is}
 use Rattle.vbr_list.proofs.Marks.{walked}
+use Rattle.vbr_list.proofs.Sweeping.{swept_walked}
 use Rattle.vbr_list.proofs.removing.walk_apart.Goals as goal
 
 pub invariant_of-call-2 : goal.invariant_of-call-2
@@ -21,4 +22,5 @@ returns g c =
       within = search rules;
       walks = rw same (walked _ c.search.new.self c.search.result c.search.ensures.found c.search.ensures.tired);
       clear = λ room. rw same (clear_walked _ c.search.new.self c.search.result c.law.ensures.start c.search.ensures.goes.goes.quiet.same c.search.ensures.found c.search.ensures.tired room);
+      sweeps = λ room. rw same (swept_walked _ c.search.new.self c.search.result c.law.ensures.start c.law.ensures.is_run c.search.ensures.goes.goes.quiet c.search.ensures.found c.search.ensures.tired room);
     }

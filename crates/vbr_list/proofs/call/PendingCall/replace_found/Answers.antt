@@ -1,4 +1,7 @@
 use Rattle.std.proofs.Common.{◌≡◌, ℕ, ◌+◌, ◌<◌, Bool, true, List, Option, Some, length, rules, arith, inl, inr, sym, ap, ◌∙◌, subst}
+use Rattle.vbr_words.specs.declared.place.At.{At}
+use Rattle.vbr_machine.specs.Membership.{KeyAt}
+use Rattle.vbr_machine.specs.Runs.{IsRun}
 use Rattle.vbr_machine.specs.Start.{Start}
 use Rattle.vbr_machine.specs.Learning.{birth_in_hand}
 use Rattle.vbr_machine.specs.declared.history.Op.TheVariants.{Insert, Remove}
@@ -6,18 +9,21 @@ use Rattle.vbr_slots.specs.Views.{PassView, knows}
 use Rattle.vbr_slots.specs.declared.pass.TheConstants.{POOL}
 use Rattle.vbr_slots.proofs.Lemmas.{adds_on, quiet_on}
 use Rattle.vbr_at_table.specs.CallSteps.{steps_to_birth}
+use Rattle.vbr_at_table.specs.Held.{Names}
 use Rattle.vbr_at_table.specs.Hands.{HandView}
 use Rattle.vbr_at_table.specs.Replacing.{MadeTwo}
 use Rattle.vbr_at_table.specs.Values.{entry_call, steps_to_update, steps_to_value}
-use Rattle.vbr_at_table.proofs.Lemmas.{counts_on, had_spent, held_kept, keeps_on, key_on, none_on, two_on, unchanged_by_none, value_on}
+use Rattle.vbr_at_table.proofs.Lemmas.{counts_on, had_spent, held_kept, keeps_on, key_on, none_on, replaced_since, two_on, unchanged_by_none, value_on}
 use Rattle.vbr_list.specs.Inserting.{HasHandAndRoom}
 use Rattle.vbr_list.specs.Pieces.{KeepsHand}
 use Rattle.vbr_list.proofs.Going.{counts_step, goes_counted, goes_on, goes_read, took_same}
 use Rattle.vbr_at_table.specs.declared.held.Held.{Held}
 use Rattle.vbr_list.specs.Walking.{LosesNext}
 use Rattle.vbr_list.proofs.Disturbing.{lost_place_later, moves_epoch, moves_on, run_at}
+use Rattle.vbr_list.proofs.Marks.{apart, marks_behind}
 use Rattle.vbr_list.proofs.Moments.{key_found}
-use Rattle.vbr_list.proofs.Replacements.{had_same, moves_later}
+use Rattle.vbr_list.proofs.Reaching.{key_kept, pred_on, slot_same}
+use Rattle.vbr_list.proofs.Replacements.{had_same, moves_later, run_two}
 use Rattle.vbr_list.proofs.ValueReads.{cur_is, slot_at}
 use Rattle.vbr_list.proofs.call.PendingCall.replace_found.Goals as goal
 
@@ -130,13 +136,43 @@ returns-in-Ok-replace_entry-clause-replaced g c =
     let p = c.args.self.now.at.stepper.now.trace in
     let q = c.birth_after-named.new.at.stepper.now.trace in
     let r = c.replace_entry.new.at.stepper.now.trace in
-    let quiet = quiet_on c.value_of-read.ensures.reads.quiet c.birth_after-named.ensures.reads.quiet in
+    let f = c.args.found.now in
+    let k = c.args.self.now.key in
+    let first = c.value_of-read.ensures.reads in
+    let then = c.birth_after-named.ensures.reads in
+    let quiet = quiet_on first.quiet then.quiet in
     let told = c.in-Ok-replace_entry.ensures.replaced in
-    let C : ℕ → Start → Type 0 = λ who start. MadeTwo (entry_call start who Remove c.args.self.now.key true c.in-Ok.old) (entry_call start who Insert c.args.self.now.key true c.args.value) p r in
-    let all : C q.who q.start = two_on quiet (told.made c.in-Ok.old (value_on c.in-Some.cur.at c.in-Ok.old c.in-Ok-named.ensures.birth.keeps c.in-Ok.ensures.value.value)) in
+    let made_now = told.made c.in-Ok.old (value_on c.in-Some.cur.at c.in-Ok.old c.in-Ok-named.ensures.birth.keeps c.in-Ok.ensures.value.value) in
+    let C : ℕ → Start → Type 0 = λ who start. MadeTwo (entry_call start who Remove k true c.in-Ok.old) (entry_call start who Insert k true c.args.value) p r in
+    let all : C q.who q.start = two_on quiet made_now in
     let D : Start → Type 0 = C q.who in
     let E : ℕ → Type 0 = λ who. C who p.start in
-    record { made = subst E quiet.same.who (subst D quiet.same.start all); held = told.held; spent = told.spent }
+    let both = subst E quiet.same.who (subst D quiet.same.start all) in
+    let y = cur_is (knows p) k f.pred c.in-Some.cur f.cur f.present c.requires.node.locates.end c.in-Some.is in
+    let there = key_found (knows p) k f.pred c.in-Some.cur f.cur f.present c.requires.node.locates.end c.in-Some.is c.requires.node.present in
+    let one = c.in-Ok.ensures.value.keeps in
+    let two = c.in-Ok-named.ensures.birth.keeps in
+    let three = c.replace_entry.ensures.stores.keeps in
+    let keeps = keeps_on (keeps_on one two) three in
+    let pred = pred_on k f.pred both.same keeps c.requires.node.locates.pred in
+    let K : At → Type 0 = λ at. KeyAt (knows r) at k in
+    let N : ℕ → Type 0 = Names f.pred in
+    let R : IsRun p.start p.passes r.seen = run_two p r both.same both.is_run in
+    let steps = first.takes_no_slot.count in
+    let steps_then = then.takes_no_slot.count in
+    let steps_last = c.replace_entry.ensures.stores.takes_no_slot.count in
+    record {
+      both = record { made = both; spent = told.spent };
+      old = record {
+        may = record { held = pred.held; unmarked = pred.unmarked; marked = told.held; names = subst N (slot_same c.in-Ok-replace_entry.marked.slot y.slot (told.at ∙ y.at)) y.named };
+        key = subst K (sym told.at) (key_kept c.in-Some.cur.at k keeps there);
+        behind = pred.behind;
+      };
+      replaced = replaced_since p q r c.law.ensures.start quiet told.old;
+      marks = marks_behind p q r k f.pred c.in-Some.cur c.law.ensures.start R quiet (adds_on first.adds_none then.adds_none) made_now.same told.leaves
+          (apart p c.law.ensures.start c.law.ensures.is_run f.pred.at c.in-Some.cur.at k c.requires.node.locates.pred.behind there)
+          keeps.epoch (steps_last ∙ steps_then ∙ steps) pred.held pred.unmarked pred.inside;
+    }
 
 pub returns-in-Ok-replace_entry-clause-had : goal.returns-in-Ok-replace_entry-clause-had
 returns-in-Ok-replace_entry-clause-had g c =

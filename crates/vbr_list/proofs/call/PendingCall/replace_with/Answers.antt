@@ -1,6 +1,6 @@
 use Rattle.std.proofs.Common.{◌≡◌, ℕ, true, false, rules, Option, Some, None, ap, sym, subst, ◌∙◌, ◌+◌, arith}
 use Rattle.vbr_words.specs.declared.nodes.Nodes.{Ghosts}
-use Rattle.vbr_machine.specs.Start.{Start}
+use Rattle.vbr_machine.specs.Start.{Start, IsStart}
 use Rattle.vbr_machine.specs.History.{set_call}
 use Rattle.vbr_machine.specs.declared.history.Op.TheVariants.{Insert, Remove}
 use Rattle.vbr_slots.specs.Calls.{Made, Quiet}
@@ -8,41 +8,46 @@ use Rattle.vbr_slots.specs.Views.{Trace}
 use Rattle.vbr_slots.proofs.Lemmas.{quiet_on}
 use Rattle.vbr_at_table.specs.Replacing.{MadeTwo}
 use Rattle.vbr_at_table.specs.Values.{entry_call}
-use Rattle.vbr_at_table.specs.declared.held.Marked.{Marked}
 use Rattle.vbr_at_table.proofs.Lemmas.{had_back, had_grown, had_on, no_room, none_back, none_on, two_on}
 use Rattle.vbr_list.specs.Pieces.{pass_in, trace_in}
+use Rattle.vbr_list.specs.Leaving.{LeavesReplaced}
 use Rattle.vbr_list.specs.Replacing.{ReplaceAnswers, SearchesWith}
 use Rattle.vbr_list.specs.declared.call.PendingCall.{PendingCall}
 use Rattle.vbr_list.proofs.Going.{call_on, within_call}
 use Rattle.vbr_list.proofs.Preparing.{made_since, within_on, within_same}
 use Rattle.vbr_list.proofs.Disturbing.{run_at}
 use Rattle.vbr_list.proofs.Replacements.{had_since, searches_with_end}
+use Rattle.vbr_list.proofs.Sweeping.{leaves_replaced_since}
 use Rattle.vbr_list.proofs.Walking.{search_round_on}
 use Rattle.vbr_list.proofs.call.PendingCall.replace_with.Goals as goal
 
 -- an answer leaves the hand empty
-spent_of : {N : Type 0} {kind : Ghosts N} (value : ℕ) (c d : PendingCall N kind) (answer : Option (ℕ × Marked)) → ReplaceAnswers value c d answer → (pass_in d).hand ≡ None
+spent_of : {N : Type 0} {kind : Ghosts N} (value : ℕ) (c d : PendingCall N kind) (answer : Option ℕ) → ReplaceAnswers value c d answer → (pass_in d).hand ≡ None
 spent_of value c d None x = x.spent
-spent_of value c d (Some told) x = x.spent
+spent_of value c d (Some old) x = x.both.spent
 
 -- an answer after what made no call
-answers_since : {N : Type 0} {kind : Ghosts N} (value : ℕ) (b c d : PendingCall N kind) → c.key ≡ b.key → Quiet (trace_in b) (trace_in c) → (answer : Option (ℕ × Marked)) → ReplaceAnswers value c d answer → ReplaceAnswers value b d answer
-answers_since value b c d key quiet None x =
+answers_since : {N : Type 0} {kind : Ghosts N} (value : ℕ) (b c d : PendingCall N kind) → c.key ≡ b.key → IsStart (trace_in b).start → Quiet (trace_in b) (trace_in c) → (answer : Option ℕ) → ReplaceAnswers value c d answer → ReplaceAnswers value b d answer
+answers_since value b c d key start quiet None x =
     let P : ℕ → Type 0 = λ k. Made (set_call (trace_in c).who Remove k false) (trace_in c) (trace_in d) in
     record { made = made_since quiet (subst P key x.made); spent = x.spent }
-answers_since value b c d key quiet (Some told) x =
-    let C : ℕ → Start → ℕ → Type 0 = λ who start k. MadeTwo (entry_call start who Remove k true told.0) (entry_call start who Insert k true value) (trace_in b) (trace_in d) in
-    let all : C (trace_in c).who (trace_in c).start c.key = two_on quiet x.made in
+answers_since value b c d key start quiet (Some old) x =
+    let C : ℕ → Start → ℕ → Type 0 = λ who start k. MadeTwo (entry_call start who Remove k true old) (entry_call start who Insert k true value) (trace_in b) (trace_in d) in
+    let all : C (trace_in c).who (trace_in c).start c.key = two_on quiet x.both.made in
     let K : ℕ → Type 0 = C (trace_in c).who (trace_in c).start in
     let D : Start → Type 0 = λ start. C (trace_in c).who start b.key in
     let E : ℕ → Type 0 = λ who. C who (trace_in b).start b.key in
-    record { made = subst E quiet.same.who (subst D quiet.same.start (subst K key all)); held = x.held; spent = x.spent }
+    let L : ℕ → Type 0 = λ k. LeavesReplaced (trace_in c) (trace_in d) k in
+    record {
+      both = record { made = subst E quiet.same.who (subst D quiet.same.start (subst K key all)); spent = x.both.spent };
+      leaves = λ room. leaves_replaced_since (trace_in d) b.key start quiet (subst L key (x.leaves room));
+    }
 
 pub loop-found-preserved : goal.loop-found-preserved
 loop-found-preserved g c =
     let s = c.search.ensures.goes in
-    let back = c.in-Err.ensures.back in
-    let more = c.settle_replace.ensures.tries in
+    let back = c.in-Err.ensures.back.given in
+    let more = c.settle_replace.ensures.settles in
     let fits = c.if-not-affords.ensures in
     let begun = call_on c.loop-found.invariant.0 s.call in
     let same = call_on begun more.call in
@@ -51,13 +56,13 @@ loop-found-preserved g c =
     let r = c.settle_replace.new.self.at.stepper.now in (
       same,
       quiet_on c.loop-found.invariant.1 (quiet_on s.goes.quiet back.quiet),
-      within_on (within_on c.loop-found.invariant.2 s.goes.counts s.more (within_call begun)) more.counts (omega arith) (within_call same),
+      within_on (within_on c.loop-found.invariant.2 s.goes.counts s.more (within_call begun)) more.counts (let l = more.more in omega (arith, l)) (within_call same),
       none_on (none_on c.loop-found.invariant.3 s.goes.hand.takes_no_slot) more.takes_no_slot,
       back.hand,
       had_on p q r (had_on p c.loop-found.self.at.stepper.now q c.loop-found.invariant.5 (had_grown c.loop-found.self.at.stepper.now q s.goes.hand.takes_no_slot.grows s.goes.hand.hand)) (rw c.in-Err.is at c.settle_replace.ensures.had),
       let first = c.loop-found.invariant.1 in
           let whole = quiet_on (quiet_on first s.goes.quiet) back.quiet in
-          let few = more.used.1 in
+          let few = c.in-Err.ensures.back.few in
           search_round_on p.trace c.loop-found.self.at.stepper.now.trace q.trace r.trace c.law.ensures.start (run_at p.trace r.trace whole.same (whole.is_run c.law.ensures.is_run)) c.args.self.now.key 8 first.same s.goes.quiet.same whole.same first.seen s.goes.quiet.seen back.quiet.seen more.takes_no_slot.count c.loop-found.invariant.6 c.in-Some.found (rw c.loop-found.invariant.0.key at c.in-Some.ensures.found.last) (omega (arith, few)) back.loses,
     )
 
@@ -101,13 +106,13 @@ returns-then-not-affords-clause-had g c =
 pub returns-in-Ok-clause-links : goal.returns-in-Ok-clause-links
 returns-in-Ok-clause-links g c =
     let s = c.search.ensures.goes in
-    let more = c.settle_replace.ensures.tries in
+    let more = c.settle_replace.ensures.settles in
     let begun = call_on c.loop-found.invariant.0 s.call in
     let same = call_on begun more.call in
     let fits = c.if-not-affords.ensures in
     record {
       call = same;
-      counts = within_on (within_on c.loop-found.invariant.2 s.goes.counts s.more (within_call begun)) more.counts (omega arith) (within_call same);
+      counts = within_on (within_on c.loop-found.invariant.2 s.goes.counts s.more (within_call begun)) more.counts (let l = more.more in omega (arith, l)) (within_call same);
       takes_no_slot = none_on (none_on c.loop-found.invariant.3 s.goes.hand.takes_no_slot) more.takes_no_slot;
       spent = spent_of c.args.value c.search.new.self c.settle_replace.new.self c.in-Ok.answer c.in-Ok.ensures.answers;
     }
@@ -158,4 +163,4 @@ returns-in-Ok-clause-had g c =
 pub returns-in-Ok-clause-answers : goal.returns-in-Ok-clause-answers
 returns-in-Ok-clause-answers g c =
     let quiet = quiet_on c.loop-found.invariant.1 c.search.ensures.goes.goes.quiet in
-    answers_since c.args.value c.args.self.now c.search.new.self c.settle_replace.new.self (call_on c.loop-found.invariant.0 c.search.ensures.goes.call).key quiet c.in-Ok.answer c.in-Ok.ensures.answers
+    answers_since c.args.value c.args.self.now c.search.new.self c.settle_replace.new.self (call_on c.loop-found.invariant.0 c.search.ensures.goes.call).key c.law.ensures.start quiet c.in-Ok.answer c.in-Ok.ensures.answers

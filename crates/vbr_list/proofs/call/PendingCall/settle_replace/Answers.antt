@@ -5,15 +5,15 @@ use Rattle.vbr_at_table.proofs.Lemmas.{had_back, had_grown, had_on, none_back, n
 use Rattle.vbr_list.proofs.Going.{counts_step}
 use Rattle.vbr_list.proofs.call.PendingCall.settle_replace.Goals as goal
 
-pub returns-clause-tries : goal.returns-clause-tries
-returns-clause-tries g c =
+pub returns-clause-settles : goal.returns-clause-settles
+returns-clause-settles g c =
     let d = c.answer_absent.ensures in
     let back = c.give_back.ensures.back in
     let used = c.args.self.now.used in
     record {
       call = search rules;
       counts = subst (λ (q : Trace). CountsSteps c.args.self.now.at.stepper.now.trace q used c.answer_absent.new.self.used) (sym back.trace) (rw d.used (counts_step used 1 d.keeps.took));
-      used = (omega arith, omega arith);
+      more = omega arith;
       takes_no_slot = none_on d.keeps.takes_no_slot (none_back c.answer_absent.new.self.at.stepper.now c.give_back.new.at.stepper.now c.args.hand.slot back.trace back.pool back.kept);
     }
 

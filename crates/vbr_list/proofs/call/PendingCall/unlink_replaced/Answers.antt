@@ -1,0 +1,52 @@
+use Rattle.std.proofs.Common.{rules, arith, inl, inr, sym, ◌∙◌, ◌+◌}
+use Rattle.vbr_at_table.proofs.Lemmas.{no_room}
+use Rattle.vbr_list.specs.Helping.{IsLostPlace}
+use Rattle.vbr_list.proofs.Going.{call_refl, goes_on, goes_refl}
+use Rattle.vbr_list.proofs.Preparing.{if_failed, if_went}
+use Rattle.vbr_list.proofs.Sweeping.{swept_at}
+use Rattle.vbr_list.proofs.call.PendingCall.unlink_replaced.Goals as goal
+
+pub returns-then-is_err-clause-goes : goal.returns-then-is_err-clause-goes
+returns-then-is_err-clause-goes g c = record { call = search rules; goes = goes_on (c.unlink_and_retire-outcome.ensures.goes c.args.self.now.used) c.walk_by_copy-self.ensures.goes; more = omega (arith, c.walk_by_copy-self.ensures.within.1) }
+
+pub returns-else-is_err-clause-goes : goal.returns-else-is_err-clause-goes
+returns-else-is_err-clause-goes g c = record { call = search rules; goes = c.unlink_and_retire-outcome.ensures.goes c.args.self.now.used; more = omega arith }
+
+pub returns-then-is_err-clause-paid : goal.returns-then-is_err-clause-paid
+returns-then-is_err-clause-paid g c =
+    let tried = c.unlink_and_retire-outcome in
+    let never : IsLostPlace c.args.self.now.at.stepper.now tried.new.at.stepper.now c.args.pred.now = if_failed {P = IsLostPlace c.args.self.now.at.stepper.now tried.new.at.stepper.now c.args.pred.now} tried.result.0 (sym c.is_err.ensures.value ∙ c.if-is_err.true) tried.ensures.lost in
+    let few = tried.ensures.few in
+    inr (record {
+      ended = tried.new.at.stepper.now.trace;
+      quiet = (tried.ensures.goes 0).quiet;
+      count = (tried.ensures.goes 0).hand.takes_no_slot.count;
+      loses = never.loses;
+      used = c.args.self.now.used + tried.result.1;
+      few = omega (arith, few);
+      then = c.walk_by_copy-self.ensures.goes.quiet;
+      walks = c.walk_by_copy-self.ensures.walks;
+    })
+
+pub returns-else-is_err-clause-paid : goal.returns-else-is_err-clause-paid
+returns-else-is_err-clause-paid g c = let few = c.unlink_and_retire-outcome.ensures.few in inl (omega (arith, few))
+
+pub returns-then-is_err-clause-leaves : goal.returns-then-is_err-clause-leaves
+returns-then-is_err-clause-leaves g c = λ room.
+    let p = c.args.self.now.at.stepper.now.trace in
+    let q = c.unlink_and_retire-outcome.new.at.stepper.now.trace in
+    swept_at p q c.walk_by_copy-self.new.at.stepper.now.trace c.args.marked.slot c.args.self.now.key c.law.ensures.start c.law.ensures.is_run (c.unlink_and_retire-outcome.ensures.goes 0).quiet (c.walk_by_copy-self.ensures.sweeps room) c.requires.old.key
+
+pub returns-else-is_err-clause-leaves : goal.returns-else-is_err-clause-leaves
+returns-else-is_err-clause-leaves g c = λ room.
+    let tried = c.unlink_and_retire-outcome in
+    (if_went tried.result.0 (sym c.is_err.ensures.value ∙ c.if-is_err.false) tried.ensures.unlinks).1.left c.args.self.now.key c.requires.old.key c.requires.old.behind
+
+pub returns-then-not-affords-clause-goes : goal.returns-then-not-affords-clause-goes
+returns-then-not-affords-clause-goes g c = record { call = call_refl c.args.self.now; goes = goes_refl c.args.self.now.at.stepper.now c.args.self.now.used; more = omega arith }
+
+pub returns-then-not-affords-clause-leaves : goal.returns-then-not-affords-clause-leaves
+returns-then-not-affords-clause-leaves g c = λ room. (let short = no_room c.args.self.now.used c.args.self.now.budget c.affords.result c.if-not-affords.true c.affords.ensures.1 in absurd (omega (arith, short, room)))
+
+pub returns-then-not-affords-clause-paid : goal.returns-then-not-affords-clause-paid
+returns-then-not-affords-clause-paid g c = inl (omega arith)
