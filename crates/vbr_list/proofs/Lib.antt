@@ -22,5 +22,6 @@ mod Told
 mod Marks
 mod ValueReads
 mod Replacements
+mod LateSearches
 mod ReplacedValues
 pub mod Lemmas
