@@ -18,7 +18,10 @@ use Rattle.vbr_at_table.specs.Replacing.{MadeTwo}
 use Rattle.vbr_at_table.specs.Steps.{TookWithin}
 use Rattle.vbr_list.specs.Budgets.{LacksSteps, enough_past, enough_to_insert, listed_for, replace_costs}
 use Rattle.vbr_list.specs.Disturbed.{disturbed, enough_to_replace_among, replace_costs_among, replaces_more, steps_for_slot}
-use Rattle.vbr_list.specs.Inserting.{CountsWithin, InsertIsShort, SearchedFor, SearchesFor, SearchesInVain, TakesNone}
+use Rattle.vbr_list.specs.Inserting.{CountsWithin, HasHandAndRoom, InsertIsShort, SearchedFor, SearchesFor, SearchesInVain, TakesNone}
+use Rattle.vbr_machine.specs.Learning.{birth_in_hand}
+use Rattle.vbr_at_table.specs.Hands.{HandView}
+use Rattle.vbr_list.specs.Pieces.{KeepsHand}
 use Rattle.vbr_list.specs.Replacing.{HasUnspent, IsRefusedReplace, SearchesWith, WasPresentFor}
 use Rattle.vbr_list.specs.Walking.{MovesOn, WalksAgain, met_since}
 use Rattle.vbr_list.specs.declared.refusal.Refusal.{Refusal}
@@ -60,6 +63,10 @@ all_but_then p q r first then = (first.0, λ slot has other. then slot (first.1 
 -- the pool and the hand are the same
 pub had_same : (p q : PassView) → q.pool ≡ p.pool → q.hand ≡ p.hand → HasStill p q
 had_same p q pool hand = had_grown p q (grows_same p q pool) hand
+
+-- a hand that stays is one still
+pub hand_kept : {p q : PassView} (hand : HandView) → KeepsHand p q → HasHandAndRoom p hand → HasHandAndRoom q hand
+hand_kept hand keeps h = record { is = record { slot = keeps.hand ∙ h.is.slot; birth = ap birth_in_hand (keeps.in_hand hand.slot h.is.slot) ∙ h.is.birth }; room = keeps.room h.room }
 
 -- a piece after what kept each slot
 pub had_since : {A E : Type 0} (p q r : PassView) (answer : Result (Option A) E) → HasStill p q → HasUnspent q r answer → HasUnspent p r answer

@@ -28,11 +28,22 @@ use Rattle.vbr_list.specs.Leaving.{LeavesAt, LeavesReplaced}
 use Rattle.vbr_list.specs.Inserting.{GivesHandBack, HasHandAndRoom, InsertIsShort, SearchedFor, SearchesInVain, TakesNone}
 use Rattle.vbr_list.specs.Pieces.{HasRoom, IsPiece, IsSameCall, Replies, pass_in, trace_in}
 use Rattle.vbr_list.specs.Removing.{MarksBehind, SearchesOn}
+use Rattle.vbr_list.specs.Traversing.{LocatesFor}
 use Rattle.vbr_list.specs.Walking.{LosesPlace, met_since}
 use Rattle.vbr_list.specs.declared.call.PendingCall.{PendingCall}
 use Rattle.vbr_list.specs.declared.found.Found.{Found}
 use Rattle.vbr_list.specs.declared.refusal.Refusal.{Refusal}
 use Rattle.vbr_list.specs.declared.refusal.Refusal.TheVariants.{OutOfSteps, NoSlot, EpochSpent}
+
+-- nodes have values, and the pass has a slot in hand
+pub record HasHandForValue {N : Type 0} {kind : Ghosts N} (c : PendingCall N kind) (given : HandView) : Type 0 where
+  pub values : (trace_in c).start.shape.values ≡ true
+  pub hand : HasHandAndRoom (pass_in c) given
+
+-- the call's key was found present
+pub record FindsPresent {N : Type 0} {kind : Ghosts N} (c : PendingCall N kind) (found : Found) : Type 0 where
+  pub locates : LocatesFor c found
+  pub present : found.present ≡ true
 
 -- a piece that may replace a node: its steps are counted, and it takes no slot
 pub record MayReplaceNode {N : Type 0} {kind : Ghosts N} (c d : PendingCall N kind) : Type 0 where

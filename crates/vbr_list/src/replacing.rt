@@ -9,7 +9,7 @@ ghost use Rattle.vbr_at_table.specs.CallSteps.{steps_to_birth};
 ghost use Rattle.vbr_list.specs.Inserting.{GivesHandBack, HasHandAndRoom, Links, Prepares};
 ghost use Rattle.vbr_list.specs.Leaving.{LeavesAt};
 ghost use Rattle.vbr_list.specs.Pieces.{GoesOn, HasRoom, IsSameCall, Replies, pass_in, trace_in};
-ghost use Rattle.vbr_list.specs.Replacing.{AnswersPaid, CallsReplace, DeniesAbsent, HasUnspent, HasUnused, IsOldNode, MayReplaceNode, MaySettleReplace, ReadiesHand, ReadiesNone, ReplaceAnswers, Replaces, ReplacesAndLeaves, ReplacesNone, SettlesNone, SettlesPaid, UnlinksReplaced};
+ghost use Rattle.vbr_list.specs.Replacing.{AnswersPaid, CallsReplace, DeniesAbsent, FindsPresent, HasHandForValue, HasUnspent, HasUnused, IsOldNode, MayReplaceNode, MaySettleReplace, ReadiesHand, ReadiesNone, ReplaceAnswers, Replaces, ReplacesAndLeaves, ReplacesNone, SettlesNone, SettlesPaid, UnlinksReplaced};
 ghost use Rattle.vbr_list.specs.Traversing.{LocatesFor};
 
 use crate::call::PendingCall;
@@ -45,10 +45,8 @@ impl<N: Nodes> PendingCall<'_, N> {
         value: u64,
         hand: Hand,
     ) -> Result<(u64, Marked), Hand>
-        requires values { (trace_in self.old).start.shape.values ≡ true }
-        requires locates { LocatesFor self.old found.now }
-        requires present { found.now.present ≡ true }
-        requires hand { HasHandAndRoom (pass_in self.old) hand }
+        requires finds { FindsPresent self.old found.now }
+        requires has { HasHandForValue self.old hand }
         requires room { HasRoom self.old }
         ensures tries { MayReplaceNode self.old self.new }
         ensures had { HasUnused (pass_in self.old) (pass_in self.new) result }
@@ -145,10 +143,8 @@ impl<N: Nodes> PendingCall<'_, N> {
     // gives the value that was there. Else the hand comes back.
     #[inline]
     fn replace_and_unlink(&mut self, found: &Found, value: u64, hand: Hand) -> Result<u64, Hand>
-        requires values { (trace_in self.old).start.shape.values ≡ true }
-        requires locates { LocatesFor self.old found.now }
-        requires present { found.now.present ≡ true }
-        requires hand { HasHandAndRoom (pass_in self.old) hand }
+        requires finds { FindsPresent self.old found.now }
+        requires has { HasHandForValue self.old hand }
         requires room { HasRoom self.old }
         ensures settles { MaySettleReplace self.old self.new }
         ensures had { HasUnused (pass_in self.old) (pass_in self.new) result }
@@ -173,9 +169,8 @@ impl<N: Nodes> PendingCall<'_, N> {
         value: u64,
         spare: Hand,
     ) -> Result<Option<u64>, Hand>
-        requires values { (trace_in self.old).start.shape.values ≡ true }
         requires locates { LocatesFor self.old found.now }
-        requires hand { HasHandAndRoom (pass_in self.old) spare }
+        requires has { HasHandForValue self.old spare }
         requires room { HasRoom self.old }
         ensures settles { MaySettleReplace self.old self.new }
         ensures had { HasUnspent (pass_in self.old) (pass_in self.new) result }

@@ -18,7 +18,7 @@ use Rattle.vbr_list.specs.declared.call.PendingCall.{PendingCall}
 use Rattle.vbr_list.proofs.Going.{call_on, within_call}
 use Rattle.vbr_list.proofs.Preparing.{made_since, within_on, within_same}
 use Rattle.vbr_list.proofs.Disturbing.{run_at}
-use Rattle.vbr_list.proofs.Replacements.{had_since, run_two, searches_with_end}
+use Rattle.vbr_list.proofs.Replacements.{had_since, hand_kept, run_two, searches_with_end}
 use Rattle.vbr_list.proofs.LateSearches.{late_searched}
 use Rattle.vbr_list.proofs.Sweeping.{leaves_replaced_since}
 use Rattle.vbr_list.proofs.Walking.{search_round_on}
@@ -80,8 +80,10 @@ loop-found-preserved g c =
           search_round_on p.trace c.loop-found.self.at.stepper.now.trace q.trace r.trace c.law.ensures.start (run_at p.trace r.trace whole.same (whole.is_run c.law.ensures.is_run)) c.args.self.now.key 8 first.same s.goes.quiet.same whole.same first.seen s.goes.quiet.seen back.quiet.seen more.takes_no_slot.count c.loop-found.invariant.6 c.in-Some.found (rw c.loop-found.invariant.0.key at c.in-Some.ensures.found.last) (omega (arith, few)) back.loses,
     )
 
-pub settle_replace-requires-clause-values : goal.settle_replace-requires-clause-values
-settle_replace-requires-clause-values g c = ap (λ (d : Start). d.shape.values) (quiet_on c.loop-found.invariant.1 c.search.ensures.goes.goes.quiet).same.start ∙ c.requires.values
+pub settle_replace-requires-clause-has : goal.settle_replace-requires-clause-has
+settle_replace-requires-clause-has g c =
+    let s = c.search.ensures.goes.goes in
+    record { values = ap (λ (d : Start). d.shape.values) (quiet_on c.loop-found.invariant.1 s.quiet).same.start ∙ c.requires.values; hand = hand_kept c.loop-found.hand s.hand c.loop-found.invariant.4 }
 
 pub returns-in_default-clause-links : goal.returns-in_default-clause-links
 returns-in_default-clause-links g c =

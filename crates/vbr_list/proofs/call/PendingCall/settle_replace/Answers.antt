@@ -22,7 +22,10 @@ returns-clause-had g c =
     let p = c.args.self.now.at.stepper.now in
     let q = c.answer_absent.new.self.at.stepper.now in
     let d = c.answer_absent.ensures.keeps in
-    had_on p q c.give_back.new.at.stepper.now (had_grown p q d.takes_no_slot.grows d.own.hand) (had_back q c.give_back.new.at.stepper.now c.args.spare.slot (d.own.hand ∙ c.requires.hand.is.slot) c.give_back.ensures.back.pool)
+    had_on p q c.give_back.new.at.stepper.now (had_grown p q d.takes_no_slot.grows d.own.hand) (had_back q c.give_back.new.at.stepper.now c.args.spare.slot (d.own.hand ∙ c.requires.has.hand.is.slot) c.give_back.ensures.back.pool)
 
 pub returns-clause-paid : goal.returns-clause-paid
 returns-clause-paid g c = let used = c.answer_absent.ensures.used in record { few = omega (arith, used); leaves = λ yes room. absurd (cc) }
+
+pub replace_and_unlink-requires-clause-finds : goal.replace_and_unlink-requires-clause-finds
+replace_and_unlink-requires-clause-finds g c = record { locates = c.requires.locates; present = c.if-found.true }
