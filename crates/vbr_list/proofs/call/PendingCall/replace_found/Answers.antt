@@ -3,9 +3,8 @@ use Rattle.vbr_words.specs.declared.place.At.{At}
 use Rattle.vbr_machine.specs.Membership.{KeyAt}
 use Rattle.vbr_machine.specs.Runs.{IsRun}
 use Rattle.vbr_machine.specs.Start.{Start}
-use Rattle.vbr_machine.specs.Learning.{birth_in_hand}
 use Rattle.vbr_machine.specs.declared.history.Op.TheVariants.{Insert, Remove}
-use Rattle.vbr_slots.specs.Views.{PassView, knows}
+use Rattle.vbr_slots.specs.Views.{knows}
 use Rattle.vbr_slots.specs.declared.pass.TheConstants.{POOL}
 use Rattle.vbr_slots.proofs.Lemmas.{adds_on, quiet_on}
 use Rattle.vbr_at_table.specs.CallSteps.{steps_to_birth}
@@ -14,8 +13,6 @@ use Rattle.vbr_at_table.specs.Hands.{HandView}
 use Rattle.vbr_at_table.specs.Replacing.{MadeTwo}
 use Rattle.vbr_at_table.specs.Values.{entry_call, steps_to_update, steps_to_value}
 use Rattle.vbr_at_table.proofs.Lemmas.{counts_on, had_spent, held_kept, keeps_on, key_on, none_on, replaced_since, two_on, unchanged_by_none, value_on}
-use Rattle.vbr_list.specs.Inserting.{HasHandAndRoom}
-use Rattle.vbr_list.specs.Pieces.{KeepsHand}
 use Rattle.vbr_list.proofs.Going.{counts_step, goes_counted, goes_on, goes_read, took_same}
 use Rattle.vbr_at_table.specs.declared.held.Held.{Held}
 use Rattle.vbr_list.specs.Walking.{LosesNext}
