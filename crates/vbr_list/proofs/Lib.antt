@@ -24,5 +24,6 @@ mod Told
 mod Marks
 mod ValueReads
 mod Replacements
+mod LateSearches
 mod ReplacedValues
 pub mod Lemmas

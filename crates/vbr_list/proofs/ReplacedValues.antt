@@ -1,32 +1,38 @@
 -- The call that replaces a value, once it has a slot in hand: what it tells, answered or refused.
-use Rattle.std.proofs.Common.{◌≡◌, ℕ, ◌+◌, true, false, Option, Some, None, Result, Ok, Err, subst, arith}
-use Rattle.std.specs.Prelude.{IfErr, IfOk}
+use Rattle.std.proofs.Common.{◌≡◌, ℕ, ◌+◌, true, false, refl, inl, inr, ◌*◌, ◌≤◌, Option, Some, None, Result, Ok, Err, subst, arith}
+use Rattle.std.specs.Prelude.{IfErr, IfOk, ◌⊎◌, is_some}
 use Rattle.vbr_words.specs.declared.nodes.Nodes.{Ghosts}
 use Rattle.vbr_machine.specs.Start.{Start, IsStart}
 use Rattle.vbr_machine.specs.History.{set_call}
-use Rattle.vbr_machine.specs.Runs.{IsRun}
+use Rattle.vbr_machine.specs.Runs.{Begins, IsRun}
+use Rattle.vbr_machine.specs.declared.history.Call.{Call}
+use Rattle.vbr_machine.proofs.Lemmas.{begins_trans}
+use Rattle.vbr_slots.specs.Alone.{IsAlone}
 use Rattle.vbr_machine.specs.declared.history.Op.TheVariants.{Insert, Remove}
-use Rattle.vbr_slots.specs.Calls.{Made, Quiet}
-use Rattle.vbr_slots.specs.Views.{PassView}
-use Rattle.vbr_slots.proofs.Lemmas.{quiet_on, same_on}
+use Rattle.vbr_slots.specs.Calls.{IsSame, Made, Quiet}
+use Rattle.vbr_slots.specs.Views.{PassView, Trace}
+use Rattle.vbr_slots.proofs.Lemmas.{quiet_on}
 use Rattle.vbr_at_table.specs.Advances.{AdvancesWhereNeeded}
 use Rattle.vbr_at_table.specs.KeptSlots.{HasStill, KeepsSlots, SharesWhereFull}
+use Rattle.vbr_at_table.specs.Budgets.{most_to_take}
 use Rattle.vbr_at_table.specs.Replacing.{MadeTwo}
+use Rattle.vbr_at_table.specs.Steps.{TookWithin}
 use Rattle.vbr_at_table.specs.Values.{entry_call}
 use Rattle.vbr_at_table.proofs.Lemmas.{had_on, longer, needed_before, shared_on, shares_more, slots_kept_on, two_on}
-use Rattle.vbr_list.specs.Budgets.{listed_for}
-use Rattle.vbr_list.specs.Disturbed.{disturbed, enough_to_replace_among, steps_for_slot}
+use Rattle.vbr_list.specs.Budgets.{enough_to_unlist, listed_for}
+use Rattle.vbr_list.specs.Disturbed.{disturbed, enough_to_replace_among, replace_costs_among, replaces_more, steps_for_slot}
 use Rattle.vbr_list.specs.Inserting.{CountsWithin, InsertIsShort, Links, SearchedFor}
 use Rattle.vbr_list.specs.Leaving.{LeavesReplaced}
 use Rattle.vbr_list.specs.Pieces.{pass_in, trace_in}
-use Rattle.vbr_list.specs.Replacing.{CallsReplace, HasUnspent, ReplaceAnswers, ReplacesNone, SearchesWith}
+use Rattle.vbr_list.specs.Replacing.{AnswersLate, AnswersPaid, AnswersSoon, CallsReplace, HasUnspent, ReplaceAnswers, ReplacesNone, SearchesWith}
 use Rattle.vbr_list.specs.declared.call.PendingCall.{PendingCall}
 use Rattle.vbr_list.specs.declared.refusal.Refusal.{Refusal}
-use Rattle.vbr_list.proofs.Disturbing.{run_at}
+use Rattle.vbr_list.proofs.Disturbing.{alone_undisturbed, run_at}
 use Rattle.vbr_list.proofs.Going.{room_left}
-use Rattle.vbr_list.proofs.Preparing.{made_since, within_all, within_on}
-use Rattle.vbr_list.proofs.Replacements.{had_since, replace_lacks, replace_lone, replace_refused_second}
-use Rattle.vbr_list.proofs.Sufficing.{answered_or_spent, lacks, never_refused, slot_later}
+use Rattle.vbr_list.proofs.Preparing.{made_since, within_all, within_most, within_on}
+use Rattle.vbr_list.proofs.Replacements.{had_since, replace_lacks, replace_lone, replace_lone_costs, replace_refused_second, run_two}
+use Rattle.vbr_list.proofs.LateSearches.{late_disturbs, late_paid, soon_searched}
+use Rattle.vbr_list.proofs.Sufficing.{answered_or_spent, lacks, never_refused, slot_alone, slot_later}
 use Rattle.vbr_list.proofs.Sweeping.{leaves_replaced_since}
 
 module _ {N : Type 0} {kind : Ghosts N} (p : PassView) (d e : PendingCall N kind) (key value budget : ℕ) (start : IsStart p.trace.start) (ok : IsRun p.trace.start p.trace.passes p.trace.seen) (first : Quiet p.trace (trace_in d)) (advances : AdvancesWhereNeeded p (pass_in d)) (kept : KeepsSlots p (pass_in d)) (had : HasStill p (pass_in d)) (shared : SharesWhereFull 2 p (pass_in d)) (before : CountsWithin p.trace (trace_in d) 0 d.used budget) (same_key : d.key ≡ key) (same_budget : d.budget ≡ budget)
@@ -43,17 +49,76 @@ module _ {N : Type 0} {kind : Ghosts N} (p : PassView) (d e : PendingCall N kind
   shared_all : SharesWhereFull 2 p (pass_in e)
   shared_all = shared_on p (pass_in d) (pass_in e) 2 shared (longer (pass_in d) (pass_in e) links.takes_no_slot.grows) (shares_more (pass_in d) (pass_in e) links.takes_no_slot.shared)
 
-  pub calls_with : (answer : Result (Option ℕ) Refusal) → HasUnspent (pass_in d) (pass_in e) answer → IfOk answer (ReplaceAnswers value d e) → IfErr answer (ReplacesNone d e) → CallsReplace p (pass_in e) key value budget answer
-  calls_with (Err refusal) had_then made none =
+  -- as AnswersSoon, for the key of the call
+  record AnswersSoonFor (answer : Option ℕ) : Type 0 where
+    pub ended : Trace
+    pub quiet : Quiet (trace_in d) ended
+    pub to : Begins ended.seen (trace_in e).seen
+    pub used : ℕ
+    pub searches : SearchesWith (trace_in d) ended key d.used used 3
+    pub few : e.used ≤ used + 14
+    pub leaves : is_some answer ≡ true → used + 16 ≤ budget → LeavesReplaced (trace_in d) (trace_in e) key
+
+  abbrev n : ℕ
+  n = listed_for p.trace key
+
+  abbrev t : ℕ
+  t = disturbed p.trace (trace_in e) key
+
+  abbrev taking : ℕ
+  taking = steps_for_slot p (trace_in e)
+
+  -- what an answer cost, for the key of the call
+  abbrev Paid : Option ℕ → Type 0
+  Paid answer = AnswersSoonFor answer ⊎ AnswersLate (trace_in d) (trace_in e) key d.used e.used
+
+  soon_as : (answer : Option ℕ) → AnswersSoon d e answer → AnswersSoonFor answer
+  soon_as answer soon =
+      let S : ℕ → Type 0 = λ k. SearchesWith (trace_in d) soon.ended k d.used soon.used 3 in
+      let L : ℕ → Type 0 = LeavesReplaced (trace_in d) (trace_in e) in
+      record { ended = soon.ended; quiet = soon.quiet; to = soon.to; used = soon.used; searches = subst S same_key soon.searches; few = soon.few; leaves = λ yes room. subst L same_key (soon.leaves yes (omega (arith, room, same_budget))) }
+
+  paid_as : (old : ℕ) → AnswersPaid d e (Some old) → Paid (Some old)
+  paid_as old (inl soon) = inl (soon_as (Some old) soon)
+  paid_as old (inr late) = let A : ℕ → Type 0 = λ k. AnswersLate (trace_in d) (trace_in e) k d.used e.used in inr (subst A same_key late)
+
+  -- by the end of its last search
+  soon_used : (answer : Option ℕ) → IsSame p.trace (trace_in e) → IsRun (trace_in e).start (trace_in e).passes (trace_in e).seen → (soon : AnswersSoonFor answer) → soon.used ≤ 18 * (n + t) + replaces_more n t + (taking + 6)
+  soon_used answer same run soon =
+      let later = slot_later p (trace_in d) (trace_in e) (begins_trans (trace_in d).seen soon.ended.seen (trace_in e).seen soon.quiet.seen soon.to) in
+      let most = soon_searched p.trace (trace_in d) soon.ended (trace_in e) start (run_two p.trace (trace_in e) same run) key (steps_for_slot p (trace_in d)) first soon.quiet soon.to searched soon.searches in
+      omega (arith, most, later)
+
+  some_paid : {one two : Call} → MadeTwo one two p.trace (trace_in e) → one.op ≡ Remove → two.op ≡ Insert → Begins (trace_in d).seen (trace_in e).seen → (old : ℕ) → Paid (Some old) → e.used ≤ replace_costs_among n t taking
+  some_paid made is_remove is_insert on old (inl soon) = let used = soon_used (Some old) made.same made.is_run soon in let few = soon.few in omega (arith, used, few)
+  some_paid made is_remove is_insert on old (inr late) =
+      let later = slot_later p (trace_in d) (trace_in e) on in
+      let most = late_paid p.trace (trace_in d) (trace_in e) start (run_two p.trace (trace_in e) made.same made.is_run) key (steps_for_slot p (trace_in d)) first made is_remove is_insert searched late in
+      omega (arith, most, later)
+
+  lone_used : (n t taking most now : ℕ) → now ≤ 18 * (n + t) + replaces_more n t + (taking + 6) → t ≡ 0 → taking ≡ most → now ≤ 18 * n + most + 6
+  lone_used n t taking most now few none same =
+      let P : ℕ → Type 0 = λ u. now ≤ 18 * (n + u) + replaces_more n u + (taking + 6) in
+      let x = subst P none few in
+      omega (arith, x, same)
+
+  left_alone : IsSame p.trace (trace_in e) → IsRun (trace_in e).start (trace_in e).passes (trace_in e).seen → Begins (trace_in d).seen (trace_in e).seen → IsAlone p.trace (trace_in e) → enough_to_unlist p key ≤ budget → (answer : Option ℕ) → is_some answer ≡ true → Paid answer → LeavesReplaced (trace_in d) (trace_in e) key
+  left_alone same run on alone enough answer given (inl soon) =
+      let few = lone_used n t taking (most_to_take p.trace.start p.pool) soon.used (soon_used answer same run soon) (alone_undisturbed p.trace (trace_in e) key alone) (slot_alone p (trace_in e) alone) in
+      soon.leaves given (omega (arith, few, enough))
+  left_alone same run on alone enough answer given (inr late) =
+      let some = late_disturbs p.trace (trace_in d) (trace_in e) start (run_two p.trace (trace_in e) same run) key first on late in
+      let none = alone_undisturbed p.trace (trace_in e) key alone in
+      absurd (omega (arith, some, none))
+
+  pub calls_with : (answer : Result (Option ℕ) Refusal) → HasUnspent (pass_in d) (pass_in e) answer → IfOk answer (ReplaceAnswers value d e) → IfErr answer (ReplacesNone d e) → IfOk answer (AnswersPaid d e) → CallsReplace p (pass_in e) key value budget answer
+  calls_with (Err refusal) had_then made none paid =
       let quiet = quiet_on first none.quiet in
       let P : ℕ → Type 0 = λ b. InsertIsShort (pass_in d) (pass_in e) d.used b refusal in
       let says : InsertIsShort (pass_in d) (pass_in e) d.used budget refusal = subst P same_budget none.says in
       let K : ℕ → Type 0 = λ k. SearchesWith (trace_in d) (trace_in e) k d.used (budget + 1) 11 in
       let B : ℕ → Type 0 = λ b. SearchesWith (trace_in d) (trace_in e) d.key d.used (b + 1) 11 in
       let last : SearchesWith (trace_in d) (trace_in e) key d.used (budget + 1) 11 = subst K same_key (subst B same_budget none.searches) in
-      let n = listed_for p.trace key in
-      let t = disturbed p.trace (trace_in e) key in
-      let taking = steps_for_slot p (trace_in e) in
       let later = slot_later p (trace_in d) (trace_in e) none.quiet.seen in
       let run = run_at p.trace (trace_in e) quiet.same (quiet.is_run ok) in
       let short = replace_lacks p.trace (trace_in d) (trace_in e) start run key budget d.used (steps_for_slot p (trace_in d)) first none.quiet searched last in
@@ -75,27 +140,39 @@ module _ {N : Type 0} {kind : Ghosts N} (p : PassView) (d e : PendingCall N kind
           disturbed_within = within;
           ready = λ some is_alone enough. answered_or_spent {A = Option ℕ} p (pass_in e) budget n (Err refusal) some is_alone enough (never_refused p.pool (pass_in d) (pass_in e) d.used budget refusal says) alone;
           leaves = tt;
+          leaves_alone = tt;
+          costs = tt;
+          disturbed_costs = tt;
         };
       }
-  calls_with (Ok None) had_then x none = record {
-    same = same_on first.same x.made.same;
-    made = made_since first (let M : ℕ → Type 0 = λ k. Made (set_call (trace_in d).who Remove k false) (trace_in d) (trace_in e) in subst M same_key x.made);
-    quiet = tt;
-    hand = x.spent;
-    steps = within_all all;
-    kept = kept_all;
-    spares = record {
-      advances = needed_before {p = p} {q = pass_in d} {r = pass_in e} advances x.made.seen (λ _. x.made.is_run) links.takes_no_slot.count;
-      had = had_on p (pass_in d) (pass_in e) had had_then;
-      shared = shared_all;
-      refused = tt;
-      within = tt;
-      disturbed_within = tt;
-      ready = λ some is_alone enough. tt;
-      leaves = λ yes left. absurd (cc);
-    };
-  }
-  calls_with (Ok (Some old)) had_then x none =
+  calls_with (Ok None) had_then x none paid =
+      let made = made_since first (let M : ℕ → Type 0 = λ k. Made (set_call (trace_in d).who Remove k false) (trace_in d) (trace_in e) in subst M same_key x.made) in
+      let soon = soon_as None paid in
+      let used = soon_used None made.same made.is_run soon in
+      let few = soon.few in
+      let costs : TookWithin p.trace (trace_in e) (replace_costs_among n t taking) = within_most all (omega (arith, used, few)) in
+      record {
+        same = made.same;
+        made = made;
+        quiet = tt;
+        hand = x.spent;
+        steps = within_all all;
+        kept = kept_all;
+        spares = record {
+          advances = needed_before {p = p} {q = pass_in d} {r = pass_in e} advances x.made.seen (λ _. x.made.is_run) links.takes_no_slot.count;
+          had = had_on p (pass_in d) (pass_in e) had had_then;
+          shared = shared_all;
+          refused = tt;
+          within = tt;
+          disturbed_within = tt;
+          ready = λ some is_alone enough. tt;
+          leaves = λ yes left. absurd (cc);
+          leaves_alone = λ yes. absurd (cc);
+          costs = replace_lone_costs p (trace_in e) key costs;
+          disturbed_costs = costs;
+        };
+      }
+  calls_with (Ok (Some old)) had_then x none paid =
       let q = trace_in d in
       let r = trace_in e in
       let C : ℕ → Start → ℕ → Type 0 = λ who start k. MadeTwo (entry_call start who Remove k true old) (entry_call start who Insert k true value) p.trace r in
@@ -105,6 +182,7 @@ module _ {N : Type 0} {kind : Ghosts N} (p : PassView) (d e : PendingCall N kind
       let E : ℕ → Type 0 = λ who. C who p.trace.start key in
       let L : ℕ → Type 0 = LeavesReplaced q r in
       let made = subst E first.same.who (subst D first.same.start (subst K same_key both)) in
+      let costs : TookWithin p.trace (trace_in e) (replace_costs_among n t taking) = within_most all (some_paid made refl refl x.both.made.seen old (paid_as old paid)) in
       record {
         same = made.same;
         made = made;
@@ -124,5 +202,8 @@ module _ {N : Type 0} {kind : Ghosts N} (p : PassView) (d e : PendingCall N kind
               let room = room_left e.used budget all.counts left in
               let kept_budget = links.call.budget in
               leaves_replaced_since r key start first (subst L same_key (x.leaves (omega (arith, room, same_budget, kept_budget))));
+          leaves_alone = λ yes alone enough. leaves_replaced_since r key start first (left_alone made.same made.is_run x.both.made.seen alone enough (Some old) yes (paid_as old paid));
+          costs = replace_lone_costs p (trace_in e) key costs;
+          disturbed_costs = costs;
         };
       }

@@ -15,16 +15,20 @@ use Rattle.vbr_at_table.specs.KeptSlots.{HasAllButOne, HasStill}
 use Rattle.vbr_at_table.specs.Moments.{WasSo}
 use Rattle.vbr_at_table.proofs.Lemmas.{counts_on, grows_same, had_grown, took_all}
 use Rattle.vbr_at_table.specs.Replacing.{MadeTwo}
-use Rattle.vbr_list.specs.Budgets.{LacksSteps, enough_past, enough_to_insert, listed_for}
-use Rattle.vbr_list.specs.Disturbed.{disturbed, enough_to_replace_among, replaces_more, steps_for_slot}
-use Rattle.vbr_list.specs.Inserting.{CountsWithin, InsertIsShort, SearchedFor, SearchesFor, SearchesInVain, TakesNone}
+use Rattle.vbr_at_table.specs.Steps.{TookWithin}
+use Rattle.vbr_list.specs.Budgets.{LacksSteps, enough_past, enough_to_insert, listed_for, replace_costs}
+use Rattle.vbr_list.specs.Disturbed.{disturbed, enough_to_replace_among, replace_costs_among, replaces_more, steps_for_slot}
+use Rattle.vbr_list.specs.Inserting.{CountsWithin, HasHandAndRoom, InsertIsShort, SearchedFor, SearchesFor, SearchesInVain, TakesNone}
+use Rattle.vbr_machine.specs.Learning.{birth_in_hand}
+use Rattle.vbr_at_table.specs.Hands.{HandView}
+use Rattle.vbr_list.specs.Pieces.{KeepsHand}
 use Rattle.vbr_list.specs.Replacing.{HasUnspent, IsRefusedReplace, SearchesWith, WasPresentFor}
 use Rattle.vbr_list.specs.Walking.{MovesOn, WalksAgain, met_since}
 use Rattle.vbr_list.specs.declared.refusal.Refusal.{Refusal}
 use Rattle.vbr_list.specs.declared.refusal.Refusal.TheVariants.{OutOfSteps, NoSlot, EpochSpent}
 use Rattle.vbr_list.proofs.Disturbing.{alone_undisturbed, disturbed_same, met_before, met_less, met_quiet}
 use Rattle.vbr_list.proofs.Sufficing.{lacks_more, slot_alone}
-use Rattle.vbr_list.proofs.Walking.{HasRepeated, searched_first, vain_lacks}
+use Rattle.vbr_list.proofs.Walking.{HasRepeated, once_paid, searched_first, vain_lacks}
 
 -- ---- what is lost
 
@@ -55,6 +59,10 @@ all_but_then p q r first then = (first.0, λ slot has other. then slot (first.1 
 -- the pool and the hand are the same
 pub had_same : (p q : PassView) → q.pool ≡ p.pool → q.hand ≡ p.hand → HasStill p q
 had_same p q pool hand = had_grown p q (grows_same p q pool) hand
+
+-- a hand that stays is one still
+pub hand_kept : {p q : PassView} (hand : HandView) → KeepsHand p q → HasHandAndRoom p hand → HasHandAndRoom q hand
+hand_kept hand keeps h = record { is = record { slot = keeps.hand ∙ h.is.slot; birth = ap birth_in_hand (keeps.in_hand hand.slot h.is.slot) ∙ h.is.birth }; room = keeps.room h.room }
 
 -- a piece after what kept each slot
 pub had_since : {A E : Type 0} (p q r : PassView) (answer : Result (Option A) E) → HasStill p q → HasUnspent q r answer → HasUnspent p r answer
@@ -150,6 +158,28 @@ pub replace_lone : (p : PassView) (q : Trace) (key budget : ℕ) (refusal : Refu
 replace_lone p q key budget (OutOfSteps used) short alone = lone_short (listed_for p.trace key) (disturbed p.trace q key) (steps_for_slot p q) (most_to_take p.trace.start p.pool) budget short (alone_undisturbed p.trace q key alone) (slot_alone p q alone)
 replace_lone p q key budget NoSlot short alone = tt
 replace_lone p q key budget (EpochSpent epoch) short alone = tt
+
+lone_few : (n t taking most now : ℕ) → now ≤ replace_costs_among n t taking → t ≡ 0 → taking ≡ most → now ≤ 18 * n + most + 14 + 6
+lone_few n t taking most now few none same =
+    let P : ℕ → Type 0 = λ u. now ≤ replace_costs_among n u taking in
+    let x = subst P none few in
+    omega (arith, x, same)
+
+pub replace_lone_costs : (p : PassView) (q : Trace) (key : ℕ) → TookWithin p.trace q (replace_costs_among (listed_for p.trace key) (disturbed p.trace q key) (steps_for_slot p q)) → IsAlone p.trace q → TookWithin p.trace q (replace_costs p key)
+replace_lone_costs p q key x alone = record {
+  steps = x.steps;
+  within = lone_few (listed_for p.trace key) (disturbed p.trace q key) (steps_for_slot p q) (most_to_take p.trace.start p.pool) x.steps x.within (alone_undisturbed p.trace q key alone) (slot_alone p q alone);
+  took = x.took;
+}
+
+-- what an answer no cost, without a slot in hand
+pub absent_paid : (p q : Trace) → IsStart p.start → IsRun p.start p.passes q.seen → (key taking : ℕ) {used : ℕ} → SearchedFor p q key 0 used (taking + 3) → used ≤ replace_costs_among (listed_for p key) (disturbed p q key) taking
+absent_paid p q is ok key taking {used} x =
+    let n = listed_for p key in
+    let t = disturbed p q key in
+    let most = once_paid p q is ok key x in
+    let more = mul-le t (9 * (n + t) + 7) t (9 * (n + t) + 12) (omega arith) (omega arith) in
+    omega (arith, most, more)
 
 -- only an empty own pool has no slot
 pub had_no_slot : (p q : PassView) (before budget : ℕ) (refusal : Refusal) → TakesNone p q before budget refusal → refusal ≡ NoSlot → p.pool ≡ []

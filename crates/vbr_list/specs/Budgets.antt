@@ -75,6 +75,14 @@ insert_costs_past nodes taking storing = 18 * nodes + taking + 9 + storing
 abbrev pub insert_costs : PassView → ℕ → ℕ
 insert_costs p key = insert_costs_past (listed_for p.trace key) (most_to_take p.trace.start p.pool) (steps_to_value p.trace.start.shape.values)
 
+-- a replacement six more than are enough for an insert
+abbrev pub replace_costs : PassView → ℕ → ℕ
+replace_costs p key = enough_to_insert p key + 6
+
+-- what is enough for it to unlink the node besides: two more than it costs
+abbrev pub enough_to_unlist : PassView → ℕ → ℕ
+enough_to_unlist p key = replace_costs p key + 2
+
 -- a refusal for want of steps comes of a budget below so many
 abbrev pub LacksSteps : ℕ → ℕ → Refusal → Type 0
 LacksSteps steps budget (OutOfSteps used) = budget < steps

@@ -60,6 +60,10 @@ replaces_more nodes times = times * (9 * (nodes + times) + 12)
 abbrev pub enough_to_replace_among : ℕ → ℕ → ℕ → ℕ
 enough_to_replace_among nodes times taking = enough_past (nodes + times) taking + replaces_more nodes times
 
+-- the most that it costs where it is answered: six more
+abbrev pub replace_costs_among : ℕ → ℕ → ℕ → ℕ
+replace_costs_among nodes times taking = enough_to_replace_among nodes times taking + 6
+
 -- the most steps in which the call takes a slot, while other passes take slots out of the shared pool
 abbrev pub steps_for_slot : PassView → Trace → ℕ
 steps_for_slot p q = most_to_take_among p.trace.start p.pool (gained p.trace q)

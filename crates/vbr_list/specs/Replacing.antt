@@ -1,11 +1,12 @@
 -- A replacement: what its pieces tell, and the call.
-use Rattle.std.specs.Prelude.{◌≡◌, ◌≢◌, ℕ, ◌+◌, ◌*◌, ◌<◌, ◌≤◌, true, false, [], Option, Some, None, Result, Ok, Err, IfOk, IfErr, is_some}
+use Rattle.std.specs.Prelude.{◌≡◌, ◌≢◌, ◌⊎◌, ℕ, ◌+◌, ◌*◌, ◌<◌, ◌≤◌, true, false, [], Option, Some, None, Result, Ok, Err, IfOk, IfErr, is_some}
 use Rattle.vbr_words.specs.declared.nodes.Nodes.{Ghosts}
 use Rattle.vbr_machine.specs.declared.history.Op.TheVariants.{Insert, Remove}
 use Rattle.vbr_machine.specs.History.{set_call}
 use Rattle.vbr_words.specs.declared.place.At.TheVariants.{Slot}
 use Rattle.vbr_machine.specs.Membership.{KeyAt, StandsBehind}
 use Rattle.vbr_machine.specs.Removals.{ReplacedAt}
+use Rattle.vbr_machine.specs.Runs.{Begins}
 use Rattle.vbr_slots.specs.Alone.{IsAlone}
 use Rattle.vbr_slots.specs.Calls.{IsSame, Made, Quiet}
 use Rattle.vbr_slots.specs.Views.{PassView, Trace, knows}
@@ -20,13 +21,13 @@ use Rattle.vbr_at_table.specs.Values.{entry_call}
 use Rattle.vbr_at_table.specs.declared.budget.TheConstants.{PIECE}
 use Rattle.vbr_at_table.specs.declared.held.Held.{Held}
 use Rattle.vbr_at_table.specs.declared.held.Marked.{Marked}
-use Rattle.vbr_list.specs.Budgets.{IsAnsweredOrSpent, LacksSteps, enough_to_insert, enough_with_a_slot, listed_for}
-use Rattle.vbr_list.specs.Disturbed.{disturbed, disturbed_after, enough_to_replace_among, steps_for_slot}
+use Rattle.vbr_list.specs.Budgets.{IsAnsweredOrSpent, LacksSteps, enough_to_insert, enough_to_unlist, enough_with_a_slot, listed_for, replace_costs}
+use Rattle.vbr_list.specs.Disturbed.{disturbed, disturbed_after, enough_to_replace_among, replace_costs_among, steps_for_slot}
 use Rattle.vbr_list.specs.Helping.{MayHelp}
+use Rattle.vbr_list.specs.Leaving.{LeavesAt, LeavesReplaced}
 use Rattle.vbr_list.specs.Inserting.{GivesHandBack, HasHandAndRoom, InsertIsShort, SearchedFor, SearchesInVain, TakesNone}
-use Rattle.vbr_list.specs.Leaving.{LeavesReplaced}
-use Rattle.vbr_list.specs.Pieces.{HasRoom, IsPiece, IsSameCall, pass_in, Replies, trace_in}
-use Rattle.vbr_list.specs.Removing.{MarksBehind}
+use Rattle.vbr_list.specs.Pieces.{HasRoom, IsPiece, IsSameCall, Replies, pass_in, trace_in}
+use Rattle.vbr_list.specs.Removing.{MarksBehind, SearchesOn}
 use Rattle.vbr_list.specs.Traversing.{LocatesFor}
 use Rattle.vbr_list.specs.Walking.{LosesPlace, met_since}
 use Rattle.vbr_list.specs.declared.call.PendingCall.{PendingCall}
@@ -34,8 +35,13 @@ use Rattle.vbr_list.specs.declared.found.Found.{Found}
 use Rattle.vbr_list.specs.declared.refusal.Refusal.{Refusal}
 use Rattle.vbr_list.specs.declared.refusal.Refusal.TheVariants.{OutOfSteps, NoSlot, EpochSpent}
 
--- what was found locates the key, at a node that has it
-pub record LocatesNode {N : Type 0} {kind : Ghosts N} (c : PendingCall N kind) (found : Found) : Type 0 where
+-- nodes have values, and the pass has a slot in hand
+pub record HasHandForValue {N : Type 0} {kind : Ghosts N} (c : PendingCall N kind) (given : HandView) : Type 0 where
+  pub values : (trace_in c).start.shape.values ≡ true
+  pub hand : HasHandAndRoom (pass_in c) given
+
+-- the call's key was found present
+pub record FindsPresent {N : Type 0} {kind : Ghosts N} (c : PendingCall N kind) (found : Found) : Type 0 where
   pub locates : LocatesFor c found
   pub present : found.present ≡ true
 
@@ -68,6 +74,33 @@ pub record Replaces {N : Type 0} {kind : Ghosts N} (value : ℕ) (c d : PendingC
 pub record ReplacesAndLeaves {N : Type 0} {kind : Ghosts N} (value : ℕ) (c d : PendingCall N kind) (old : ℕ) : Type 0 where
   pub both : MakesBoth value c d old
   pub leaves : HasRoom d → LeavesReplaced (trace_in c) (trace_in d) c.key
+
+-- the old node is unlinked in six steps at most, if the budget has room for a piece
+pub record UnlinksAtOnce {N : Type 0} {kind : Ghosts N} (c d : PendingCall N kind) (slot : ℕ) : Type 0 where
+  pub few : d.used ≤ c.used + 6
+  pub leaves : HasRoom c → LeavesAt (trace_in c) (trace_in d) slot
+
+-- so it is, or the place before it was lost, and a search follows
+abbrev pub UnlinksReplaced : {N : Type 0} {kind : Ghosts N} → PendingCall N kind → PendingCall N kind → Held → ℕ → Type 0
+UnlinksReplaced c d pred slot = UnlinksAtOnce c d slot ⊎ SearchesOn (trace_in c) (trace_in d) c.key c.used d.used pred
+
+-- it is answered in fourteen steps at most; with sixteen left of the budget a replaced node has then left its list
+pub record SettlesSoon {N : Type 0} {kind : Ghosts N} (c d : PendingCall N kind) (answer : Option ℕ) : Type 0 where
+  pub few : d.used ≤ c.used + 14
+  pub leaves : is_some answer ≡ true → c.used + 16 ≤ c.budget → LeavesReplaced (trace_in c) (trace_in d) c.key
+
+-- a node was replaced in eight steps at most, and not unlinked, as the place before it was lost since
+pub record ReplacesAndSearches (p q : Trace) (key before since : ℕ) (pred : Held) : Type 0 where
+  pub marked : Trace
+  pub marks : MarksBehind p marked key pred
+  pub used : ℕ
+  pub few : used ≤ before + PIECE
+  pub searches : SearchesOn marked q key used since pred
+
+-- the one or, of a value that was replaced, the other
+abbrev pub SettlesPaid : {N : Type 0} {kind : Ghosts N} → PendingCall N kind → PendingCall N kind → Found → Option ℕ → Type 0
+SettlesPaid c d found None = SettlesSoon c d None
+SettlesPaid c d found (Some old) = SettlesSoon c d (Some old) ⊎ ReplacesAndSearches (trace_in c) (trace_in d) c.key c.used d.used found.pred
 
 -- a call that may have replaced a value: its steps are counted, and it takes no slot
 pub record MaySettleReplace {N : Type 0} {kind : Ghosts N} (c d : PendingCall N kind) : Type 0 where
@@ -137,6 +170,31 @@ pub record SearchesWith (p q : Trace) (key before since more : ℕ) : Type 0 whe
   pub few : disturbed_after p key p.seen + lost ≤ disturbed_after p key q.seen
   pub paid : since ≤ before + 9 * met_since p q key + lost * (9 * met_since p q key + 12) + more
 
+-- it is answered soon after its last search; with sixteen steps left of the budget then a replaced node has left its list
+pub record AnswersSoon {N : Type 0} {kind : Ghosts N} (c d : PendingCall N kind) (answer : Option ℕ) : Type 0 where
+  pub ended : Trace
+  pub quiet : Quiet (trace_in c) ended
+  pub to : Begins ended.seen (trace_in d).seen
+  pub used : ℕ
+  pub searches : SearchesWith (trace_in c) ended c.key c.used used 3
+  pub few : d.used ≤ used + 14
+  pub leaves : is_some answer ≡ true → used + 16 ≤ c.budget → LeavesReplaced (trace_in c) (trace_in d) c.key
+
+-- it replaced a node after some searches, lost the place before it, and searched on: for that it was disturbed once, and once for each search but the last
+pub record AnswersLate (p q : Trace) (key before since : ℕ) : Type 0 where
+  pub ended : Trace
+  pub quiet : Quiet p ended
+  pub to : Begins ended.seen q.seen
+  pub lost : ℕ
+  pub later : ℕ
+  pub few : disturbed_after p key p.seen + (lost + later + 1) ≤ disturbed_after p key q.seen
+  pub paid : since ≤ before + 9 * met_since p ended key + lost * (9 * met_since p ended key + 12) + (later + 1) * (9 * met_since ended q key + 3) + 17
+
+-- the one or, of a value that was replaced, the other
+abbrev pub AnswersPaid : {N : Type 0} {kind : Ghosts N} → PendingCall N kind → PendingCall N kind → Option ℕ → Type 0
+AnswersPaid c d None = AnswersSoon c d None
+AnswersPaid c d (Some old) = AnswersSoon c d (Some old) ⊎ AnswersLate (trace_in c) (trace_in d) c.key c.used d.used
+
 -- nothing is replaced, for want of steps, and no call was made
 pub record ReplacesNone {N : Type 0} {kind : Ghosts N} (c d : PendingCall N kind) (refusal : Refusal) : Type 0 where
   pub quiet : Quiet (trace_in c) (trace_in d)
@@ -167,7 +225,7 @@ IsRefusedReplace p q key budget (OutOfSteps used) = IsOutOfSteps p q budget used
 IsRefusedReplace p q key budget NoSlot = PresentWithoutSlot p q key
 IsRefusedReplace p q key budget (EpochSpent epoch) = PresentAndSpent p q key budget epoch
 
--- what a replacement promises besides: it advances the epoch only where that is needed, has each slot that it had but for the one that it published, puts one into the shared pool only where its own has no more than two places left, and is refused where it must be; alone it has steps enough with a budget that is known before, and with a slot in the own pool it is answered, unless the epoch is spent; where it answers a value, the node that it replaced has left its list, unless its steps leave no room in the budget for one more piece; and so it is of a pass that was disturbed so often, where with an empty own pool one step more is counted for each slot that others took out of the shared pool
+-- what a replacement promises besides: it advances the epoch only where that is needed, has each slot that it had but for the one that it published, puts one into the shared pool only where its own has no more than two places left, and is refused where it must be; alone it has steps enough with a budget that is known before, and with a slot in the own pool it is answered, unless the epoch is spent; where it answers a value, the node that it replaced has left its list, unless its steps leave no room in the budget for one more piece, and alone it has with a budget that is known before; and alone its answer costs no more than is known before; and so it is of a pass that was disturbed so often, where with an empty own pool one step more is counted for each slot that others took out of the shared pool
 pub record SparesReplace (p q : PassView) (key budget : ℕ) (answer : Result (Option ℕ) Refusal) : Type 0 where
   pub advances : AdvancesWhereNeeded p q
   pub had : HasUnspent p q answer
@@ -177,6 +235,9 @@ pub record SparesReplace (p q : PassView) (key budget : ℕ) (answer : Result (O
   pub disturbed_within : IfErr answer (λ refusal. LacksSteps (enough_to_replace_among (listed_for p.trace key) (disturbed p.trace q.trace key) (steps_for_slot p q.trace)) budget refusal)
   pub ready : p.pool ≢ [] → IsAlone p.trace q.trace → enough_with_a_slot p.trace key ≤ budget → IsAnsweredOrSpent answer
   pub leaves : IfOk answer (λ told. is_some told ≡ true → LeavesRoom p q budget → LeavesReplaced p.trace q.trace key)
+  pub leaves_alone : IfOk answer (λ told. is_some told ≡ true → IsAlone p.trace q.trace → enough_to_unlist p key ≤ budget → LeavesReplaced p.trace q.trace key)
+  pub costs : IfOk answer (λ told. IsAlone p.trace q.trace → TookWithin p.trace q.trace (replace_costs p key))
+  pub disturbed_costs : IfOk answer (λ told. TookWithin p.trace q.trace (replace_costs_among (listed_for p.trace key) (disturbed p.trace q.trace key) (steps_for_slot p q.trace)))
 
 -- the pass is the same; where the call was answered, it made what the answer tells, and where it was refused, no call; it has no slot in hand, made no more steps than its budget, and lost no slot
 pub record CallsReplace (p q : PassView) (key value budget : ℕ) (answer : Result (Option ℕ) Refusal) : Type 0 where

@@ -1,5 +1,5 @@
 //! Replacing the value of a key.
-ghost use Rattle.std.specs.Prelude.{◌≡◌, ◌+◌, ◌≤◌, true, false, None, IfOk, IfErr};
+ghost use Rattle.std.specs.Prelude.{◌≡◌, ◌+◌, ◌≤◌, true, false, None, Some, IfOk, IfErr};
 ghost use Rattle.vbr_machine.specs.declared.history.Op.TheVariants.{Remove};
 ghost use Rattle.vbr_slots.specs.AtTables.{IsSameTable, pass_of, trace_of};
 ghost use Rattle.vbr_slots.specs.Calls.{Quiet, Took};
@@ -8,9 +8,8 @@ ghost use Rattle.vbr_at_table.specs.Answering.{KeepsIn};
 ghost use Rattle.vbr_at_table.specs.CallSteps.{steps_to_birth};
 ghost use Rattle.vbr_list.specs.Inserting.{GivesHandBack, HasHandAndRoom, Links, Prepares};
 ghost use Rattle.vbr_list.specs.Leaving.{LeavesAt};
-ghost use Rattle.vbr_list.specs.Pieces.{GoesOn, HasRoom, IsSameCall, pass_in, Replies, trace_in};
-ghost use Rattle.vbr_list.specs.Removing.{UnlinksOrSearches};
-ghost use Rattle.vbr_list.specs.Replacing.{CallsReplace, DeniesAbsent, HasUnspent, HasUnused, IsOldNode, LocatesNode, MayReplaceNode, MaySettleReplace, ReadiesHand, ReadiesNone, ReplaceAnswers, Replaces, ReplacesAndLeaves, ReplacesNone, SettlesNone};
+ghost use Rattle.vbr_list.specs.Pieces.{GoesOn, HasRoom, IsSameCall, Replies, pass_in, trace_in};
+ghost use Rattle.vbr_list.specs.Replacing.{AnswersPaid, CallsReplace, DeniesAbsent, FindsPresent, HasHandForValue, HasUnspent, HasUnused, IsOldNode, MayReplaceNode, MaySettleReplace, ReadiesHand, ReadiesNone, ReplaceAnswers, Replaces, ReplacesAndLeaves, ReplacesNone, SettlesNone, SettlesPaid, UnlinksReplaced};
 ghost use Rattle.vbr_list.specs.Traversing.{LocatesFor};
 
 use crate::call::PendingCall;
@@ -46,9 +45,8 @@ impl<N: Nodes> PendingCall<'_, N> {
         value: u64,
         hand: Hand,
     ) -> Result<(u64, Marked), Hand>
-        requires values { (trace_in self.old).start.shape.values ≡ true }
-        requires node { LocatesNode self.old found.now }
-        requires hand { HasHandAndRoom (pass_in self.old) hand }
+        requires finds { FindsPresent self.old found.now }
+        requires has { HasHandForValue self.old hand }
         requires room { HasRoom self.old }
         ensures tries { MayReplaceNode self.old self.new }
         ensures had { HasUnused (pass_in self.old) (pass_in self.new) result }
@@ -127,11 +125,11 @@ impl<N: Nodes> PendingCall<'_, N> {
         ensures goes { GoesOn self.old self.new }
         ensures leaves { HasRoom self.new → LeavesAt (trace_in self.old) (trace_in self.new)
             marked.slot }
-        ensures paid { UnlinksOrSearches (trace_in self.old) (trace_in self.new) self.old.key
-            self.old.used self.new.used pred.now }
+        ensures paid { UnlinksReplaced self.old self.new pred.now marked.slot }
     {
         self.at.law();
-        if !affords(self.budget, self.used) {
+        let fits = affords(self.budget, self.used);
+        if !fits {
             return;
         }
         let (outcome, made) = unlink_and_retire(&mut self.at, pred, marked);
@@ -145,13 +143,13 @@ impl<N: Nodes> PendingCall<'_, N> {
     // gives the value that was there. Else the hand comes back.
     #[inline]
     fn replace_and_unlink(&mut self, found: &Found, value: u64, hand: Hand) -> Result<u64, Hand>
-        requires values { (trace_in self.old).start.shape.values ≡ true }
-        requires node { LocatesNode self.old found.now }
-        requires hand { HasHandAndRoom (pass_in self.old) hand }
+        requires finds { FindsPresent self.old found.now }
+        requires has { HasHandForValue self.old hand }
         requires room { HasRoom self.old }
         ensures settles { MaySettleReplace self.old self.new }
         ensures had { HasUnused (pass_in self.old) (pass_in self.new) result }
         ensures replaced { IfOk result (ReplacesAndLeaves value self.old self.new) }
+        ensures paid { IfOk result (λ old. SettlesPaid self.old self.new found.now (Some old)) }
         ensures back { IfErr result (SettlesNone self.old self.new found.now) }
     {
         self.at.law();
@@ -165,26 +163,31 @@ impl<N: Nodes> PendingCall<'_, N> {
 
     // Answers by what was found, with a slot in hand; else the hand comes back.
     #[inline]
-    fn settle_replace(&mut self, found: &Found, value: u64, hand: Hand) -> Result<Option<u64>, Hand>
-        requires values { (trace_in self.old).start.shape.values ≡ true }
+    fn settle_replace(
+        &mut self,
+        found: &Found,
+        value: u64,
+        spare: Hand,
+    ) -> Result<Option<u64>, Hand>
         requires locates { LocatesFor self.old found.now }
-        requires hand { HasHandAndRoom (pass_in self.old) hand }
+        requires has { HasHandForValue self.old spare }
         requires room { HasRoom self.old }
         ensures settles { MaySettleReplace self.old self.new }
         ensures had { HasUnspent (pass_in self.old) (pass_in self.new) result }
         ensures answers { IfOk result (ReplaceAnswers value self.old self.new) }
+        ensures paid { IfOk result (SettlesPaid self.old self.new found.now) }
         ensures back { IfErr result (SettlesNone self.old self.new found.now) }
     {
         if found.present {
-            return match self.replace_and_unlink(found, value, hand) {
+            return match self.replace_and_unlink(found, value, spare) {
                 Ok(old) => Ok(Some(old)),
                 Err(back) => Err(back),
             };
         }
         if self.answer_absent(found).is_err() {
-            return Err(hand);
+            return Err(spare);
         }
-        give_back(&mut self.at, hand);
+        give_back(&mut self.at, spare);
         Ok(None)
     }
 
@@ -196,6 +199,7 @@ impl<N: Nodes> PendingCall<'_, N> {
         ensures links { Links self.old self.new }
         ensures had { HasUnspent (pass_in self.old) (pass_in self.new) result }
         ensures answers { IfOk result (ReplaceAnswers value self.old self.new) }
+        ensures paid { IfOk result (AnswersPaid self.old self.new) }
         ensures refused { IfErr result (ReplacesNone self.old self.new) }
     {
         self.at.law();
@@ -227,8 +231,9 @@ impl<N: Nodes> PendingCall<'_, N> {
 /// Its refusals are OutOfSteps, and, where the key was present, NoSlot and EpochSpent: then no call
 /// was made, and the value stays. The budgets that are enough are those of [`crate::insert`]: while the
 /// other passes stand still, 18n + slots + 82 with n nodes in the key's bucket, and 18n + 82 with a slot
-/// in the pass's own pool, unless the epoch is spent. It advances the epoch at most once, and only where
-/// no slot that it could take is stamped below the epoch that it read.
+/// in the pass's own pool, unless the epoch is spent. What is answered took at most six steps more, and
+/// with eight more the node that it replaced has left its list. It advances the epoch at most once, and
+/// only where no slot that it could take is stamped below the epoch that it read.
 pub fn replace(
     slots: &Slots<Entries>,
     pass: &mut Pass,

@@ -381,7 +381,7 @@ other_bucket : (x bucket : ℕ) → (x == bucket) ≡ false → x ≢ bucket
 other_bucket x bucket f e = let t : (x == bucket) ≡ true = eq-eqb x bucket e in absurd (cc)
 
 -- one more node of a bucket comes into its list by an insert or a replacement alone
-comes : Start → Incarnations → ℕ → Happening → Bool
+pub comes : Start → Incarnations → ℕ → Happening → Bool
 comes start a bucket (Inserts c behind) = bucket_of start.shape (a.key c) == bucket
 comes start a bucket (Replaces old c) = bucket_of start.shape (a.key c) == bucket
 comes start a bucket _ = false
@@ -431,7 +431,7 @@ module _ (start : Start) (keys : Keys) (first a : Incarnations) (bucket : ℕ) (
           let x = fewer b (λ d x. was d (λ q. apart (ap (λ i. bucket_of start.shape (a.key i)) (sym q) ∙ ap (λ (k : ℕ → ℕ). bucket_of start.shape (k d)) (sym keys_same) ∙ x.of_bucket)) x) in
           omega (arith, x)
 
-  met_with : (pass : ℕ) (what : Happening) → Allowed start keys a pass what → met start first (becomes start a pass what) bucket ≤ counted (comes start a bucket what) + met start first a bucket
+  pub met_with : (pass : ℕ) (what : Happening) → Allowed start keys a pass what → met start first (becomes start a pass what) bucket ≤ counted (comes start a bucket what) + met start first a bucket
   unfolding comes
   met_with pass Advances h = at_most (met start first (becomes start a pass Advances) bucket) (met start first a bucket) 0 (same_all (becomes start a pass Advances) refl refl)
   met_with pass (Gains v) h = at_most (met start first (becomes start a pass (Gains v)) bucket) (met start first a bucket) 0 (same_all (becomes start a pass (Gains v)) refl refl)
@@ -477,7 +477,7 @@ of_another who pass q ne = other (pass == who) q (ne_eqb pass who ne)
     other false q e = omega arith
 
 -- where another pass does it, it disturbs; and the pass itself links none
-comes_less : (start : Start) (a : Incarnations) (bucket who pass : ℕ) (what : Happening) → (pass ≡ who → is_insert what ≡ false) → counted (comes start a bucket what) ≤ counted (not (pass == who) && changes start a bucket what)
+pub comes_less : (start : Start) (a : Incarnations) (bucket who pass : ℕ) (what : Happening) → (pass ≡ who → is_insert what ≡ false) → counted (comes start a bucket what) ≤ counted (not (pass == who) && changes start a bucket what)
 unfolding comes
 comes_less start a bucket who pass (Inserts c behind) none = of_another who pass (bucket_of start.shape (a.key c) == bucket) (λ is. (let z : true ≡ false = none is in cc))
 comes_less start a bucket who pass (Replaces old c) none = of_another who pass (bucket_of start.shape (a.key c) == bucket) (λ is. (let z : true ≡ false = none is in cc))

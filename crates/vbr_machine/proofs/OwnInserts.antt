@@ -1,14 +1,14 @@
 -- A pass whose calls are no inserts links no node: each of its inserts is a call, and each of its replacements makes one.
-use Rattle.std.proofs.Common.{◌≡◌, ℕ, ◌+◌, ◌≤◌, Bool, true, false, List, [], ◌∷◌, ◌++◌, refl, sym, ap, ◌∙◌, eq-eqb, arith}
+use Rattle.std.proofs.Common.{◌≡◌, ℕ, ◌+◌, ◌≤◌, Bool, true, false, List, [], ◌∷◌, ◌++◌, refl, sym, ap, ◌∙◌, eq-eqb, ◌≢◌, inl, inr, arith}
 use Rattle.vbr_machine.specs.Start.{Start, IsStart}
 use Rattle.vbr_machine.specs.History.{calls_by}
 use Rattle.vbr_machine.specs.Runs.{Begins, IsRun}
 use Rattle.vbr_machine.specs.Calls.{own_calls}
 use Rattle.vbr_machine.specs.Incarnations.{Incarnations}
-use Rattle.vbr_machine.specs.Chronicles.{Happening, Advances, Gains, Probes, Raises, GivesUp, Bears, Keyed, Valued, Aims, Inserts, Removes, Replaces, Unlinks, Stamps, Confirms, Entry, becomes, calls_made, incarnations_from}
+use Rattle.vbr_machine.specs.Chronicles.{Happening, Advances, Gains, Probes, Raises, GivesUp, Bears, Keyed, Valued, Aims, Inserts, Removes, Replaces, Unlinks, Stamps, Confirms, Entry, becomes, calls_made, incarnations_from, IsLawful}
 use Rattle.vbr_machine.specs.Accounts.{incarnations_after}
 use Rattle.vbr_machine.specs.Nodes.{behind}
-use Rattle.vbr_machine.specs.Disturbances.{counted, disturbances, met}
+use Rattle.vbr_machine.specs.Disturbances.{changes, counted, disturbances, disturbances_in, met}
 use Rattle.vbr_machine.specs.declared.event.Event.{Event}
 use Rattle.vbr_machine.specs.declared.history.Call.{Call}
 use Rattle.vbr_machine.specs.declared.history.Op.{Op}
@@ -16,8 +16,13 @@ use Rattle.vbr_machine.specs.declared.history.Op.TheVariants.{Insert, Remove}
 use Rattle.vbr_words.specs.declared.place.At.TheVariants.{Head}
 use Rattle.vbr_machine.specs.Opened.{opening_keys}
 use Rattle.vbr_machine.proofs.EveryRun.{run_agrees}
-use Rattle.vbr_machine.proofs.MetNodes.{InsertsNone, is_insert, met_at_first, met_since}
+use Rattle.vbr_machine.proofs.MetNodes.{InsertsNone, comes, comes_less, is_insert, met_at_first, met_since, met_with}
 use Rattle.vbr_machine.proofs.RunsGoOn.{begins_run, calls_by-append}
+use Rattle.vbr_machine.specs.Keys.{Keys}
+use Rattle.vbr_machine.specs.Sound.{Sound}
+use Rattle.vbr_machine.proofs.SoundAfter.{sound_kept}
+use Rattle.std.specs.Prelude.{◌==◌, ◌&&◌, ◌⊎◌, not}
+use Rattle.std.proofs.lemmas.Bool.{cases_eq}
 use Rattle.vbr_machine.proofs.Since.{since, disturbances_sum}
 
 is_insert_call : Op → Bool
@@ -131,3 +136,53 @@ met_bound_uninserted start passes first run is ok begins who bucket h same =
 pub met_bound_quiet : (start : Start) (passes : ℕ) (first run : List Event) → IsStart start → IsRun start passes run → Begins first run → (who bucket h : ℕ) → own_calls start run who ≡ own_calls start first who →
     met start (incarnations_after start first) (incarnations_after start run) bucket + disturbances start first who bucket ≤ behind start (incarnations_after start first) bucket (Head h) + disturbances start run who bucket
 met_bound_quiet start passes first run is ok begins who bucket h same = met_bound_uninserted start passes first run is ok begins who bucket h (ap inserts_in same)
+
+-- ---- a pass that makes inserts
+
+-- a node that comes to be met by an event disturbs the pass, or is an insert of its own
+comes_or_made : (start : Start) (a : Incarnations) (bucket who pass : ℕ) (what : Happening) → counted (comes start a bucket what) + inserts_in (calls_by who a.calls) ≤ counted (not (pass == who) && changes start a bucket what) + inserts_in (calls_by who (becomes start a pass what).calls)
+comes_or_made start a bucket who pass what = go (cases_eq pass who) (is_insert what) refl
+  where
+    one : (b : Bool) → counted b ≤ 1
+    one true = omega arith
+    one false = omega arith
+
+    go : (pass ≡ who) ⊎ (pass ≢ who) → (b : Bool) → is_insert what ≡ b → counted (comes start a bucket what) + inserts_in (calls_by who a.calls) ≤ counted (not (pass == who) && changes start a bucket what) + inserts_in (calls_by who (becomes start a pass what).calls)
+    go (inl mine) true e = let more = own_insert start a who pass what mine e in let most = one (comes start a bucket what) in omega (arith, more, most)
+    go (inl mine) false e = let less = comes_less start a bucket who pass what (λ _. e) in let more = one_event start a who pass what in omega (arith, less, more)
+    go (inr ne) b e = let less = comes_less start a bucket who pass what (λ mine. absurd (ne mine)) in let more = one_event start a who pass what in omega (arith, less, more)
+
+met_or_made : (start : Start) (keys : Keys) (first a : Incarnations) (who bucket : ℕ) (entries : List Entry) → Sound start a → IsLawful start keys a entries → met start first (incarnations_from start a entries) bucket + inserts_in (calls_by who a.calls) ≤ met start first a bucket + disturbances_in start who bucket a entries + inserts_in (calls_by who (incarnations_from start a entries).calls)
+met_or_made start keys first a who bucket [] s l = omega arith
+met_or_made start keys first a who bucket (entry ∷ entries) s l =
+    let b = becomes start a entry.pass entry.what in
+    let rest = met_or_made start keys first b who bucket entries (sound_kept start keys a entry.pass entry.what s l.0) l.1 in
+    let one = met_with start keys first a bucket s entry.pass entry.what l.0 in
+    let less = comes_or_made start a bucket who entry.pass entry.what in
+    omega (arith, rest, one, less)
+
+-- a law: the nodes that a pass can have met are no more than were in the list at first, than it was disturbed since, and than it has inserted
+pub met_bound_made : (start : Start) (passes : ℕ) (first run : List Event) → IsStart start → IsRun start passes run → Begins first run → (who bucket h : ℕ) →
+    met start (incarnations_after start first) (incarnations_after start run) bucket + disturbances start first who bucket + inserts_in (own_calls start first who) ≤ behind start (incarnations_after start first) bucket (Head h) + disturbances start run who bucket + inserts_in (own_calls start run who)
+met_bound_made start passes first run is ok begins who bucket h =
+    let good = run_agrees start passes first is (begins_run start passes first run begins ok) in
+    let last = run_agrees start passes run is ok in
+    let y = since start passes first run is ok begins in
+    let a = incarnations_after start first in
+    let before : inserts_in (calls_by who a.calls) ≡ inserts_in (own_calls start first who) = ap (λ l. inserts_in (calls_by who l)) (sym good.calls) in
+    let now : inserts_in (calls_by who (incarnations_from start a y.entries).calls) ≡ inserts_in (own_calls start run who) = (
+    ap (λ (b : Incarnations). inserts_in (calls_by who b.calls)) (sym y.makes) ∙ ap (λ l. inserts_in (calls_by who l)) (sym last.calls)) in
+    let at_start = met_at_first good.sound good.fits bucket h in
+    let more = met_or_made start (opening_keys start) a a who bucket y.entries good.sound y.lawful in
+    let sum = disturbances_sum y who bucket in
+    let made = ap (λ b. met start a b bucket) y.makes in
+    omega (arith, at_start, more, sum, made, before, now)
+
+-- a remove and an insert are one
+pub inserts_in-two : (xs : List Call) (x y : Call) → x.op ≡ Remove → y.op ≡ Insert → inserts_in (xs ++ x ∷ y ∷ []) ≡ inserts_in xs + 1
+unfolding inserts_in is_insert_call
+inserts_in-two xs x y first second =
+    let sum = inserts_in-append xs (x ∷ y ∷ []) in
+    let none : counted (is_insert_call x.op) ≡ 0 = ap (λ (op : Op). counted (is_insert_call op)) first in
+    let one : counted (is_insert_call y.op) ≡ 1 = ap (λ (op : Op). counted (is_insert_call op)) second in
+    omega (arith, sum, none, one)

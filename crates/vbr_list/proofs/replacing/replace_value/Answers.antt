@@ -3,8 +3,8 @@ use Rattle.vbr_at_table.proofs.Lemmas.{took_all}
 use Rattle.vbr_list.specs.Budgets.{listed_for}
 use Rattle.vbr_list.specs.Disturbed.{steps_for_slot}
 use Rattle.vbr_list.proofs.Disturbing.{run_at}
-use Rattle.vbr_list.proofs.Preparing.{within_all, within_on}
-use Rattle.vbr_list.proofs.Replacements.{had_no_slot, replace_lone, replace_refused_first, replace_vain}
+use Rattle.vbr_list.proofs.Preparing.{within_all, within_most, within_on}
+use Rattle.vbr_list.proofs.Replacements.{absent_paid, had_no_slot, replace_lone, replace_lone_costs, replace_refused_first, replace_vain}
 use Rattle.vbr_list.proofs.ReplacedValues.{calls_with}
 use Rattle.vbr_list.proofs.Sufficing.{answered_or_spent}
 use Rattle.vbr_list.proofs.replacing.replace_value.Goals as goal
@@ -42,6 +42,9 @@ returns-in-Err-clause-calls c =
         disturbed_within = within;
         ready = λ some is_alone enough. answered_or_spent {A = Option ℕ} p q c.args.budget (listed_for p.trace c.args.key) (Err refusal) some is_alone enough (had_no_slot p q 0 c.args.budget refusal none.says) alone;
         leaves = tt;
+        leaves_alone = tt;
+        costs = tt;
+        disturbed_costs = tt;
       };
     })
 
@@ -50,6 +53,9 @@ returns-in-Ok-None-clause-calls c =
     let same : c.at-in-Ok-None-1.given.0 ≡ c.ready.new.self.at.stepper.now = search rules in
     let prepares = c.ready.ensures.prepares in
     let x = rw c.in-Ok-None.field-0-is at c.in-Ok-None.ensures.ready.is in
+    let p = c.args.at.now.stepper.now in
+    let q = c.ready.new.self.at.stepper.now in
+    let costs = within_most prepares.counts (absent_paid p.trace q.trace c.law.ensures.start (run_at p.trace q.trace x.made.same x.made.is_run) c.args.key (steps_for_slot p q.trace) c.in-Ok-None.ensures.ready.searched) in
     rw same (record {
       same = x.made.same;
       made = x.made;
@@ -57,7 +63,7 @@ returns-in-Ok-None-clause-calls c =
       hand = x.spent;
       steps = within_all prepares.counts;
       kept = prepares.kept;
-      spares = record { advances = prepares.advances; had = prepares.had; shared = prepares.shared; refused = tt; within = tt; disturbed_within = tt; ready = λ some is_alone enough. tt; leaves = λ yes left. absurd (cc) };
+      spares = record { advances = prepares.advances; had = prepares.had; shared = prepares.shared; refused = tt; within = tt; disturbed_within = tt; ready = λ some is_alone enough. tt; leaves = λ yes left. absurd (cc); leaves_alone = λ yes. absurd (cc); costs = replace_lone_costs p q.trace c.args.key costs; disturbed_costs = costs };
     })
 
 pub returns-in-Ok-Some-clause-calls : goal.returns-in-Ok-Some-clause-calls
@@ -66,4 +72,4 @@ returns-in-Ok-Some-clause-calls c =
     let prepares = c.ready.ensures.prepares in
     let first = (rw c.in-Ok-Some.field-0-is at c.in-Ok-Some.ensures.ready.is).0 in
     rw same (calls_with c.args.at.now.stepper.now c.ready.new.self c.replace_with.new.self c.args.key c.args.value c.args.budget c.law.ensures.start c.law.ensures.is_run first prepares.advances prepares.kept prepares.had prepares.shared prepares.counts prepares.call.key prepares.call.budget
-    c.replace_with.ensures.links c.in-Ok-Some.ensures.ready.searched c.replace_with.result c.replace_with.ensures.had c.replace_with.ensures.answers c.replace_with.ensures.refused)
+    c.replace_with.ensures.links c.in-Ok-Some.ensures.ready.searched c.replace_with.result c.replace_with.ensures.had c.replace_with.ensures.answers c.replace_with.ensures.refused c.replace_with.ensures.paid)

@@ -1,5 +1,7 @@
-use Rattle.std.proofs.Common.{arith, ◌∙◌}
+use Rattle.std.proofs.Common.{ℕ, inl, inr, subst, ⊎_elim, arith, ◌∙◌}
 use Rattle.vbr_at_table.proofs.Lemmas.{counts_on, had_grown, none_on, two_before}
+use Rattle.vbr_list.specs.Removing.{SearchesOn}
+use Rattle.vbr_list.specs.Replacing.{UnlinksAtOnce}
 use Rattle.vbr_list.proofs.Going.{call_on}
 use Rattle.vbr_list.proofs.Replacements.{all_but_then}
 use Rattle.vbr_list.proofs.Sweeping.{leaves_replaced}
@@ -32,3 +34,25 @@ returns-clause-replaced g c =
       both = record { made = two_before x.both.made then; spent = c.unlink_replaced.ensures.goes.goes.hand.hand ∙ x.both.spent };
       leaves = λ room. leaves_replaced p q r c.in-Ok.told.1.slot c.args.self.now.key c.law.ensures.start x.both.made.same x.both.made.is_run x.replaced (rw c.replace_found.ensures.tries.call.key at x.old.key) then (c.unlink_replaced.ensures.leaves room);
     }
+
+pub returns-clause-paid : goal.returns-clause-paid
+returns-clause-paid g c =
+    let x = c.in-Ok.ensures.replaced in
+    let p = c.args.self.now.at.stepper.now.trace in
+    let q = c.replace_found.new.self.at.stepper.now.trace in
+    let r = c.unlink_replaced.new.self.at.stepper.now.trace in
+    let first = c.replace_found.ensures.tries in
+    let then = c.unlink_replaced.ensures.goes.goes.quiet in
+    let key = first.call.key in
+    let low = first.used.1 in
+    let budget = first.call.budget in
+    let d = c.replace_found.new.self in
+    let e = c.unlink_replaced.new.self in
+    ⊎_elim (λ (soon : UnlinksAtOnce d e c.in-Ok.told.1.slot). inl (record {
+      few = (let few = soon.few in omega (arith, few, low));
+      leaves = λ yes room. leaves_replaced p q r c.in-Ok.told.1.slot c.args.self.now.key c.law.ensures.start x.both.made.same x.both.made.is_run x.replaced (rw key at x.old.key) then (soon.leaves (omega (arith, room, low, budget)));
+    }))
+    (λ (on : SearchesOn q r d.key d.used e.used c.args.found.now.pred). (
+    let S : ℕ → Type 0 = λ k. SearchesOn q r k d.used e.used c.args.found.now.pred in
+    inr (record { marked = q; marks = x.marks; used = d.used; few = low; searches = subst S key on })))
+    c.unlink_replaced.ensures.paid

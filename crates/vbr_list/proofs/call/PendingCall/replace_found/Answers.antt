@@ -3,9 +3,8 @@ use Rattle.vbr_words.specs.declared.place.At.{At}
 use Rattle.vbr_machine.specs.Membership.{KeyAt}
 use Rattle.vbr_machine.specs.Runs.{IsRun}
 use Rattle.vbr_machine.specs.Start.{Start}
-use Rattle.vbr_machine.specs.Learning.{birth_in_hand}
 use Rattle.vbr_machine.specs.declared.history.Op.TheVariants.{Insert, Remove}
-use Rattle.vbr_slots.specs.Views.{PassView, knows}
+use Rattle.vbr_slots.specs.Views.{knows}
 use Rattle.vbr_slots.specs.declared.pass.TheConstants.{POOL}
 use Rattle.vbr_slots.proofs.Lemmas.{adds_on, quiet_on}
 use Rattle.vbr_at_table.specs.CallSteps.{steps_to_birth}
@@ -14,8 +13,6 @@ use Rattle.vbr_at_table.specs.Hands.{HandView}
 use Rattle.vbr_at_table.specs.Replacing.{MadeTwo}
 use Rattle.vbr_at_table.specs.Values.{entry_call, steps_to_update, steps_to_value}
 use Rattle.vbr_at_table.proofs.Lemmas.{counts_on, had_spent, held_kept, keeps_on, key_on, none_on, replaced_since, two_on, unchanged_by_none, value_on}
-use Rattle.vbr_list.specs.Inserting.{HasHandAndRoom}
-use Rattle.vbr_list.specs.Pieces.{KeepsHand}
 use Rattle.vbr_list.proofs.Going.{counts_step, goes_counted, goes_on, goes_read, took_same}
 use Rattle.vbr_at_table.specs.declared.held.Held.{Held}
 use Rattle.vbr_list.specs.Walking.{LosesNext}
@@ -23,39 +20,35 @@ use Rattle.vbr_list.proofs.Disturbing.{lost_place_later, moves_epoch, moves_on, 
 use Rattle.vbr_list.proofs.Marks.{apart, marks_behind}
 use Rattle.vbr_list.proofs.Moments.{key_found}
 use Rattle.vbr_list.proofs.Reaching.{key_kept, pred_on, slot_same}
-use Rattle.vbr_list.proofs.Replacements.{had_same, moves_later, run_two}
+use Rattle.vbr_list.proofs.Replacements.{had_same, hand_kept, moves_later, run_two}
 use Rattle.vbr_list.proofs.ValueReads.{cur_is, slot_at}
 use Rattle.vbr_list.proofs.call.PendingCall.replace_found.Goals as goal
 
--- a hand that stays is one still
-hand_kept : {p q : PassView} (hand : HandView) → KeepsHand p q → HasHandAndRoom p hand → HasHandAndRoom q hand
-hand_kept hand keeps h = record { is = record { slot = keeps.hand ∙ h.is.slot; birth = ap birth_in_hand (keeps.in_hand hand.slot h.is.slot) ∙ h.is.birth }; room = keeps.room h.room }
-
 pub value_of-read-requires-clause-values : goal.value_of-read-requires-clause-values
-value_of-read-requires-clause-values g c = ap (λ (d : Start). d.shape.values) (sym c.args.self.now.at.own.1) ∙ c.requires.values
+value_of-read-requires-clause-values g c = ap (λ (d : Start). d.shape.values) (sym c.args.self.now.at.own.1) ∙ c.requires.has.values
 
 pub value_of-read-requires-clause-held : goal.value_of-read-requires-clause-held
 value_of-read-requires-clause-held g c =
     let f = c.args.found.now in
-    (cur_is (knows c.args.self.now.at.stepper.now.trace) c.args.self.now.key f.pred c.in-Some.cur f.cur f.present c.requires.node.locates.end c.in-Some.is).held
+    (cur_is (knows c.args.self.now.at.stepper.now.trace) c.args.self.now.key f.pred c.in-Some.cur f.cur f.present c.requires.finds.locates.end c.in-Some.is).held
 
 pub value_of-read-requires-clause-slot : goal.value_of-read-requires-clause-slot
 value_of-read-requires-clause-slot g c =
     let f = c.args.found.now in
-    slot_at (cur_is (knows c.args.self.now.at.stepper.now.trace) c.args.self.now.key f.pred c.in-Some.cur f.cur f.present c.requires.node.locates.end c.in-Some.is)
+    slot_at (cur_is (knows c.args.self.now.at.stepper.now.trace) c.args.self.now.key f.pred c.in-Some.cur f.cur f.present c.requires.finds.locates.end c.in-Some.is)
 
 pub birth_after-named-requires : goal.birth_after-named-requires
 birth_after-named-requires g c =
     let f = c.args.found.now in
-    let y = cur_is (knows c.args.self.now.at.stepper.now.trace) c.args.self.now.key f.pred c.in-Some.cur f.cur f.present c.requires.node.locates.end c.in-Some.is in
+    let y = cur_is (knows c.args.self.now.at.stepper.now.trace) c.args.self.now.key f.pred c.in-Some.cur f.cur f.present c.requires.finds.locates.end c.in-Some.is in
     record { held = held_kept c.in-Some.cur c.in-Ok.ensures.value.keeps y.held }
 
 pub replace_entry-requires-clause-node : goal.replace_entry-requires-clause-node
 replace_entry-requires-clause-node g c =
     let f = c.args.found.now in
     let know = knows c.args.self.now.at.stepper.now.trace in
-    let y = cur_is know c.args.self.now.key f.pred c.in-Some.cur f.cur f.present c.requires.node.locates.end c.in-Some.is in
-    let there = key_found know c.args.self.now.key f.pred c.in-Some.cur f.cur f.present c.requires.node.locates.end c.in-Some.is c.requires.node.present in
+    let y = cur_is know c.args.self.now.key f.pred c.in-Some.cur f.cur f.present c.requires.finds.locates.end c.in-Some.is in
+    let there = key_found know c.args.self.now.key f.pred c.in-Some.cur f.cur f.present c.requires.finds.locates.end c.in-Some.is c.requires.finds.present in
     let one = c.in-Ok.ensures.value.keeps in
     let two = c.in-Ok-named.ensures.birth.keeps in
     let key = key_on c.in-Some.cur.at c.args.self.now.key two (key_on c.in-Some.cur.at c.args.self.now.key one there) in
@@ -82,7 +75,7 @@ returns-in_default-read-clause-back g c =
     let p = c.args.self.now.at.stepper.now.trace in
     let q = c.value_of-read.new.at.stepper.now.trace in
     let one = goes_read c.args.self.now.used c.value_of-read.ensures.reads in
-    record { quiet = one.quiet; hand = hand_kept c.args.hand one.hand c.requires.hand; loses = inl (inl (moves_on p q one.quiet.same one.quiet.seen (moves_epoch _ c.in_default-read.ensures.moved))) }
+    record { quiet = one.quiet; hand = hand_kept c.args.hand one.hand c.requires.has.hand; loses = inl (inl (moves_on p q one.quiet.same one.quiet.seen (moves_epoch _ c.in_default-read.ensures.moved))) }
 
 pub returns-in_default-named-clause-back : goal.returns-in_default-named-clause-back
 returns-in_default-named-clause-back g c =
@@ -93,7 +86,7 @@ returns-in_default-named-clause-back g c =
     let one = goes_read used c.value_of-read.ensures.reads in
     let two = goes_counted (used + 2) n (steps_to_birth c.in-Some.cur.word) c.steps_to_birth.ensures.is c.birth_after-named.ensures.reads in
     let both = goes_on one two in
-    record { quiet = both.quiet; hand = hand_kept c.args.hand both.hand c.requires.hand; loses = inl (inl (moves_later one.quiet c.in-Ok.ensures.value.keeps.epoch (moves_on q r two.quiet.same two.quiet.seen (moves_epoch _ c.in_default-named.ensures.moved.rolls)))) }
+    record { quiet = both.quiet; hand = hand_kept c.args.hand both.hand c.requires.has.hand; loses = inl (inl (moves_later one.quiet c.in-Ok.ensures.value.keeps.epoch (moves_on q r two.quiet.same two.quiet.seen (moves_epoch _ c.in_default-named.ensures.moved.rolls)))) }
 
 pub returns-in-Ok-replace_entry-clause-tries : goal.returns-in-Ok-replace_entry-clause-tries
 returns-in-Ok-replace_entry-clause-tries g c =
@@ -104,7 +97,7 @@ returns-in-Ok-replace_entry-clause-tries g c =
     let both = goes_on one two in
     let few = c.steps_to_birth.ensures.few in
     let start = c.birth_after-named.new.at.stepper.now.trace.start in
-    let has : start.shape.values ≡ true = ap (λ (d : Start). d.shape.values) both.quiet.same.start ∙ c.requires.values in
+    let has : start.shape.values ≡ true = ap (λ (d : Start). d.shape.values) both.quiet.same.start ∙ c.requires.has.values in
     let four : 4 ≡ steps_to_update start = ap (λ (b : Bool). 1 + steps_to_value b + 1 + 1) (sym has) in
     record {
       call = search rules;
@@ -122,7 +115,7 @@ returns-in-Err-clause-tries g c =
     let both = goes_on one two in
     let few = c.steps_to_birth.ensures.few in
     let start = c.birth_after-named.new.at.stepper.now.trace.start in
-    let has : start.shape.values ≡ true = ap (λ (d : Start). d.shape.values) both.quiet.same.start ∙ c.requires.values in
+    let has : start.shape.values ≡ true = ap (λ (d : Start). d.shape.values) both.quiet.same.start ∙ c.requires.has.values in
     let four : 4 ≡ steps_to_update start = ap (λ (b : Bool). 1 + steps_to_value b + 1 + 1) (sym has) in
     record {
       call = search rules;
@@ -148,13 +141,13 @@ returns-in-Ok-replace_entry-clause-replaced g c =
     let D : Start → Type 0 = C q.who in
     let E : ℕ → Type 0 = λ who. C who p.start in
     let both = subst E quiet.same.who (subst D quiet.same.start all) in
-    let y = cur_is (knows p) k f.pred c.in-Some.cur f.cur f.present c.requires.node.locates.end c.in-Some.is in
-    let there = key_found (knows p) k f.pred c.in-Some.cur f.cur f.present c.requires.node.locates.end c.in-Some.is c.requires.node.present in
+    let y = cur_is (knows p) k f.pred c.in-Some.cur f.cur f.present c.requires.finds.locates.end c.in-Some.is in
+    let there = key_found (knows p) k f.pred c.in-Some.cur f.cur f.present c.requires.finds.locates.end c.in-Some.is c.requires.finds.present in
     let one = c.in-Ok.ensures.value.keeps in
     let two = c.in-Ok-named.ensures.birth.keeps in
     let three = c.replace_entry.ensures.stores.keeps in
     let keeps = keeps_on (keeps_on one two) three in
-    let pred = pred_on k f.pred both.same keeps c.requires.node.locates.pred in
+    let pred = pred_on k f.pred both.same keeps c.requires.finds.locates.pred in
     let K : At → Type 0 = λ at. KeyAt (knows r) at k in
     let N : ℕ → Type 0 = Names f.pred in
     let R : IsRun p.start p.passes r.seen = run_two p r both.same both.is_run in
@@ -170,7 +163,7 @@ returns-in-Ok-replace_entry-clause-replaced g c =
       };
       replaced = replaced_since p q r c.law.ensures.start quiet told.old;
       marks = marks_behind p q r k f.pred c.in-Some.cur c.law.ensures.start R quiet (adds_on first.adds_none then.adds_none) made_now.same told.leaves
-          (apart p c.law.ensures.start c.law.ensures.is_run f.pred.at c.in-Some.cur.at k c.requires.node.locates.pred.behind there)
+          (apart p c.law.ensures.start c.law.ensures.is_run f.pred.at c.in-Some.cur.at k c.requires.finds.locates.pred.behind there)
           keeps.epoch (steps_last ∙ steps_then ∙ steps) pred.held pred.unmarked pred.inside;
     }
 
@@ -180,7 +173,7 @@ returns-in-Ok-replace_entry-clause-had g c =
     let q = c.birth_after-named.new.at.stepper.now in
     let one = c.value_of-read.ensures.reads.own in
     let two = c.birth_after-named.ensures.reads.own in
-    had_spent p c.replace_entry.new.at.stepper.now c.args.hand.slot c.requires.hand.is.slot (c.replace_entry.ensures.stores.pool ∙ two.pool ∙ one.pool)
+    had_spent p c.replace_entry.new.at.stepper.now c.args.hand.slot c.requires.has.hand.is.slot (c.replace_entry.ensures.stores.pool ∙ two.pool ∙ one.pool)
 
 pub returns-in-Err-clause-had : goal.returns-in-Err-clause-had
 returns-in-Err-clause-had g c =
@@ -189,7 +182,7 @@ returns-in-Err-clause-had g c =
     let one = c.value_of-read.ensures.reads.own in
     let two = c.birth_after-named.ensures.reads.own in
     let lost = c.in-Err.ensures.lost in
-    had_same p r (c.replace_entry.ensures.stores.pool ∙ two.pool ∙ one.pool) (lost.hand.slot ∙ ap (λ (h : HandView). Some h.slot) lost.same ∙ sym c.requires.hand.is.slot)
+    had_same p r (c.replace_entry.ensures.stores.pool ∙ two.pool ∙ one.pool) (lost.hand.slot ∙ ap (λ (h : HandView). Some h.slot) lost.same ∙ sym c.requires.has.hand.is.slot)
 
 pub returns-in_default-read-clause-had : goal.returns-in_default-read-clause-had
 returns-in_default-read-clause-had g c = let one = c.value_of-read.ensures.reads.own in had_same c.args.self.now.at.stepper.now c.value_of-read.new.at.stepper.now one.pool one.hand
@@ -217,6 +210,6 @@ returns-in-Err-clause-back g c =
     let none = unchanged_by_none c.law.ensures.start run_q read.same read.seen (adds_on first.adds_none then.adds_none) in
     record {
       quiet = quiet_on read lost.exchange.quiet;
-      hand = record { is = lost.hand; room = subst P (sym c.replace_entry.ensures.stores.pool) (two.hand.room (one.hand.room c.requires.hand.room)) };
+      hand = record { is = lost.hand; room = subst P (sym c.replace_entry.ensures.stores.pool) (two.hand.room (one.hand.room c.requires.has.hand.room)) };
       loses = inr (subst Q (sym c.in-Some.is) (lost_place_later c.in-Some.cur _ read (keeps_on c.in-Ok.ensures.value.keeps c.in-Ok-named.ensures.birth.keeps) none lost.exchange.lost lost.exchange.unchanged));
     }

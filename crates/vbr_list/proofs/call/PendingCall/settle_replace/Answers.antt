@@ -14,7 +14,7 @@ returns-clause-settles g c =
       call = search rules;
       counts = subst (λ (q : Trace). CountsSteps c.args.self.now.at.stepper.now.trace q used c.answer_absent.new.self.used) (sym back.trace) (rw d.used (counts_step used 1 d.keeps.took));
       more = omega arith;
-      takes_no_slot = none_on d.keeps.takes_no_slot (none_back c.answer_absent.new.self.at.stepper.now c.give_back.new.at.stepper.now c.args.hand.slot back.trace back.pool back.kept);
+      takes_no_slot = none_on d.keeps.takes_no_slot (none_back c.answer_absent.new.self.at.stepper.now c.give_back.new.at.stepper.now c.args.spare.slot back.trace back.pool back.kept);
     }
 
 pub returns-clause-had : goal.returns-clause-had
@@ -22,4 +22,10 @@ returns-clause-had g c =
     let p = c.args.self.now.at.stepper.now in
     let q = c.answer_absent.new.self.at.stepper.now in
     let d = c.answer_absent.ensures.keeps in
-    had_on p q c.give_back.new.at.stepper.now (had_grown p q d.takes_no_slot.grows d.own.hand) (had_back q c.give_back.new.at.stepper.now c.args.hand.slot (d.own.hand ∙ c.requires.hand.is.slot) c.give_back.ensures.back.pool)
+    had_on p q c.give_back.new.at.stepper.now (had_grown p q d.takes_no_slot.grows d.own.hand) (had_back q c.give_back.new.at.stepper.now c.args.spare.slot (d.own.hand ∙ c.requires.has.hand.is.slot) c.give_back.ensures.back.pool)
+
+pub returns-clause-paid : goal.returns-clause-paid
+returns-clause-paid g c = let used = c.answer_absent.ensures.used in record { few = omega (arith, used); leaves = λ yes room. absurd (cc) }
+
+pub replace_and_unlink-requires-clause-finds : goal.replace_and_unlink-requires-clause-finds
+replace_and_unlink-requires-clause-finds g c = record { locates = c.requires.locates; present = c.if-found.true }

@@ -29,7 +29,13 @@ returns-then-is_err-clause-paid g c =
     })
 
 pub returns-else-is_err-clause-paid : goal.returns-else-is_err-clause-paid
-returns-else-is_err-clause-paid g c = let few = c.unlink_and_retire-outcome.ensures.few in inl (omega (arith, few))
+returns-else-is_err-clause-paid g c =
+    let tried = c.unlink_and_retire-outcome in
+    let few = tried.ensures.few in
+    inl (record {
+      few = omega (arith, few);
+      leaves = λ room. (if_went tried.result.0 (sym c.is_err.ensures.value ∙ c.if-is_err.false) tried.ensures.unlinks).1.left c.args.self.now.key c.requires.old.key c.requires.old.behind;
+    })
 
 pub returns-then-is_err-clause-leaves : goal.returns-then-is_err-clause-leaves
 returns-then-is_err-clause-leaves g c = λ room.
@@ -42,11 +48,14 @@ returns-else-is_err-clause-leaves g c = λ room.
     let tried = c.unlink_and_retire-outcome in
     (if_went tried.result.0 (sym c.is_err.ensures.value ∙ c.if-is_err.false) tried.ensures.unlinks).1.left c.args.self.now.key c.requires.old.key c.requires.old.behind
 
-pub returns-then-not-affords-clause-goes : goal.returns-then-not-affords-clause-goes
-returns-then-not-affords-clause-goes g c = record { call = call_refl c.args.self.now; goes = goes_refl c.args.self.now.at.stepper.now c.args.self.now.used; more = omega arith }
+pub returns-then-not-fits-clause-goes : goal.returns-then-not-fits-clause-goes
+returns-then-not-fits-clause-goes g c = record { call = call_refl c.args.self.now; goes = goes_refl c.args.self.now.at.stepper.now c.args.self.now.used; more = omega arith }
 
-pub returns-then-not-affords-clause-leaves : goal.returns-then-not-affords-clause-leaves
-returns-then-not-affords-clause-leaves g c = λ room. (let short = no_room c.args.self.now.used c.args.self.now.budget c.affords.result c.if-not-affords.true c.affords.ensures.1 in absurd (omega (arith, short, room)))
+pub returns-then-not-fits-clause-leaves : goal.returns-then-not-fits-clause-leaves
+returns-then-not-fits-clause-leaves g c = λ room. (let short = no_room c.args.self.now.used c.args.self.now.budget c.affords-fits.result c.if-not-fits.true c.affords-fits.ensures.1 in absurd (omega (arith, short, room)))
 
-pub returns-then-not-affords-clause-paid : goal.returns-then-not-affords-clause-paid
-returns-then-not-affords-clause-paid g c = inl (omega arith)
+pub returns-then-not-fits-clause-paid : goal.returns-then-not-fits-clause-paid
+returns-then-not-fits-clause-paid g c = inl (record {
+  few = omega arith;
+  leaves = λ room. (let short = no_room c.args.self.now.used c.args.self.now.budget c.affords-fits.result c.if-not-fits.true c.affords-fits.ensures.1 in absurd (omega (arith, short, room)));
+})
