@@ -101,12 +101,13 @@
    steps.
    Others cost a call steps by what disturbs it: they insert, remove or unlink a node in its bucket, or advance the epoch.
    Disturbed m times, it doesn't run out of steps with (m + 1) * (5 * (n + m) + 11) for has and get, (m + 1) *
-   (9 * (n + m) + 11) for remove, and (m + 2) * (9 * (n + m) + 11) + 80 for insert, if its handle has a slot of its own; of
-   other inserts this isn't proved. So VBR_OUT_OF_STEPS with the budget for some m is proof that others made progress, and
+   (9 * (n + m) + 11) for remove, and (m + 2) * (9 * (n + m) + 7) + 68 for insert, if its handle has a slot of its own;
+   with none, 68 stands for the greater of it and slots / 64 + 7, and one more is needed for each slot that other handles take
+   meanwhile, an insert one at most. So VBR_OUT_OF_STEPS with the budget for some m is proof that others made progress, and
    disturbed the call more than m times. They do so at most twice for each insert and remove of theirs that is answered VBR_YES
    meanwhile, once for each advance of the epoch, of which an insert makes at most one, and once for each removed node that was
    still in a list. Eight threads that update at once, one update of each other one during the call, are m = 21, three for
-   each: with four nodes in a bucket that is 2,992 for has, 5,192 for remove and 5,508 for insert.
+   each: with four nodes in a bucket that is 2,992 for has, 5,192 for remove and 5,404 for insert.
 
    Memory and sizes. The words of a set take 8 * (2 + buckets + 4 * slots + slots / 64) bytes, the last part rounded
    up, in one block, and each handle about 1,200 bytes besides; opening and closing take as much as the words again
