@@ -48,8 +48,8 @@ late_searched p q m r is ok key sq sm a b quiet on {before_all} {used} {mid} x t
     let ok_e = begins_run p.start p.passes e.seen r.seen late.searches.then.seen ok in
     let ok_m = begins_run p.start p.passes m.seen r.seen on ok in
     let R : Start → Type 0 = λ start. IsRun start p.passes e.seen in
-    let R2 : ℕ → Type 0 = λ passes. IsRun t.start passes e.seen in
-    let ok_te : IsRun t.start t.passes e.seen = subst R2 (sym st.passes) (subst R (sym st.start) ok_e) in
+    let ByPasses : ℕ → Type 0 = λ passes. IsRun t.start passes e.seen in
+    let ok_te : IsRun t.start t.passes e.seen = subst ByPasses (sym st.passes) (subst R (sym st.start) ok_e) in
     let M : Start → Type 0 = λ start. IsRun start p.passes r.seen in
     let M2 : ℕ → Type 0 = λ passes. IsRun m.start passes r.seen in
     let ok_mr : IsRun m.start m.passes r.seen = subst M2 (sym pm.passes) (subst M (sym pm.start) ok) in

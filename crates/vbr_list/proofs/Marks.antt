@@ -62,8 +62,8 @@ marks_behind p q r key pred node is ok quiet none same x other epoch count held 
     let all = begins_trans q.seen x.moment r.seen x.from x.to in
     let P : Start → Type 0 = λ start. IsOpenIn start (incarnations_after start r.seen) (bucket_of start.shape key) pred.at in
     let R : Start → Type 0 = λ start. IsRun start r.passes r.seen in
-    let R2 : ℕ → Type 0 = λ passes. IsRun p.start passes r.seen in
-    let ok_r : IsRun r.start r.passes r.seen = subst R (sym whole.start) (subst R2 (sym whole.passes) ok) in
+    let ByPasses : ℕ → Type 0 = λ passes. IsRun p.start passes r.seen in
+    let ok_r : IsRun r.start r.passes r.seen = subst R (sym whole.start) (subst ByPasses (sym whole.passes) ok) in
     let later : own_changes p.start x.moment p.who bucket ≡ own_changes p.start q.seen p.who bucket = sym (λ i. own_changes (quiet.same.start i) x.moment (quiet.same.who i) bucket) ∙ x.own bucket ∙ (λ i. own_changes (quiet.same.start i) q.seen (quiet.same.who i) bucket) in
     record {
       same = whole;
@@ -205,8 +205,8 @@ module _ (p q m r : Trace) (is : IsStart p.start) (ok : IsRun p.start p.passes r
       let is_t : IsStart t.start = subst IsStart (sym st.start) is in
       let ok_e = begins_run p.start p.passes e.seen r.seen late.searches.then.seen ok in
       let R : Start → Type 0 = λ start. IsRun start p.passes e.seen in
-      let R2 : ℕ → Type 0 = λ passes. IsRun t.start passes e.seen in
-      let ok_te : IsRun t.start t.passes e.seen = subst R2 (sym st.passes) (subst R (sym st.start) ok_e) in
+      let ByPasses : ℕ → Type 0 = λ passes. IsRun t.start passes e.seen in
+      let ok_te : IsRun t.start t.passes e.seen = subst ByPasses (sym st.passes) (subst R (sym st.start) ok_e) in
       let marked = late.marks in
       let to_marked = begins_trans m.seen marked.moment late.marked.seen marked.before marked.after in
       let less = lost_past t m late.marked e is_t ok_te key tm marked.same te last.to late.searches.quiet.seen told.pred last.pred marked (late.searches.count ∙ marked.count ∙ last.count) last.knew late.searches.loses in
