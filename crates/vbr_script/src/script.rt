@@ -50,13 +50,13 @@ pub struct Script {
 pub enum ScriptFault {
     /// The line has neither three tokens nor the one token `sync` or `renew`; in a script of a map it
     /// may also have four.
-    #[error("a line is a worker, an operation and a key, or `sync` or `renew` alone")]
+    #[error("a line is a worker, an operation and a key, of a map's insert a value too, or `sync` or `renew` alone")]
     Words,
     /// The first token is no number, or not one below the number of workers.
     #[error("no such worker")]
     Worker,
     /// The second token is no operation, or, with a fourth token, another than an insert.
-    #[error("no such operation: insert, remove and has are known")]
+    #[error("no such operation: insert, remove and has are known, and get in a script of a map")]
     Operation,
     /// The third token is no number, or one above the greatest key.
     #[error("a key is a number from 0 to 18446744073709551615")]
