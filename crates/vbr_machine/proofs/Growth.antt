@@ -1,160 +1,92 @@
 -- What was there stays: after each allowed event, and after each lawful chronicle.
-use Rattle.std.proofs.Common.{◌≡◌, ℕ, ◌≤◌, List, [], ◌∷◌, refl, arith, ap, ◌∙◌}
+use Rattle.std.proofs.Common.{◌≡◌, ℕ, ◌<◌, ◌≤◌, List, [], ◌∷◌, refl, arith, ◌∙◌}
 use Rattle.std.proofs.lemmas.Bool.Decides.{nat_tests}
 use Rattle.vbr_machine.specs.Start.{Start}
 use Rattle.vbr_machine.specs.Keys.{Keys}
-use Rattle.vbr_machine.specs.Incarnations.{Incarnations}
-use Rattle.vbr_machine.specs.Chronicles.{Happening, Advances, Gains, Probes, Raises, GivesUp, Bears, Keyed, Valued, Aims, Inserts, Removes, Replaces, Unlinks, Stamps, Confirms, AtHead, AtNode, Entry, Allowed, becomes, incarnations_from, IsLawful}
-use Rattle.vbr_machine.specs.Sound.{IsInserted, Sound, Grows}
+use Rattle.vbr_machine.specs.Incarnations.{Incarnations, IsLate}
+use Rattle.vbr_machine.specs.Chronicles.{Happening, Advances, GivesUp, Bears, Keyed, Valued, Inserts, Removes, Replaces, Unlinks, Stamps, AtHead, AtNode, Entry, Allowed, becomes, incarnations_from, IsLawful}
+use Rattle.vbr_machine.specs.Sound.{IsInserted, IsRemoved, Sound, Grows}
 use Rattle.vbr_machine.proofs.Slots.{late_inserted, inserted_late}
 use Rattle.vbr_machine.proofs.SoundAfter.{sound_kept}
 
--- where only the places, the links stored before an insert, the epoch or the calls change
-grows_beside : (a b : Incarnations) → a.epoch ≤ b.epoch → a.count ≤ b.count → b.slot ≡ a.slot → b.birth ≡ a.birth → b.key ≡ a.key → b.value ≡ a.value → b.rank ≡ a.rank → b.state ≡ a.state → b.next ≡ a.next → Grows a b
-grows_beside a b e n es eb ek ev er et en = record {
-  epoch = e;
-  count = n;
-  slot = λ c l. ap (λ f. f c) es;
-  birth = λ c l. ap (λ f. f c) eb;
-  key = λ c l. ap (λ f. f c) ek;
-  value = λ c l. ap (λ f. f c) ev;
-  rank = λ c l. ap (λ f. f c) er;
-  late = λ c u le l. rw et l;
-  removed = λ c g. (rw et g, ap (λ f. f c) en);
-}
+module _ (start : Start) (keys : Keys) (a : Incarnations) (pass : ℕ) where
+  abbrev after : Happening → Incarnations
+  after what = becomes start a pass what
+
+  abbrev May : Happening → Type 0
+  May what = Allowed start keys a pass what
+
+  -- what was late stays late
+  late_on : (what : Happening) → Sound start a → May what → (i e : ℕ) → e ≤ a.epoch → IsLate (a.state i) e → IsLate ((after what).state i) e
+  late_on (GivesUp c) s h i e le l = grind (arith, nat_tests)
+  late_on (Bears v birth) s h i e le l = let z = s.slots.unborn a.count (omega arith) in grind (arith, nat_tests)
+  late_on (Inserts c behind) s h i e le l = let z = h.in_hand in grind (arith, nat_tests)
+  late_on (Removes c) s h i e le l = grind (arith, nat_tests)
+  late_on (Replaces old c) s h i e le l = let z = h.in_hand in let y = h.linked in grind (arith, nat_tests)
+  late_on (Unlinks c behind) s h i e le l = let z = h.0 in grind (arith, nat_tests)
+  late_on (Stamps c stamp) s h i e le l = grind (arith, nat_tests)
+  late_on _ s h i e le l = l
+
+  -- what was removed stays so, and keeps its successor
+  removed_on : (what : Happening) → Sound start a → May what → (i : ℕ) → IsRemoved (a.state i) → IsRemoved ((after what).state i) × ((after what).next i ≡ a.next i)
+  removed_on (GivesUp c) s h i g = grind (arith, nat_tests)
+  removed_on (Bears v birth) s h i g = let z = s.slots.unborn a.count (omega arith) in grind (arith, nat_tests)
+  removed_on (Inserts c (AtHead b)) s h i g = let z = h.in_hand in grind (arith, nat_tests)
+  removed_on (Inserts c (AtNode p)) s h i g = let z = h.in_hand in let y = h.is_open in grind (arith, nat_tests)
+  removed_on (Removes c) s h i g = grind (arith, nat_tests)
+  removed_on (Replaces old c) s h i g = let z = h.in_hand in let y = h.linked in grind (arith, nat_tests)
+  removed_on (Unlinks c (AtHead b)) s h i g = let z = h.0 in grind (arith, nat_tests)
+  removed_on (Unlinks c (AtNode p)) s h i g = let z = h.0 in let y = h.1 in grind (arith, nat_tests)
+  removed_on (Stamps c stamp) s h i g = grind (arith, nat_tests)
+  removed_on _ s h i g = (g, refl)
+
+  -- what was born keeps its slot and its birth
+  born_on : (what : Happening) → (i : ℕ) → i < a.count → ((after what).slot i ≡ a.slot i) × ((after what).birth i ≡ a.birth i)
+  born_on (Bears v birth) i l = (grind (arith, nat_tests), grind (arith, nat_tests))
+  born_on _ i l = (refl, refl)
+
+  -- and what was inserted its key, its value and its rank
+  kept_on : (what : Happening) → Sound start a → May what → (i : ℕ) → IsInserted (a.state i) → ((after what).key i ≡ a.key i) × ((after what).value i ≡ a.value i) × ((after what).rank i ≡ a.rank i)
+  kept_on (Bears v birth) s h i l = let z = s.slots.unborn a.count (omega arith) in (grind (arith, nat_tests), grind (arith, nat_tests), refl)
+  kept_on (Keyed c key) s h i l = (grind (arith, nat_tests), refl, refl)
+  kept_on (Valued c value) s h i l = let z = h.0 in (refl, grind (arith, nat_tests), refl)
+  kept_on (Replaces old c) s h i l = let z = h.in_hand in (refl, refl, grind (arith, nat_tests))
+  kept_on _ s h i l = (refl, refl, refl)
+
+  -- the epoch and the count don't fall
+  counts_on : (what : Happening) → (a.epoch ≤ (after what).epoch) × (a.count ≤ (after what).count)
+  counts_on Advances = (omega arith, omega arith)
+  counts_on _ = (omega arith, omega arith)
 
 pub grows : (start : Start) (keys : Keys) (a : Incarnations) (pass : ℕ) (what : Happening) → Sound start a → Allowed start keys a pass what → Grows a (becomes start a pass what)
-grows start keys a pass Advances s h = grows_beside a (becomes start a pass Advances) (omega arith) (omega arith) refl refl refl refl refl refl refl
-grows start keys a pass (Gains v) s h = grows_beside a (becomes start a pass (Gains v)) (omega arith) (omega arith) refl refl refl refl refl refl refl
-grows start keys a pass (Probes v) s h = grows_beside a a (omega arith) (omega arith) refl refl refl refl refl refl refl
-grows start keys a pass (Raises v) s h = grows_beside a (becomes start a pass (Raises v)) (omega arith) (omega arith) refl refl refl refl refl refl refl
-grows start keys a pass (Confirms call) s h = grows_beside a (becomes start a pass (Confirms call)) (omega arith) (omega arith) refl refl refl refl refl refl refl
-grows start keys a pass (Aims c link) s h = grows_beside a (becomes start a pass (Aims c link)) (omega arith) (omega arith) refl refl refl refl refl refl refl
-grows start keys a pass (Keyed c key) s h = record {
-  epoch = omega arith;
-  count = omega arith;
-  slot = λ i l. refl;
-  birth = λ i l. refl;
-  key = λ i l. grind (arith, nat_tests);
-  value = λ i l. refl;
-  rank = λ i l. refl;
-  late = λ i e le l. l;
-  removed = λ i g. (g, refl);
-}
-grows start keys a pass (Valued c value) s h = let z = h.0 in record {
-  epoch = omega arith;
-  count = omega arith;
-  slot = λ i l. refl;
-  birth = λ i l. refl;
-  key = λ i l. refl;
-  value = λ i l. grind (arith, nat_tests);
-  rank = λ i l. refl;
-  late = λ i e le l. l;
-  removed = λ i g. (g, refl);
-}
-grows start keys a pass (GivesUp c) s h = record {
-  epoch = omega arith;
-  count = omega arith;
-  slot = λ i l. refl;
-  birth = λ i l. refl;
-  key = λ i l. refl;
-  value = λ i l. refl;
-  rank = λ i l. refl;
-  late = λ i e le l. grind (arith, nat_tests);
-  removed = λ i g. grind (arith, nat_tests);
-}
-grows start keys a pass (Bears v birth) s h = let z = s.slots.unborn a.count (omega arith) in record {
-  epoch = omega arith;
-  count = omega arith;
-  slot = λ i l. grind (arith, nat_tests);
-  birth = λ i l. grind (arith, nat_tests);
-  key = λ i l. grind (arith, nat_tests);
-  value = λ i l. grind (arith, nat_tests);
-  rank = λ i l. refl;
-  late = λ i e le l. grind (arith, nat_tests);
-  removed = λ i g. grind (arith, nat_tests);
-}
-grows start keys a pass (Inserts c (AtHead b)) s h = let z = h.in_hand in record {
-  epoch = omega arith;
-  count = omega arith;
-  slot = λ i l. refl;
-  birth = λ i l. refl;
-  key = λ i l. refl;
-  value = λ i l. refl;
-  rank = λ i l. refl;
-  late = λ i e le l. grind (arith, nat_tests);
-  removed = λ i g. grind (arith, nat_tests);
-}
-grows start keys a pass (Inserts c (AtNode p)) s h = let z = h.in_hand in let y = h.is_open in record {
-  epoch = omega arith;
-  count = omega arith;
-  slot = λ i l. refl;
-  birth = λ i l. refl;
-  key = λ i l. refl;
-  value = λ i l. refl;
-  rank = λ i l. refl;
-  late = λ i e le l. grind (arith, nat_tests);
-  removed = λ i g. grind (arith, nat_tests);
-}
-grows start keys a pass (Removes c) s h = record {
-  epoch = omega arith;
-  count = omega arith;
-  slot = λ i l. refl;
-  birth = λ i l. refl;
-  key = λ i l. refl;
-  value = λ i l. refl;
-  rank = λ i l. refl;
-  late = λ i e le l. grind (arith, nat_tests);
-  removed = λ i g. grind (arith, nat_tests);
-}
-grows start keys a pass (Replaces old c) s h = let z = h.in_hand in let y = h.linked in record {
-  epoch = omega arith;
-  count = omega arith;
-  slot = λ i l. refl;
-  birth = λ i l. refl;
-  key = λ i l. refl;
-  value = λ i l. refl;
-  rank = λ i l. grind (arith, nat_tests);
-  late = λ i e le l. grind (arith, nat_tests);
-  removed = λ i g. grind (arith, nat_tests);
-}
-grows start keys a pass (Unlinks c (AtHead b)) s h = let z = h.0 in record {
-  epoch = omega arith;
-  count = omega arith;
-  slot = λ i l. refl;
-  birth = λ i l. refl;
-  key = λ i l. refl;
-  value = λ i l. refl;
-  rank = λ i l. refl;
-  late = λ i e le l. grind (arith, nat_tests);
-  removed = λ i g. grind (arith, nat_tests);
-}
-grows start keys a pass (Unlinks c (AtNode p)) s h = let z = h.0 in let y = h.1 in record {
-  epoch = omega arith;
-  count = omega arith;
-  slot = λ i l. refl;
-  birth = λ i l. refl;
-  key = λ i l. refl;
-  value = λ i l. refl;
-  rank = λ i l. refl;
-  late = λ i e le l. grind (arith, nat_tests);
-  removed = λ i g. grind (arith, nat_tests);
-}
-grows start keys a pass (Stamps c stamp) s h = record {
-  epoch = omega arith;
-  count = omega arith;
-  slot = λ i l. refl;
-  birth = λ i l. refl;
-  key = λ i l. refl;
-  value = λ i l. refl;
-  rank = λ i l. refl;
-  late = λ i e le l. grind (arith, nat_tests);
-  removed = λ i g. grind (arith, nat_tests);
+grows start keys a pass what s h = record {
+  epoch = (counts_on start keys a pass what).0;
+  count = (counts_on start keys a pass what).1;
+  slot = λ i l. (born_on start keys a pass what i l).0;
+  birth = λ i l. (born_on start keys a pass what i l).1;
+  key = λ i l. (kept_on start keys a pass what s h i l).0;
+  value = λ i l. (kept_on start keys a pass what s h i l).1;
+  rank = λ i l. (kept_on start keys a pass what s h i l).2;
+  late = late_on start keys a pass what s h;
+  removed = removed_on start keys a pass what s h;
 }
 
 -- what was inserted stays so: it is late for the epoch 0
 pub inserted_stays : {a b : Incarnations} → Grows a b → (c : ℕ) → IsInserted (a.state c) → IsInserted (b.state c)
 inserted_stays {a} {b} g c l = late_inserted (b.state c) 0 (g.late c 0 (omega arith) (inserted_late (a.state c) l))
+
+grows_same : (a : Incarnations) → Grows a a
+grows_same a = record {
+  epoch = omega arith;
+  count = omega arith;
+  slot = λ i l. refl;
+  birth = λ i l. refl;
+  key = λ i l. refl;
+  value = λ i l. refl;
+  rank = λ i l. refl;
+  late = λ i e le l. l;
+  removed = λ i g. (g, refl);
+}
 
 pub grows_on : {a b c : Incarnations} → Grows a b → Grows b c → Grows a c
 grows_on {a} {b} {c} g h = record {
@@ -170,6 +102,6 @@ grows_on {a} {b} {c} g h = record {
 }
 
 pub grows_after : (start : Start) (keys : Keys) (a : Incarnations) (entries : List Entry) → Sound start a → IsLawful start keys a entries → Grows a (incarnations_from start a entries)
-grows_after start keys a [] s l = grows_beside a a (omega arith) (omega arith) refl refl refl refl refl refl refl
+grows_after start keys a [] s l = grows_same a
 grows_after start keys a (entry ∷ entries) s l =
     grows_on (grows start keys a entry.pass entry.what s l.0) (grows_after start keys (becomes start a entry.pass entry.what) entries (sound_kept start keys a entry.pass entry.what s l.0) l.1)

@@ -36,58 +36,59 @@ apart_put key rank c r i d n ni nd nm (inr (inr (m, e, x))) = inr (inr (m, e, rw
 
 module _ (start : Start) (a : Incarnations) (pass old c : ℕ) (s : Sound start a) (h : MayTakePlace start a pass old c) where
   abbrev rank : ℕ → ℕ
-  rank = put a.rank c (a.rank old + 1)
+  rank = (becomes start a pass (Replaces old c)).rank
 
   abbrev next : ℕ → Option ℕ
-  next = put (put a.next c (a.next old)) old (Some c)
+  next = (becomes start a pass (Replaces old c)).next
 
   abbrev state : ℕ → State
-  state = put (put a.state old Marked) c Linked
+  state = (becomes start a pass (Replaces old c)).state
 
-  apart_new : (i d : ℕ) → IsListed (put (put a.state old Marked) c Linked i) → IsListed (put (put a.state old Marked) c Linked d) → bucket_of start.shape (a.key i) ≡ bucket_of start.shape (a.key d) → IsApart a.key (put a.rank c (a.rank old + 1)) i (put (put a.next c (a.next old)) old (Some c) i) d
+  other : old ≢ c
+  other e = let x = h.in_hand in let y = h.linked in let z : a.state old ≡ a.state c = ap a.state e in cc
+
+  -- the new one has the rank next to the old one's
+  next_rank : rank c ≡ rank old + 1
+  next_rank = let o : old ≢ c = other in rw (put_here, put_other) (omega arith)
+
+  apart_new : (i d : ℕ) → IsListed (state i) → IsListed (state d) → bucket_of start.shape (a.key i) ≡ bucket_of start.shape (a.key d) → IsApart a.key rank i (next i) d
   apart_new i d li ld q = go (cases_eq i old) (cases_eq i c) (cases_eq d c) (cases_eq d old)
     where
-      oc : old ≢ c
-      oc e = let x = h.in_hand in let y = h.linked in let z : a.state old ≡ a.state c = ap a.state e in cc
-
       lo : IsListed (a.state old)
       lo = rw h.linked tt
 
       up : (m : ℕ) → a.next old ≡ Some m → a.key old < a.key m
       up m e = s.lists.strict old m e h.linked
 
-      ro : put a.rank c (a.rank old + 1) c ≡ put a.rank c (a.rank old + 1) old + 1
-      ro = put_here a.rank c (a.rank old + 1) ∙ ap (λ n. n + 1) (sym (put_other a.rank c (a.rank old + 1) old oc))
-
       not_c : (j : ℕ) → IsListed (a.state j) → j ≢ c
       not_c j l e = let x = h.in_hand in let y : IsListed (a.state c) = rw e at l in grind arith
 
-      was : (j : ℕ) → j ≢ c → IsListed (put (put a.state old Marked) c Linked j) → IsListed (a.state j)
+      was : (j : ℕ) → j ≢ c → IsListed (state j) → IsListed (a.state j)
       was j ne l = listed_before a.state old c j h.linked ne l
 
       -- two that were listed are apart as they were
-      kept : (j k : ℕ) → IsListed (a.state j) → IsListed (a.state k) → bucket_of start.shape (a.key j) ≡ bucket_of start.shape (a.key k) → IsApart a.key (put a.rank c (a.rank old + 1)) j (a.next j) k
-      kept j k lj lk b = apart_put a.key a.rank c (a.rank old + 1) j k (a.next j) (not_c j lj) (not_c k lk) (λ m e. not_c m (next_listed s j m e lj)) (s.lists.apart j k lj lk b)
+      kept : (j k : ℕ) → IsListed (a.state j) → IsListed (a.state k) → bucket_of start.shape (a.key j) ≡ bucket_of start.shape (a.key k) → IsApart a.key rank j (a.next j) k
+      kept j k lj lk b = apart_put a.key a.rank c _ j k (a.next j) (not_c j lj) (not_c k lk) (λ m e. not_c m (next_listed s j m e lj)) (s.lists.apart j k lj lk b)
 
       -- the successor of another is as it was
       same_next : (j : ℕ) → j ≢ old → j ≢ c → put (put a.next c (a.next old)) old (Some c) j ≡ a.next j
       same_next j jo nc = put_other (put a.next c (a.next old)) old (Some c) j jo ∙ put_other a.next c (a.next old) j nc
 
       new_next : put (put a.next c (a.next old)) old (Some c) c ≡ a.next old
-      new_next = put_other (put a.next c (a.next old)) old (Some c) c (λ e. oc (sym e)) ∙ put_here a.next c (a.next old)
+      new_next = put_other (put a.next c (a.next old)) old (Some c) c (λ e. other (sym e)) ∙ put_here a.next c (a.next old)
 
       of_old : (j : ℕ) → j ≡ c → bucket_of start.shape (a.key j) ≡ bucket_of start.shape (a.key old)
       of_old j e = ap (λ k. bucket_of start.shape (a.key k)) e ∙ ap (bucket_of start.shape) h.same
 
-      go : (i ≡ old) ⊎ (i ≢ old) → (i ≡ c) ⊎ (i ≢ c) → (d ≡ c) ⊎ (d ≢ c) → (d ≡ old) ⊎ (d ≢ old) → IsApart a.key (put a.rank c (a.rank old + 1)) i (put (put a.next c (a.next old)) old (Some c) i) d
+      go : (i ≡ old) ⊎ (i ≢ old) → (i ≡ c) ⊎ (i ≢ c) → (d ≡ c) ⊎ (d ≢ c) → (d ≡ old) ⊎ (d ≢ old) → IsApart a.key rank i (next i) d
       go (inl io) ic (inl dc) od = rw (io, put_here (put a.next c (a.next old)) old (Some c)) (inr (inr (c, refl, rw dc (inr (refl, omega arith)))))
-      go (inl io) ic (inr dn) od = rw (io, put_here (put a.next c (a.next old)) old (Some c)) (splits_old a.key (put a.rank c (a.rank old + 1)) old c d (a.next old) h.same ro up (kept old d lo (was d dn ld) (ap (λ k. bucket_of start.shape (a.key k)) (sym io) ∙ q)))
+      go (inl io) ic (inr dn) od = rw (io, put_here (put a.next c (a.next old)) old (Some c)) (splits_old a.key rank old c d (a.next old) h.same next_rank up (kept old d lo (was d dn ld) (ap (λ k. bucket_of start.shape (a.key k)) (sym io) ∙ q)))
       go (inr io) (inl ic) (inl dc) od = inl (dc ∙ sym ic)
-      go (inr io) (inl ic) (inr dn) (inl od) = inr (inl (rw (od, ic) (inr (sym h.same, (let r = ro in omega arith)))))
-      go (inr io) (inl ic) (inr dn) (inr dm) = rw (ic, new_next) (splits_new a.key (put a.rank c (a.rank old + 1)) old c d (a.next old) h.same ro up dm (kept old d lo (was d dn ld) (sym (of_old i ic) ∙ q)))
+      go (inr io) (inl ic) (inr dn) (inl od) = inr (inl (rw (od, ic) (inr (sym h.same, omega (arith, next_rank)))))
+      go (inr io) (inl ic) (inr dn) (inr dm) = rw (ic, new_next) (splits_new a.key rank old c d (a.next old) h.same next_rank up dm (kept old d lo (was d dn ld) (sym (of_old i ic) ∙ q)))
       go (inr io) (inr ic) (inl dc) od =
           let li2 = was i ic li in
-          rw (same_next i io ic, dc) (splits_other a.key (put a.rank c (a.rank old + 1)) old c i (a.next old) (a.next i) h.same ro up io (kept i old li2 lo (q ∙ of_old d dc)) (kept old i lo li2 (sym (of_old d dc) ∙ sym q)))
+          rw (same_next i io ic, dc) (splits_other a.key rank old c i (a.next old) (a.next i) h.same next_rank up io (kept i old li2 lo (q ∙ of_old d dc)) (kept old i lo li2 (sym (of_old d dc) ∙ sym q)))
       go (inr io) (inr ic) (inr dn) od = rw (same_next i io ic) (kept i d (was i ic li) (was d dn ld) q)
 
   pub lists_replaces : ListsSound start (becomes start a pass (Replaces old c))
@@ -98,7 +99,7 @@ module _ (start : Start) (a : Incarnations) (pass old c : ℕ) (s : Sound start 
       record {
         handed = λ i n e q l. let u = s.lists.handed i n e in let x = s.lists.handed old n e in grind (arith, nat_tests);
         inserted = λ i n q. let u = s.lists.inserted i n in let x = s.lists.inserted old n in grind (arith, nat_tests);
-        ordered = λ i n q. let u = s.lists.ordered i n in let v = s.lists.inserted i n in let x = s.lists.ordered old n in let y = s.lists.strict old n in let z = s.lists.inserted old n in grind (arith, nat_tests);
+        ordered = λ i n q. let u = s.lists.ordered i n in let v = s.lists.inserted i n in let x = s.lists.ordered old n in let y = s.lists.strict old n in let z = s.lists.inserted old n in grind (arith, nat_tests, next_rank);
         strict = λ i n q l. let u = s.lists.strict i n in let y = s.lists.strict old n in grind (arith, nat_tests);
         first_in = λ b n q. let u = s.lists.first_in b n q in grind (arith, nat_tests);
         apart = λ i d li ld q. apart_new i d li ld q;

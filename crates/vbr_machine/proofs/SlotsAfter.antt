@@ -1,130 +1,16 @@
--- Each allowed event keeps what holds of the slots.
-use Rattle.std.proofs.Common.{◌≡◌, ◌≢◌, ℕ, ◌+◌, ◌<◌, ◌≤◌, Some, refl, arith, sym, subst, ◌∙◌, inl, inr}
+-- Each allowed event keeps what holds of the slots: clause by clause, with the events that touch it, and one line for all others.
+use Rattle.std.proofs.Common.{◌≡◌, ◌≢◌, ℕ, ◌+◌, ◌<◌, ◌≤◌, Some, None, refl, arith, sym, subst, ◌∙◌, inl, inr}
 use Rattle.std.specs.Prelude.{◌⊎◌}
 use Rattle.std.proofs.lemmas.Bool.Decides.{nat_tests}
 use Rattle.std.proofs.lemmas.Bool.{cases_eq, cases_order, cases_lt}
 use Rattle.vbr_machine.specs.Start.{Start}
-use Rattle.vbr_words.specs.declared.link.Link.{Link}
 use Rattle.vbr_machine.specs.Put.{put}
 use Rattle.vbr_machine.specs.Keys.{Keys}
 use Rattle.vbr_machine.specs.Incarnations.{State, Unborn, InHand, Stamped, Incarnations}
-use Rattle.vbr_machine.specs.Chronicles.{Happening, Advances, Gains, Probes, Raises, GivesUp, Bears, Keyed, Valued, Aims, Inserts, Removes, Replaces, Unlinks, Stamps, Confirms, Before, MayBeBornIn, MayStamp, unlinked_at, Allowed, becomes}
-use Rattle.vbr_machine.specs.Sound.{IsPassed, TimesFit, StampFits, SlotsSound}
-use Rattle.vbr_machine.specs.declared.history.Call.{Call}
+use Rattle.vbr_machine.specs.Chronicles.{Happening, Advances, Gains, Raises, GivesUp, Bears, Keyed, Aims, Inserts, Removes, Replaces, Unlinks, Stamps, MayBeBornIn, MayStamp, unlinked_at, Allowed, becomes}
+use Rattle.vbr_machine.specs.Sound.{IsPassed, TimesFit, StampFits, LinkFits, PlaceFits, IsUnused, SlotsSound}
 use Rattle.vbr_machine.specs.declared.knowledge.SlotPlace.{SlotPlace}
 use Rattle.vbr_machine.proofs.Slots.{shows, live_last, others_passed, IsLive}
-
-slots_advances : (start : Start) (a : Incarnations) (pass : ℕ) → SlotsSound start a → SlotsSound start (becomes start a pass Advances)
-slots_advances start a pass s = record {
-  last_born = s.last_born;
-  has_last = s.has_last;
-  unborn = s.unborn;
-  passed = s.passed;
-  born = λ i l. let u = s.born i l in omega arith;
-  times = λ i. let u = s.times i in grind (arith, nat_tests);
-  stamps = s.stamps;
-  links = s.links;
-  unused = s.unused;
-  placed = s.placed;
-}
-
-slots_gains : (start : Start) (keys : Keys) (a : Incarnations) (pass v : ℕ) → SlotsSound start a → Allowed start keys a pass (Gains v) → SlotsSound start (becomes start a pass (Gains v))
-slots_gains start keys a pass v s h = record {
-  last_born = s.last_born;
-  has_last = s.has_last;
-  unborn = s.unborn;
-  passed = s.passed;
-  born = s.born;
-  times = s.times;
-  stamps = s.stamps;
-  links = s.links;
-  unused = λ p q. let u = s.unused p q in grind (arith, nat_tests);
-  placed = λ i p q. let u = s.placed i p q in grind (arith, nat_tests);
-}
-
-slots_raises : (start : Start) (keys : Keys) (a : Incarnations) (pass v : ℕ) → SlotsSound start a → Allowed start keys a pass (Raises v) → SlotsSound start (becomes start a pass (Raises v))
-slots_raises start keys a pass v s h = record {
-  last_born = s.last_born;
-  has_last = s.has_last;
-  unborn = s.unborn;
-  passed = s.passed;
-  born = s.born;
-  times = s.times;
-  stamps = s.stamps;
-  links = s.links;
-  unused = λ p q. let u = s.unused p q in grind (arith, nat_tests);
-  placed = λ i p q. let u = s.placed i p q in grind (arith, nat_tests);
-}
-
-slots_gives_up : (start : Start) (keys : Keys) (a : Incarnations) (pass c : ℕ) → SlotsSound start a → Allowed start keys a pass (GivesUp c) → SlotsSound start (becomes start a pass (GivesUp c))
-slots_gives_up start keys a pass c s h = record {
-  last_born = s.last_born;
-  has_last = s.has_last;
-  unborn = λ i le. let u = s.unborn i le in grind (arith, nat_tests);
-  passed = λ i d lt b q. let u = s.passed i d lt b q in grind (arith, nat_tests);
-  born = s.born;
-  times = λ i. let u = s.times i in grind (arith, nat_tests);
-  stamps = λ i. let u = s.stamps i in grind (arith, nat_tests);
-  links = λ i p q. let u = s.links i p q in grind (arith, nat_tests);
-  unused = s.unused;
-  placed = λ i p q. let u = s.placed i p q in grind (arith, nat_tests);
-}
-
-slots_keyed : (start : Start) (keys : Keys) (a : Incarnations) (pass c key : ℕ) → SlotsSound start a → Allowed start keys a pass (Keyed c key) → SlotsSound start (becomes start a pass (Keyed c key))
-slots_keyed start keys a pass c key s h = record {
-  last_born = s.last_born;
-  has_last = s.has_last;
-  unborn = s.unborn;
-  passed = s.passed;
-  born = s.born;
-  times = s.times;
-  stamps = s.stamps;
-  links = s.links;
-  unused = s.unused;
-  placed = λ i p q. let u = s.placed i p q in grind (arith, nat_tests);
-}
-
-slots_valued : (start : Start) (a : Incarnations) (pass c value : ℕ) → SlotsSound start a → SlotsSound start (becomes start a pass (Valued c value))
-slots_valued start a pass c value s = record {
-  last_born = s.last_born;
-  has_last = s.has_last;
-  unborn = s.unborn;
-  passed = s.passed;
-  born = s.born;
-  times = s.times;
-  stamps = s.stamps;
-  links = s.links;
-  unused = s.unused;
-  placed = s.placed;
-}
-
-slots_aims : (start : Start) (keys : Keys) (a : Incarnations) (pass c : ℕ) (link : Link) → SlotsSound start a → Allowed start keys a pass (Aims c link) → SlotsSound start (becomes start a pass (Aims c link))
-slots_aims start keys a pass c link s h = record {
-  last_born = s.last_born;
-  has_last = s.has_last;
-  unborn = s.unborn;
-  passed = s.passed;
-  born = s.born;
-  times = s.times;
-  stamps = s.stamps;
-  links = λ i p q. let u = s.links i p q in let v = s.stamps i in let x = s.last_born p i q in grind (arith, nat_tests);
-  unused = s.unused;
-  placed = s.placed;
-}
-
-slots_removes : (start : Start) (keys : Keys) (a : Incarnations) (pass c : ℕ) → SlotsSound start a → Allowed start keys a pass (Removes c) → SlotsSound start (becomes start a pass (Removes c))
-slots_removes start keys a pass c s h = record {
-  last_born = s.last_born;
-  has_last = s.has_last;
-  unborn = λ i le. let u = s.unborn i le in grind (arith, nat_tests);
-  passed = λ i d lt b q. let u = s.passed i d lt b q in grind (arith, nat_tests);
-  born = s.born;
-  times = λ i. let u = s.times i in grind (arith, nat_tests);
-  stamps = λ i. let u = s.stamps i in grind (arith, nat_tests);
-  links = λ i p q. let u = s.links i p q in grind (arith, nat_tests);
-  unused = s.unused;
-  placed = λ i p q. let u = s.placed i p q in grind (arith, nat_tests);
-}
 
 unlinked_live : (st : State) (pass stamp epoch : ℕ) → MayStamp st pass stamp epoch → IsLive st
 unlinked_live st pass stamp epoch h = grind arith
@@ -138,20 +24,6 @@ stamps_more start a pass c r s h i u =
     plain : (state : ℕ → State) (i c pass r e bi bc : ℕ) (slot stamp : ℕ → ℕ) → StampFits (state i) bi (stamp (slot i)) → StampFits (state c) bc (stamp (slot c)) → TimesFit (state c) bc e → MayStamp (state c) pass r e → (i < a.count) ⊎ (a.count ≤ i) →
         (i < a.count → slot i ≡ slot c → i ≢ c → IsPassed (state i) bc) → (a.count ≤ i → state i ≡ Unborn) → StampFits (put state c (Stamped (unlinked_at (state c)) r) i) bi (put stamp (slot c) r (slot i))
     plain state i c pass r e bi bc slot stamp u v t h lt o z = grind (arith, nat_tests)
-
-slots_stamps : (start : Start) (keys : Keys) (a : Incarnations) (pass c r : ℕ) → SlotsSound start a → Allowed start keys a pass (Stamps c r) → SlotsSound start (becomes start a pass (Stamps c r))
-slots_stamps start keys a pass c r s h = record {
-  last_born = s.last_born;
-  has_last = s.has_last;
-  unborn = λ i le. let u = s.unborn i le in grind (arith, nat_tests);
-  passed = λ i d lt b q. let u = s.passed i d lt b q in grind (arith, nat_tests);
-  born = s.born;
-  times = λ i. let u = s.times i in grind (arith, nat_tests);
-  stamps = λ i. let u = s.stamps i in stamps_more start a pass c r s h i u;
-  links = λ i p q. let u = s.links i p q in let w = (live_last s c (unlinked_live (a.state c) pass r a.epoch h)).1 in let x = s.last_born p i q in grind (arith, nat_tests);
-  unused = s.unused;
-  placed = λ i p q. let u = s.placed i p q in grind (arith, nat_tests);
-}
 
 last_more : (start : Start) (a : Incarnations) (pass v b : ℕ) → SlotsSound start a → (i : ℕ) → i < a.count + 1 → (l : ℕ) × ((becomes start a pass (Bears v b)).last ((becomes start a pass (Bears v b)).slot i) ≡ Some l) × (i ≤ l)
 last_more start a pass v b s i lt = go (cases_order i a.count)
@@ -198,101 +70,120 @@ passed_more start keys a pass v b s h i d lt bd q u = let w = all_passed start a
     plain : (slot birth : ℕ → ℕ) (state : ℕ → State) (n i d : ℕ) → i < d → d < n + 1 → put slot n v i ≡ put slot n v d → (d < n → slot i ≡ slot d → IsPassed (state i) (birth d)) → (i < n → slot i ≡ v → IsPassed (state i) b) → IsPassed (put state n (InHand pass) i) (put birth n b d)
     plain slot birth state n i d lt bd q u w = grind (arith, nat_tests)
 
-slots_bears : (start : Start) (keys : Keys) (a : Incarnations) (pass v b : ℕ) → SlotsSound start a → Allowed start keys a pass (Bears v b) → SlotsSound start (becomes start a pass (Bears v b))
-slots_bears start keys a pass v b s h =
-    let z = s.unborn a.count (omega arith) in
-    record {
-      last_born = λ p i q. let u = s.last_born p i in grind (arith, nat_tests);
-      has_last = last_more start a pass v b s;
-      unborn = λ i le. let u = s.unborn i in grind (arith, nat_tests);
-      passed = λ i d lt bd q. let u = s.passed i d lt in passed_more start keys a pass v b s h i d lt bd q u;
-      born = λ i lt. let u = s.born i in grind (arith, nat_tests);
-      times = λ i. let u = s.times i in grind (arith, nat_tests);
-      stamps = λ i. let u = s.stamps i in grind (arith, nat_tests);
-      links = λ i p q. let u = s.links i p in let w = shows s v (a.last v) refl in grind (arith, nat_tests);
-      unused = λ p q. let u = s.unused p in grind (arith, nat_tests);
-      placed = λ i p q. let u = s.placed i p in let w = s.last_born p i in grind (arith, nat_tests);
-    }
+module _ (start : Start) (keys : Keys) (a : Incarnations) (pass : ℕ) (s : SlotsSound start a) where
+  abbrev after : Happening → Incarnations
+  after what = becomes start a pass what
 
-slots_inserts : (start : Start) (keys : Keys) (a : Incarnations) (pass c : ℕ) (behind : Before) → SlotsSound start a → Allowed start keys a pass (Inserts c behind) → SlotsSound start (becomes start a pass (Inserts c behind))
-slots_inserts start keys a pass c behind s h =
-    let held = h.in_hand in
-    let w = live_last s c (rw h.in_hand tt) in
-    record {
-      last_born = s.last_born;
-      has_last = s.has_last;
-      unborn = λ i le. let u = s.unborn i in grind (arith, nat_tests);
-      passed = λ i d lt bd q. let u = s.passed i d in grind (arith, nat_tests);
-      born = s.born;
-      times = λ i. let u = s.times i in grind (arith, nat_tests);
-      stamps = λ i. let u = s.stamps i in grind (arith, nat_tests);
-      links = λ i p q. let u = s.links i p q in grind (arith, nat_tests);
-      unused = λ p q. let u = s.unused p q in grind (arith, nat_tests);
-      placed = λ i p q. let u = s.placed i p q in let x = s.last_born p i q in grind (arith, nat_tests);
-    }
+  abbrev May : Happening → Type 0
+  May what = Allowed start keys a pass what
 
-slots_replaces : (start : Start) (keys : Keys) (a : Incarnations) (pass old c : ℕ) → SlotsSound start a → Allowed start keys a pass (Replaces old c) → SlotsSound start (becomes start a pass (Replaces old c))
-slots_replaces start keys a pass old c s h =
-    let held = h.in_hand in
-    let linked = h.linked in
-    let w = live_last s c (rw h.in_hand tt) in
-    record {
-      last_born = s.last_born;
-      has_last = s.has_last;
-      unborn = λ i le. let u = s.unborn i in grind (arith, nat_tests);
-      passed = λ i d lt bd q. let u = s.passed i d in grind (arith, nat_tests);
-      born = s.born;
-      times = λ i. let u = s.times i in grind (arith, nat_tests);
-      stamps = λ i. let u = s.stamps i in grind (arith, nat_tests);
-      links = λ i p q. let u = s.links i p q in grind (arith, nat_tests);
-      unused = λ p q. let u = s.unused p q in grind (arith, nat_tests);
-      placed = λ i p q. let u = s.placed i p q in let x = s.last_born p i q in grind (arith, nat_tests);
-    }
+  -- the last incarnation of a slot was born in it
+  last_born_after : (what : Happening) → May what → (v c : ℕ) → (after what).last v ≡ Some c → (c < (after what).count) × ((after what).slot c ≡ v)
+  last_born_after (Bears u b) h v c q = let x = s.last_born v c in grind (arith, nat_tests)
+  last_born_after _ h v c q = s.last_born v c q
 
-slots_unlinks : (start : Start) (keys : Keys) (a : Incarnations) (pass c : ℕ) (behind : Before) → SlotsSound start a → Allowed start keys a pass (Unlinks c behind) → SlotsSound start (becomes start a pass (Unlinks c behind))
-slots_unlinks start keys a pass c behind s h =
-    let marked = h.0 in
-    let w = live_last s c (rw h.0 tt) in
-    record {
-      last_born = s.last_born;
-      has_last = s.has_last;
-      unborn = λ i le. let u = s.unborn i in grind (arith, nat_tests);
-      passed = λ i d lt bd q. let u = s.passed i d in grind (arith, nat_tests);
-      born = s.born;
-      times = λ i. let u = s.times i in let x = s.born c in grind (arith, nat_tests);
-      stamps = λ i. let u = s.stamps i in grind (arith, nat_tests);
-      links = λ i p q. let u = s.links i p q in grind (arith, nat_tests);
-      unused = λ p q. let u = s.unused p q in grind (arith, nat_tests);
-      placed = λ i p q. let u = s.placed i p q in let x = s.last_born p i q in grind (arith, nat_tests);
-    }
+  -- and none in it was born later
+  has_last_after : (what : Happening) → May what → (i : ℕ) → i < (after what).count → (l : ℕ) × ((after what).last ((after what).slot i) ≡ Some l) × (i ≤ l)
+  has_last_after (Bears u b) h i lt = last_more start a pass u b s i lt
+  has_last_after _ h i lt = s.has_last i lt
 
-slots_answers : (start : Start) (a : Incarnations) (pass : ℕ) (call : Call) → SlotsSound start a → SlotsSound start (becomes start a pass (Confirms call))
-slots_answers start a pass call s = record {
-  last_born = s.last_born;
-  has_last = s.has_last;
-  unborn = s.unborn;
-  passed = s.passed;
-  born = s.born;
-  times = s.times;
-  stamps = s.stamps;
-  links = s.links;
-  unused = s.unused;
-  placed = s.placed;
-}
+  -- what is past the count is unborn
+  unborn_after : (what : Happening) → May what → (i : ℕ) → (after what).count ≤ i → (after what).state i ≡ Unborn
+  unborn_after (GivesUp c) h i le = let u = s.unborn i le in grind (arith, nat_tests)
+  unborn_after (Bears v b) h i le = let u = s.unborn i in grind (arith, nat_tests)
+  unborn_after (Inserts c behind) h i le = let held = h.in_hand in let u = s.unborn i in grind (arith, nat_tests)
+  unborn_after (Removes c) h i le = let u = s.unborn i le in grind (arith, nat_tests)
+  unborn_after (Replaces old c) h i le = let held = h.in_hand in let linked = h.linked in let u = s.unborn i in grind (arith, nat_tests)
+  unborn_after (Unlinks c behind) h i le = let marked = h.0 in let u = s.unborn i in grind (arith, nat_tests)
+  unborn_after (Stamps c r) h i le = let u = s.unborn i le in grind (arith, nat_tests)
+  unborn_after _ h i le = s.unborn i le
+
+  -- of two of a slot the earlier is passed by the later
+  passed_after : (what : Happening) → May what → (i d : ℕ) → i < d → d < (after what).count → (after what).slot i ≡ (after what).slot d → IsPassed ((after what).state i) ((after what).birth d)
+  passed_after (GivesUp c) h i d lt b q = let u = s.passed i d lt b q in grind (arith, nat_tests)
+  passed_after (Bears v b) h i d lt bd q = let u = s.passed i d lt in passed_more start keys a pass v b s h i d lt bd q u
+  passed_after (Inserts c behind) h i d lt b q = let held = h.in_hand in let u = s.passed i d in grind (arith, nat_tests)
+  passed_after (Removes c) h i d lt b q = let u = s.passed i d lt b q in grind (arith, nat_tests)
+  passed_after (Replaces old c) h i d lt b q = let held = h.in_hand in let linked = h.linked in let u = s.passed i d in grind (arith, nat_tests)
+  passed_after (Unlinks c behind) h i d lt b q = let marked = h.0 in let u = s.passed i d in grind (arith, nat_tests)
+  passed_after (Stamps c r) h i d lt b q = let u = s.passed i d lt b q in grind (arith, nat_tests)
+  passed_after _ h i d lt b q = s.passed i d lt b q
+
+  -- a birth is no later than the epoch
+  born_after : (what : Happening) → May what → (i : ℕ) → i < (after what).count → (after what).birth i ≤ (after what).epoch
+  born_after Advances h i lt = let u = s.born i lt in omega arith
+  born_after (Bears v b) h i lt = let u = s.born i in grind (arith, nat_tests)
+  born_after _ h i lt = s.born i lt
+
+  -- birth, unlinking, stamp and epoch follow one another
+  times_after : (what : Happening) → May what → (i : ℕ) → TimesFit ((after what).state i) ((after what).birth i) (after what).epoch
+  times_after Advances h i = let u = s.times i in grind (arith, nat_tests)
+  times_after (GivesUp c) h i = let u = s.times i in grind (arith, nat_tests)
+  times_after (Bears v b) h i = let z = s.unborn a.count (omega arith) in let u = s.times i in grind (arith, nat_tests)
+  times_after (Inserts c behind) h i = let held = h.in_hand in let u = s.times i in grind (arith, nat_tests)
+  times_after (Removes c) h i = let u = s.times i in grind (arith, nat_tests)
+  times_after (Replaces old c) h i = let held = h.in_hand in let linked = h.linked in let u = s.times i in grind (arith, nat_tests)
+  times_after (Unlinks c behind) h i = let marked = h.0 in let w = live_last s c (rw h.0 tt) in let u = s.times i in let x = s.born c in grind (arith, nat_tests)
+  times_after (Stamps c r) h i = let u = s.times i in grind (arith, nat_tests)
+  times_after _ h i = s.times i
+
+  -- a stamp fits its incarnation
+  stamps_after : (what : Happening) → May what → (i : ℕ) → StampFits ((after what).state i) ((after what).birth i) ((after what).stamp ((after what).slot i))
+  stamps_after (GivesUp c) h i = let u = s.stamps i in grind (arith, nat_tests)
+  stamps_after (Bears v b) h i = let z = s.unborn a.count (omega arith) in let u = s.stamps i in grind (arith, nat_tests)
+  stamps_after (Inserts c behind) h i = let held = h.in_hand in let u = s.stamps i in grind (arith, nat_tests)
+  stamps_after (Removes c) h i = let u = s.stamps i in grind (arith, nat_tests)
+  stamps_after (Replaces old c) h i = let held = h.in_hand in let linked = h.linked in let u = s.stamps i in grind (arith, nat_tests)
+  stamps_after (Unlinks c behind) h i = let marked = h.0 in let u = s.stamps i in grind (arith, nat_tests)
+  stamps_after (Stamps c r) h i = stamps_more start a pass c r s h i (s.stamps i)
+  stamps_after _ h i = s.stamps i
+
+  -- the link that a last one shows is marked, or above the stamp
+  links_after : (what : Happening) → May what → (i v : ℕ) → (after what).last v ≡ Some i → LinkFits ((after what).state i) ((after what).link i) ((after what).stamp v)
+  links_after (GivesUp c) h i p q = let u = s.links i p q in grind (arith, nat_tests)
+  links_after (Bears v b) h i p q = let u = s.links i p in let w = shows s v (a.last v) refl in grind (arith, nat_tests)
+  links_after (Aims c link) h i p q = let u = s.links i p q in let v = s.stamps i in let x = s.last_born p i q in grind (arith, nat_tests)
+  links_after (Inserts c behind) h i p q = let held = h.in_hand in let u = s.links i p q in grind (arith, nat_tests)
+  links_after (Removes c) h i p q = let u = s.links i p q in grind (arith, nat_tests)
+  links_after (Replaces old c) h i p q = let held = h.in_hand in let linked = h.linked in let u = s.links i p q in grind (arith, nat_tests)
+  links_after (Unlinks c behind) h i p q = let marked = h.0 in let u = s.links i p q in grind (arith, nat_tests)
+  links_after (Stamps c r) h i p q = let u = s.links i p q in let w = (live_last s c (unlinked_live (a.state c) pass r a.epoch h)).1 in let x = s.last_born p i q in grind (arith, nat_tests)
+  links_after _ h i p q = s.links i p q
+
+  -- a slot that nothing was born in is in a pool
+  unused_after : (what : Happening) → May what → (v : ℕ) → (after what).last v ≡ None → IsUnused ((after what).place v)
+  unused_after (Gains v) h p q = let u = s.unused p q in grind (arith, nat_tests)
+  unused_after (Raises v) h p q = let u = s.unused p q in grind (arith, nat_tests)
+  unused_after (Bears v b) h p q = let u = s.unused p in grind (arith, nat_tests)
+  unused_after (Inserts c behind) h p q = let w = live_last s c (rw h.in_hand tt) in let u = s.unused p q in grind (arith, nat_tests)
+  unused_after (Replaces old c) h p q = let w = live_last s c (rw h.in_hand tt) in let u = s.unused p q in grind (arith, nat_tests)
+  unused_after (Unlinks c behind) h p q = let w = live_last s c (rw h.0 tt) in let u = s.unused p q in grind (arith, nat_tests)
+  unused_after _ h p q = s.unused p q
+
+  -- a place fits the last incarnation
+  placed_after : (what : Happening) → May what → (i v : ℕ) → (after what).last v ≡ Some i → PlaceFits start ((after what).place v) ((after what).state i) ((after what).key i)
+  placed_after (Gains v) h i p q = let u = s.placed i p q in grind (arith, nat_tests)
+  placed_after (Raises v) h i p q = let u = s.placed i p q in grind (arith, nat_tests)
+  placed_after (GivesUp c) h i p q = let u = s.placed i p q in grind (arith, nat_tests)
+  placed_after (Bears v b) h i p q = let u = s.placed i p in let w = s.last_born p i in grind (arith, nat_tests)
+  placed_after (Keyed c key) h i p q = let u = s.placed i p q in grind (arith, nat_tests)
+  placed_after (Inserts c behind) h i p q = let held = h.in_hand in let w = live_last s c (rw h.in_hand tt) in let u = s.placed i p q in let x = s.last_born p i q in grind (arith, nat_tests)
+  placed_after (Removes c) h i p q = let u = s.placed i p q in grind (arith, nat_tests)
+  placed_after (Replaces old c) h i p q = let held = h.in_hand in let linked = h.linked in let w = live_last s c (rw h.in_hand tt) in let u = s.placed i p q in let x = s.last_born p i q in grind (arith, nat_tests)
+  placed_after (Unlinks c behind) h i p q = let marked = h.0 in let w = live_last s c (rw h.0 tt) in let u = s.placed i p q in let x = s.last_born p i q in grind (arith, nat_tests)
+  placed_after (Stamps c r) h i p q = let u = s.placed i p q in grind (arith, nat_tests)
+  placed_after _ h i p q = s.placed i p q
 
 pub slots_kept : (start : Start) (keys : Keys) (a : Incarnations) (pass : ℕ) (what : Happening) → SlotsSound start a → Allowed start keys a pass what → SlotsSound start (becomes start a pass what)
-slots_kept start keys a pass Advances s h = slots_advances start a pass s
-slots_kept start keys a pass (Gains v) s h = slots_gains start keys a pass v s h
-slots_kept start keys a pass (Probes v) s h = s
-slots_kept start keys a pass (Raises v) s h = slots_raises start keys a pass v s h
-slots_kept start keys a pass (GivesUp c) s h = slots_gives_up start keys a pass c s h
-slots_kept start keys a pass (Bears v birth) s h = slots_bears start keys a pass v birth s h
-slots_kept start keys a pass (Keyed c key) s h = slots_keyed start keys a pass c key s h
-slots_kept start keys a pass (Valued c value) s h = slots_valued start a pass c value s
-slots_kept start keys a pass (Aims c link) s h = slots_aims start keys a pass c link s h
-slots_kept start keys a pass (Inserts c behind) s h = slots_inserts start keys a pass c behind s h
-slots_kept start keys a pass (Removes c) s h = slots_removes start keys a pass c s h
-slots_kept start keys a pass (Replaces old c) s h = slots_replaces start keys a pass old c s h
-slots_kept start keys a pass (Unlinks c behind) s h = slots_unlinks start keys a pass c behind s h
-slots_kept start keys a pass (Stamps c stamp) s h = slots_stamps start keys a pass c stamp s h
-slots_kept start keys a pass (Confirms call) s h = slots_answers start a pass call s
+slots_kept start keys a pass what s h = record {
+  last_born = last_born_after start keys a pass s what h;
+  has_last = has_last_after start keys a pass s what h;
+  unborn = unborn_after start keys a pass s what h;
+  passed = passed_after start keys a pass s what h;
+  born = born_after start keys a pass s what h;
+  times = times_after start keys a pass s what h;
+  stamps = stamps_after start keys a pass s what h;
+  links = links_after start keys a pass s what h;
+  unused = unused_after start keys a pass s what h;
+  placed = placed_after start keys a pass s what h;
+}

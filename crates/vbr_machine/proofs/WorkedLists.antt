@@ -2,20 +2,23 @@
 -- In the first, a slot is unlinked, retired and born again while a reader stands in it, whose exchange is then lost.
 -- In the second, a head shows one word, another, and the first again, and speaks of the same nodes.
 -- In the third, two passes help to unlink one node, and one of them wins.
-use Rattle.std.proofs.Common.{◌≡◌, ℕ, true, List, [], ◌∷◌, take, Some, None, refl, rules, tests, false}
+use Rattle.std.proofs.Common.{◌≡◌, ℕ, true, List, [], ◌∷◌, map, take, Some, None, refl, rules, tests, false}
 use Rattle.vbr_machine.specs.Start.{Start, empty_start}
 use Rattle.vbr_words.specs.Flags.{has_flag, first_bits, flag_word}
 use Rattle.vbr_words.specs.Words.{word_of, link_of}
 use Rattle.vbr_words.specs.declared.place.At.TheVariants.{Head, Slot}
+use Rattle.vbr_words.specs.declared.place.Place.{Place}
 use Rattle.vbr_words.specs.declared.place.Place.TheVariants as place
 use Rattle.vbr_words.specs.Buckets.{bucket_of}
 use Rattle.vbr_machine.specs.Machine.{opening, word_at, World, found, after}
 use Rattle.vbr_machine.specs.Runs.{IsRun, world_after}
+use Rattle.vbr_machine.specs.declared.history.Call.{Call}
 use Rattle.vbr_machine.specs.declared.history.Op.TheVariants.{Insert, Remove}
 use Rattle.vbr_machine.specs.declared.event.Event.{Event}
 use Rattle.vbr_machine.specs.declared.event.Step.{Step}
 use Rattle.vbr_machine.specs.declared.event.Step.TheVariants.{ReadEpoch, Advance, LoadStamp, StoreStamp, TakeFlag, StoreBirth, StoreKey, StoreLink, LoadLink, LoadBirth, LoadKey, Publish, Mark, Unlink}
 use Rattle.vbr_machine.specs.declared.event.Effect.TheVariants.{Value, Done, Won, Lost}
+use Rattle.vbr_machine.specs.declared.knowledge.SlotPlace.{SlotPlace}
 use Rattle.vbr_machine.specs.declared.knowledge.SlotPlace.TheVariants.{Own, Hand, Listed}
 use Rattle.vbr_machine.specs.Learning.{effect_of}
 use Rattle.vbr_machine.specs.declared.event.Effect.{Effect}
@@ -28,6 +31,18 @@ effects_from start w (event ∷ events) = effect_of event.step (found start w ev
 abbrev pub by : ℕ → Step → Event
 by pass step = record { pass = pass; step = step }
 
+-- events are a run of so many passes, with these effects and these calls
+abbrev pub Plays : Start → ℕ → List Event → List Effect → List Call → Type 0
+Plays start passes events effects calls = IsRun start passes events × (effects_from start (opening start) events ≡ effects) × ((world_after start events).calls ≡ calls)
+
+-- after them so many nodes were born, the epoch is this, and the slots stand at these places
+abbrev Ends : Start → List Event → List ℕ → ℕ → ℕ → List SlotPlace → Type 0
+Ends start events slots births epoch places = ((world_after start events).births ≡ births) × ((world_after start events).epoch ≡ epoch) × (map (world_after start events).place slots ≡ places)
+
+-- the words at places, each after so many of the events
+abbrev words_along : Start → List Event → List (ℕ × Place) → List ℕ
+words_along start events moments = map (λ (it : ℕ × Place). word_at start (world_after start (take it.0 events)) it.1) moments
+
 abbrev pub shape_of_three : Start
 shape_of_three = empty_start (record { slots = 3; buckets = 1; spread = false; last_epoch = 10; values = false })
 
@@ -37,148 +52,53 @@ shape_of_one = empty_start (record { slots = 1; buckets = 1; spread = false; las
 abbrev pub reborn_slot : List Event
 reborn_slot = by 0 ReadEpoch ∷ by 0 (TakeFlag 0) ∷ by 0 (LoadStamp 0) ∷ by 0 (StoreBirth 0 1) ∷ by 0 (StoreKey 0 30) ∷ by 0 (LoadLink (Head 0)) ∷ by 0 ReadEpoch ∷ by 0 (StoreLink 0 None) ∷ by 0 (Publish (Head 0) 0 0) ∷ by 0 (TakeFlag 1) ∷ by 0 (StoreBirth 1 1) ∷ by 0 (StoreKey 1 20) ∷ by 0 (StoreLink 1 (Some 0)) ∷ by 0 (Publish (Head 0) 33554433 1) ∷ by 1 ReadEpoch ∷ by 1 (LoadLink (Head 0)) ∷ by 1 ReadEpoch ∷ by 1 (LoadKey 1) ∷ by 1 (LoadBirth 1) ∷ by 1 (LoadLink (Slot 1)) ∷ by 1 ReadEpoch ∷ by 1 (LoadKey 0) ∷ by 1 (LoadBirth 0) ∷ by 1 ReadEpoch ∷ by 1 (TakeFlag 2) ∷ by 1 (StoreBirth 2 1) ∷ by 1 (StoreKey 2 25) ∷ by 1 (StoreLink 2 (Some 0)) ∷ by 0 (Mark 1 33554433) ∷ by 0 (Unlink (Head 0) 33554434 1) ∷ by 0 ReadEpoch ∷ by 0 (StoreStamp 1 1) ∷ by 0 (Advance 1) ∷ by 0 ReadEpoch ∷ by 0 (StoreBirth 1 2) ∷ by 0 (StoreKey 1 10) ∷ by 0 (LoadLink (Head 0)) ∷ by 0 ReadEpoch ∷ by 0 (LoadKey 0) ∷ by 0 (LoadBirth 0) ∷ by 0 ReadEpoch ∷ by 0 (StoreLink 1 (Some 0)) ∷ by 0 (Publish (Head 0) 33554433 1) ∷ by 1 (Publish (Slot 1) 33554433 2) ∷ []
 
-pub reborn_slot_accepted : IsRun shape_of_three 2 reborn_slot
+pub reborn_slot_plays : Plays shape_of_three 2 reborn_slot
+    ((Value 1) ∷ Won ∷ (Value 0) ∷ Done ∷ Done ∷ (Value 0) ∷ (Value 1) ∷ Done ∷ Won ∷ Won ∷ Done ∷ Done ∷ Done ∷ Won ∷ (Value 1) ∷ (Value 33554434) ∷ (Value 1) ∷ (Value 20) ∷ (Value 1) ∷ (Value 33554433) ∷ (Value 1) ∷ (Value 30) ∷ (Value 1) ∷ (Value 1) ∷ Won ∷ Done ∷ Done ∷ Done ∷ Won ∷ Won ∷ (Value 1) ∷ Done ∷ Won ∷ (Value 2) ∷ Done ∷ Done ∷ (Value 33554433) ∷ (Value 2) ∷ (Value 30) ∷ (Value 1) ∷ (Value 2) ∷ Done ∷ Won ∷ (Lost 67108865) ∷ [])
+    (record { who = 0; op = Insert; key = 30; reply = true; value = None } ∷ record { who = 0; op = Insert; key = 20; reply = true; value = None } ∷ record { who = 0; op = Remove; key = 20; reply = true; value = None } ∷ record { who = 0; op = Insert; key = 10; reply = true; value = None } ∷ [])
 unfolding bucket_of link_of word_of has_flag first_bits flag_word
-reborn_slot_accepted = search (rules, tests)
+reborn_slot_plays = (search (rules, tests), refl, refl)
 
-pub reborn_slot_effects : effects_from shape_of_three (opening shape_of_three) reborn_slot ≡ (Value 1) ∷ Won ∷ (Value 0) ∷ Done ∷ Done ∷ (Value 0) ∷ (Value 1) ∷ Done ∷ Won ∷ Won ∷ Done ∷ Done ∷ Done ∷ Won ∷ (Value 1) ∷ (Value 33554434) ∷ (Value 1) ∷ (Value 20) ∷ (Value 1) ∷ (Value 33554433) ∷ (Value 1) ∷ (Value 30) ∷ (Value 1) ∷ (Value 1) ∷ Won ∷ Done ∷ Done ∷ Done ∷ Won ∷ Won ∷ (Value 1) ∷ Done ∷ Won ∷ (Value 2) ∷ Done ∷ Done ∷ (Value 33554433) ∷ (Value 2) ∷ (Value 30) ∷ (Value 1) ∷ (Value 2) ∷ Done ∷ Won ∷ (Lost 67108865) ∷ []
+pub reborn_slot_ends : Ends shape_of_three reborn_slot (0 ∷ 1 ∷ 2 ∷ []) 4 2 ((Listed 0) ∷ (Listed 0) ∷ (Hand 1) ∷ [])
 unfolding bucket_of link_of word_of has_flag first_bits flag_word
-reborn_slot_effects = refl
+reborn_slot_ends = (refl, refl, refl)
 
-pub reborn_slot_calls : (world_after shape_of_three reborn_slot).calls ≡ record { who = 0; op = Insert; key = 30; reply = true; value = None } ∷ record { who = 0; op = Insert; key = 20; reply = true; value = None } ∷ record { who = 0; op = Remove; key = 20; reply = true; value = None } ∷ record { who = 0; op = Insert; key = 10; reply = true; value = None } ∷ []
+pub reborn_slot_words : words_along shape_of_three reborn_slot ((9, place.Head 0) ∷ (14, place.Head 0) ∷ (29, place.LinkOf 1) ∷ (30, place.Head 0) ∷ (42, place.LinkOf 1) ∷ (43, place.Head 0) ∷ [])
+    ≡ 33554433 ∷ 33554434 ∷ 50331649 ∷ 33554433 ∷ 67108865 ∷ 67108866 ∷ []
 unfolding bucket_of link_of word_of has_flag first_bits flag_word
-reborn_slot_calls = refl
-
-pub reborn_slot_births : (world_after shape_of_three reborn_slot).births ≡ 4
-unfolding bucket_of link_of word_of has_flag first_bits flag_word
-reborn_slot_births = refl
-
-pub reborn_slot_epoch : (world_after shape_of_three reborn_slot).epoch ≡ 2
-unfolding bucket_of link_of word_of has_flag first_bits flag_word
-reborn_slot_epoch = refl
-
-pub reborn_slot_place_0 : (world_after shape_of_three reborn_slot).place 0 ≡ Listed 0
-unfolding bucket_of link_of word_of has_flag first_bits flag_word
-reborn_slot_place_0 = refl
-
-pub reborn_slot_place_1 : (world_after shape_of_three reborn_slot).place 1 ≡ Listed 0
-unfolding bucket_of link_of word_of has_flag first_bits flag_word
-reborn_slot_place_1 = refl
-
-pub reborn_slot_place_2 : (world_after shape_of_three reborn_slot).place 2 ≡ Hand 1
-unfolding bucket_of link_of word_of has_flag first_bits flag_word
-reborn_slot_place_2 = refl
-
-pub reborn_slot_word_9 : word_at shape_of_three (world_after shape_of_three (take 9 reborn_slot)) (place.Head 0) ≡ 33554433
-unfolding bucket_of link_of word_of has_flag first_bits flag_word
-reborn_slot_word_9 = refl
-
-pub reborn_slot_word_14 : word_at shape_of_three (world_after shape_of_three (take 14 reborn_slot)) (place.Head 0) ≡ 33554434
-unfolding bucket_of link_of word_of has_flag first_bits flag_word
-reborn_slot_word_14 = refl
-
-pub reborn_slot_word_29 : word_at shape_of_three (world_after shape_of_three (take 29 reborn_slot)) (place.LinkOf 1) ≡ 50331649
-unfolding bucket_of link_of word_of has_flag first_bits flag_word
-reborn_slot_word_29 = refl
-
-pub reborn_slot_word_30 : word_at shape_of_three (world_after shape_of_three (take 30 reborn_slot)) (place.Head 0) ≡ 33554433
-unfolding bucket_of link_of word_of has_flag first_bits flag_word
-reborn_slot_word_30 = refl
-
-pub reborn_slot_word_42 : word_at shape_of_three (world_after shape_of_three (take 42 reborn_slot)) (place.LinkOf 1) ≡ 67108865
-unfolding bucket_of link_of word_of has_flag first_bits flag_word
-reborn_slot_word_42 = refl
-
-pub reborn_slot_word_43 : word_at shape_of_three (world_after shape_of_three (take 43 reborn_slot)) (place.Head 0) ≡ 67108866
-unfolding bucket_of link_of word_of has_flag first_bits flag_word
-reborn_slot_word_43 = refl
+reborn_slot_words = refl
 
 abbrev pub same_word : List Event
 same_word = by 0 ReadEpoch ∷ by 0 (Advance 1) ∷ by 0 ReadEpoch ∷ by 0 (TakeFlag 0) ∷ by 0 (StoreBirth 0 2) ∷ by 0 (StoreKey 0 30) ∷ by 0 (LoadLink (Head 0)) ∷ by 0 ReadEpoch ∷ by 0 (StoreLink 0 None) ∷ by 0 (Publish (Head 0) 0 0) ∷ by 1 ReadEpoch ∷ by 1 (LoadLink (Head 0)) ∷ by 1 ReadEpoch ∷ by 1 (LoadKey 0) ∷ by 1 (LoadBirth 0) ∷ by 1 ReadEpoch ∷ by 1 (TakeFlag 1) ∷ by 1 (StoreBirth 1 2) ∷ by 1 (StoreKey 1 20) ∷ by 1 (StoreLink 1 (Some 0)) ∷ by 0 (Advance 2) ∷ by 0 (Advance 3) ∷ by 0 (Advance 4) ∷ by 0 ReadEpoch ∷ by 0 (TakeFlag 2) ∷ by 0 (StoreBirth 2 5) ∷ by 0 (StoreKey 2 10) ∷ by 0 (LoadLink (Head 0)) ∷ by 0 ReadEpoch ∷ by 0 (LoadKey 0) ∷ by 0 (LoadBirth 0) ∷ by 0 ReadEpoch ∷ by 0 (StoreLink 2 (Some 0)) ∷ by 0 (Publish (Head 0) 67108865 2) ∷ by 0 (Mark 2 167772161) ∷ by 0 (Unlink (Head 0) 167772163 2) ∷ by 1 (Publish (Head 0) 67108865 1) ∷ []
 
-pub same_word_accepted : IsRun shape_of_three 2 same_word
+pub same_word_plays : Plays shape_of_three 2 same_word
+    ((Value 1) ∷ Won ∷ (Value 2) ∷ Won ∷ Done ∷ Done ∷ (Value 0) ∷ (Value 2) ∷ Done ∷ Won ∷ (Value 2) ∷ (Value 67108865) ∷ (Value 2) ∷ (Value 30) ∷ (Value 2) ∷ (Value 2) ∷ Won ∷ Done ∷ Done ∷ Done ∷ Won ∷ Won ∷ Won ∷ (Value 5) ∷ Won ∷ Done ∷ Done ∷ (Value 67108865) ∷ (Value 5) ∷ (Value 30) ∷ (Value 2) ∷ (Value 5) ∷ Done ∷ Won ∷ Won ∷ Won ∷ Won ∷ [])
+    (record { who = 0; op = Insert; key = 30; reply = true; value = None } ∷ record { who = 0; op = Insert; key = 10; reply = true; value = None } ∷ record { who = 0; op = Remove; key = 10; reply = true; value = None } ∷ record { who = 1; op = Insert; key = 20; reply = true; value = None } ∷ [])
 unfolding bucket_of link_of word_of has_flag first_bits flag_word
-same_word_accepted = search (rules, tests)
+same_word_plays = (search (rules, tests), refl, refl)
 
-pub same_word_effects : effects_from shape_of_three (opening shape_of_three) same_word ≡ (Value 1) ∷ Won ∷ (Value 2) ∷ Won ∷ Done ∷ Done ∷ (Value 0) ∷ (Value 2) ∷ Done ∷ Won ∷ (Value 2) ∷ (Value 67108865) ∷ (Value 2) ∷ (Value 30) ∷ (Value 2) ∷ (Value 2) ∷ Won ∷ Done ∷ Done ∷ Done ∷ Won ∷ Won ∷ Won ∷ (Value 5) ∷ Won ∷ Done ∷ Done ∷ (Value 67108865) ∷ (Value 5) ∷ (Value 30) ∷ (Value 2) ∷ (Value 5) ∷ Done ∷ Won ∷ Won ∷ Won ∷ Won ∷ []
+pub same_word_ends : Ends shape_of_three same_word (0 ∷ 1 ∷ 2 ∷ []) 3 5 ((Listed 0) ∷ (Listed 0) ∷ (Own 0) ∷ [])
 unfolding bucket_of link_of word_of has_flag first_bits flag_word
-same_word_effects = refl
+same_word_ends = (refl, refl, refl)
 
-pub same_word_calls : (world_after shape_of_three same_word).calls ≡ record { who = 0; op = Insert; key = 30; reply = true; value = None } ∷ record { who = 0; op = Insert; key = 10; reply = true; value = None } ∷ record { who = 0; op = Remove; key = 10; reply = true; value = None } ∷ record { who = 1; op = Insert; key = 20; reply = true; value = None } ∷ []
+pub same_word_words : words_along shape_of_three same_word ((9, place.LinkOf 0) ∷ (33, place.LinkOf 2) ∷ (34, place.Head 0) ∷ (35, place.LinkOf 2) ∷ (36, place.Head 0) ∷ (37, place.Head 0) ∷ [])
+    ≡ 67108864 ∷ 167772161 ∷ 167772163 ∷ 184549377 ∷ 67108865 ∷ 67108866 ∷ []
 unfolding bucket_of link_of word_of has_flag first_bits flag_word
-same_word_calls = refl
-
-pub same_word_births : (world_after shape_of_three same_word).births ≡ 3
-unfolding bucket_of link_of word_of has_flag first_bits flag_word
-same_word_births = refl
-
-pub same_word_epoch : (world_after shape_of_three same_word).epoch ≡ 5
-unfolding bucket_of link_of word_of has_flag first_bits flag_word
-same_word_epoch = refl
-
-pub same_word_place_0 : (world_after shape_of_three same_word).place 0 ≡ Listed 0
-unfolding bucket_of link_of word_of has_flag first_bits flag_word
-same_word_place_0 = refl
-
-pub same_word_place_1 : (world_after shape_of_three same_word).place 1 ≡ Listed 0
-unfolding bucket_of link_of word_of has_flag first_bits flag_word
-same_word_place_1 = refl
-
-pub same_word_place_2 : (world_after shape_of_three same_word).place 2 ≡ Own 0
-unfolding bucket_of link_of word_of has_flag first_bits flag_word
-same_word_place_2 = refl
-
-pub same_word_word_9 : word_at shape_of_three (world_after shape_of_three (take 9 same_word)) (place.LinkOf 0) ≡ 67108864
-unfolding bucket_of link_of word_of has_flag first_bits flag_word
-same_word_word_9 = refl
-
-pub same_word_word_33 : word_at shape_of_three (world_after shape_of_three (take 33 same_word)) (place.LinkOf 2) ≡ 167772161
-unfolding bucket_of link_of word_of has_flag first_bits flag_word
-same_word_word_33 = refl
-
-pub same_word_word_34 : word_at shape_of_three (world_after shape_of_three (take 34 same_word)) (place.Head 0) ≡ 167772163
-unfolding bucket_of link_of word_of has_flag first_bits flag_word
-same_word_word_34 = refl
-
-pub same_word_word_35 : word_at shape_of_three (world_after shape_of_three (take 35 same_word)) (place.LinkOf 2) ≡ 184549377
-unfolding bucket_of link_of word_of has_flag first_bits flag_word
-same_word_word_35 = refl
-
-pub same_word_word_36 : word_at shape_of_three (world_after shape_of_three (take 36 same_word)) (place.Head 0) ≡ 67108865
-unfolding bucket_of link_of word_of has_flag first_bits flag_word
-same_word_word_36 = refl
-
-pub same_word_word_37 : word_at shape_of_three (world_after shape_of_three (take 37 same_word)) (place.Head 0) ≡ 67108866
-unfolding bucket_of link_of word_of has_flag first_bits flag_word
-same_word_word_37 = refl
+same_word_words = refl
 
 abbrev pub two_helpers : List Event
 two_helpers = by 0 ReadEpoch ∷ by 0 (TakeFlag 0) ∷ by 0 (StoreBirth 0 1) ∷ by 0 (StoreKey 0 7) ∷ by 0 (LoadLink (Head 0)) ∷ by 0 ReadEpoch ∷ by 0 (StoreLink 0 None) ∷ by 0 (Publish (Head 0) 0 0) ∷ by 1 ReadEpoch ∷ by 1 (LoadLink (Head 0)) ∷ by 1 ReadEpoch ∷ by 0 (Mark 0 33554432) ∷ by 1 (LoadKey 0) ∷ by 1 (LoadBirth 0) ∷ by 1 (LoadLink (Slot 0)) ∷ by 1 ReadEpoch ∷ by 1 (Unlink (Head 0) 33554433 0) ∷ by 0 (Unlink (Head 0) 33554433 0) ∷ []
 
-pub two_helpers_accepted : IsRun shape_of_one 2 two_helpers
+pub two_helpers_plays : Plays shape_of_one 2 two_helpers
+    ((Value 1) ∷ Won ∷ Done ∷ Done ∷ (Value 0) ∷ (Value 1) ∷ Done ∷ Won ∷ (Value 1) ∷ (Value 33554433) ∷ (Value 1) ∷ Won ∷ (Value 7) ∷ (Value 1) ∷ (Value 50331648) ∷ (Value 1) ∷ Won ∷ (Lost 0) ∷ [])
+    (record { who = 0; op = Insert; key = 7; reply = true; value = None } ∷ record { who = 0; op = Remove; key = 7; reply = true; value = None } ∷ [])
 unfolding bucket_of link_of word_of has_flag first_bits flag_word
-two_helpers_accepted = search (rules, tests)
+two_helpers_plays = (search (rules, tests), refl, refl)
 
-pub two_helpers_effects : effects_from shape_of_one (opening shape_of_one) two_helpers ≡ (Value 1) ∷ Won ∷ Done ∷ Done ∷ (Value 0) ∷ (Value 1) ∷ Done ∷ Won ∷ (Value 1) ∷ (Value 33554433) ∷ (Value 1) ∷ Won ∷ (Value 7) ∷ (Value 1) ∷ (Value 50331648) ∷ (Value 1) ∷ Won ∷ (Lost 0) ∷ []
+pub two_helpers_ends : Ends shape_of_one two_helpers (0 ∷ []) 1 1 ((Own 1) ∷ [])
 unfolding bucket_of link_of word_of has_flag first_bits flag_word
-two_helpers_effects = refl
+two_helpers_ends = (refl, refl, refl)
 
-pub two_helpers_calls : (world_after shape_of_one two_helpers).calls ≡ record { who = 0; op = Insert; key = 7; reply = true; value = None } ∷ record { who = 0; op = Remove; key = 7; reply = true; value = None } ∷ []
+pub two_helpers_words : words_along shape_of_one two_helpers ((18, place.Head 0) ∷ [])
+    ≡ 0 ∷ []
 unfolding bucket_of link_of word_of has_flag first_bits flag_word
-two_helpers_calls = refl
-
-pub two_helpers_births : (world_after shape_of_one two_helpers).births ≡ 1
-unfolding bucket_of link_of word_of has_flag first_bits flag_word
-two_helpers_births = refl
-
-pub two_helpers_epoch : (world_after shape_of_one two_helpers).epoch ≡ 1
-unfolding bucket_of link_of word_of has_flag first_bits flag_word
-two_helpers_epoch = refl
-
-pub two_helpers_place_0 : (world_after shape_of_one two_helpers).place 0 ≡ Own 1
-unfolding bucket_of link_of word_of has_flag first_bits flag_word
-two_helpers_place_0 = refl
-
-pub two_helpers_word_18 : word_at shape_of_one (world_after shape_of_one (take 18 two_helpers)) (place.Head 0) ≡ 0
-unfolding bucket_of link_of word_of has_flag first_bits flag_word
-two_helpers_word_18 = refl
+two_helpers_words = refl

@@ -7,13 +7,13 @@ use Rattle.vbr_words.specs.declared.place.At.TheVariants.{Head, Slot}
 use Rattle.vbr_words.specs.declared.place.Place.TheVariants as place
 use Rattle.vbr_words.specs.Buckets.{bucket_of}
 use Rattle.vbr_machine.specs.Machine.{opening, word_at}
-use Rattle.vbr_machine.specs.Runs.{IsRun, Refuses, world_after}
+use Rattle.vbr_machine.specs.Runs.{Refuses, world_after}
 use Rattle.vbr_machine.specs.declared.history.Op.TheVariants.{Insert, Remove, Get}
 use Rattle.vbr_machine.specs.declared.event.Event.{Event}
 use Rattle.vbr_machine.specs.declared.event.Step.TheVariants.{ReadEpoch, TakeFlag, StoreBirth, StoreKey, StoreValue, StoreLink, LoadLink, LoadKey, LoadValue, Publish, Mark, ConfirmPresent, ConfirmAbsent}
 use Rattle.vbr_machine.specs.declared.event.Effect.TheVariants.{Value, Done, Won, Lost, Answered}
 use Rattle.vbr_machine.specs.declared.event.CoreRefusal.TheVariants.{NotHeld, OutOfRange}
-use Rattle.vbr_machine.proofs.WorkedLists.{by, shape_of_one, effects_from}
+use Rattle.vbr_machine.proofs.WorkedLists.{by, shape_of_one, Plays}
 
 abbrev map_of_one : Start
 map_of_one = empty_start (record { slots = 1; buckets = 1; spread = false; last_epoch = 10; values = true })
@@ -32,19 +32,11 @@ inserted = in_hand ++ by 0 (StoreValue 0 107) ∷ by 0 (Publish (Head 0) 0 0) �
 abbrev valued_run : List Event
 valued_run = inserted ++ read_by_another ++ by 1 (LoadValue 0) ∷ by 1 ReadEpoch ∷ by 1 (ConfirmPresent Get 0 33554432) ∷ by 0 (Mark 0 33554432) ∷ by 1 (ConfirmPresent Get 0 33554432) ∷ []
 
-pub valued_run_accepted : IsRun map_of_one 2 valued_run
+pub valued_run_plays : Plays map_of_one 2 valued_run
+    ((Value 1) ∷ Won ∷ Done ∷ Done ∷ (Value 0) ∷ (Value 1) ∷ Done ∷ Done ∷ Won ∷ (Value 1) ∷ (Value 33554433) ∷ (Value 1) ∷ (Value 7) ∷ (Value 33554432) ∷ (Value 1) ∷ (Value 107) ∷ (Value 1) ∷ (Answered true) ∷ Won ∷ (Lost 50331648) ∷ [])
+    (record { who = 0; op = Insert; key = 7; reply = true; value = Some 107 } ∷ record { who = 1; op = Get; key = 7; reply = true; value = Some 107 } ∷ record { who = 0; op = Remove; key = 7; reply = true; value = Some 107 } ∷ [])
 unfolding bucket_of link_of word_of has_flag first_bits flag_word
-valued_run_accepted = search (rules, tests)
-
-pub valued_run_effects : effects_from map_of_one (opening map_of_one) valued_run
-    ≡ (Value 1) ∷ Won ∷ Done ∷ Done ∷ (Value 0) ∷ (Value 1) ∷ Done ∷ Done ∷ Won ∷ (Value 1) ∷ (Value 33554433) ∷ (Value 1) ∷ (Value 7) ∷ (Value 33554432) ∷ (Value 1) ∷ (Value 107) ∷ (Value 1) ∷ (Answered true) ∷ Won ∷ (Lost 50331648) ∷ []
-unfolding bucket_of link_of word_of has_flag first_bits flag_word
-valued_run_effects = refl
-
-pub valued_run_calls : (world_after map_of_one valued_run).calls
-    ≡ record { who = 0; op = Insert; key = 7; reply = true; value = Some 107 } ∷ record { who = 1; op = Get; key = 7; reply = true; value = Some 107 } ∷ record { who = 0; op = Remove; key = 7; reply = true; value = Some 107 } ∷ []
-unfolding bucket_of link_of word_of has_flag first_bits flag_word
-valued_run_calls = refl
+valued_run_plays = (search (rules, tests), refl, refl)
 
 pub valued_run_word : word_at map_of_one (world_after map_of_one valued_run) (place.Value 0) ≡ 107
 unfolding bucket_of link_of word_of has_flag first_bits flag_word

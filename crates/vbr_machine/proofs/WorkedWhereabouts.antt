@@ -1,5 +1,5 @@
 -- Where the slots are along the first worked run, computed at seven of its moments; and a run in which a pass has two unstamped slots at once.
-use Rattle.std.proofs.Common.{◌≡◌, ℕ, List, [], ◌∷◌, ◌++◌, take, refl, rules, tests}
+use Rattle.std.proofs.Common.{◌≡◌, ℕ, List, [], ◌∷◌, ◌++◌, map, take, refl, rules, tests}
 use Rattle.vbr_words.specs.Flags.{has_flag, first_bits, flag_word}
 use Rattle.vbr_words.specs.Words.{word_of, link_of}
 use Rattle.vbr_words.specs.Buckets.{bucket_of}
@@ -16,40 +16,18 @@ numbers moment =
     let at = λ (whereabouts : Whereabouts). number_at shape_of_three (take moment reborn_slot) whereabouts in
     at InSharedPool ∷ at (WithPass 0) ∷ at (WithPass 1) ∷ at InSet ∷ at MarkedInList ∷ at (Unstamped 0) ∷ at (Unstamped 1) ∷ []
 
--- at the opening
-pub at_opening : numbers 0 ≡ 3 ∷ 0 ∷ 0 ∷ 0 ∷ 0 ∷ 0 ∷ 0 ∷ []
+-- at the opening; once pass 0 has taken a slot; once it has published two, and pass 1 has one in hand; once a node is marked; unlinked; stamped; and born in again and published
+pub along_reborn_slot : map numbers (0 ∷ 2 ∷ 28 ∷ 29 ∷ 30 ∷ 32 ∷ 43 ∷ [])
+    ≡ (3 ∷ 0 ∷ 0 ∷ 0 ∷ 0 ∷ 0 ∷ 0 ∷ [])
+    ∷ (2 ∷ 1 ∷ 0 ∷ 0 ∷ 0 ∷ 0 ∷ 0 ∷ [])
+    ∷ (0 ∷ 0 ∷ 1 ∷ 2 ∷ 0 ∷ 0 ∷ 0 ∷ [])
+    ∷ (0 ∷ 0 ∷ 1 ∷ 1 ∷ 1 ∷ 0 ∷ 0 ∷ [])
+    ∷ (0 ∷ 0 ∷ 1 ∷ 1 ∷ 0 ∷ 1 ∷ 0 ∷ [])
+    ∷ (0 ∷ 1 ∷ 1 ∷ 1 ∷ 0 ∷ 0 ∷ 0 ∷ [])
+    ∷ (0 ∷ 0 ∷ 1 ∷ 2 ∷ 0 ∷ 0 ∷ 0 ∷ [])
+    ∷ []
 unfolding bucket_of link_of word_of has_flag first_bits flag_word
-at_opening = refl
-
--- pass 0 has taken a slot
-pub taken : numbers 2 ≡ 2 ∷ 1 ∷ 0 ∷ 0 ∷ 0 ∷ 0 ∷ 0 ∷ []
-unfolding bucket_of link_of word_of has_flag first_bits flag_word
-taken = refl
-
--- it has published two, and pass 1 has one in hand
-pub published : numbers 28 ≡ 0 ∷ 0 ∷ 1 ∷ 2 ∷ 0 ∷ 0 ∷ 0 ∷ []
-unfolding bucket_of link_of word_of has_flag first_bits flag_word
-published = refl
-
--- a node is marked
-pub a_mark : numbers 29 ≡ 0 ∷ 0 ∷ 1 ∷ 1 ∷ 1 ∷ 0 ∷ 0 ∷ []
-unfolding bucket_of link_of word_of has_flag first_bits flag_word
-a_mark = refl
-
--- unlinked
-pub unlinked : numbers 30 ≡ 0 ∷ 0 ∷ 1 ∷ 1 ∷ 0 ∷ 1 ∷ 0 ∷ []
-unfolding bucket_of link_of word_of has_flag first_bits flag_word
-unlinked = refl
-
--- stamped
-pub stamped : numbers 32 ≡ 0 ∷ 1 ∷ 1 ∷ 1 ∷ 0 ∷ 0 ∷ 0 ∷ []
-unfolding bucket_of link_of word_of has_flag first_bits flag_word
-stamped = refl
-
--- and born in again and published
-pub reborn : numbers 43 ≡ 0 ∷ 0 ∷ 1 ∷ 2 ∷ 0 ∷ 0 ∷ 0 ∷ []
-unfolding bucket_of link_of word_of has_flag first_bits flag_word
-reborn = refl
+along_reborn_slot = refl
 
 -- ---- two unstamped at once
 
