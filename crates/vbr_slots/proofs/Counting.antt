@@ -8,15 +8,12 @@ use Rattle.vbr_words.specs.declared.place.At.{At}
 use Rattle.vbr_slots.specs.Calls.{Took}
 use Rattle.vbr_slots.specs.Expected.{Finds, FindsOther, Publishes, ReplacesNode}
 use Rattle.vbr_slots.specs.OwnSlots.{MissesFlag, TakesFlag}
-use Rattle.vbr_slots.specs.Reads.{Reads, ReadsNode}
 use Rattle.vbr_slots.specs.Views.{PassView, Trace, counted_steps, steps_of}
-use Rattle.vbr_slots.proofs.Calls.{count_on, did_took, took_on}
+use Rattle.vbr_slots.proofs.Calls.{count_on, did_took}
 
 -- the count goes on, where the pass was lent as it was
 pub counts : {p lent : PassView} {q : Trace} {old new : ℕ} (more : ℕ) → lent ≡ p → old ≡ counted_steps (steps_of p.trace) → new ≡ counted_steps (old + more) → Took lent.trace q more → new ≡ counted_steps (steps_of q)
 counts {p} {lent} {q} {old} {new} more same is after took = count_on old new more (is ∙ ap (λ (v : PassView). counted_steps (steps_of v.trace)) (sym same)) after took
-
--- ---- one step, with what was expected or without
 
 pub expects_took : (step : Step) (p q : PassView) (expected : ℕ) (answer : Result (Unit {0}) ℕ) → OnOk answer (Finds step p q expected) → IfErr answer (FindsOther step p q expected) → Took p.trace q.trace 1
 expects_took step p q expected (Ok done) finds other = did_took finds.did
@@ -37,11 +34,3 @@ flag_took slot p q (Err found) takes misses = did_took misses.did
 pub advance_took : (step : Step) (p q : PassView) (from : ℕ) (b : Bool) → MatchBool b (Finds step p q from) ((found : ℕ) × FindsOther step p q from found) → Took p.trace q.trace 1
 advance_took step p q from true finds = did_took finds.did
 advance_took step p q from false other = did_took other.1.did
-
--- ---- loads in a row
-
-pub reads_took : {step : Step} {p q : PassView} {found epoch : ℕ} → Reads step p q found epoch → Took p.trace q.trace 2
-reads_took reads = took_on 1 1 (did_took reads.loaded) (did_took reads.read)
-
-pub reads_node_took : {slot : ℕ} {p q : PassView} {birth word epoch : ℕ} → ReadsNode slot p q birth word epoch → Took p.trace q.trace 3
-reads_node_took reads = took_on 1 2 (did_took reads.born) (reads_took reads.reads)

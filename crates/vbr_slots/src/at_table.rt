@@ -1,6 +1,6 @@
 //! A pass at its table. Its methods are the steps, for calls that make several and count them once for
-//! all; each is as the call of the same name on [`crate::Slots`], which counts its own. One more,
-//! `raise_outside`, is `raise` of a slot that is known not to be in the own pool.
+//! all. [`crate::Slots`] has those of one step as calls on a table and a pass, each of which puts the pass
+//! at the table, makes the step there, and counts it.
 pub mod bearing;
 pub mod confirming;
 pub mod epoch;

@@ -1,4 +1,4 @@
-//! The steps that make a new incarnation in a slot of the pass.
+//! The steps that make a new incarnation in a slot of the pass, counted.
 ghost use Rattle.std.specs.Prelude.{◌≡◌, ◌<◌, true, Some};
 ghost use Rattle.vbr_words.specs.Words.{link_of};
 ghost use Rattle.vbr_machine.specs.Acceptance.{MayBear, IsNextIn, IsNextHeld, stamp_in};
@@ -10,13 +10,10 @@ ghost use Rattle.vbr_slots.specs.Views.{IsOf, Did, KeepsPool, knows};
 
 use crate::pass::{Pass, steps_after};
 use crate::slots::Slots;
-use vbr_machine::Step;
-use vbr_words::{Nodes, Place, decode};
+use vbr_words::Nodes;
 
 impl<N: Nodes> Slots<N> {
-    /// Gives birth to a new incarnation in a slot of the pass, in one step. The slot was stamped
-    /// before the last epoch that the pass read, which is the birth; it leaves the own pool and is
-    /// in hand.
+    /// As [`crate::AtTable::store_birth`], counted.
     #[inline]
     pub fn store_birth(&self, pass: &mut Pass, slot: u32)
         requires own { IsOf pass.old.trace self.now }
@@ -30,7 +27,7 @@ impl<N: Nodes> Slots<N> {
         self.at(&mut pass.stepper).store_birth(slot);
     }
 
-    /// Stores the key of the incarnation in hand, in one step.
+    /// As [`crate::AtTable::store_key`], counted.
     #[inline]
     pub fn store_key(&self, pass: &mut Pass, slot: u32, key: u64)
         requires own { IsOf pass.old.trace self.now }
@@ -42,7 +39,7 @@ impl<N: Nodes> Slots<N> {
         self.at(&mut pass.stepper).store_key(slot, key);
     }
 
-    /// Stores the value of the incarnation in hand, in one step, where nodes have values.
+    /// As [`crate::AtTable::store_value`], counted.
     #[inline]
     pub fn store_value(&self, pass: &mut Pass, slot: u32, value: u64)
         requires own { IsOf pass.old.trace self.now }
@@ -55,8 +52,7 @@ impl<N: Nodes> Slots<N> {
         self.at(&mut pass.stepper).store_value(slot, value);
     }
 
-    /// Stores the link word of the incarnation in hand, in one step: unmarked, to none or to a held
-    /// slot whose birth the pass has checked, with the greater of the two births as its version.
+    /// As [`crate::AtTable::store_link`], counted.
     #[inline]
     pub fn store_link(&self, pass: &mut Pass, slot: u32, word: u64)
         requires own { IsOf pass.old.trace self.now }

@@ -1,4 +1,4 @@
-//! The steps that answer a call by one more load of a link word.
+//! The steps that answer a call by one more load of a link word, counted.
 ghost use Rattle.std.specs.Prelude.{◌<◌, OnOk, IfErr};
 ghost use Rattle.vbr_machine.specs.Acceptance.{Accepts, IsAtIn, IsOpIn};
 ghost use Rattle.vbr_machine.specs.declared.event.Step.TheVariants.{ConfirmPresent, ConfirmAbsent};
@@ -9,14 +9,11 @@ ghost use Rattle.vbr_slots.specs.Views.{IsOf, knows};
 
 use crate::pass::{Pass, steps_after};
 use crate::slots::Slots;
-use crate::stepping::place_of_link;
-use vbr_machine::{Op, Step};
-use vbr_words::{At, Nodes, Place};
+use vbr_machine::Op;
+use vbr_words::{At, Nodes};
 
 impl<N: Nodes> Slots<N> {
-    /// Answers a look-up or an insert, in one step, a load: if the link word of a node is still
-    /// `expected`, unmarked, the node's key is present. Else the word that was found comes back,
-    /// and no call is answered.
+    /// As [`crate::AtTable::confirm_present`], counted.
     #[inline]
     pub fn confirm_present(
         &self,
@@ -39,10 +36,7 @@ impl<N: Nodes> Slots<N> {
             .confirm_present(op, slot, expected)
     }
 
-    /// Answers a look-up or a remove, in one step, a load: if the link word at a place is still
-    /// `expected`, unmarked, then the key, which would stand behind that place and before what the
-    /// word names, or what marked nodes lead to from there, is absent. Else the word that was found
-    /// comes back, and no call is answered.
+    /// As [`crate::AtTable::confirm_absent`], counted.
     #[inline]
     pub fn confirm_absent(
         &self,
@@ -66,10 +60,7 @@ impl<N: Nodes> Slots<N> {
             .confirm_absent(op, key, at, expected)
     }
 
-    /// Answers a look-up of a key, in one step: it is present, if the link word at its node is
-    /// still `expected`, unmarked; or it is absent, if the link word at the place before it is.
-    /// Which of the two is asked `present` says. Else the word that was found comes back, and no
-    /// call is answered. Either way it is one load, without a branch.
+    /// As [`crate::AtTable::confirm_look_up`], counted.
     #[inline]
     pub fn confirm_look_up(
         &self,

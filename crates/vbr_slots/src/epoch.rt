@@ -1,4 +1,4 @@
-//! The steps on the epoch.
+//! The steps on the epoch, counted.
 ghost use Rattle.std.specs.Prelude.{ℕ, ◌<◌, ◌≤◌, MatchBool};
 ghost use Rattle.vbr_machine.specs.declared.event.Step.TheVariants.{ReadEpoch, Advance};
 ghost use Rattle.vbr_slots.specs.Expected.{Finds, FindsOther};
@@ -6,12 +6,10 @@ ghost use Rattle.vbr_slots.specs.Views.{IsOf, Did, KeepsPool};
 
 use crate::pass::{Pass, steps_after};
 use crate::slots::Slots;
-use vbr_machine::Step;
-use vbr_words::{Nodes, Place};
+use vbr_words::Nodes;
 
 impl<N: Nodes> Slots<N> {
-    /// Reads the epoch, in one step. Where it is the one that the pass read last, its pending reads
-    /// are checked; where it has moved, the pass knows of no reads any more.
+    /// As [`crate::AtTable::read_epoch`], counted.
     #[inline]
     pub fn read_epoch(&self, pass: &mut Pass) -> u64
         requires own { IsOf pass.old.trace self.now }
@@ -22,7 +20,7 @@ impl<N: Nodes> Slots<N> {
         self.at(&mut pass.stepper).read_epoch()
     }
 
-    /// Advances the epoch by 1, if it is `from`, in one step, and says whether it was.
+    /// As [`crate::AtTable::advance`], counted.
     #[inline]
     pub fn advance(&self, pass: &mut Pass, from: u64) -> bool
         requires own { IsOf pass.old.trace self.now }

@@ -1,5 +1,4 @@
-//! The steps that exchange a link word: insert, remove, replace and unlink (Michael 2002), each on the whole
-//! word with its version (Sheffi, Herlihy and Petrank 2021).
+//! The steps that exchange a link word, counted.
 ghost use Rattle.std.specs.Prelude.{◌≡◌, ◌<◌, true, Some, OnOk, IfErr};
 ghost use Rattle.vbr_machine.specs.Acceptance.{IsAtIn};
 ghost use Rattle.vbr_machine.specs.declared.event.Step.TheVariants.{Publish, Mark, Replace, Unlink};
@@ -9,14 +8,10 @@ ghost use Rattle.vbr_slots.specs.Views.{IsOf};
 
 use crate::pass::{Pass, steps_after};
 use crate::slots::Slots;
-use crate::stepping::place_of_link;
-use vbr_machine::Step;
-use vbr_words::{At, Nodes, Place, with_mark};
+use vbr_words::{At, Nodes};
 
 impl<N: Nodes> Slots<N> {
-    /// Links the incarnation in hand behind `pred`, in one step, if the word there is `expected`:
-    /// it becomes `new`, nothing is in hand any more, and the pass has inserted the key. Else the
-    /// word that was found comes back, and nothing changes.
+    /// As [`crate::AtTable::publish`], counted.
     #[inline]
     pub fn publish(
         &self,
@@ -40,8 +35,7 @@ impl<N: Nodes> Slots<N> {
             .publish(pred, expected, slot, new)
     }
 
-    /// Marks a node, in one step, if its link word is `expected`: the pass has removed its key.
-    /// Else the word that was found comes back, and nothing changes.
+    /// As [`crate::AtTable::mark`], counted.
     #[inline]
     pub fn mark(&self, pass: &mut Pass, slot: u32, expected: u64) -> Result<(), u64>
         requires own { IsOf pass.old.trace self.now }
@@ -54,9 +48,7 @@ impl<N: Nodes> Slots<N> {
         self.at(&mut pass.stepper).mark(slot, expected)
     }
 
-    /// Marks a node and links the incarnation in hand in its place, in one step, if its link word is
-    /// `expected`: it becomes `word`, nothing is in hand any more, and the pass has replaced the value
-    /// of the key. Else the word that was found comes back, and nothing changes.
+    /// As [`crate::AtTable::replace`], counted.
     #[inline]
     pub fn replace(
         &self,
@@ -81,9 +73,7 @@ impl<N: Nodes> Slots<N> {
             .replace(slot, expected, new, word)
     }
 
-    /// Unlinks a marked node behind `pred`, in one step, if the word there is `expected`: it
-    /// becomes `new`, and the slot is the pass's own, to be stamped. Else the word that was found
-    /// comes back, and nothing changes.
+    /// As [`crate::AtTable::unlink`], counted.
     #[inline]
     pub fn unlink(
         &self,

@@ -22,7 +22,6 @@ pub mod opening;
 pub mod owning;
 pub mod pass;
 mod pool;
-pub mod reading;
 mod rule;
 mod runner;
 pub mod seen;

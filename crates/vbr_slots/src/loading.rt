@@ -1,5 +1,4 @@
-//! The steps that load what a traversal reads, one each. A read is pending until the epoch is read
-//! again.
+//! The steps that load what a traversal reads, one each, counted.
 ghost use Rattle.std.specs.Prelude.{◌≡◌, ◌<◌, true, IsTrue};
 ghost use Rattle.vbr_machine.specs.Acceptance.{IsAtIn};
 ghost use Rattle.vbr_machine.specs.Knowledge.{holds, holds_at};
@@ -8,12 +7,10 @@ ghost use Rattle.vbr_slots.specs.Views.{IsOf, Did, KeepsPool, knows};
 
 use crate::pass::{Pass, steps_after};
 use crate::slots::Slots;
-use crate::stepping::place_of_link;
-use vbr_machine::Step;
-use vbr_words::{At, Nodes, Place};
+use vbr_words::{At, Nodes};
 
 impl<N: Nodes> Slots<N> {
-    /// Loads the link word of a head or of a held slot, in one step.
+    /// As [`crate::AtTable::load_link`], counted.
     #[inline]
     pub fn load_link(&self, pass: &mut Pass, at: At) -> u64
         requires own { IsOf pass.old.trace self.now }
@@ -26,7 +23,7 @@ impl<N: Nodes> Slots<N> {
         self.at(&mut pass.stepper).load_link(at)
     }
 
-    /// Loads the birth of a held slot, an epoch, in one step.
+    /// As [`crate::AtTable::load_birth`], counted.
     #[inline]
     pub fn load_birth(&self, pass: &mut Pass, slot: u32) -> u64
         requires own { IsOf pass.old.trace self.now }
@@ -39,7 +36,7 @@ impl<N: Nodes> Slots<N> {
         self.at(&mut pass.stepper).load_birth(slot)
     }
 
-    /// Loads the key of a held slot, in one step.
+    /// As [`crate::AtTable::load_key`], counted.
     #[inline]
     pub fn load_key(&self, pass: &mut Pass, slot: u32) -> u64
         requires own { IsOf pass.old.trace self.now }
@@ -52,7 +49,7 @@ impl<N: Nodes> Slots<N> {
         self.at(&mut pass.stepper).load_key(slot)
     }
 
-    /// Loads the value of a held slot, in one step, where nodes have values.
+    /// As [`crate::AtTable::load_value`], counted.
     #[inline]
     pub fn load_value(&self, pass: &mut Pass, slot: u32) -> u64
         requires own { IsOf pass.old.trace self.now }

@@ -1,4 +1,4 @@
-//! The steps that take a slot out of the shared pool, put it back, and read and store its stamp.
+//! The steps that take a slot out of the shared pool, put it back, and read and store its stamp, counted.
 ghost use Rattle.std.specs.Prelude.{◌≡◌, ℕ, ◌<◌, OnOk, IfErr, IsSome};
 ghost use Rattle.vbr_machine.specs.Acceptance.{IsFree, IsReread};
 ghost use Rattle.vbr_machine.specs.declared.event.Step.TheVariants.{LoadStamp, StoreStamp, Raise};
@@ -8,12 +8,10 @@ ghost use Rattle.vbr_slots.specs.Views.{IsOf, Did, KeepsPool};
 
 use crate::pass::{Pass, steps_after};
 use crate::slots::Slots;
-use vbr_machine::Step;
-use vbr_words::flags::{all_but, flag_of, has_flag, word_of_flag};
-use vbr_words::{Nodes, Place};
+use vbr_words::Nodes;
 
 impl<N: Nodes> Slots<N> {
-    /// Loads the stamp of a slot that the pass owns, an epoch, in one step.
+    /// As [`crate::AtTable::load_stamp`], counted.
     #[inline]
     pub fn load_stamp(&self, pass: &mut Pass, slot: u32) -> u64
         requires own { IsOf pass.old.trace self.now }
@@ -27,8 +25,7 @@ impl<N: Nodes> Slots<N> {
         self.at(&mut pass.stepper).load_stamp(slot)
     }
 
-    /// Stamps a slot that the pass unlinked, in one step, with the last epoch that it read, which
-    /// it read since the unlinking: the slot is retired.
+    /// As [`crate::AtTable::store_stamp`], counted.
     #[inline]
     pub fn store_stamp(&self, pass: &mut Pass, slot: u32)
         requires own { IsOf pass.old.trace self.now }
@@ -42,8 +39,7 @@ impl<N: Nodes> Slots<N> {
         self.at(&mut pass.stepper).store_stamp(slot);
     }
 
-    /// Puts a free slot of the pass into the shared pool, and takes it out of the pass's own pool if
-    /// it is there. One `|` sets its flag in the flag word, and leaves those of other slots.
+    /// As [`crate::AtTable::raise`], counted.
     #[inline]
     pub fn raise(&self, pass: &mut Pass, slot: u32)
         requires own { IsOf pass.old.trace self.now }
@@ -57,9 +53,7 @@ impl<N: Nodes> Slots<N> {
         self.at(&mut pass.stepper).raise(slot);
     }
 
-    /// Takes a slot out of the shared pool, if it is there: one `&` clears its flag in the flag word,
-    /// and leaves those of other slots. A slot that is taken is the pass's own, and outside its own
-    /// pool. If it wasn't there, gives the flag word that was found.
+    /// As [`crate::AtTable::take_flag`], counted.
     #[inline]
     pub fn take_flag(&self, pass: &mut Pass, slot: u32) -> Result<(), u64>
         requires own { IsOf pass.old.trace self.now }

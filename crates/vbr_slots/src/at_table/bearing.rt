@@ -14,7 +14,9 @@ use vbr_machine::Step;
 use vbr_words::{Nodes, Place, decode};
 
 impl<N: Nodes> AtTable<'_, N> {
-    /// As [`crate::Slots::store_birth`].
+    /// Gives birth to a new incarnation in a slot of the pass, in one step. The slot was stamped
+    /// before the last epoch that the pass read, which is the birth; it leaves the own pool and is
+    /// in hand.
     #[inline]
     pub fn store_birth(&mut self, slot: u32)
         requires slot { slot < self.old.slots.now.start.shape.slots }
@@ -33,7 +35,7 @@ impl<N: Nodes> AtTable<'_, N> {
         stepper.hand = Some(slot);
     }
 
-    /// As [`crate::Slots::store_key`].
+    /// Stores the key of the incarnation in hand, in one step.
     #[inline]
     pub fn store_key(&mut self, slot: u32, key: u64)
         requires in_hand { (pass_of self.old).hand ≡ Some slot }
@@ -46,7 +48,7 @@ impl<N: Nodes> AtTable<'_, N> {
         slots.store(&mut stepper.runner, step, Place::Key(slot), key);
     }
 
-    /// As [`crate::Slots::store_value`].
+    /// Stores the value of the incarnation in hand, in one step, where nodes have values.
     #[inline]
     pub fn store_value(&mut self, slot: u32, value: u64)
         requires values { self.old.slots.now.start.shape.values ≡ true }
@@ -60,7 +62,8 @@ impl<N: Nodes> AtTable<'_, N> {
         slots.store(&mut stepper.runner, step, Place::Value(slot), value);
     }
 
-    /// As [`crate::Slots::store_link`].
+    /// Stores the link word of the incarnation in hand, in one step: unmarked, to none or to a held
+    /// slot whose birth the pass has checked, with the greater of the two births as its version.
     #[inline]
     pub fn store_link(&mut self, slot: u32, word: u64)
         requires in_hand { (pass_of self.old).hand ≡ Some slot }

@@ -14,7 +14,9 @@ use vbr_machine::{Op, Step};
 use vbr_words::{At, Nodes, Place};
 
 impl<N: Nodes> AtTable<'_, N> {
-    /// As [`crate::Slots::confirm_present`].
+    /// Answers a look-up or an insert, in one step, a load: if the link word of a node is still
+    /// `expected`, unmarked, the node's key is present. Else the word that was found comes back,
+    /// and no call is answered.
     #[inline]
     pub fn confirm_present(&mut self, op: Op, slot: u32, expected: u64) -> Result<(), u64>
         requires slot { slot < self.old.slots.now.start.shape.slots }
@@ -37,7 +39,10 @@ impl<N: Nodes> AtTable<'_, N> {
         }
     }
 
-    /// As [`crate::Slots::confirm_absent`].
+    /// Answers a look-up or a remove, in one step, a load: if the link word at a place is still
+    /// `expected`, unmarked, then the key, which would stand after that place and before what the word
+    /// names, or what marked nodes lead to from there, is absent. Else the word that was found comes
+    /// back, and no call is answered.
     #[inline]
     pub fn confirm_absent(&mut self, op: Op, key: u64, at: At, expected: u64) -> Result<(), u64>
         requires at { IsAtIn self.old.slots.now.start at }
@@ -65,7 +70,10 @@ impl<N: Nodes> AtTable<'_, N> {
         }
     }
 
-    /// As [`crate::Slots::confirm_look_up`].
+    /// Answers a look-up of a key, in one step: it is present, if the link word at its node is
+    /// still `expected`, unmarked; or it is absent, if the link word at the place before it is.
+    /// `present` says which of the two is asked. Else the word that was found comes back, and no
+    /// call is answered. Either way it is one load, without a branch.
     #[inline]
     pub fn confirm_look_up(
         &mut self,

@@ -10,7 +10,8 @@ use vbr_machine::Step;
 use vbr_words::{Nodes, Place};
 
 impl<N: Nodes> AtTable<'_, N> {
-    /// As [`crate::Slots::read_epoch`].
+    /// Reads the epoch, in one step. Where it is the one that the pass read last, its pending reads
+    /// are checked; where it has moved, the pass knows of no reads any more.
     #[inline]
     pub fn read_epoch(&mut self) -> u64
         ensures table { IsSameTable self.old self.new }
@@ -21,7 +22,7 @@ impl<N: Nodes> AtTable<'_, N> {
         slots.load(&mut stepper.runner, Step::ReadEpoch, Place::Epoch)
     }
 
-    /// As [`crate::Slots::advance`].
+    /// Advances the epoch by 1, if it is `from`, in one step, and says whether it was.
     #[inline]
     pub fn advance(&mut self, from: u64) -> bool
         requires some { 1 ≤ from }

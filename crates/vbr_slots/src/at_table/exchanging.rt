@@ -13,7 +13,9 @@ use vbr_machine::Step;
 use vbr_words::{At, Nodes, Place, with_mark};
 
 impl<N: Nodes> AtTable<'_, N> {
-    /// As [`crate::Slots::publish`].
+    /// Links the incarnation in hand after `pred`, in one step, if the word there is `expected`:
+    /// it becomes `new`, nothing is in hand any more, and the pass has inserted the key. Else the
+    /// word that was found comes back, and nothing changes.
     #[inline]
     pub fn publish(&mut self, pred: At, expected: u64, slot: u32, new: u64) -> Result<(), u64>
         requires in_hand { (pass_of self.old).hand ≡ Some slot }
@@ -44,7 +46,8 @@ impl<N: Nodes> AtTable<'_, N> {
         Err(found)
     }
 
-    /// As [`crate::Slots::mark`].
+    /// Marks a node, in one step, if its link word is `expected`: the pass has removed its key.
+    /// Else the word that was found comes back, and nothing changes.
     #[inline]
     pub fn mark(&mut self, slot: u32, expected: u64) -> Result<(), u64>
         requires slot { slot < self.old.slots.now.start.shape.slots }
@@ -65,7 +68,9 @@ impl<N: Nodes> AtTable<'_, N> {
         }
     }
 
-    /// As [`crate::Slots::replace`].
+    /// Marks a node and links the incarnation in hand in its place, in one step, if its link word is
+    /// `expected`: it becomes `word`, nothing is in hand any more, and the pass has replaced the value
+    /// of the key. Else the word that was found comes back, and nothing changes.
     #[inline]
     pub fn replace(&mut self, slot: u32, expected: u64, new: u32, word: u64) -> Result<(), u64>
         requires in_hand { (pass_of self.old).hand ≡ Some new }
@@ -97,7 +102,9 @@ impl<N: Nodes> AtTable<'_, N> {
         Err(found)
     }
 
-    /// As [`crate::Slots::unlink`].
+    /// Unlinks a marked node after `pred`, in one step, if the word there is `expected`: it
+    /// becomes `new`, and the slot is the pass's own, to be stamped. Else the word that was found
+    /// comes back, and nothing changes.
     #[inline]
     pub fn unlink(&mut self, pred: At, expected: u64, slot: u32, new: u64) -> Result<(), u64>
         requires pred { IsAtIn self.old.slots.now.start pred }

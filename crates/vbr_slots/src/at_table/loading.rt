@@ -13,7 +13,7 @@ use vbr_machine::Step;
 use vbr_words::{At, Nodes, Place};
 
 impl<N: Nodes> AtTable<'_, N> {
-    /// As [`crate::Slots::load_link`].
+    /// Loads the link word of a head or of a held slot, in one step.
     #[inline]
     pub fn load_link(&mut self, at: At) -> u64
         requires at { IsAtIn self.old.slots.now.start at }
@@ -30,7 +30,7 @@ impl<N: Nodes> AtTable<'_, N> {
         )
     }
 
-    /// As [`crate::Slots::load_birth`].
+    /// Loads the birth of a held slot, an epoch, in one step.
     #[inline]
     pub fn load_birth(&mut self, slot: u32) -> u64
         requires slot { slot < self.old.slots.now.start.shape.slots }
@@ -47,7 +47,7 @@ impl<N: Nodes> AtTable<'_, N> {
         )
     }
 
-    /// As [`crate::Slots::load_key`].
+    /// Loads the key of a held slot, in one step.
     #[inline]
     pub fn load_key(&mut self, slot: u32) -> u64
         requires slot { slot < self.old.slots.now.start.shape.slots }
@@ -64,7 +64,7 @@ impl<N: Nodes> AtTable<'_, N> {
         )
     }
 
-    /// As [`crate::Slots::load_value`].
+    /// Loads the value of a held slot, in one step, where nodes have values.
     #[inline]
     pub fn load_value(&mut self, slot: u32) -> u64
         requires values { self.old.slots.now.start.shape.values ≡ true }

@@ -13,7 +13,7 @@ use vbr_words::flags::{all_but, flag_of, has_flag, word_of_flag};
 use vbr_words::{Nodes, Place};
 
 impl<N: Nodes> AtTable<'_, N> {
-    /// As [`crate::Slots::load_stamp`].
+    /// Loads the stamp of a slot that the pass owns, an epoch, in one step.
     #[inline]
     pub fn load_stamp(&mut self, slot: u32) -> u64
         requires slot { slot < self.old.slots.now.start.shape.slots }
@@ -31,7 +31,8 @@ impl<N: Nodes> AtTable<'_, N> {
         )
     }
 
-    /// As [`crate::Slots::store_stamp`].
+    /// Stamps a slot that the pass unlinked, in one step, with the last epoch that it read, which
+    /// it read since the unlinking: the slot is retired.
     #[inline]
     pub fn store_stamp(&mut self, slot: u32)
         requires slot { slot < self.old.slots.now.start.shape.slots }
@@ -47,7 +48,8 @@ impl<N: Nodes> AtTable<'_, N> {
         slots.store(&mut stepper.runner, step, Place::Stamp(slot), stamp);
     }
 
-    /// As [`crate::Slots::raise`].
+    /// Puts a free slot of the pass into the shared pool, and takes it out of the pass's own pool if
+    /// it is there. One `|` sets its flag in the flag word, and leaves those of other slots.
     #[inline]
     pub fn raise(&mut self, slot: u32)
         requires slot { slot < self.old.slots.now.start.shape.slots }
@@ -62,7 +64,7 @@ impl<N: Nodes> AtTable<'_, N> {
         self.raise_outside(slot);
     }
 
-    /// As [`crate::Slots::raise`], for a slot outside the own pool, which isn't searched for it: so it
+    /// As [`AtTable::raise`], for a slot outside the own pool, which isn't searched for it: so it
     /// takes as long however many slots are there.
     #[inline]
     pub fn raise_outside(&mut self, slot: u32)
@@ -84,7 +86,9 @@ impl<N: Nodes> AtTable<'_, N> {
         );
     }
 
-    /// As [`crate::Slots::take_flag`].
+    /// Takes a slot out of the shared pool, if it is there: one `&` clears its flag in the flag word,
+    /// and leaves those of other slots. A slot that is taken is the pass's own, and outside its own
+    /// pool. If it wasn't there, the flag word that was found comes back.
     #[inline]
     pub fn take_flag(&mut self, slot: u32) -> Result<(), u64>
         requires slot { slot < self.old.slots.now.start.shape.slots }

@@ -1,5 +1,5 @@
 //! Loads in a row that end with a read of the epoch. What they loaded is checked where the epoch is the
-//! one that the pass read before. Their steps are counted together.
+//! one that the pass read before.
 ghost use Rattle.std.specs.Prelude.{◌≡◌, ◌<◌, true, IsTrue};
 ghost use Rattle.vbr_machine.specs.Acceptance.{IsAtIn};
 ghost use Rattle.vbr_machine.specs.Knowledge.{holds, holds_at};
@@ -14,7 +14,9 @@ use vbr_machine::Step;
 use vbr_words::{At, Nodes, Place};
 
 impl<N: Nodes> AtTable<'_, N> {
-    /// As [`crate::Slots::read_link`].
+    /// Loads the link word of a head or of a held slot, and reads the epoch, in two steps: returns
+    /// the word and the epoch. Where that is the epoch that the pass read before, the read is
+    /// checked; where it has moved, the pass knows of no reads any more.
     #[inline]
     pub fn read_link(&mut self, at: At) -> (u64, u64)
         requires at { IsAtIn self.old.slots.now.start at }
@@ -32,7 +34,8 @@ impl<N: Nodes> AtTable<'_, N> {
         )
     }
 
-    /// As [`crate::Slots::read_key`].
+    /// Loads the key of a held slot, and reads the epoch, in two steps: returns the key and
+    /// the epoch, which checks the read as in [`AtTable::read_link`].
     #[inline]
     pub fn read_key(&mut self, slot: u32) -> (u64, u64)
         requires slot { slot < self.old.slots.now.start.shape.slots }
@@ -50,7 +53,8 @@ impl<N: Nodes> AtTable<'_, N> {
         )
     }
 
-    /// As [`crate::Slots::read_value`].
+    /// Loads the value of a held slot, and reads the epoch, in two steps: returns the value and
+    /// the epoch, which checks the read as in [`AtTable::read_link`].
     #[inline]
     pub fn read_value(&mut self, slot: u32) -> (u64, u64)
         requires values { self.old.slots.now.start.shape.values ≡ true }
@@ -69,7 +73,8 @@ impl<N: Nodes> AtTable<'_, N> {
         )
     }
 
-    /// As [`crate::Slots::read_node`].
+    /// Loads the birth and the link word of a held slot, and reads the epoch, in three steps: returns
+    /// the birth, the word and the epoch, which checks both reads as in [`AtTable::read_link`].
     #[inline]
     pub fn read_node(&mut self, slot: u32) -> (u64, u64, u64)
         requires slot { slot < self.old.slots.now.start.shape.slots }
