@@ -41,7 +41,7 @@ pub use hand::Hand;
 pub use held::{Checkpoint, Held, Marked};
 pub use marking::{mark, mark_entry};
 pub use reading::{checkpoint, first, key_of, next, value_of};
-pub use refusal::TakeRefusal;
+pub use refusal::Refusal;
 pub use replacing::{birth_after, replace_entry};
 pub use retiring::retire;
 pub use rollback::Rollback;

@@ -10,8 +10,8 @@ ghost use Rattle.vbr_list.specs.Traversing.{Finds, SearchTires};
 
 use crate::call::PendingCall;
 use crate::found::Found;
-use crate::refusal::Refusal;
 use crate::traversal::Stop;
+use vbr_at_table::Refusal;
 use vbr_slots::{AtTable, Pass, Slots};
 use vbr_words::Nodes;
 

@@ -14,12 +14,9 @@ ghost use Rattle.vbr_list.specs.Traversing.{LocatesFor};
 
 use crate::call::PendingCall;
 use crate::found::Found;
-use crate::refusal::Refusal;
 use crate::valuing::steps_to_update;
 use vbr_at_table::budget::affords;
-use vbr_at_table::{
-    Hand, Rollback, TakeRefusal, confirm_present_entry, give_back, take, update_entry,
-};
+use vbr_at_table::{Hand, Refusal, Rollback, confirm_present_entry, give_back, take, update_entry};
 use vbr_machine::Op;
 use vbr_slots::{AtTable, Pass, Slots};
 use vbr_words::{Entries, Nodes};
@@ -60,11 +57,11 @@ impl<N: Nodes> PendingCall<'_, N> {
         match outcome {
             Ok(hand) => Ok(hand),
             Err(refusal) => match refusal {
-                TakeRefusal::OutOfSteps { used: more } => Err(Refusal::OutOfSteps {
+                Refusal::OutOfSteps { used: more } => Err(Refusal::OutOfSteps {
                     used: before + more,
                 }),
-                TakeRefusal::NoSlot => Err(Refusal::NoSlot),
-                TakeRefusal::EpochSpent { epoch } => Err(Refusal::EpochSpent { epoch }),
+                Refusal::NoSlot => Err(Refusal::NoSlot),
+                Refusal::EpochSpent { epoch } => Err(Refusal::EpochSpent { epoch }),
             },
         }
     }

@@ -14,10 +14,11 @@ ghost use Rattle.vbr_list.specs.Told.{given_in, look_up_op};
 
 use crate::call::PendingCall;
 use crate::looking::Sight;
-use crate::refusal::Refusal;
 use crate::valuing::{is_yes, steps_to_value_of, value_if_any};
 use vbr_at_table::budget::affords;
-use vbr_at_table::{Held, Rollback, confirm_absent_entry, confirm_look_up, confirm_present_entry};
+use vbr_at_table::{
+    Held, Refusal, Rollback, confirm_absent_entry, confirm_look_up, confirm_present_entry,
+};
 use vbr_machine::Op;
 use vbr_slots::{AtTable, Pass, Slots};
 use vbr_words::{Entries, Nodes};

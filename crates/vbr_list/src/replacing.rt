@@ -15,12 +15,11 @@ ghost use Rattle.vbr_list.specs.Traversing.{LocatesFor};
 use crate::call::PendingCall;
 use crate::found::Found;
 use crate::helping::unlink_and_retire;
-use crate::refusal::Refusal;
 use crate::removing::walk_by_copy;
 use vbr_at_table::budget::affords;
 use vbr_at_table::{
-    Hand, Held, Marked, Rollback, birth_after, confirm_absent_entry, give_back, replace_entry,
-    value_of,
+    Hand, Held, Marked, Refusal, Rollback, birth_after, confirm_absent_entry, give_back,
+    replace_entry, value_of,
 };
 use vbr_machine::Op;
 use vbr_slots::{AtTable, Pass, Slots};

@@ -2,7 +2,7 @@ use Rattle.std.proofs.Common.{ap, sym, ◌∙◌, Bool, Result, subst}
 use Rattle.vbr_machine.specs.Start.{Start}
 use Rattle.vbr_machine.specs.declared.history.Op.TheVariants.{Remove}
 use Rattle.vbr_list.specs.Sparing.{Calls}
-use Rattle.vbr_list.specs.declared.refusal.Refusal.{Refusal}
+use Rattle.vbr_at_table.specs.declared.refusal.Refusal.{Refusal}
 use Rattle.vbr_list.proofs.Told.{calls_yes, given_bare, remove_yes}
 use Rattle.vbr_list.proofs.removing.remove_key.Goals as goal
 
