@@ -1,7 +1,8 @@
 -- What a search finds is among the reads, and where a read is among them, a search finds one.
-use Rattle.std.proofs.Common.{◌≡◌, ℕ, Bool, true, false, List, [], ◌∷◌, Option, Some, None, refl, arith, sym, ap, ◌∙◌, inl, inr, ⊎_elim}
+use Rattle.std.proofs.Common.{◌≡◌, ℕ, Bool, true, false, List, [], ◌∷◌, Option, Some, None, refl, arith, sym, subst, ap, ◌∙◌, inl, inr, ⊎_elim}
 use Rattle.std.specs.Prelude.{◌⊎◌, ◌==◌, ◌&&◌, if◌then◌else◌, IsSome}
 use Rattle.std.specs.List.{Contains}
+use Rattle.std.proofs.lemmas.Bool.Decides.{nat_tests}
 use Rattle.std.proofs.lemmas.Bool.{cases_Bool, cases_eq, eq-eqb, ne_eqb, eqb-true, and_parts}
 use Rattle.std.proofs.lemmas.List.Elements.{Contains-append_cases, Contains-append_right, Contains-push_cases}
 use Rattle.vbr_words.specs.declared.link.Link.{Link}
@@ -11,7 +12,6 @@ use Rattle.vbr_machine.specs.Links.{same_slot, same_mark, same_link}
 use Rattle.vbr_machine.specs.Knowledge.{same_at, knows_link, birth_in, key_in, marked_in, names, holds, value_in}
 use Rattle.vbr_machine.specs.declared.knowledge.Read.{Read}
 use Rattle.vbr_machine.specs.declared.knowledge.Read.TheVariants.{LinkAt, BirthOf, KeyOf, ValueOf}
-use Rattle.vbr_machine.proofs.Searches.{same_link_true, same_at_true}
 
 -- ---- members of a list
 
@@ -32,6 +32,27 @@ first_or_later x y xs m = ⊎_elim
 
 -- ---- tests
 
+same_slot_true : (i j : Option ℕ) → same_slot i j ≡ true → i ≡ j
+same_slot_true i j e = grind (arith, nat_tests)
+
+same_mark_true : (b c : Bool) → same_mark b c ≡ true → b ≡ c
+same_mark_true b c e = grind arith
+
+pub same_link_true : (v w : Link) → same_link v w ≡ true → v ≡ w
+same_link_true v w e =
+    let x = and_parts (same_slot v.slot w.slot) (same_mark v.mark w.mark && v.version == w.version) e in
+    let y = and_parts (same_mark v.mark w.mark) (v.version == w.version) x.1 in
+    let p = same_slot_true v.slot w.slot x.0 in
+    let q = same_mark_true v.mark w.mark y.0 in
+    let r : v.version ≡ w.version = let z = y.1 in grind (arith, nat_tests) in
+    λ i. record { slot = p i; mark = q i; version = r i }
+
+pub same_at_true : (x y : At) → same_at x y ≡ true → x ≡ y
+same_at_true (Head b) (Head c) e = ap Head (grind (arith, nat_tests))
+same_at_true (Slot b) (Slot c) e = ap Slot (grind (arith, nat_tests))
+same_at_true (Head b) (Slot c) e = cc
+same_at_true (Slot b) (Head c) e = cc
+
 same_slot_refl : (i : Option ℕ) → same_slot i i ≡ true
 same_slot_refl None = refl
 same_slot_refl (Some s) = eq-eqb s s refl
@@ -51,49 +72,48 @@ same_at_refl (Slot s) = eq-eqb s s refl
 
 pub link_among : (reads : List Read) (at : At) (link : Link) → knows_link reads at link ≡ true → Contains reads (LinkAt at link)
 link_among [] at link q = absurd (cc)
-link_among (BirthOf v b ∷ reads) at link q = there (BirthOf v b) (LinkAt at link) reads (link_among reads at link q)
-link_among (KeyOf v b ∷ reads) at link q = there (KeyOf v b) (LinkAt at link) reads (link_among reads at link q)
-link_among (ValueOf v b ∷ reads) at link q = there (ValueOf v b) (LinkAt at link) reads (link_among reads at link q)
 link_among (LinkAt at2 seen ∷ reads) at link q = elim (cases_Bool (same_at at2 at && same_link seen link)) [
   | inl k ↦ let u = and_parts (same_at at2 at) (same_link seen link) k in let e = same_at_true at2 at u.0 in let f = same_link_true seen link u.1 in here (LinkAt at2 seen) (LinkAt at link) reads (λ i. LinkAt (e i) (f i))
   | inr k ↦ there (LinkAt at2 seen) (LinkAt at link) reads (link_among reads at link (rw k at q))
 ]
+link_among (read ∷ reads) at link q = there read (LinkAt at link) reads (link_among reads at link q)
 
-pub birth_among : (reads : List Read) (s b : ℕ) → birth_in reads s ≡ Some b → Contains reads (BirthOf s b)
-birth_among [] s b q = absurd (cc)
-birth_among (LinkAt at link ∷ reads) s b q = there (LinkAt at link) (BirthOf s b) reads (birth_among reads s b q)
-birth_among (KeyOf v d ∷ reads) s b q = there (KeyOf v d) (BirthOf s b) reads (birth_among reads s b q)
-birth_among (ValueOf v d ∷ reads) s b q = there (ValueOf v d) (BirthOf s b) reads (birth_among reads s b q)
-birth_among (BirthOf v d ∷ reads) s b q = elim (cases_eq v s) [
-  | inl k ↦ let r : Some d ≡ Some b = rw (eq-eqb v s k) at q in let e : d ≡ b = cc in here (BirthOf v d) (BirthOf s b) reads (λ i. BirthOf (k i) (e i))
-  | inr k ↦ there (BirthOf v d) (BirthOf s b) reads (birth_among reads s b (rw (ne_eqb v s k) at q))
+-- a word of a node that a read may be of: its birth, its key or its value
+pub data NodeWord : Type 0 where
+  Birth : NodeWord
+  Key : NodeWord
+  Value : NodeWord
+
+-- the read of a slot that found this in the word
+abbrev pub read_of : NodeWord → ℕ → ℕ → Read
+read_of Birth = BirthOf
+read_of Key = KeyOf
+read_of Value = ValueOf
+
+-- what a search for the word finds
+abbrev pub word_in : NodeWord → List Read → ℕ → Option ℕ
+word_in Birth = birth_in
+word_in Key = key_in
+word_in Value = value_in
+
+-- a search finds the first read of its slot, or what it finds behind
+word_here : (of : ℕ → ℕ → Read) (reads : List Read) (v d s b : ℕ) (rest : Option ℕ) → (if v == s then Some d else rest) ≡ Some b → (rest ≡ Some b → Contains reads (of s b)) → Contains (of v d ∷ reads) (of s b)
+word_here of reads v d s b rest q later = elim (cases_eq v s) [
+  | inl k ↦ let r : Some d ≡ Some b = rw (eq-eqb v s k) at q in let e : d ≡ b = cc in here (of v d) (of s b) reads (λ i. of (k i) (e i))
+  | inr k ↦ there (of v d) (of s b) reads (later (rw (ne_eqb v s k) at q))
 ]
 
-pub key_among : (reads : List Read) (s b : ℕ) → key_in reads s ≡ Some b → Contains reads (KeyOf s b)
-key_among [] s b q = absurd (cc)
-key_among (LinkAt at link ∷ reads) s b q = there (LinkAt at link) (KeyOf s b) reads (key_among reads s b q)
-key_among (BirthOf v d ∷ reads) s b q = there (BirthOf v d) (KeyOf s b) reads (key_among reads s b q)
-key_among (ValueOf v d ∷ reads) s b q = there (ValueOf v d) (KeyOf s b) reads (key_among reads s b q)
-key_among (KeyOf v d ∷ reads) s b q = elim (cases_eq v s) [
-  | inl k ↦ let r : Some d ≡ Some b = rw (eq-eqb v s k) at q in let e : d ≡ b = cc in here (KeyOf v d) (KeyOf s b) reads (λ i. KeyOf (k i) (e i))
-  | inr k ↦ there (KeyOf v d) (KeyOf s b) reads (key_among reads s b (rw (ne_eqb v s k) at q))
-]
-
-pub value_among : (reads : List Read) (s b : ℕ) → value_in reads s ≡ Some b → Contains reads (ValueOf s b)
-value_among [] s b q = absurd (cc)
-value_among (LinkAt at link ∷ reads) s b q = there (LinkAt at link) (ValueOf s b) reads (value_among reads s b q)
-value_among (BirthOf v d ∷ reads) s b q = there (BirthOf v d) (ValueOf s b) reads (value_among reads s b q)
-value_among (KeyOf v d ∷ reads) s b q = there (KeyOf v d) (ValueOf s b) reads (value_among reads s b q)
-value_among (ValueOf v d ∷ reads) s b q = elim (cases_eq v s) [
-  | inl k ↦ let r : Some d ≡ Some b = rw (eq-eqb v s k) at q in let e : d ≡ b = cc in here (ValueOf v d) (ValueOf s b) reads (λ i. ValueOf (k i) (e i))
-  | inr k ↦ there (ValueOf v d) (ValueOf s b) reads (value_among reads s b (rw (ne_eqb v s k) at q))
-]
+pub word_among : (word : NodeWord) (reads : List Read) (s b : ℕ) → word_in word reads s ≡ Some b → Contains reads (read_of word s b)
+word_among Birth (BirthOf v d ∷ reads) s b q = word_here BirthOf reads v d s b (birth_in reads s) q (word_among Birth reads s b)
+word_among Key (KeyOf v d ∷ reads) s b q = word_here KeyOf reads v d s b (key_in reads s) q (word_among Key reads s b)
+word_among Value (ValueOf v d ∷ reads) s b q = word_here ValueOf reads v d s b (value_in reads s) q (word_among Value reads s b)
+word_among word (read ∷ reads) s b q = there read (read_of word s b) reads (word_among word reads s b q)
+word_among Birth [] s b q = absurd (cc)
+word_among Key [] s b q = absurd (cc)
+word_among Value [] s b q = absurd (cc)
 
 pub marked_among : (reads : List Read) (s : ℕ) (link : Link) → marked_in reads s ≡ Some link → Contains reads (LinkAt (Slot s) link) × (link.mark ≡ true)
 marked_among [] s link q = absurd (cc)
-marked_among (BirthOf v d ∷ reads) s link q = let x = marked_among reads s link q in (there (BirthOf v d) (LinkAt (Slot s) link) reads x.0, x.1)
-marked_among (KeyOf v d ∷ reads) s link q = let x = marked_among reads s link q in (there (KeyOf v d) (LinkAt (Slot s) link) reads x.0, x.1)
-marked_among (ValueOf v d ∷ reads) s link q = let x = marked_among reads s link q in (there (ValueOf v d) (LinkAt (Slot s) link) reads x.0, x.1)
 marked_among (LinkAt at seen ∷ reads) s link q = elim (cases_Bool (same_at at (Slot s) && seen.mark)) [
   | inl k ↦
       let u = and_parts (same_at at (Slot s)) seen.mark k in
@@ -103,6 +123,7 @@ marked_among (LinkAt at seen ∷ reads) s link q = elim (cases_Bool (same_at at 
       (here (LinkAt at seen) (LinkAt (Slot s) link) reads (λ i. LinkAt (e i) (f i)), sym (ap (λ (l : Link). l.mark) f) ∙ u.1)
   | inr k ↦ let x = marked_among reads s link (rw k at q) in (there (LinkAt at seen) (LinkAt (Slot s) link) reads x.0, x.1)
 ]
+marked_among (read ∷ reads) s link q = let x = marked_among reads s link q in (there read (LinkAt (Slot s) link) reads x.0, x.1)
 
 named : (v : Option ℕ) (s : ℕ) → names v s ≡ true → v ≡ Some s
 named None s q = absurd (cc)
@@ -110,13 +131,11 @@ named (Some t) s q = ap Some (eqb-true t s q)
 
 pub holds_among : (reads : List Read) (s : ℕ) → holds reads s ≡ true → (at : At) × (link : Link) × Contains reads (LinkAt at link) × (link.slot ≡ Some s)
 holds_among [] s q = absurd (cc)
-holds_among (BirthOf v d ∷ reads) s q = let x = holds_among reads s q in (x.0, x.1, there (BirthOf v d) (LinkAt x.0 x.1) reads x.2, x.3)
-holds_among (KeyOf v d ∷ reads) s q = let x = holds_among reads s q in (x.0, x.1, there (KeyOf v d) (LinkAt x.0 x.1) reads x.2, x.3)
-holds_among (ValueOf v d ∷ reads) s q = let x = holds_among reads s q in (x.0, x.1, there (ValueOf v d) (LinkAt x.0 x.1) reads x.2, x.3)
 holds_among (LinkAt at link ∷ reads) s q = elim (cases_Bool (names link.slot s)) [
   | inl k ↦ (at, link, here (LinkAt at link) (LinkAt at link) reads refl, named link.slot s k)
   | inr k ↦ let x = holds_among reads s (rw k at q) in (x.0, x.1, there (LinkAt at link) (LinkAt x.0 x.1) reads x.2, x.3)
 ]
+holds_among (read ∷ reads) s q = let x = holds_among reads s q in (x.0, x.1, there read (LinkAt x.0 x.1) reads x.2, x.3)
 
 -- ---- what is among the reads is found
 
@@ -132,92 +151,44 @@ some_more false x o h = h
 some_now : {X : Type 0} (test : Bool) (x : X) (o : Option X) → test ≡ true → IsSome (if test then Some x else o)
 some_now test x o q = rw q refl
 
+-- what holds at a read, and goes on as one more read is passed, holds wherever the read is among them
+found_past : (P : List Read → Type 0) (read : Read) → ((reads : List Read) → P (read ∷ reads)) → ((other : Read) (reads : List Read) → P reads → P (other ∷ reads)) → (reads : List Read) → Contains reads read → P reads
+found_past P read now later [] m = absurd (none_in read m)
+found_past P read now later (other ∷ reads) m =
+    let Q : Read → Type 0 = λ r. P (r ∷ reads) in
+    ⊎_elim (λ q. subst Q (sym q) (now reads)) (λ n. later other reads (found_past P read now later reads n)) (first_or_later other read reads m)
+
 pub link_there : (reads : List Read) (at : At) (link : Link) → Contains reads (LinkAt at link) → knows_link reads at link ≡ true
-link_there [] at link m = absurd (none_in (LinkAt at link) m)
-link_there (read ∷ reads) at link m = go read (first_or_later read (LinkAt at link) reads m) (λ n. link_there reads at link n)
+link_there reads at link m = found_past (λ l. knows_link l at link ≡ true) (LinkAt at link) (λ l. rw (same_at_refl at, same_link_refl link) refl) later reads m
   where
-    go : (read : Read) → (read ≡ LinkAt at link) ⊎ Contains reads (LinkAt at link) → (Contains reads (LinkAt at link) → knows_link reads at link ≡ true) → knows_link (read ∷ reads) at link ≡ true
-    go (BirthOf v d) (inl q) rest = absurd (cc)
-    go (KeyOf v d) (inl q) rest = absurd (cc)
-    go (ValueOf v d) (inl q) rest = absurd (cc)
-    go (LinkAt at2 seen) (inl q) rest =
-        let e : at2 ≡ at = cc in
-        let f : seen ≡ link = cc in
-        rw (ap (λ x. same_at x at) e ∙ same_at_refl at, ap (λ x. same_link x link) f ∙ same_link_refl link) refl
-    go (BirthOf v d) (inr n) rest = rest n
-    go (KeyOf v d) (inr n) rest = rest n
-    go (ValueOf v d) (inr n) rest = rest n
-    go (LinkAt at2 seen) (inr n) rest = found_more (same_at at2 at && same_link seen link) (knows_link reads at link) (rest n)
+    later : (other : Read) (l : List Read) → knows_link l at link ≡ true → knows_link (other ∷ l) at link ≡ true
+    later (LinkAt at2 seen) l h = found_more (same_at at2 at && same_link seen link) (knows_link l at link) h
+    later _ l h = h
 
-pub birth_there : (reads : List Read) (s b : ℕ) → Contains reads (BirthOf s b) → IsSome (birth_in reads s)
-birth_there [] s b m = absurd (none_in (BirthOf s b) m)
-birth_there (read ∷ reads) s b m = go read (first_or_later read (BirthOf s b) reads m) (λ n. birth_there reads s b n)
+pub word_there : (word : NodeWord) (reads : List Read) (s b : ℕ) → Contains reads (read_of word s b) → IsSome (word_in word reads s)
+word_there word reads s b m = found_past (λ l. IsSome (word_in word l s)) (read_of word s b) (now word) (later word) reads m
   where
-    go : (read : Read) → (read ≡ BirthOf s b) ⊎ Contains reads (BirthOf s b) → (Contains reads (BirthOf s b) → IsSome (birth_in reads s)) → IsSome (birth_in (read ∷ reads) s)
-    go (LinkAt at link) (inl q) rest = absurd (cc)
-    go (KeyOf v d) (inl q) rest = absurd (cc)
-    go (ValueOf v d) (inl q) rest = absurd (cc)
-    go (BirthOf v d) (inl q) rest = let e : v ≡ s = cc in some_now (v == s) d (birth_in reads s) (eq-eqb v s e)
-    go (LinkAt at link) (inr n) rest = rest n
-    go (KeyOf v d) (inr n) rest = rest n
-    go (ValueOf v d) (inr n) rest = rest n
-    go (BirthOf v d) (inr n) rest = some_more (v == s) d (birth_in reads s) (rest n)
+    now : (word : NodeWord) (l : List Read) → IsSome (word_in word (read_of word s b ∷ l) s)
+    now Birth l = some_now (s == s) b (birth_in l s) (eq-eqb s s refl)
+    now Key l = some_now (s == s) b (key_in l s) (eq-eqb s s refl)
+    now Value l = some_now (s == s) b (value_in l s) (eq-eqb s s refl)
 
-pub key_there : (reads : List Read) (s b : ℕ) → Contains reads (KeyOf s b) → IsSome (key_in reads s)
-key_there [] s b m = absurd (none_in (KeyOf s b) m)
-key_there (read ∷ reads) s b m = go read (first_or_later read (KeyOf s b) reads m) (λ n. key_there reads s b n)
-  where
-    go : (read : Read) → (read ≡ KeyOf s b) ⊎ Contains reads (KeyOf s b) → (Contains reads (KeyOf s b) → IsSome (key_in reads s)) → IsSome (key_in (read ∷ reads) s)
-    go (LinkAt at link) (inl q) rest = absurd (cc)
-    go (BirthOf v d) (inl q) rest = absurd (cc)
-    go (ValueOf v d) (inl q) rest = absurd (cc)
-    go (KeyOf v d) (inl q) rest = let e : v ≡ s = cc in some_now (v == s) d (key_in reads s) (eq-eqb v s e)
-    go (LinkAt at link) (inr n) rest = rest n
-    go (BirthOf v d) (inr n) rest = rest n
-    go (ValueOf v d) (inr n) rest = rest n
-    go (KeyOf v d) (inr n) rest = some_more (v == s) d (key_in reads s) (rest n)
-
-pub value_there : (reads : List Read) (s b : ℕ) → Contains reads (ValueOf s b) → IsSome (value_in reads s)
-value_there [] s b m = absurd (none_in (ValueOf s b) m)
-value_there (read ∷ reads) s b m = go read (first_or_later read (ValueOf s b) reads m) (λ n. value_there reads s b n)
-  where
-    go : (read : Read) → (read ≡ ValueOf s b) ⊎ Contains reads (ValueOf s b) → (Contains reads (ValueOf s b) → IsSome (value_in reads s)) → IsSome (value_in (read ∷ reads) s)
-    go (LinkAt at link) (inl q) rest = absurd (cc)
-    go (BirthOf v d) (inl q) rest = absurd (cc)
-    go (KeyOf v d) (inl q) rest = absurd (cc)
-    go (ValueOf v d) (inl q) rest = let e : v ≡ s = cc in some_now (v == s) d (value_in reads s) (eq-eqb v s e)
-    go (LinkAt at link) (inr n) rest = rest n
-    go (BirthOf v d) (inr n) rest = rest n
-    go (KeyOf v d) (inr n) rest = rest n
-    go (ValueOf v d) (inr n) rest = some_more (v == s) d (value_in reads s) (rest n)
+    later : (word : NodeWord) (other : Read) (l : List Read) → IsSome (word_in word l s) → IsSome (word_in word (other ∷ l) s)
+    later Birth (BirthOf v d) l h = some_more (v == s) d (birth_in l s) h
+    later Key (KeyOf v d) l h = some_more (v == s) d (key_in l s) h
+    later Value (ValueOf v d) l h = some_more (v == s) d (value_in l s) h
+    later _ _ l h = h
 
 pub marked_there : (reads : List Read) (s : ℕ) (link : Link) → Contains reads (LinkAt (Slot s) link) → link.mark ≡ true → IsSome (marked_in reads s)
-marked_there [] s link m t = absurd (none_in (LinkAt (Slot s) link) m)
-marked_there (read ∷ reads) s link m t = go read (first_or_later read (LinkAt (Slot s) link) reads m) (λ n. marked_there reads s link n t)
+marked_there reads s link m t = found_past (λ l. IsSome (marked_in l s)) (LinkAt (Slot s) link) (λ l. some_now (same_at (Slot s) (Slot s) && link.mark) link (marked_in l s) (rw (same_at_refl (Slot s), t) refl)) later reads m
   where
-    go : (read : Read) → (read ≡ LinkAt (Slot s) link) ⊎ Contains reads (LinkAt (Slot s) link) → (Contains reads (LinkAt (Slot s) link) → IsSome (marked_in reads s)) → IsSome (marked_in (read ∷ reads) s)
-    go (BirthOf v d) (inl q) rest = absurd (cc)
-    go (KeyOf v d) (inl q) rest = absurd (cc)
-    go (ValueOf v d) (inl q) rest = absurd (cc)
-    go (LinkAt at seen) (inl q) rest =
-        let e : at ≡ Slot s = cc in
-        let f : seen ≡ link = cc in
-        some_now (same_at at (Slot s) && seen.mark) seen (marked_in reads s) (rw (ap (λ x. same_at x (Slot s)) e ∙ same_at_refl (Slot s), ap (λ (l : Link). l.mark) f ∙ t) refl)
-    go (BirthOf v d) (inr n) rest = rest n
-    go (KeyOf v d) (inr n) rest = rest n
-    go (ValueOf v d) (inr n) rest = rest n
-    go (LinkAt at seen) (inr n) rest = some_more (same_at at (Slot s) && seen.mark) seen (marked_in reads s) (rest n)
+    later : (other : Read) (l : List Read) → IsSome (marked_in l s) → IsSome (marked_in (other ∷ l) s)
+    later (LinkAt at seen) l h = some_more (same_at at (Slot s) && seen.mark) seen (marked_in l s) h
+    later _ l h = h
 
 pub holds_there : (reads : List Read) (s : ℕ) (at : At) (link : Link) → Contains reads (LinkAt at link) → link.slot ≡ Some s → holds reads s ≡ true
-holds_there [] s at link m t = absurd (none_in (LinkAt at link) m)
-holds_there (read ∷ reads) s at link m t = go read (first_or_later read (LinkAt at link) reads m) (λ n. holds_there reads s at link n t)
+holds_there reads s at link m t = found_past (λ l. holds l s ≡ true) (LinkAt at link) (λ l. rw (ap (λ v. names v s) t ∙ eq-eqb s s refl) refl) later reads m
   where
-    go : (read : Read) → (read ≡ LinkAt at link) ⊎ Contains reads (LinkAt at link) → (Contains reads (LinkAt at link) → holds reads s ≡ true) → holds (read ∷ reads) s ≡ true
-    go (BirthOf v d) (inl q) rest = absurd (cc)
-    go (KeyOf v d) (inl q) rest = absurd (cc)
-    go (ValueOf v d) (inl q) rest = absurd (cc)
-    go (LinkAt at2 seen) (inl q) rest = let f : seen ≡ link = cc in rw (ap (λ (l : Link). names l.slot s) f ∙ ap (λ v. names v s) t ∙ eq-eqb s s refl) refl
-    go (BirthOf v d) (inr n) rest = rest n
-    go (KeyOf v d) (inr n) rest = rest n
-    go (ValueOf v d) (inr n) rest = rest n
-    go (LinkAt at2 seen) (inr n) rest = found_more (names seen.slot s) (holds reads s) (rest n)
+    later : (other : Read) (l : List Read) → holds l s ≡ true → holds (other ∷ l) s ≡ true
+    later (LinkAt at2 seen) l h = found_more (names seen.slot s) (holds l s) h
+    later _ l h = h

@@ -22,7 +22,8 @@ use Rattle.vbr_machine.specs.declared.knowledge.Read.TheVariants.{LinkAt, BirthO
 use Rattle.vbr_machine.proofs.Slots.{late_inserted, listed_late}
 use Rattle.vbr_machine.proofs.Growth.{inserted_stays}
 use Rattle.vbr_machine.proofs.Noted.{all_both}
-use Rattle.vbr_machine.proofs.KnownReads.{note_of_known, one_held, key_held}
+use Rattle.vbr_machine.proofs.KnownReads.{one_held, key_held}
+use Rattle.vbr_machine.proofs.Searches.{note_of_known}
 
 -- ---- notes in order
 

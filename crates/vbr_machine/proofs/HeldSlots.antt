@@ -17,7 +17,7 @@ use Rattle.vbr_machine.specs.declared.event.Step.{Step}
 use Rattle.vbr_machine.specs.declared.event.Step.TheVariants.{ReadEpoch, Advance, LoadStamp, StoreStamp, Raise, TakeFlag, StoreBirth, StoreKey, StoreLink, LoadLink, LoadBirth, LoadKey, Publish, Mark, Replace, Unlink, ConfirmPresent, ConfirmAbsent, StoreValue, LoadValue}
 use Rattle.vbr_machine.specs.declared.knowledge.Read.{Read}
 use Rattle.vbr_machine.specs.declared.knowledge.Read.TheVariants.{LinkAt, BirthOf, KeyOf, ValueOf}
-use Rattle.vbr_machine.proofs.Searches.{same_at_true}
+use Rattle.vbr_machine.proofs.FoundReads.{same_at_true}
 use Rattle.vbr_machine.proofs.ValueReads.{of_value}
 
 -- the place that a read is of is held

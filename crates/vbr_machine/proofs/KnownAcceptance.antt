@@ -27,7 +27,7 @@ use Rattle.vbr_machine.specs.declared.knowledge.Holding.TheVariants.{Free, Unlin
 use Rattle.vbr_machine.specs.declared.knowledge.Read.{Read}
 use Rattle.vbr_machine.proofs.MarkedWalks.{walk_led, led_walk}
 use Rattle.vbr_machine.proofs.Searches.{birth_is, key_is, value_is}
-use Rattle.vbr_machine.proofs.FoundReads.{link_among, birth_among, marked_among, holds_among, link_there, birth_there, key_there, value_there, marked_there, holds_there}
+use Rattle.vbr_machine.proofs.FoundReads.{Birth, Key, Value, word_among, word_there, link_among, marked_among, holds_among, link_there, marked_there, holds_there}
 use Rattle.vbr_machine.proofs.KnownReads.{key_known, value_known, behind_known, before_known, birth_held, key_held, value_held, one_mark}
 use Rattle.vbr_machine.proofs.ValueReads.{some_value}
 
@@ -52,7 +52,7 @@ birth_known know s h = go (birth_in know.checked s) refl h
   where
     go : (o : Option ℕ) → birth_in know.checked s ≡ o → IsSome o → Knows know (BirthOf s (unwrap_or o 0))
     go None q h = absurd (cc)
-    go (Some birth) q h = record { among = birth_among know.checked s birth q }
+    go (Some birth) q h = record { among = word_among Birth know.checked s birth q }
 
 birth_at_known : (know : Know) (at : At) → IsSome (birth_at know.checked at) → BirthAt know at (unwrap_or (birth_at know.checked at) 0)
 birth_at_known know (Head b) h = refl
@@ -166,19 +166,19 @@ module _ {start : Start} {a : Incarnations} {know : Know} {notes : Notes} (sound
   pub key_looked_up : (s key : ℕ) → Knows know (KeyOf s key) → unwrap_or (key_in know.checked s) 0 ≡ key
   key_looked_up s key k =
       let x = key_held noted s key k in
-      key_is sound.slots know.epoch notes.checked know.checked s x.0 noted.checked_reads noted.checked x.1 (key_there know.checked s key k.among) ∙ x.2
+      key_is sound.slots know.epoch notes.checked know.checked s x.0 noted.checked_reads noted.checked x.1 (word_there Key know.checked s key k.among) ∙ x.2
 
   -- and so does a search of a value
   pub value_looked_up : (s value : ℕ) → Knows know (ValueOf s value) → value_in know.checked s ≡ Some value
   value_looked_up s value k =
       let x = value_held noted s value k in
-      let there = value_there know.checked s value k.among in
+      let there = word_there Value know.checked s value k.among in
       some_value (value_in know.checked s) value there (value_is sound.slots know.epoch notes.checked know.checked s x.0 noted.checked_reads noted.checked x.1 there ∙ x.2)
 
   pub birth_looked_up : (s birth : ℕ) → Knows know (BirthOf s birth) → unwrap_or (birth_in know.checked s) 0 ≡ birth
   birth_looked_up s birth k =
       let x = birth_held noted s birth k in
-      birth_is sound.slots know.epoch notes.checked know.checked s x.0 noted.checked_reads noted.checked x.1 (birth_there know.checked s birth k.among) ∙ x.2
+      birth_is sound.slots know.epoch notes.checked know.checked s x.0 noted.checked_reads noted.checked x.1 (word_there Birth know.checked s birth k.among) ∙ x.2
 
   birth_at_is : (at : At) (birth : ℕ) → BirthAt know at birth → unwrap_or (birth_at know.checked at) 0 ≡ birth
   birth_at_is (Head b) birth k = sym k
@@ -190,11 +190,11 @@ module _ {start : Start} {a : Incarnations} {know : Know} {notes : Notes} (sound
 
   birth_at_there : (at : At) (birth : ℕ) → BirthAt know at birth → IsSome (birth_at know.checked at)
   birth_at_there (Head b) birth k = refl
-  birth_at_there (Slot s) birth k = birth_there know.checked s birth k.among
+  birth_at_there (Slot s) birth k = word_there Birth know.checked s birth k.among
 
   birth_named_there : (v : Option ℕ) (birth : ℕ) → BirthNamed know v birth → IsSome (birth_of know.checked v)
   birth_named_there None birth k = refl
-  birth_named_there (Some s) birth k = birth_there know.checked s birth k.among
+  birth_named_there (Some s) birth k = word_there Birth know.checked s birth k.among
 
   -- a search of a marked link finds one that names what any known marked link names
   mark_is : (s : ℕ) (link : Link) → Knows know (LinkAt (Slot s) link) → link.mark ≡ true → next_of_marked (marked_in know.checked s) ≡ link.slot
@@ -236,11 +236,11 @@ module _ {start : Start} {a : Incarnations} {know : Know} {notes : Notes} (sound
 
   behind_there : (at : At) (key : ℕ) → StandsBehind start know at key → KnowsKeyAt know.checked at
   behind_there (Head b) key h = tt
-  behind_there (Slot s) key h = key_there know.checked s h.0 h.1.among
+  behind_there (Slot s) key h = word_there Key know.checked s h.0 h.1.among
 
   before_there : (key : ℕ) (v : Option ℕ) → StandsBefore know key v → KnowsKeyOf know.checked v
   before_there key None h = tt
-  before_there key (Some s) h = key_there know.checked s h.0 h.1.among
+  before_there key (Some s) h = word_there Key know.checked s h.0 h.1.among
 
   behind_is : (at : At) (key : ℕ) → StandsBehind start know at key → IsBehind start know.checked at key
   behind_is (Head b) key h = h
@@ -290,7 +290,7 @@ module _ {start : Start} {a : Incarnations} {know : Know} {notes : Notes} (sound
       link_is = r.link_is ∙ ap (λ birth. Some (link_to expected.slot known.birth birth)) (sym (birth_named_is expected.slot r.named r.named_known));
       valued = r.valued;
     },
-    key_there know.checked s r.key r.key_known.among,
+    word_there Key know.checked s r.key r.key_known.among,
     birth_named_there expected.slot r.named r.named_known,
   )
 
@@ -308,25 +308,25 @@ module _ {start : Start} {a : Incarnations} {know : Know} {notes : Notes} (sound
       record { turns = w.0; within = w.1; before = subst P (sym w.2) (before_is key on.last.slot on.before) }
 
   values_there : (t : Bool) (s : ℕ) → KnowsValue t know s → HasValue t (value_in know.checked s)
-  values_there true s k = value_there know.checked s k.0 k.1.among
+  values_there true s k = word_there Value know.checked s k.0 k.1.among
   values_there false s k = tt
 
   value_there_for : (op : Op) (s : ℕ) → KnowsValueFor op know s → HasValueFor op (value_in know.checked s)
   value_there_for Insert s k = tt
   value_there_for Remove s k = tt
   value_there_for Has s k = tt
-  value_there_for Get s k = value_there know.checked s k.0 k.1.among
+  value_there_for Get s k = word_there Value know.checked s k.0 k.1.among
 
   held_is : Fits start a → (step : Step) → IsKnown start know step → IsInRangeKnown start know step → HasChecked start know step
   held_is fits (StoreLink s None) k r = tt
-  held_is fits (StoreLink s (Some n)) k r = (held_of_slot n k.0, birth_there know.checked n k.1.0 k.1.1.among)
+  held_is fits (StoreLink s (Some n)) k r = (held_of_slot n k.0, word_there Birth know.checked n k.1.0 k.1.1.among)
   held_is fits (LoadLink at) k r = held_of_place at k
   held_is fits (LoadBirth s) k r = held_of_slot s k
   held_is fits (LoadKey s) k r = held_of_slot s k
   held_is fits (LoadValue s) k r = held_of_slot s k
   held_is fits (Publish pred expected s) k r = let x = ready_is pred (link_of expected) (know.own s) r.1 in (link_held pred (link_of expected) k.0, (birth_at_there pred k.1.0 k.1.1, x.1), (x.3, x.2))
-  held_is fits (Mark s expected) k r = (link_held (Slot s) (link_of expected) k.0, key_there know.checked s k.1.0 k.1.1.among, values_there start.shape.values s k.2)
-  held_is fits (Replace s expected t) k r = let x = in_place_is s (link_of expected) (know.own t) r.1 in (link_held (Slot s) (link_of expected) k.0, (birth_there know.checked s k.1.0 k.1.1.among, x.1, value_there know.checked s k.2.0 k.2.1.among), x.2)
+  held_is fits (Mark s expected) k r = (link_held (Slot s) (link_of expected) k.0, word_there Key know.checked s k.1.0 k.1.1.among, values_there start.shape.values s k.2)
+  held_is fits (Replace s expected t) k r = let x = in_place_is s (link_of expected) (know.own t) r.1 in (link_held (Slot s) (link_of expected) k.0, (word_there Birth know.checked s k.1.0 k.1.1.among, x.1, word_there Value know.checked s k.2.0 k.2.1.among), x.2)
   held_is fits (Unlink pred expected s) k r =
       let u = k.1.1 in (
         link_held pred (link_of expected) k.0,
@@ -334,7 +334,7 @@ module _ {start : Start} {a : Incarnations} {know : Know} {notes : Notes} (sound
         birth_at_there pred u.birth u.birth_known,
         rw (mark_is s u.frozen u.known u.is_marked) (birth_named_there u.frozen.slot u.next_birth u.next_known),
       )
-  held_is fits (ConfirmPresent op s expected) k r = (link_held (Slot s) (link_of expected) k.0, key_there know.checked s k.1.0 k.1.1.among, value_there_for op s k.2)
+  held_is fits (ConfirmPresent op s expected) k r = (link_held (Slot s) (link_of expected) k.0, word_there Key know.checked s k.1.0 k.1.1.among, value_there_for op s k.2)
   held_is fits (ConfirmAbsent op key at expected) k r = (link_held at (link_of expected) k, behind_there at key r.2, leads_to_key fits key (link_of expected) r.3)
   held_is fits step k r = tt
 

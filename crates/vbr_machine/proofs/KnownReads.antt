@@ -1,7 +1,6 @@
 -- What is known by membership: each known read is of an incarnation that the pass holds, and what a search finds is any known one.
-use Rattle.std.proofs.Common.{◌≡◌, ℕ, true, false, List, [], ◌∷◌, Option, Some, None, refl, sym, subst, ap, ◌∙◌, inl, inr, ⊎_elim}
+use Rattle.std.proofs.Common.{◌≡◌, ℕ, true, false, Option, Some, None, refl, sym, ap, ◌∙◌, inl, inr}
 use Rattle.std.specs.Prelude.{◌⊎◌, IsSome, unwrap_or}
-use Rattle.std.specs.List.{AllByRecursion, Contains}
 use Rattle.std.proofs.lemmas.Bool.{cases_Bool}
 use Rattle.vbr_machine.specs.Start.{Start}
 use Rattle.vbr_words.specs.declared.link.Link.{Link}
@@ -13,58 +12,35 @@ use Rattle.vbr_machine.specs.Membership.{StandsBehind, StandsBefore, Knows, IsHe
 use Rattle.vbr_machine.specs.Incarnations.{Incarnations}
 use Rattle.vbr_machine.specs.Images.{slot_shown}
 use Rattle.vbr_machine.specs.Sound.{Sound}
-use Rattle.vbr_machine.specs.Notes.{Note, Notes}
-use Rattle.vbr_machine.specs.Agreement.{IsHeldIncarnation, IsHeldNext, IsGoodLink, IsGoodRead, IsGood, reads_of, FitsNotes}
+use Rattle.vbr_machine.specs.Notes.{Notes}
+use Rattle.vbr_machine.specs.Agreement.{IsHeldIncarnation, IsHeldNext, IsGoodLink, IsGoodRead, FitsNotes}
 use Rattle.vbr_machine.specs.declared.knowledge.Read.{Read}
 use Rattle.vbr_machine.specs.declared.knowledge.Read.TheVariants.{LinkAt, BirthOf, KeyOf, ValueOf}
 use Rattle.vbr_machine.proofs.Slots.{one_late}
-use Rattle.vbr_machine.proofs.FoundReads.{key_among, none_in, first_or_later, value_among}
-
--- a read of noted reads has a note, of which holds what holds of all notes
-pub note_of_known : (P : Note → Type 0) (notes : List Note) (read : Read) → Contains (reads_of notes) read → AllByRecursion P notes → (note : Note) × (note.read ≡ read) × P note
-note_of_known P [] read m h = absurd (none_in read m)
-note_of_known P (note ∷ notes) read m h = ⊎_elim (λ q. (note, q, h.0)) (λ n. note_of_known P notes read n h.1) (first_or_later note.read read (reads_of notes) m)
+use Rattle.vbr_machine.proofs.FoundReads.{Birth, Key, Value, word_among}
+use Rattle.vbr_machine.proofs.Searches.{good_among, word_held, named_held, some_holds}
 
 -- ---- a known read is good
 
 pub good_read : {a : Incarnations} {know : Know} {notes : Notes} → FitsNotes a know notes → (read : Read) → Knows know read → (of names : Option ℕ) × IsGoodRead a know.epoch read of names
-good_read {a} {know} {notes} k read m =
-    let x = note_of_known (IsGood a know.epoch) notes.checked read (rw k.checked_reads at m.among) k.checked in
-    let P : Read → Type 0 = λ r. IsGoodRead a know.epoch r x.0.of x.0.names in
-    (x.0.of, x.0.names, subst P x.1 x.2)
+good_read {a} {know} {notes} k read m = good_among a know.epoch notes.checked read (rw k.checked_reads at m.among) k.checked
 
 pub good_link : {a : Incarnations} {know : Know} {notes : Notes} → FitsNotes a know notes → (at : At) (link : Link) → Knows know (LinkAt at link) → (of names : Option ℕ) × IsGoodLink a know.epoch at link of names
 good_link k at link m = good_read k (LinkAt at link) m
 
+-- a known read of a word is that of an incarnation held there
 pub birth_held : {a : Incarnations} {know : Know} {notes : Notes} → FitsNotes a know notes → (s b : ℕ) → Knows know (BirthOf s b) → (c : ℕ) × IsHeldIncarnation a know.epoch s c × (a.birth c ≡ b)
-birth_held {a} {know} {notes} k s b m = go (good_read k (BirthOf s b) m)
-  where
-    go : ((of names : Option ℕ) × IsGoodRead a know.epoch (BirthOf s b) of names) → (c : ℕ) × IsHeldIncarnation a know.epoch s c × (a.birth c ≡ b)
-    go (None, names, h) = absurd h
-    go (Some c, names, h) = (c, h.0, h.1)
+birth_held {a} {know} {notes} k s b m = word_held a know.epoch Birth s b (good_read k (BirthOf s b) m)
 
 pub key_held : {a : Incarnations} {know : Know} {notes : Notes} → FitsNotes a know notes → (s key : ℕ) → Knows know (KeyOf s key) → (c : ℕ) × IsHeldIncarnation a know.epoch s c × (a.key c ≡ key)
-key_held {a} {know} {notes} k s key m = go (good_read k (KeyOf s key) m)
-  where
-    go : ((of names : Option ℕ) × IsGoodRead a know.epoch (KeyOf s key) of names) → (c : ℕ) × IsHeldIncarnation a know.epoch s c × (a.key c ≡ key)
-    go (None, names, h) = absurd h
-    go (Some c, names, h) = (c, h.0, h.1)
+key_held {a} {know} {notes} k s key m = word_held a know.epoch Key s key (good_read k (KeyOf s key) m)
 
 pub value_held : {a : Incarnations} {know : Know} {notes : Notes} → FitsNotes a know notes → (s value : ℕ) → Knows know (ValueOf s value) → (c : ℕ) × IsHeldIncarnation a know.epoch s c × (a.value c ≡ value)
-value_held {a} {know} {notes} k s value m = go (good_read k (ValueOf s value) m)
-  where
-    go : ((of names : Option ℕ) × IsGoodRead a know.epoch (ValueOf s value) of names) → (c : ℕ) × IsHeldIncarnation a know.epoch s c × (a.value c ≡ value)
-    go (None, names, h) = absurd h
-    go (Some c, names, h) = (c, h.0, h.1)
+value_held {a} {know} {notes} k s value m = word_held a know.epoch Value s value (good_read k (ValueOf s value) m)
 
 -- a held slot has an incarnation that is held there
 pub slot_held : {a : Incarnations} {know : Know} {notes : Notes} → FitsNotes a know notes → (s : ℕ) → IsHeldSlot know s → (c : ℕ) × IsHeldIncarnation a know.epoch s c
-slot_held {a} {know} {notes} k s h = let g = good_link k h.at h.link h.known in go h.link.slot g.1 h.names g.2.next
-  where
-    go : (v n : Option ℕ) → v ≡ Some s → IsHeldNext a know.epoch v n → (c : ℕ) × IsHeldIncarnation a know.epoch s c
-    go None n q h = absurd (cc)
-    go (Some v) None q h = absurd h
-    go (Some v) (Some c) q h = let P : ℕ → Type 0 = λ i. IsHeldIncarnation a know.epoch i c in let e : v ≡ s = cc in (c, subst P e h)
+slot_held {a} {know} {notes} k s h = let g = good_link k h.at h.link h.known in named_held a know.epoch s h.link.slot g.1 h.names g.2.next
 
 -- ---- one of each
 
@@ -116,21 +92,12 @@ head_unmarked {a} {know} {notes} k b link m = let g = good_link k (Head b) link 
 
 -- ---- where keys stand
 
--- a key that is looked up is known
+-- a key that is looked up is known, and so is a value
 pub key_known : (know : Know) (s : ℕ) → IsSome (key_in know.checked s) → Knows know (KeyOf s (unwrap_or (key_in know.checked s) 0))
-key_known know s h = go (key_in know.checked s) refl h
-  where
-    go : (o : Option ℕ) → key_in know.checked s ≡ o → IsSome o → Knows know (KeyOf s (unwrap_or o 0))
-    go None q h = absurd (cc)
-    go (Some key) q h = record { among = key_among know.checked s key q }
+key_known know s h = some_holds (λ key. Knows know (KeyOf s key)) (key_in know.checked s) h (λ key q. record { among = word_among Key know.checked s key q })
 
--- a value that is looked up is known
 pub value_known : (know : Know) (s : ℕ) → IsSome (value_in know.checked s) → Knows know (ValueOf s (unwrap_or (value_in know.checked s) 0))
-value_known know s h = go (value_in know.checked s) refl h
-  where
-    go : (o : Option ℕ) → value_in know.checked s ≡ o → IsSome o → Knows know (ValueOf s (unwrap_or o 0))
-    go None q h = absurd (cc)
-    go (Some value) q h = record { among = value_among know.checked s value q }
+value_known know s h = some_holds (λ value. Knows know (ValueOf s value)) (value_in know.checked s) h (λ value q. record { among = word_among Value know.checked s value q })
 
 -- a key that stands behind a place by searches does so by what is known
 pub behind_known : (know : Know) (start : Start) (at : At) (key : ℕ) → KnowsKeyAt know.checked at → IsBehind start know.checked at key → StandsBehind start know at key

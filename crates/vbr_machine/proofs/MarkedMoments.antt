@@ -126,13 +126,9 @@ record WasMarked (start : Start) (moment run : List Event) (c : ℕ) : Type 0 wh
   pub marked : (incarnations_after start between).state c ≡ Marked
 
 listed_cases : (st : State) → IsListed st → (st ≡ Linked) ⊎ (st ≡ Marked)
-listed_cases Unborn l = absurd l
-listed_cases (InHand p) l = absurd l
-listed_cases GivenUp l = absurd l
 listed_cases Linked l = inl refl
 listed_cases Marked l = inr refl
-listed_cases (Unlinked p u) l = absurd l
-listed_cases (Stamped u r) l = absurd l
+listed_cases _ l = absurd l
 
 listed_removed : (st : State) → IsListed st → IsRemoved st → st ≡ Marked
 listed_removed st l r = grind arith

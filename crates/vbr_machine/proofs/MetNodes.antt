@@ -28,31 +28,13 @@ use Rattle.vbr_machine.proofs.SoundAfter.{sound_kept}
 -- ---- states
 
 listed_or_left : (st : State) → IsInserted st → (HasLeft st → ⊥) → IsListed st
-listed_or_left Linked i n = tt
-listed_or_left Marked i n = tt
-listed_or_left (Unlinked p u) i n = n tt
-listed_or_left (Stamped u r) i n = n tt
-listed_or_left Unborn i n = absurd i
-listed_or_left (InHand p) i n = absurd i
-listed_or_left GivenUp i n = absurd i
+listed_or_left st i n = grind arith
 
 left_or_listed : (st : State) → IsInserted st → (IsListed st → ⊥) → HasLeft st
-left_or_listed Linked i n = n tt
-left_or_listed Marked i n = n tt
-left_or_listed (Unlinked p u) i n = tt
-left_or_listed (Stamped u r) i n = tt
-left_or_listed Unborn i n = absurd i
-left_or_listed (InHand p) i n = absurd i
-left_or_listed GivenUp i n = absurd i
+left_or_listed st i n = grind arith
 
-listed_not_left : (st : State) → IsListed st → HasLeft st → ⊥
-listed_not_left Linked l h = h
-listed_not_left Marked l h = h
-listed_not_left (Unlinked p u) l h = l
-listed_not_left (Stamped u r) l h = l
-listed_not_left Unborn l h = l
-listed_not_left (InHand p) l h = l
-listed_not_left GivenUp l h = l
+pub listed_not_left : (st : State) → IsListed st → HasLeft st → ⊥
+listed_not_left st l h = grind arith
 
 inserted_from : (st : State) → is_inserted st ≡ true → IsInserted st
 inserted_from st e = grind arith
@@ -64,13 +46,7 @@ left_from : (st : State) → not (has_left st) ≡ true → HasLeft st → ⊥
 left_from st e h = grind arith
 
 left_is : (st : State) → (HasLeft st → ⊥) → not (has_left st) ≡ true
-left_is Linked n = refl
-left_is Marked n = refl
-left_is (Unlinked p u) n = absurd (n tt)
-left_is (Stamped u r) n = absurd (n tt)
-left_is Unborn n = refl
-left_is (InHand p) n = refl
-left_is GivenUp n = refl
+left_is st n = grind arith
 
 -- ---- the successors of nodes that were there
 
@@ -85,19 +61,32 @@ out_at_first {start} {a} s = record {
   closed = λ c d e h. left_or_listed (a.state c) (s.lists.inserted c d e).0 (λ l. listed_not_left (a.state d) (next_listed s c d e l) h);
 }
 
+-- a node in hand that is put between a linked one and its successor leaves that so
+spliced : (first a : Incarnations) (pass p v : ℕ) → StaysOut first a → a.state p ≡ Linked → a.state v ≡ InHand pass → (c d : ℕ) → put (put a.next v (a.next p)) p (Some v) c ≡ Some d → HasLeft (first.state d) → HasLeft (first.state c)
+spliced first a pass p v x linked held c d e l = go (cases_eq c p)
+  where
+    P : State → Type 0
+    P = HasLeft
+
+    inner : ℕ → Option ℕ
+    inner = put a.next v (a.next p)
+
+    behind_new : (c ≡ v) ⊎ (c ≢ v) → inner c ≡ Some d → HasLeft (first.state c)
+    behind_new (inl is) q =
+        let y : a.next p ≡ Some d = sym (ap inner is ∙ put_here a.next v (a.next p)) ∙ q in
+        let z : HasLeft Linked = subst P linked (x.out p (x.closed p d y l)) in
+        absurd z
+    behind_new (inr ne) q = x.closed c d (sym (put_other a.next v (a.next p) c ne) ∙ q) l
+
+    go : (c ≡ p) ⊎ (c ≢ p) → HasLeft (first.state c)
+    go (inl is) =
+        let y : Some v ≡ Some d = sym (ap (put inner p (Some v)) is ∙ put_here inner p (Some v)) ∙ e in
+        let w : v ≡ d = cc in
+        let z : HasLeft (InHand pass) = subst P (ap a.state (sym w) ∙ held) (x.out d l) in
+        absurd z
+    go (inr ne) = behind_new (cases_eq c v) (sym (put_other inner p (Some v) c ne) ∙ e)
+
 closed_kept : (start : Start) (keys : Keys) (first a : Incarnations) (pass : ℕ) (what : Happening) → Sound start a → Allowed start keys a pass what → StaysOut first a → (c d : ℕ) → (becomes start a pass what).next c ≡ Some d → HasLeft (first.state d) → HasLeft (first.state c)
-closed_kept start keys first a pass Advances s h x c d e l = x.closed c d e l
-closed_kept start keys first a pass (Gains v) s h x c d e l = x.closed c d e l
-closed_kept start keys first a pass (Probes v) s h x c d e l = x.closed c d e l
-closed_kept start keys first a pass (Raises v) s h x c d e l = x.closed c d e l
-closed_kept start keys first a pass (GivesUp v) s h x c d e l = x.closed c d e l
-closed_kept start keys first a pass (Keyed v key) s h x c d e l = x.closed c d e l
-closed_kept start keys first a pass (Valued v value) s h x c d e l = x.closed c d e l
-closed_kept start keys first a pass (Aims v link) s h x c d e l = x.closed c d e l
-closed_kept start keys first a pass (Removes v) s h x c d e l = x.closed c d e l
-closed_kept start keys first a pass (Stamps v stamp) s h x c d e l = x.closed c d e l
-closed_kept start keys first a pass (Confirms call) s h x c d e l = x.closed c d e l
-closed_kept start keys first a pass (Unlinks v (AtHead b)) s h x c d e l = x.closed c d e l
 closed_kept start keys first a pass (Bears v birth) s h x c d e l = go (cases_eq c a.count)
   where
     go : (c ≡ a.count) ⊎ (c ≢ a.count) → HasLeft (first.state c)
@@ -108,50 +97,8 @@ closed_kept start keys first a pass (Inserts v (AtHead b)) s h x c d e l = go (c
     go : (c ≡ v) ⊎ (c ≢ v) → HasLeft (first.state c)
     go (inl is) = absurd (listed_not_left (a.state d) (s.lists.first_in b d (sym (ap (put a.next v (a.first b)) is ∙ put_here a.next v (a.first b)) ∙ e)).0 (x.out d l))
     go (inr ne) = x.closed c d (sym (put_other a.next v (a.first b) c ne) ∙ e) l
-closed_kept start keys first a pass (Inserts v (AtNode p)) s h x c d e l = go (cases_eq c p)
-  where
-    P : State → Type 0
-    P = HasLeft
-
-    inner : ℕ → Option ℕ
-    inner = put a.next v (a.next p)
-
-    behind_new : (c ≡ v) ⊎ (c ≢ v) → inner c ≡ Some d → HasLeft (first.state c)
-    behind_new (inl is) q =
-        let y : a.next p ≡ Some d = sym (ap (put a.next v (a.next p)) is ∙ put_here a.next v (a.next p)) ∙ q in
-        let z : HasLeft Linked = subst P h.is_open (x.out p (x.closed p d y l)) in
-        absurd z
-    behind_new (inr ne) q = x.closed c d (sym (put_other a.next v (a.next p) c ne) ∙ q) l
-
-    go : (c ≡ p) ⊎ (c ≢ p) → HasLeft (first.state c)
-    go (inl is) =
-        let y : Some v ≡ Some d = sym (ap (put inner p (Some v)) is ∙ put_here inner p (Some v)) ∙ e in
-        let w : v ≡ d = cc in
-        let z : HasLeft (InHand pass) = subst P (ap a.state (sym w) ∙ h.in_hand) (x.out d l) in
-        absurd z
-    go (inr ne) = behind_new (cases_eq c v) (sym (put_other inner p (Some v) c ne) ∙ e)
-closed_kept start keys first a pass (Replaces old v) s h x c d e l = go (cases_eq c old)
-  where
-    P : State → Type 0
-    P = HasLeft
-
-    inner : ℕ → Option ℕ
-    inner = put a.next v (a.next old)
-
-    new_one : (c ≡ v) ⊎ (c ≢ v) → inner c ≡ Some d → HasLeft (first.state c)
-    new_one (inl is) q =
-        let y : a.next old ≡ Some d = sym (ap inner is ∙ put_here a.next v (a.next old)) ∙ q in
-        let z : HasLeft Linked = subst P h.linked (x.out old (x.closed old d y l)) in
-        absurd z
-    new_one (inr ne) q = x.closed c d (sym (put_other a.next v (a.next old) c ne) ∙ q) l
-
-    go : (c ≡ old) ⊎ (c ≢ old) → HasLeft (first.state c)
-    go (inl is) =
-        let y : Some v ≡ Some d = sym (ap (put inner old (Some v)) is ∙ put_here inner old (Some v)) ∙ e in
-        let w : v ≡ d = cc in
-        let z : HasLeft (InHand pass) = subst P (ap a.state (sym w) ∙ h.in_hand) (x.out d l) in
-        absurd z
-    go (inr ne) = new_one (cases_eq c v) (sym (put_other inner old (Some v) c ne) ∙ e)
+closed_kept start keys first a pass (Inserts v (AtNode p)) s h x c d e l = spliced first a pass p v x h.is_open h.in_hand c d e l
+closed_kept start keys first a pass (Replaces old v) s h x c d e l = spliced first a pass old v x h.linked h.in_hand c d e l
 closed_kept start keys first a pass (Unlinks v (AtNode p)) s h x c d e l = go (cases_eq c p)
   where
     P : State → Type 0
@@ -163,6 +110,7 @@ closed_kept start keys first a pass (Unlinks v (AtNode p)) s h x c d e l = go (c
         let z : HasLeft Marked = subst P h.0 (x.out v (x.closed v d y l)) in
         absurd z
     go (inr ne) = x.closed c d (sym (put_other a.next p (a.next v) c ne) ∙ e) l
+closed_kept start keys first a pass _ s h x c d e l = x.closed c d e l
 
 out_from : (start : Start) (keys : Keys) (first a : Incarnations) (entries : List Entry) → Sound start a → IsLawful start keys a entries → StaysOut first a → StaysOut first (incarnations_from start a entries)
 out_from start keys first a [] s l x = x

@@ -53,6 +53,13 @@ put_is old new key w updates q = entry_is new q ∙ ap as_entry (updates q) ∙ 
 
 -- ---- the calls, where the operation and the list before are known by an equation
 
+-- what a get or a remove of a key gives is what was found
+gives_found : (old : List (ℕ × ℕ)) (key : ℕ) (found : Option ℕ) (there : Bool) → found ≡ looked_up old key → there ≡ is_some found → GivesEntry (entries_in old) Get key there found
+gives_found old key None true e t = absurd (cc)
+gives_found old key None false e t = refl
+gives_found old key (Some value) true e t = entry_is old key ∙ ap as_entry (sym e)
+gives_found old key (Some value) false e t = absurd (cc)
+
 -- a key that is there is not inserted
 pub present_insert : (op : Op) (seen old : List (ℕ × ℕ)) (key : ℕ) (there : Bool) → op ≡ Insert → old ≡ seen → there ≡ is_some (looked_up old key) → there ≡ true → false ≡ reply_of (keys_in (entries_in seen)) op key
 present_insert op seen old key there is same e t = rw (is, ← same) (sym (ap not (there_is old key ∙ sym e ∙ t)))
@@ -64,13 +71,7 @@ pub after_insert : (op : Op) (seen old new : List (ℕ × ℕ)) (key value : ℕ
 after_insert op seen old new key value is same updates = rw (is, ← same) (put_is old new key (Some value) updates)
 
 pub removed : (op : Op) (seen old : List (ℕ × ℕ)) (key : ℕ) (found : Option ℕ) (there : Bool) → op ≡ Remove → old ≡ seen → found ≡ looked_up old key → there ≡ is_some found → (there ≡ reply_of (keys_in (entries_in seen)) op key) × GivesEntry (entries_in seen) op key there found
-removed op seen old key found there is same e t = rw (is, ← same) (t ∙ ap is_some e ∙ sym (there_is old key), gives found there e t)
-  where
-    gives : (found : Option ℕ) (there : Bool) → found ≡ looked_up old key → there ≡ is_some found → GivesEntry (entries_in old) Remove key there found
-    gives None true e t = absurd (cc)
-    gives None false e t = refl
-    gives (Some value) true e t = entry_is old key ∙ ap as_entry (sym e)
-    gives (Some value) false e t = absurd (cc)
+removed op seen old key found there is same e t = rw (is, ← same) (t ∙ ap is_some e ∙ sym (there_is old key), gives_found old key found there e t)
 
 pub after_remove : (op : Op) (seen old new : List (ℕ × ℕ)) (key : ℕ) (found : Option ℕ) (there : Bool) → op ≡ Remove → old ≡ seen → found ≡ looked_up old key → there ≡ is_some found → ((q : ℕ) → looked_up new q ≡ cond (is_at (nat_cmp key) q) None (looked_up old q)) → (q : ℕ) → entries_in new q ≡ entries_after (entries_in seen) op key there found q
 after_remove op seen old new key found there is same e t updates = rw (is, ← same) (go found there e t)
@@ -93,10 +94,4 @@ pub looked : (op : Op) (seen old : List (ℕ × ℕ)) (key : ℕ) (there : Bool)
 looked op seen old key there is same e = rw (is, ← same) (e ∙ sym (there_is old key))
 
 pub got : (op : Op) (seen old : List (ℕ × ℕ)) (key : ℕ) (found : Option ℕ) (there : Bool) → op ≡ Get → old ≡ seen → found ≡ looked_up old key → there ≡ is_some found → (there ≡ reply_of (keys_in (entries_in seen)) op key) × GivesEntry (entries_in seen) op key there found
-got op seen old key found there is same e t = rw (is, ← same) (t ∙ ap is_some e ∙ sym (there_is old key), gives found there e t)
-  where
-    gives : (found : Option ℕ) (there : Bool) → found ≡ looked_up old key → there ≡ is_some found → GivesEntry (entries_in old) Get key there found
-    gives None true e t = absurd (cc)
-    gives None false e t = refl
-    gives (Some value) true e t = entry_is old key ∙ ap as_entry (sym e)
-    gives (Some value) false e t = absurd (cc)
+got op seen old key found there is same e t = rw (is, ← same) (t ∙ ap is_some e ∙ sym (there_is old key), gives_found old key found there e t)

@@ -132,13 +132,10 @@ module _ (start : Start) (passes : ℕ) (first run : List Event) (is : IsStart s
   marked_or_left moment begins last = go (cases ((incarnations_after start moment).state c) ((grown moment begins last).removed c removed).0)
     where
       cases : (st : State) → IsRemoved st → (st ≡ Marked) ⊎ HasLeft st
-      cases Unborn r = absurd r
-      cases (InHand p) r = absurd r
-      cases GivenUp r = absurd r
-      cases Linked r = absurd r
       cases Marked r = inl refl
       cases (Unlinked p u) r = inr tt
       cases (Stamped u r) q = inr tt
+      cases _ r = absurd r
 
       go : ((incarnations_after start moment).state c ≡ Marked) ⊎ HasLeft ((incarnations_after start moment).state c) → ((incarnations_after start moment).state c ≡ Marked) ⊎ HasLeft ((incarnations_after start run).state c)
       go (inl m) = inl m

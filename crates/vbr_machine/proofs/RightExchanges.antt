@@ -27,7 +27,7 @@ use Rattle.vbr_machine.specs.declared.knowledge.Read.{Read}
 use Rattle.vbr_machine.specs.declared.knowledge.Read.TheVariants.{LinkAt, BirthOf, KeyOf, ValueOf}
 use Rattle.vbr_machine.proofs.Puts.{put_here, put_other}
 use Rattle.vbr_machine.proofs.Slots.{listed_last}
-use Rattle.vbr_machine.proofs.Searches.{same_link_true}
+use Rattle.vbr_machine.proofs.FoundReads.{same_link_true}
 use Rattle.vbr_machine.proofs.StandingLinks.{LinkStands, link_stands}
 use Rattle.vbr_machine.proofs.EveryRun.{step_agrees}
 use Rattle.vbr_machine.proofs.HeldSlots.{ReadsHeldPlaces, link_held}

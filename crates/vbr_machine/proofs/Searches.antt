@@ -1,172 +1,97 @@
 -- What is looked up among good reads is good.
-use Rattle.std.proofs.Common.{◌≡◌, ℕ, ◌≤◌, Bool, true, List, [], ◌∷◌, Option, Some, None, refl, arith, sym, subst, ap, ◌∙◌, inl, inr}
-use Rattle.std.specs.Prelude.{◌==◌, ◌&&◌, IsSome, unwrap_or}
-use Rattle.std.specs.List.{AllByRecursion}
-use Rattle.std.proofs.lemmas.Bool.Decides.{nat_tests}
-use Rattle.std.proofs.lemmas.Bool.{cases_eq, cases_Bool, eq-eqb, ne_eqb, and_parts}
+use Rattle.std.proofs.Common.{◌≡◌, ℕ, ◌≤◌, true, List, [], ◌∷◌, Option, Some, None, refl, arith, sym, subst, ap, ◌∙◌, ⊎_elim}
+use Rattle.std.specs.Prelude.{IsSome, unwrap_or}
+use Rattle.std.specs.List.{AllByRecursion, Contains}
 use Rattle.vbr_machine.specs.Start.{Start}
 use Rattle.vbr_words.specs.declared.link.Link.{Link}
 use Rattle.vbr_words.specs.declared.place.At.{At}
-use Rattle.vbr_words.specs.declared.place.At.TheVariants.{Head, Slot}
-use Rattle.vbr_machine.specs.Links.{same_slot, same_mark, same_link}
-use Rattle.vbr_machine.specs.Knowledge.{same_at, knows_link, birth_in, key_in, marked_in, names, holds, birth_of, value_in}
+use Rattle.vbr_words.specs.declared.place.At.TheVariants.{Slot}
+use Rattle.vbr_machine.specs.Knowledge.{knows_link, birth_in, key_in, marked_in, holds, birth_of, value_in}
 use Rattle.vbr_machine.specs.Incarnations.{Incarnations}
 use Rattle.vbr_machine.specs.Images.{birth_shown}
 use Rattle.vbr_machine.specs.Sound.{SlotsSound}
 use Rattle.vbr_machine.specs.Notes.{Note}
-use Rattle.vbr_machine.specs.Agreement.{IsHeldIncarnation, IsHeldNext, IsGoodLink, IsGoodRead, IsGood, reads_of}
+use Rattle.vbr_machine.specs.Agreement.{IsHeldIncarnation, IsHeldNext, IsOfHeldOne, IsGoodLink, IsGoodRead, IsGood, reads_of}
 use Rattle.vbr_machine.specs.declared.knowledge.Read.{Read}
-use Rattle.vbr_machine.specs.declared.knowledge.Read.TheVariants.{LinkAt, BirthOf, KeyOf, ValueOf}
+use Rattle.vbr_machine.specs.declared.knowledge.Read.TheVariants.{LinkAt}
 use Rattle.vbr_machine.proofs.Slots.{one_late}
-
--- ---- tests
-
-same_slot_true : (i j : Option ℕ) → same_slot i j ≡ true → i ≡ j
-same_slot_true i j e = grind (arith, nat_tests)
-
-same_mark_true : (b c : Bool) → same_mark b c ≡ true → b ≡ c
-same_mark_true b c e = grind arith
-
-pub same_link_true : (v w : Link) → same_link v w ≡ true → v ≡ w
-same_link_true v w e =
-    let x = and_parts (same_slot v.slot w.slot) (same_mark v.mark w.mark && v.version == w.version) e in
-    let y = and_parts (same_mark v.mark w.mark) (v.version == w.version) x.1 in
-    let p = same_slot_true v.slot w.slot x.0 in
-    let q = same_mark_true v.mark w.mark y.0 in
-    let r : v.version ≡ w.version = let z = y.1 in grind (arith, nat_tests) in
-    λ i. record { slot = p i; mark = q i; version = r i }
-
-pub same_at_true : (x y : At) → same_at x y ≡ true → x ≡ y
-same_at_true (Head b) (Head c) e = ap Head (grind (arith, nat_tests))
-same_at_true (Slot b) (Slot c) e = ap Slot (grind (arith, nat_tests))
-same_at_true (Head b) (Slot c) e = cc
-same_at_true (Slot b) (Head c) e = cc
+use Rattle.vbr_machine.proofs.FoundReads.{NodeWord, Birth, Key, Value, read_of, word_in, word_among, link_among, marked_among, holds_among, none_in, first_or_later}
 
 -- ---- what is found
 
-moved : (a : Incarnations) (e s v c : ℕ) → v ≡ s → IsHeldIncarnation a e v c → IsHeldIncarnation a e s c
-moved a e s v c k h = let P : ℕ → Type 0 = λ i. IsHeldIncarnation a e i c in subst P k h
+-- a read of noted reads has a note, of which holds what holds of all notes
+pub note_of_known : (P : Note → Type 0) (notes : List Note) (read : Read) → Contains (reads_of notes) read → AllByRecursion P notes → (note : Note) × (note.read ≡ read) × P note
+note_of_known P [] read m h = absurd (none_in read m)
+note_of_known P (note ∷ notes) read m h = ⊎_elim (λ q. (note, q, h.0)) (λ n. note_of_known P notes read n h.1) (first_or_later note.read read (reads_of notes) m)
 
--- a birth that is found is that of an incarnation held there
-pub birth_found : (a : Incarnations) (e : ℕ) (notes : List Note) (s b : ℕ) → birth_in (reads_of notes) s ≡ Some b → AllByRecursion (IsGood a e) notes → (c : ℕ) × IsHeldIncarnation a e s c × (a.birth c ≡ b)
-birth_found a e [] s b q g = absurd (cc)
-birth_found a e (note ∷ notes) s b q g = go note.read note.of note.names g.0 q (λ r. birth_found a e notes s b r g.1)
+-- and what is good of all notes, of the read
+pub good_among : (a : Incarnations) (e : ℕ) (notes : List Note) (read : Read) → Contains (reads_of notes) read → AllByRecursion (IsGood a e) notes → (of named : Option ℕ) × IsGoodRead a e read of named
+good_among a e notes read m g =
+    let x = note_of_known (IsGood a e) notes read m g in
+    let P : Read → Type 0 = λ r. IsGoodRead a e r x.0.of x.0.names in
+    (x.0.of, x.0.names, subst P x.1 x.2)
+
+-- the word of an incarnation
+abbrev pub word_of_node : NodeWord → Incarnations → ℕ → ℕ
+word_of_node Birth a = a.birth
+word_of_node Key a = a.key
+word_of_node Value a = a.value
+
+-- a good read of a word is that of an incarnation held there
+pub word_held : (a : Incarnations) (e : ℕ) (word : NodeWord) (s b : ℕ) → ((of named : Option ℕ) × IsGoodRead a e (read_of word s b) of named) → (c : ℕ) × IsHeldIncarnation a e s c × (word_of_node word a c ≡ b)
+word_held a e word s b (of, named, h) = one word of h
   where
-    go : (read : Read) (of named : Option ℕ) → IsGoodRead a e read of named → birth_in (read ∷ reads_of notes) s ≡ Some b → (birth_in (reads_of notes) s ≡ Some b → (c : ℕ) × IsHeldIncarnation a e s c × (a.birth c ≡ b)) → (c : ℕ) × IsHeldIncarnation a e s c × (a.birth c ≡ b)
-    go (LinkAt at link) of named h q rest = rest q
-    go (KeyOf v k) of named h q rest = rest q
-    go (ValueOf v k) of named h q rest = rest q
-    go (BirthOf v d) None named h q rest = absurd h
-    go (BirthOf v d) (Some c) named h q rest = elim (cases_eq v s) [
-      | inl k ↦ let r : Some d ≡ Some b = rw (eq-eqb v s k) at q in (c, moved a e s v c k h.0, h.1 ∙ cc)
-      | inr k ↦ rest (rw (ne_eqb v s k) at q)
-    ]
+    some : (values : ℕ → ℕ) (of : Option ℕ) → IsOfHeldOne a e s values b of → (c : ℕ) × IsHeldIncarnation a e s c × (values c ≡ b)
+    some values None h = absurd h
+    some values (Some c) h = (c, h.0, h.1)
 
--- a key that is found is that of an incarnation held there
-pub key_found : (a : Incarnations) (e : ℕ) (notes : List Note) (s b : ℕ) → key_in (reads_of notes) s ≡ Some b → AllByRecursion (IsGood a e) notes → (c : ℕ) × IsHeldIncarnation a e s c × (a.key c ≡ b)
-key_found a e [] s b q g = absurd (cc)
-key_found a e (note ∷ notes) s b q g = go note.read note.of note.names g.0 q (λ r. key_found a e notes s b r g.1)
-  where
-    go : (read : Read) (of named : Option ℕ) → IsGoodRead a e read of named → key_in (read ∷ reads_of notes) s ≡ Some b → (key_in (reads_of notes) s ≡ Some b → (c : ℕ) × IsHeldIncarnation a e s c × (a.key c ≡ b)) → (c : ℕ) × IsHeldIncarnation a e s c × (a.key c ≡ b)
-    go (LinkAt at link) of named h q rest = rest q
-    go (BirthOf v k) of named h q rest = rest q
-    go (ValueOf v k) of named h q rest = rest q
-    go (KeyOf v d) None named h q rest = absurd h
-    go (KeyOf v d) (Some c) named h q rest = elim (cases_eq v s) [
-      | inl k ↦ let r : Some d ≡ Some b = rw (eq-eqb v s k) at q in (c, moved a e s v c k h.0, h.1 ∙ cc)
-      | inr k ↦ rest (rw (ne_eqb v s k) at q)
-    ]
+    one : (word : NodeWord) (of : Option ℕ) → IsGoodRead a e (read_of word s b) of named → (c : ℕ) × IsHeldIncarnation a e s c × (word_of_node word a c ≡ b)
+    one Birth of h = some a.birth of h
+    one Key of h = some a.key of h
+    one Value of h = some a.value of h
 
--- a value that is found is that of an incarnation held there
-pub value_found : (a : Incarnations) (e : ℕ) (notes : List Note) (s b : ℕ) → value_in (reads_of notes) s ≡ Some b → AllByRecursion (IsGood a e) notes → (c : ℕ) × IsHeldIncarnation a e s c × (a.value c ≡ b)
-value_found a e [] s b q g = absurd (cc)
-value_found a e (note ∷ notes) s b q g = go note.read note.of note.names g.0 q (λ r. value_found a e notes s b r g.1)
-  where
-    go : (read : Read) (of named : Option ℕ) → IsGoodRead a e read of named → value_in (read ∷ reads_of notes) s ≡ Some b → (value_in (reads_of notes) s ≡ Some b → (c : ℕ) × IsHeldIncarnation a e s c × (a.value c ≡ b)) → (c : ℕ) × IsHeldIncarnation a e s c × (a.value c ≡ b)
-    go (LinkAt at link) of named h q rest = rest q
-    go (BirthOf v k) of named h q rest = rest q
-    go (KeyOf v k) of named h q rest = rest q
-    go (ValueOf v d) None named h q rest = absurd h
-    go (ValueOf v d) (Some c) named h q rest = elim (cases_eq v s) [
-      | inl k ↦ let r : Some d ≡ Some b = rw (eq-eqb v s k) at q in (c, moved a e s v c k h.0, h.1 ∙ cc)
-      | inr k ↦ rest (rw (ne_eqb v s k) at q)
-    ]
+-- and so is one that is found
+word_found : (a : Incarnations) (e : ℕ) (word : NodeWord) (notes : List Note) (s b : ℕ) → word_in word (reads_of notes) s ≡ Some b → AllByRecursion (IsGood a e) notes → (c : ℕ) × IsHeldIncarnation a e s c × (word_of_node word a c ≡ b)
+word_found a e word notes s b q g = word_held a e word s b (good_among a e notes (read_of word s b) (word_among word (reads_of notes) s b q) g)
 
-named_held : (a : Incarnations) (e s : ℕ) (o n : Option ℕ) → names o s ≡ true → IsHeldNext a e o n → (c : ℕ) × IsHeldIncarnation a e s c
+-- an incarnation of a slot that a link names is held
+pub named_held : (a : Incarnations) (e s : ℕ) (v n : Option ℕ) → v ≡ Some s → IsHeldNext a e v n → (c : ℕ) × IsHeldIncarnation a e s c
 named_held a e s None n q h = absurd (cc)
 named_held a e s (Some i) None q h = absurd h
-named_held a e s (Some i) (Some c) q h = let k : i ≡ s = grind (arith, nat_tests) in (c, moved a e s i c k h)
+named_held a e s (Some i) (Some c) q h = let P : ℕ → Type 0 = λ j. IsHeldIncarnation a e j c in let k : i ≡ s = cc in (c, subst P k h)
 
 -- where a slot is held, so is an incarnation of it
 pub held_found : (a : Incarnations) (e : ℕ) (notes : List Note) (s : ℕ) → holds (reads_of notes) s ≡ true → AllByRecursion (IsGood a e) notes → (c : ℕ) × IsHeldIncarnation a e s c
-held_found a e [] s q g = absurd (cc)
-held_found a e (note ∷ notes) s q g = go note.read note.of note.names g.0 q (λ r. held_found a e notes s r g.1)
-  where
-    go : (read : Read) (of named : Option ℕ) → IsGoodRead a e read of named → holds (read ∷ reads_of notes) s ≡ true → (holds (reads_of notes) s ≡ true → (c : ℕ) × IsHeldIncarnation a e s c) → (c : ℕ) × IsHeldIncarnation a e s c
-    go (BirthOf v k) of named h q rest = rest q
-    go (KeyOf v k) of named h q rest = rest q
-    go (ValueOf v k) of named h q rest = rest q
-    go (LinkAt at link) of named h q rest = elim (cases_Bool (names link.slot s)) [
-      | inl k ↦ named_held a e s link.slot named k h.next
-      | inr k ↦ rest (rw k at q)
-    ]
+held_found a e notes s q g = let m = holds_among (reads_of notes) s q in let x = good_among a e notes (LinkAt m.0 m.1) m.2 g in named_held a e s m.1.slot x.1 m.3 x.2.next
 
 -- a link that is found is good
 pub link_found : (a : Incarnations) (e : ℕ) (notes : List Note) (at : At) (link : Link) → knows_link (reads_of notes) at link ≡ true → AllByRecursion (IsGood a e) notes → (of : Option ℕ) × (named : Option ℕ) × IsGoodLink a e at link of named
-link_found a e [] at link q g = absurd (cc)
-link_found a e (note ∷ notes) at link q g = go note.read note.of note.names g.0 q (λ r. link_found a e notes at link r g.1)
-  where
-    go : (read : Read) (of named : Option ℕ) → IsGoodRead a e read of named → knows_link (read ∷ reads_of notes) at link ≡ true → (knows_link (reads_of notes) at link ≡ true → (of : Option ℕ) × (named : Option ℕ) × IsGoodLink a e at link of named) → (of : Option ℕ) × (named : Option ℕ) × IsGoodLink a e at link of named
-    go (BirthOf v k) of named h q rest = rest q
-    go (KeyOf v k) of named h q rest = rest q
-    go (ValueOf v k) of named h q rest = rest q
-    go (LinkAt here seen) of named h q rest = elim (cases_Bool (same_at here at && same_link seen link)) [
-      | inl k ↦ let u = and_parts (same_at here at) (same_link seen link) k in (of, named, rw (← same_at_true here at u.0, ← same_link_true seen link u.1) h)
-      | inr k ↦ rest (rw k at q)
-    ]
+link_found a e notes at link q g = good_among a e notes (LinkAt at link) (link_among (reads_of notes) at link q) g
 
 -- a marked link that is found is good and marked
 pub marked_found : (a : Incarnations) (e : ℕ) (notes : List Note) (s : ℕ) (link : Link) → marked_in (reads_of notes) s ≡ Some link → AllByRecursion (IsGood a e) notes → (of : Option ℕ) × (named : Option ℕ) × IsGoodLink a e (Slot s) link of named × (link.mark ≡ true)
-marked_found a e [] s link q g = absurd (cc)
-marked_found a e (note ∷ notes) s link q g = go note.read note.of note.names g.0 q (λ r. marked_found a e notes s link r g.1)
-  where
-    go : (read : Read) (of named : Option ℕ) → IsGoodRead a e read of named → marked_in (read ∷ reads_of notes) s ≡ Some link → (marked_in (reads_of notes) s ≡ Some link → (of : Option ℕ) × (named : Option ℕ) × IsGoodLink a e (Slot s) link of named × (link.mark ≡ true)) → (of : Option ℕ) × (named : Option ℕ) × IsGoodLink a e (Slot s) link of named × (link.mark ≡ true)
-    go (BirthOf v k) of named h q rest = rest q
-    go (KeyOf v k) of named h q rest = rest q
-    go (ValueOf v k) of named h q rest = rest q
-    go (LinkAt here seen) of named h q rest = elim (cases_Bool (same_at here (Slot s) && seen.mark)) [
-      | inl k ↦ let u = and_parts (same_at here (Slot s)) seen.mark k in let r : Some seen ≡ Some link = rw k at q in let z : seen ≡ link = cc in (of, named, rw (← same_at_true here (Slot s) u.0, ← z) h, rw (← z) u.1)
-      | inr k ↦ rest (rw k at q)
-    ]
+marked_found a e notes s link q g = let m = marked_among (reads_of notes) s link q in let x = good_among a e notes (LinkAt (Slot s) link) m.0 g in (x.0, x.1, x.2, m.1)
 
 -- ---- what was checked is that of the incarnation that the pass holds
 
+-- what holds of a value that there may be, and there is one, holds of it
+pub some_holds : (P : ℕ → Type 0) (o : Option ℕ) → IsSome o → ((x : ℕ) → o ≡ Some x → P x) → P (unwrap_or o 0)
+some_holds P None h each = absurd (cc)
+some_holds P (Some x) h each = each x refl
+
+word_is : {start : Start} {a : Incarnations} → SlotsSound start a → (word : NodeWord) (e : ℕ) (notes : List Note) (reads : List Read) (s c : ℕ) → reads ≡ reads_of notes → AllByRecursion (IsGood a e) notes → IsHeldIncarnation a e s c → IsSome (word_in word reads s) → unwrap_or (word_in word reads s) 0 ≡ word_of_node word a c
+word_is {start} {a} snd word e notes reads s c q al h k = some_holds (λ b. b ≡ word_of_node word a c) (word_in word reads s) k (λ b r.
+    let x = word_found a e word notes s b (rw q at r) al in
+    sym x.2 ∙ ap (word_of_node word a) (one_late snd x.0 c e (x.1.slot ∙ sym h.slot) x.1.late h.late x.1.birth h.birth))
+
 pub birth_is : {start : Start} {a : Incarnations} → SlotsSound start a → (e : ℕ) (notes : List Note) (reads : List Read) (s c : ℕ) → reads ≡ reads_of notes → AllByRecursion (IsGood a e) notes → IsHeldIncarnation a e s c → IsSome (birth_in reads s) → unwrap_or (birth_in reads s) 0 ≡ a.birth c
-birth_is {start} {a} snd e notes reads s c q al h k = go (birth_in reads s) refl k
-  where
-    go : (o : Option ℕ) → birth_in reads s ≡ o → IsSome o → unwrap_or o 0 ≡ a.birth c
-    go None r k = absurd (cc)
-    go (Some b) r k =
-        let x = birth_found a e notes s b (rw q at r) al in
-        sym x.2 ∙ ap a.birth (one_late snd x.0 c e (x.1.slot ∙ sym h.slot) x.1.late h.late x.1.birth h.birth)
+birth_is snd = word_is snd Birth
 
 pub key_is : {start : Start} {a : Incarnations} → SlotsSound start a → (e : ℕ) (notes : List Note) (reads : List Read) (s c : ℕ) → reads ≡ reads_of notes → AllByRecursion (IsGood a e) notes → IsHeldIncarnation a e s c → IsSome (key_in reads s) → unwrap_or (key_in reads s) 0 ≡ a.key c
-key_is {start} {a} snd e notes reads s c q al h k = go (key_in reads s) refl k
-  where
-    go : (o : Option ℕ) → key_in reads s ≡ o → IsSome o → unwrap_or o 0 ≡ a.key c
-    go None r k = absurd (cc)
-    go (Some b) r k =
-        let x = key_found a e notes s b (rw q at r) al in
-        sym x.2 ∙ ap a.key (one_late snd x.0 c e (x.1.slot ∙ sym h.slot) x.1.late h.late x.1.birth h.birth)
+key_is snd = word_is snd Key
 
 pub value_is : {start : Start} {a : Incarnations} → SlotsSound start a → (e : ℕ) (notes : List Note) (reads : List Read) (s c : ℕ) → reads ≡ reads_of notes → AllByRecursion (IsGood a e) notes → IsHeldIncarnation a e s c → IsSome (value_in reads s) → unwrap_or (value_in reads s) 0 ≡ a.value c
-value_is {start} {a} snd e notes reads s c q al h k = go (value_in reads s) refl k
-  where
-    go : (o : Option ℕ) → value_in reads s ≡ o → IsSome o → unwrap_or o 0 ≡ a.value c
-    go None r k = absurd (cc)
-    go (Some b) r k =
-        let x = value_found a e notes s b (rw q at r) al in
-        sym x.2 ∙ ap a.value (one_late snd x.0 c e (x.1.slot ∙ sym h.slot) x.1.late h.late x.1.birth h.birth)
+value_is snd = word_is snd Value
 
 pub birth_of_is : {start : Start} {a : Incarnations} → SlotsSound start a → (e : ℕ) (notes : List Note) (reads : List Read) (v n : Option ℕ) → reads ≡ reads_of notes → AllByRecursion (IsGood a e) notes → IsHeldNext a e v n → IsSome (birth_of reads v) → unwrap_or (birth_of reads v) 0 ≡ birth_shown a n
 birth_of_is snd e notes reads None None q al h k = refl
@@ -180,4 +105,4 @@ birth_low a e notes reads s q al = go (birth_in reads s) refl
   where
     go : (o : Option ℕ) → birth_in reads s ≡ o → unwrap_or o 0 ≤ e
     go None r = omega arith
-    go (Some b) r = let x = birth_found a e notes s b (rw q at r) al in let y = x.1.birth in let z = x.2 in omega arith
+    go (Some b) r = let x = word_found a e Birth notes s b (rw q at r) al in let y = x.1.birth in let z = x.2 in omega arith

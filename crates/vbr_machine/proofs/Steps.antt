@@ -164,9 +164,6 @@ pub record HandFacts (a : Incarnations) (p s epoch : ℕ) (holding : Option Hold
   pub aimed : IsStored (a.is_aimed (last_in a s)) (a.link (last_in a s)) known.link
 
 pub hand_facts : (a : Incarnations) (p s epoch : ℕ) (holding : Option Holding) → OwnFits a p epoch holding (a.place s) (a.last s) (a.stamp s) → IsInHand holding → HandFacts a p s epoch holding
-hand_facts a p s epoch None h o = absurd o
-hand_facts a p s epoch (Some (Free known)) h o = absurd o
-hand_facts a p s epoch (Some (Unlinked seen)) h o = absurd o
 hand_facts a p s epoch (Some (InHand known)) h o =
     let x = h.1 in
     let l : last_in a s ≡ x.node = rw x.last_is refl in
@@ -183,6 +180,7 @@ hand_facts a p s epoch (Some (InHand known)) h o =
       valued = rw l x.valued;
       aimed = rw l x.aimed;
     }
+hand_facts a p s epoch _ h o = absurd o
 
 -- a slot that the pass unlinked
 pub record UnlinkedFacts (a : Incarnations) (p s epoch : ℕ) (holding : Option Holding) : Type 0 where
@@ -193,13 +191,11 @@ pub record UnlinkedFacts (a : Incarnations) (p s epoch : ℕ) (holding : Option 
   pub seen : IsReread holding → at ≤ epoch
 
 pub unlinked_facts : (a : Incarnations) (p s epoch : ℕ) (holding : Option Holding) → OwnFits a p epoch holding (a.place s) (a.last s) (a.stamp s) → IsUnlinked holding → UnlinkedFacts a p s epoch holding
-unlinked_facts a p s epoch None h o = absurd o
-unlinked_facts a p s epoch (Some (Free known)) h o = absurd o
-unlinked_facts a p s epoch (Some (InHand known)) h o = absurd o
 unlinked_facts a p s epoch (Some (Unlinked reread)) h o =
     let x = h.1 in
     let l : last_in a s ≡ x.node = rw x.last_is refl in
     record { last = x.last_is ∙ ap Some (sym l); at = x.at; state = ap a.state l ∙ x.state; place = h.0; seen = λ t. x.seen (grind arith) }
+unlinked_facts a p s epoch _ h o = absurd o
 
 -- a slot that is a pass's own or in its hand is no other's
 pub own_not_of : (p : ℕ) (place : SlotPlace) → place ≡ Own p → (q : ℕ) → q ≢ p → IsNotOf q place

@@ -25,7 +25,7 @@ use Rattle.vbr_machine.proofs.HeldBuckets.{IsOfBucket, place_in_bucket}
 use Rattle.vbr_machine.proofs.HeldReads.{held_last, same_pair, stays_held}
 use Rattle.vbr_machine.proofs.KnownReads.{good_link}
 use Rattle.vbr_machine.proofs.RunForms as forms
-use Rattle.vbr_machine.proofs.MetNodes.{IsMet, StaysOut, met_at_first, met_below_grows, met_earlier, met_grows, met_since, none_inserts, one_more_below, one_more_of_all, stays_out}
+use Rattle.vbr_machine.proofs.MetNodes.{listed_not_left, IsMet, StaysOut, met_at_first, met_below_grows, met_earlier, met_grows, met_since, none_inserts, one_more_below, one_more_of_all, stays_out}
 use Rattle.vbr_machine.proofs.RunsGoOn.{begins_run, begins_trans}
 use Rattle.vbr_machine.proofs.Shown.{stands}
 use Rattle.vbr_machine.proofs.Since.{Since, since, none_since, disturbances_sum}
@@ -118,16 +118,7 @@ module _ (start : Start) (passes : ℕ) (first then moment run : List Event) (is
           named_ahead epoch bucket 0 n (omega (arith, now)) (record { slot = refl; birth = omega (arith, born, now); late = late }) (λ h. out n l.0 ((out_since to_moment).out n h)) l.1 (omega arith)
         where
           out : (n : ℕ) → IsListed (at_moment.state n) → HasLeft (at_moment.state n) → ⊥
-          out n l h = not_both (at_moment.state n) l h
-            where
-              not_both : (st : State) → IsListed st → HasLeft st → ⊥
-              not_both Linked l h = h
-              not_both Marked l h = h
-              not_both (Unlinked p u) l h = l
-              not_both (Stamped u r) l h = l
-              not_both Unborn l h = l
-              not_both (InHand p) l h = l
-              not_both GivenUp l h = l
+          out n l h = listed_not_left (at_moment.state n) l h
 
   module _ (epoch bucket visited s : ℕ) (link : Link) (before : IsAhead start at_first at_then epoch bucket visited s) (low : epoch ≤ at_then.epoch) (now : at_moment.epoch ≡ epoch) (loaded : link_at (world_after start moment) (Slot s) ≡ link) where
     -- the node that was named is the last of its slot at the moment

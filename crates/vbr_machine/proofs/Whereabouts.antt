@@ -69,9 +69,11 @@ unstamped_by a p e (Some (holding.Unlinked reread)) place last stamp o m =
 
 shared_in : (place : SlotPlace) (st : State) → is_shared place ≡ true → where_is place st ≡ InSharedPool
 shared_in Shared st e = refl
-shared_in (Own p) st e = absurd (false≢true e)
-shared_in (Hand p) st e = absurd (false≢true e)
-shared_in (Listed b) st e = absurd (false≢true e)
+shared_in _ st e = absurd (false≢true e)
+
+-- what is stamped is in no list
+stamped_unlisted : (st : State) → IsStamped st → IsListed st → ⊥
+stamped_unlisted st r l = grind arith
 
 -- a slot whose last incarnation is linked or marked is in a list
 listed_only : (start : Start) (passes : ℕ) (w : World) (a : Incarnations) (s : ℕ) (place : SlotPlace) → FitsPlace start passes w a s place → IsListed (state_in a s) → (b : ℕ) × (place ≡ Listed b)
@@ -80,18 +82,12 @@ listed_only start passes w a s Shared f l = absurd (go (a.last s) f l)
   where
     go : (last : Option ℕ) → IsRetired a last → IsListed (state_shown a last) → ⊥
     go None r l = l
-    go (Some c) r l = not_both (a.state c) r l
-      where
-        not_both : (st : State) → IsStamped st → IsListed st → ⊥
-        not_both st r l = grind arith
+    go (Some c) r l = stamped_unlisted (a.state c) r l
 listed_only start passes w a s (Own p) f l = absurd (go (a.last s) f.1 l)
   where
     go : (last : Option ℕ) → (IsRetired a last ⊎ WasUnlinkedBy a p last) → IsListed (state_shown a last) → ⊥
     go None r l = l
-    go (Some c) (inl r) l = not_both (a.state c) r l
-      where
-        not_both : (st : State) → IsStamped st → IsListed st → ⊥
-        not_both st r l = grind arith
+    go (Some c) (inl r) l = stamped_unlisted (a.state c) r l
     go (Some c) (inr u) l = rw u.1 at l
 listed_only start passes w a s (Hand p) f l = absurd (go (a.last s) f.1 l)
   where
@@ -101,21 +97,11 @@ listed_only start passes w a s (Hand p) f l = absurd (go (a.last s) f.1 l)
 
 linked_in : (b : ℕ) (st : State) → is_linked st ≡ true → IsListed st × (where_is (Listed b) st ≡ InSet)
 linked_in b Linked e = (tt, refl)
-linked_in b Marked e = absurd (false≢true e)
-linked_in b Unborn e = absurd (false≢true e)
-linked_in b (InHand q) e = absurd (false≢true e)
-linked_in b GivenUp e = absurd (false≢true e)
-linked_in b (Unlinked q u) e = absurd (false≢true e)
-linked_in b (Stamped u r) e = absurd (false≢true e)
+linked_in b _ e = absurd (false≢true e)
 
 marked_in : (b : ℕ) (st : State) → is_marked st ≡ true → IsListed st × (where_is (Listed b) st ≡ MarkedInList)
 marked_in b Marked e = (tt, refl)
-marked_in b Linked e = absurd (false≢true e)
-marked_in b Unborn e = absurd (false≢true e)
-marked_in b (InHand q) e = absurd (false≢true e)
-marked_in b GivenUp e = absurd (false≢true e)
-marked_in b (Unlinked q u) e = absurd (false≢true e)
-marked_in b (Stamped u r) e = absurd (false≢true e)
+marked_in b _ e = absurd (false≢true e)
 
 -- the pass of a slot is one of so many
 low_in : (start : Start) (passes : ℕ) (w : World) (a : Incarnations) (s : ℕ) (place : SlotPlace) (st : State) → FitsPlace start passes w a s place → IsOfPasses passes (where_is place st)

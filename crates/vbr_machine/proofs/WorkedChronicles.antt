@@ -8,7 +8,7 @@ use Rattle.vbr_machine.specs.Start.{Start}
 use Rattle.vbr_machine.specs.Opened.{opening_keys}
 use Rattle.vbr_machine.specs.declared.event.Event.{Event}
 use Rattle.vbr_words.specs.Buckets.{bucket_of}
-use Rattle.vbr_machine.specs.Incarnations.{at_opening, Linked, Unlinked, Stamped, InHand}
+use Rattle.vbr_machine.specs.Incarnations.{State, at_opening, Linked, Unlinked, Stamped, InHand}
 use Rattle.vbr_machine.specs.Images.{link_shown_at, birth_shown, key_shown}
 use Rattle.vbr_machine.specs.Chronicles.{Happening, Advances, Gains, Bears, Keyed, Aims, Inserts, Removes, Unlinks, Stamps, AtHead, Entry, IsLawful}
 use Rattle.vbr_machine.specs.Accounts.{chronicle, incarnations_after, notes_after}
@@ -32,53 +32,31 @@ IsNoted start events pass =
     let notes = (notes_after start events pass).checked in
     (map (λ note. note.read) notes ≡ (know_after start events pass).checked) × (map (λ note. note.read) notes ≡ map (λ note. note.shown) notes)
 
-pub reborn_slot_chronicle : chronicle shape_of_three reborn_slot ≡ entry 0 (Gains 0) ∷ entry 0 (Bears 0 1) ∷ entry 0 (Keyed 0 30) ∷ entry 0 (Aims 0 (record { slot = None; mark = false; version = 1 })) ∷ entry 0 (Inserts 0 (AtHead 0)) ∷ entry 0 (Gains 1) ∷ entry 0 (Bears 1 1) ∷ entry 0 (Keyed 1 20) ∷ entry 0 (Aims 1 (record { slot = Some 0; mark = false; version = 1 })) ∷ entry 0 (Inserts 1 (AtHead 0)) ∷ entry 1 (Gains 2) ∷ entry 1 (Bears 2 1) ∷ entry 1 (Keyed 2 25) ∷ entry 1 (Aims 2 (record { slot = Some 0; mark = false; version = 1 })) ∷ entry 0 (Removes 1) ∷ entry 0 (Unlinks 1 (AtHead 0)) ∷ entry 0 (Stamps 1 1) ∷ entry 0 Advances ∷ entry 0 (Bears 1 2) ∷ entry 0 (Keyed 3 10) ∷ entry 0 (Aims 3 (record { slot = Some 0; mark = false; version = 2 })) ∷ entry 0 (Inserts 3 (AtHead 0)) ∷ []
-unfolding bucket_of link_of word_of has_flag first_bits flag_word
-reborn_slot_chronicle = refl
+-- the chronicle of events is this one, and lawful, and it leaves these incarnations in these states
+abbrev HasChronicle : Start → List Event → List Entry → List ℕ → List State → Type 0
+HasChronicle start events entries numbers states =
+    (chronicle start events ≡ entries) × IsLawful start (opening_keys start) (at_opening start) (chronicle start events) × (map (incarnations_after start events).state numbers ≡ states)
 
-pub reborn_slot_lawful : IsLawful shape_of_three (opening_keys shape_of_three) (at_opening shape_of_three) (chronicle shape_of_three reborn_slot)
+-- the chronicles
+pub worked_chronicles : HasChronicle shape_of_three reborn_slot
+        (entry 0 (Gains 0) ∷ entry 0 (Bears 0 1) ∷ entry 0 (Keyed 0 30) ∷ entry 0 (Aims 0 (record { slot = None; mark = false; version = 1 })) ∷ entry 0 (Inserts 0 (AtHead 0)) ∷ entry 0 (Gains 1) ∷ entry 0 (Bears 1 1) ∷ entry 0 (Keyed 1 20) ∷ entry 0 (Aims 1 (record { slot = Some 0; mark = false; version = 1 })) ∷ entry 0 (Inserts 1 (AtHead 0)) ∷ entry 1 (Gains 2) ∷ entry 1 (Bears 2 1) ∷ entry 1 (Keyed 2 25) ∷ entry 1 (Aims 2 (record { slot = Some 0; mark = false; version = 1 })) ∷ entry 0 (Removes 1) ∷ entry 0 (Unlinks 1 (AtHead 0)) ∷ entry 0 (Stamps 1 1) ∷ entry 0 Advances ∷ entry 0 (Bears 1 2) ∷ entry 0 (Keyed 3 10) ∷ entry 0 (Aims 3 (record { slot = Some 0; mark = false; version = 2 })) ∷ entry 0 (Inserts 3 (AtHead 0)) ∷ [])
+        (0 ∷ 1 ∷ 2 ∷ 3 ∷ []) (Linked ∷ (Stamped 1 1) ∷ (InHand 1) ∷ Linked ∷ [])
+    × HasChronicle shape_of_three same_word
+        (entry 0 Advances ∷ entry 0 (Gains 0) ∷ entry 0 (Bears 0 2) ∷ entry 0 (Keyed 0 30) ∷ entry 0 (Aims 0 (record { slot = None; mark = false; version = 2 })) ∷ entry 0 (Inserts 0 (AtHead 0)) ∷ entry 1 (Gains 1) ∷ entry 1 (Bears 1 2) ∷ entry 1 (Keyed 1 20) ∷ entry 1 (Aims 1 (record { slot = Some 0; mark = false; version = 2 })) ∷ entry 0 Advances ∷ entry 0 Advances ∷ entry 0 Advances ∷ entry 0 (Gains 2) ∷ entry 0 (Bears 2 5) ∷ entry 0 (Keyed 2 10) ∷ entry 0 (Aims 2 (record { slot = Some 0; mark = false; version = 5 })) ∷ entry 0 (Inserts 2 (AtHead 0)) ∷ entry 0 (Removes 2) ∷ entry 0 (Unlinks 2 (AtHead 0)) ∷ entry 1 (Inserts 1 (AtHead 0)) ∷ [])
+        (0 ∷ 1 ∷ 2 ∷ []) (Linked ∷ Linked ∷ (Unlinked 0 5) ∷ [])
+    × HasChronicle shape_of_one two_helpers
+        (entry 0 (Gains 0) ∷ entry 0 (Bears 0 1) ∷ entry 0 (Keyed 0 7) ∷ entry 0 (Aims 0 (record { slot = None; mark = false; version = 1 })) ∷ entry 0 (Inserts 0 (AtHead 0)) ∷ entry 0 (Removes 0) ∷ entry 1 (Unlinks 0 (AtHead 0)) ∷ [])
+        (0 ∷ []) ((Unlinked 1 1) ∷ [])
 unfolding bucket_of link_of word_of has_flag first_bits flag_word
-reborn_slot_lawful = search (rules, tests)
+worked_chronicles = ((refl, search (rules, tests), refl), (refl, search (rules, tests), refl), (refl, search (rules, tests), refl))
 
-pub reborn_slot_image : IsImage shape_of_three reborn_slot (0 ∷ 1 ∷ 2 ∷ []) × IsNoted shape_of_three reborn_slot 0 × IsNoted shape_of_three reborn_slot 1
+-- and the words and the notes
+pub worked_images : (IsImage shape_of_three reborn_slot (0 ∷ 1 ∷ 2 ∷ []) × IsNoted shape_of_three reborn_slot 0 × IsNoted shape_of_three reborn_slot 1)
+    × (IsImage shape_of_three same_word (0 ∷ 1 ∷ 2 ∷ []) × IsNoted shape_of_three same_word 0 × IsNoted shape_of_three same_word 1)
+    × (IsImage shape_of_one two_helpers (0 ∷ []) × IsNoted shape_of_one two_helpers 0 × IsNoted shape_of_one two_helpers 1)
 unfolding bucket_of link_of word_of has_flag first_bits flag_word
-reborn_slot_image = ((refl, refl, refl, refl, refl, refl, refl, refl, refl), (refl, refl), (refl, refl))
-
-pub reborn_slot_states : map (incarnations_after shape_of_three reborn_slot).state (0 ∷ 1 ∷ 2 ∷ 3 ∷ []) ≡ Linked ∷ (Stamped 1 1) ∷ (InHand 1) ∷ Linked ∷ []
-unfolding bucket_of link_of word_of has_flag first_bits flag_word
-reborn_slot_states = refl
-
-pub same_word_chronicle : chronicle shape_of_three same_word ≡ entry 0 Advances ∷ entry 0 (Gains 0) ∷ entry 0 (Bears 0 2) ∷ entry 0 (Keyed 0 30) ∷ entry 0 (Aims 0 (record { slot = None; mark = false; version = 2 })) ∷ entry 0 (Inserts 0 (AtHead 0)) ∷ entry 1 (Gains 1) ∷ entry 1 (Bears 1 2) ∷ entry 1 (Keyed 1 20) ∷ entry 1 (Aims 1 (record { slot = Some 0; mark = false; version = 2 })) ∷ entry 0 Advances ∷ entry 0 Advances ∷ entry 0 Advances ∷ entry 0 (Gains 2) ∷ entry 0 (Bears 2 5) ∷ entry 0 (Keyed 2 10) ∷ entry 0 (Aims 2 (record { slot = Some 0; mark = false; version = 5 })) ∷ entry 0 (Inserts 2 (AtHead 0)) ∷ entry 0 (Removes 2) ∷ entry 0 (Unlinks 2 (AtHead 0)) ∷ entry 1 (Inserts 1 (AtHead 0)) ∷ []
-unfolding bucket_of link_of word_of has_flag first_bits flag_word
-same_word_chronicle = refl
-
-pub same_word_lawful : IsLawful shape_of_three (opening_keys shape_of_three) (at_opening shape_of_three) (chronicle shape_of_three same_word)
-unfolding bucket_of link_of word_of has_flag first_bits flag_word
-same_word_lawful = search (rules, tests)
-
-pub same_word_image : IsImage shape_of_three same_word (0 ∷ 1 ∷ 2 ∷ []) × IsNoted shape_of_three same_word 0 × IsNoted shape_of_three same_word 1
-unfolding bucket_of link_of word_of has_flag first_bits flag_word
-same_word_image = ((refl, refl, refl, refl, refl, refl, refl, refl, refl), (refl, refl), (refl, refl))
-
-pub same_word_states : map (incarnations_after shape_of_three same_word).state (0 ∷ 1 ∷ 2 ∷ []) ≡ Linked ∷ Linked ∷ (Unlinked 0 5) ∷ []
-unfolding bucket_of link_of word_of has_flag first_bits flag_word
-same_word_states = refl
-
-pub two_helpers_chronicle : chronicle shape_of_one two_helpers ≡ entry 0 (Gains 0) ∷ entry 0 (Bears 0 1) ∷ entry 0 (Keyed 0 7) ∷ entry 0 (Aims 0 (record { slot = None; mark = false; version = 1 })) ∷ entry 0 (Inserts 0 (AtHead 0)) ∷ entry 0 (Removes 0) ∷ entry 1 (Unlinks 0 (AtHead 0)) ∷ []
-unfolding bucket_of link_of word_of has_flag first_bits flag_word
-two_helpers_chronicle = refl
-
-pub two_helpers_lawful : IsLawful shape_of_one (opening_keys shape_of_one) (at_opening shape_of_one) (chronicle shape_of_one two_helpers)
-unfolding bucket_of link_of word_of has_flag first_bits flag_word
-two_helpers_lawful = search (rules, tests)
-
-pub two_helpers_image : IsImage shape_of_one two_helpers (0 ∷ []) × IsNoted shape_of_one two_helpers 0 × IsNoted shape_of_one two_helpers 1
-unfolding bucket_of link_of word_of has_flag first_bits flag_word
-two_helpers_image = ((refl, refl, refl, refl, refl, refl, refl, refl, refl), (refl, refl), (refl, refl))
-
-pub two_helpers_states : map (incarnations_after shape_of_one two_helpers).state (0 ∷ []) ≡ (Unlinked 1 1) ∷ []
-unfolding bucket_of link_of word_of has_flag first_bits flag_word
-two_helpers_states = refl
+worked_images =
+    (((refl, refl, refl, refl, refl, refl, refl, refl, refl), (refl, refl), (refl, refl)), ((refl, refl, refl, refl, refl, refl, refl, refl, refl), (refl, refl), (refl, refl)), ((refl, refl, refl, refl, refl, refl, refl, refl, refl), (refl, refl), (refl, refl)))
 
 pub reborn_slot_held_by_1 : map (λ note. note.of) (notes_after shape_of_three reborn_slot 1).checked ≡ None ∷ Some 1 ∷ Some 1 ∷ Some 1 ∷ Some 0 ∷ Some 0 ∷ []
 unfolding bucket_of link_of word_of has_flag first_bits flag_word
