@@ -1,5 +1,5 @@
 -- What a step teaches, from how it reaches its word.
-use Rattle.std.proofs.Common.{◌≡◌, ℕ, Bool, true, false, refl, sym, cond, subst, ⊎_elim, arith}
+use Rattle.std.proofs.Common.{◌≡◌, ℕ, Bool, true, false, refl, sym, ap, ◌∙◌, cond, subst, ⊎_elim, arith}
 use Rattle.std.proofs.lemmas.Bool.{cases_Bool}
 use Rattle.std.proofs.lemmas.Bool.Decides.{nat_tests}
 use prog.Atomic.{either}
@@ -11,7 +11,7 @@ use Rattle.vbr_machine.specs.Machine.{Access, Load, Store, Exchange, FetchOr, Fe
 use Rattle.vbr_machine.specs.declared.event.Step.{Step}
 use Rattle.vbr_machine.specs.declared.event.Step.TheVariants.{ReadEpoch, Advance, LoadStamp, StoreStamp, Raise, TakeFlag, StoreBirth, StoreKey, StoreLink, LoadLink, LoadBirth, LoadKey, Publish, Mark, Replace, Unlink, ConfirmPresent, ConfirmAbsent, StoreValue, LoadValue}
 use Rattle.vbr_slots.specs.Rule.{Shows}
-use Rattle.vbr_slots.specs.Views.{epoch_after}
+use Rattle.vbr_slots.specs.Views.{Did, Trace, epoch_after, knows}
 
 -- the base's choice is a test
 pub by_either : (b : Bool) (x y : ℕ) → either b x y ≡ cond b x y
@@ -87,3 +87,7 @@ epoch_learned (Replace s expected t) r stamp know = either_way (r == expected) (
 epoch_learned (Unlink pred expected s) r stamp know = either_way (r == expected) (λ (k : Know). k.epoch) _ know know.epoch refl refl
 epoch_learned (ConfirmPresent op s expected) r stamp know = refl
 epoch_learned (ConfirmAbsent op key at expected) r stamp know = refl
+
+-- after a step that is no read of the epoch, the pass knows the epoch that it knew
+pub epoch_stays : (step : Step) {p q : Trace} {found : ℕ} → Did step p q found → ((found epoch : ℕ) → epoch_after step found epoch ≡ epoch) → (knows q).epoch ≡ (knows p).epoch
+epoch_stays step {p} {q} {found} d stays = ap (λ (k : Know). k.epoch) d.know ∙ epoch_learned step found _ (knows p) ∙ stays found (knows p).epoch

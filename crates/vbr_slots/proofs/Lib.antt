@@ -5,10 +5,10 @@ mod Keeps
 mod Leaving
 mod Moving
 mod LookUps
-mod ReadsInRows
 mod Learning
 mod Steps
 mod Tried
+mod Steppers
 mod Seats
 mod Openings
 mod Closings

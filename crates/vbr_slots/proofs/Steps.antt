@@ -68,6 +68,14 @@ asks t table built t_is w low own z z_is id me others is step e opening named pl
       subst (λ (x : TableStart × Event × TableStart). Allows (Kept x.0) t.table.shared.table_id.slots id me word f (λ r. Told x.2 x.1 me (g r))) (λ i. (here i, sym named.event_is i, (mine ∙ sym named.opening_is) i)) plain,
     )
 
+-- what it asks of a runner that is alone in its seat
+pub asks_alone : {N : Type 0} {values : Bool} {t : SlotsInside N} {table : TableView} {p : RunnerInside} {w : Trace} {step : Step} {e : Event} {opening : TableStart}
+    → IsBuilt values t → table_of t ≡ table → IsSoundRunner p → trace_of p ≡ w → IsOf w table → Names e opening w table step → (id : ℕ) (place : Place) (word : ℕ) (f g : ℕ → ℕ) → word ≡ index_of t.opening.shape place → place ≡ place_of_step step
+    → ((n : ℕ) → f n ≡ word_made (access_of (knows w) step) n) → ((n : ℕ) → Shows step (g n) n) → Accepts table.start (knows w) step
+    → (p.seat.table_id ≡ t.table.shared.table_id) × (word < t.table.shared.table_id.words) × Allows (Kept t.table.shared.key) t.table.shared.table_id.slots id p.seat.me word f (λ r. Told opening e p.seat.me (g r))
+asks_alone {N} {values} {t} {table} {p} {w} {step} {e} {opening} built t_is sound is own named id place word f g at_place place_is does same ok =
+    asks t table built t_is w (low_of p w sound is) own p.seat.table_id (ap (λ (v : Trace). v.table) is) id p.seat.me [] (known p w sound is) step e opening named place word f g at_place place_is does same ok
+
 -- what is known after the step
 pub record Done (w : Trace) (step : Step) (r : ℕ) (others : List Witness) (n : Sat) : Type 0 where
   pub rest : List Event
@@ -145,6 +153,17 @@ module _ (p : RunnerInside) (w : Trace) (sound : IsSoundRunner p) (p_is : trace_
     same = (table ∙ ap (λ (v : Trace). v.table) p_is, start_is, passes_is, who_is);
     steps = (λ i. steps_in (who_is i) ((seen_now ∙ end.run_is) i)) ∙ steps_next w.who w.seen end.rest step end.none;
   }
+
+-- a runner that made a step alone in its seat
+pub record Stepped (w : Trace) (step : Step) (r : ℕ) (q : RunnerInside) : Type 0 where
+  pub sound : IsSoundRunner q
+  pub did : Did step w (trace_of q) r
+
+pub stepped : {p : RunnerInside} {w : Trace} {table : TableView} {step : Step} {e : Event} {opening : TableStart} {r : ℕ} → IsSoundRunner p → trace_of p ≡ w → IsOf w table → Names e opening w table step
+    → (q : RunnerInside) → Told opening e p.seat.me r q.seat.me → q.seat.table_id ≡ p.seat.table_id → (q.who ≡ p.who) × (q.opening ≡ p.opening) × (q.epoch ≡ epoch_after step r p.epoch) → Stepped w step r q
+stepped {p} {w} {table} {step} {e} {opening} {r} sound is own named q told home fields =
+    let end = done w table own p.seat.me q.seat.me [] (known p w sound is) step e opening named r told in
+    record { sound = stays_sound p w sound is step r [] q.seat.me end q end.now fields; did = did p w sound is step r [] q.seat.me end q end.now fields home }
 
 -- two seats made one
 pub together : (u v : Witness) (pm om given pm' : Sat) → pm ≡ (u ∷ [], []) → om ≡ (v ∷ [], []) → given ≡ (om.0, []) → pm' ≡ (pm.0 ++ given.0, pm.1) → pm' ≡ (u ∷ v ∷ [], [])

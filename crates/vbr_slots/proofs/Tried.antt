@@ -2,12 +2,9 @@
 use Rattle.std.proofs.Common.{◌≡◌, ℕ, ◌==◌, Bool, true, false, cond, List, [], ◌∷◌, ◌++◌, refl, sym, ap, ◌∙◌, eq-eqb, inl, inr}
 use Rattle.std.proofs.lemmas.Bool.{cases_Bool, eqb-true}
 use Rattle.std.specs.Prelude.{◌⊎◌}
-use Rattle.vbr_words.specs.declared.place.At.{At}
-use Rattle.vbr_words.specs.declared.place.At.TheVariants.{Head, Slot}
 use Rattle.vbr_machine.specs.Runs.{NoneOf}
 use Rattle.vbr_machine.specs.declared.event.Event.{Event}
 use Rattle.vbr_machine.specs.declared.event.Step.{Step}
-use Rattle.vbr_slots.specs.LookUps.{look_up}
 use Rattle.vbr_slots.specs.Tokens.{Since}
 use Rattle.vbr_slots.specs.Tried.{last_tried, tried_by, tried_in}
 use Rattle.vbr_slots.specs.Views.{Trace, Did, event_of}
@@ -61,10 +58,3 @@ since_tried {p} {q} s same =
     ∙ sym (tried_on p.who p.seen s.rest 0)
     ∙ ap (λ (seen : List Event). tried_in p.who seen 0) (sym s.seen)
     ∙ ap (λ (who : ℕ). tried_in who q.seen 0) (sym s.same.3)
-
--- the answer of a look-up is of another kind
-pub look_up_tries_none : (present : Bool) (key : ℕ) (at : At) (expected before : ℕ) → tried_by (look_up present key at expected) before ≡ before
-look_up_tries_none true key (Head bucket) expected before = refl
-look_up_tries_none false key (Head bucket) expected before = refl
-look_up_tries_none true key (Slot slot) expected before = refl
-look_up_tries_none false key (Slot slot) expected before = refl

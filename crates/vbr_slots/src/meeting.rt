@@ -6,6 +6,7 @@ ghost use Rattle.vbr_slots.specs.Views.{IsOf, Did, KeepsPool};
 
 use crate::pass::{Pass, steps_after};
 use crate::slots::Slots;
+use std::marker::Brand;
 use vbr_words::Nodes;
 
 impl<N: Nodes> Slots<N> {
@@ -22,6 +23,6 @@ impl<N: Nodes> Slots<N> {
         ensures met { BeginsFor other.old.trace.who other.old.trace.seen pass.new.trace.seen }
     {
         pass.steps = steps_after(pass.steps, 1);
-        self.meet_runner(&mut pass.stepper.runner, &mut other.stepper.runner);
+        self.meet_as::<Brand>(&mut pass.stepper.runner, &mut other.stepper.runner);
     }
 }

@@ -9,7 +9,7 @@ use crate::rule::Witness;
 use crate::slots::Slots;
 use atomic_table::Seat;
 use std::collections::LinkedList;
-use std::marker::Model;
+use std::marker::{Brand, Model};
 use vbr_words::Nodes;
 
 /// What a pass had seen when the token was made. It has no bytes, and goes from thread to thread as any
@@ -64,6 +64,6 @@ impl<N: Nodes> Slots<N> {
         ensures pool { KeepsPool pass.old pass.new }
         ensures begins { Begins token.seen pass.new.trace.seen }
     {
-        self.catch_up_runner(&mut pass.stepper.runner, token);
+        self.catch_up_as::<Brand>(&mut pass.stepper.runner, token);
     }
 }

@@ -2,23 +2,25 @@
 // bits, and a load while the seat of another pass is joined.
 //
 // A step is told to the table as an event. A function that ends in `_as` takes the event as its type
-// argument, and the function without that ending picks it.
-ghost use Rattle.std.specs.Prelude.{◌≡◌, ℕ, ◌+◌, ◌<◌, ◌≤◌, ◌^◌, IsTrue};
+// argument. The function without that ending picks it for its callers; where there is none, the caller
+// picks it.
+ghost use Rattle.std.specs.Prelude.{◌≡◌, ℕ, ◌+◌, ◌<◌, ◌≤◌, ◌^◌};
 ghost use Rattle.vbr_machine.specs.Acceptance.{Accepts};
 ghost use Rattle.vbr_machine.specs.Machine.{Load, Store, Exchange, FetchOr, FetchAnd, access_of, place_of_step};
 ghost use Rattle.vbr_machine.specs.Runs.{Begins, BeginsFor};
-ghost use Rattle.vbr_machine.specs.Knowledge.{holds};
 ghost use Rattle.vbr_machine.specs.declared.event.Step.TheVariants.{ReadEpoch};
 ghost use Rattle.vbr_words.specs.Places as places;
 ghost use Rattle.vbr_slots.specs.LookUps.{link_from};
-ghost use Rattle.vbr_slots.specs.Stepping.{LoadsNode, LoadsThenEpoch, Names};
+ghost use Rattle.vbr_slots.specs.Reads.{Reads};
+ghost use Rattle.vbr_slots.specs.Stepping.{Names};
 ghost use Rattle.vbr_slots.specs.Tokens.{Since};
-ghost use Rattle.vbr_slots.specs.Views.{IsOf, Did, knows, epoch_after};
+ghost use Rattle.vbr_slots.specs.Views.{IsOf, Did, KeepsPool, knows, epoch_after};
 
 use crate::rule::{Both, Catches, Does, First, Naming, Note, Whole};
 use crate::runner::{Runner, keep_epoch, keep_epoch_found};
 use crate::seen::Seen;
 use crate::slots::Slots;
+use crate::stepper::Stepper;
 use std::marker::Brand;
 use vbr_machine::Step;
 use vbr_words::{At, Nodes, Place, Shape, place_index_in, words_of_node};
@@ -62,7 +64,7 @@ fn link_index_in<N: Nodes>(shape: &Shape, at: At) -> usize
 impl<N: Nodes> Slots<N> {
     // One load of a link word, which is the step.
     #[inline]
-    fn load_at_as<E: Naming>(&self, runner: &mut Runner, step: Step, at: At) -> u64
+    pub(crate) fn load_at_as<E: Naming>(&self, runner: &mut Runner, step: Step, at: At) -> u64
         requires named { Names E.event E.opening runner.old self.now step }
         requires own { IsOf runner.old self.now }
         requires accepted { Accepts self.now.start (knows runner.old) step }
@@ -76,20 +78,9 @@ impl<N: Nodes> Slots<N> {
         found
     }
 
-    #[inline]
-    pub(crate) fn load_at(&self, runner: &mut Runner, step: Step, at: At) -> u64
-        requires own { IsOf runner.old self.now }
-        requires accepted { Accepts self.now.start (knows runner.old) step }
-        requires place { places.place_of at ≡ place_of_step step }
-        requires access { access_of (knows runner.old) step ≡ Load }
-        ensures { Did step runner.old runner.new result }
-    {
-        self.load_at_as::<Brand>(runner, step, at)
-    }
-
     // One load, which is the step.
     #[inline]
-    fn load_as<E: Naming>(&self, runner: &mut Runner, step: Step, place: Place) -> u64
+    pub(crate) fn load_as<E: Naming>(&self, runner: &mut Runner, step: Step, place: Place) -> u64
         requires named { Names E.event E.opening runner.old self.now step }
         requires own { IsOf runner.old self.now }
         requires accepted { Accepts self.now.start (knows runner.old) step }
@@ -103,15 +94,17 @@ impl<N: Nodes> Slots<N> {
         found
     }
 
+    // The same of a stepper, whose own pool and hand stay.
     #[inline]
-    pub(crate) fn load(&self, runner: &mut Runner, step: Step, place: Place) -> u64
-        requires own { IsOf runner.old self.now }
-        requires accepted { Accepts self.now.start (knows runner.old) step }
+    pub(crate) fn load(&self, stepper: &mut Stepper, step: Step, place: Place) -> u64
+        requires own { IsOf stepper.old.trace self.now }
+        requires accepted { Accepts self.now.start (knows stepper.old.trace) step }
         requires place { place ≡ place_of_step step }
-        requires access { access_of (knows runner.old) step ≡ Load }
-        ensures { Did step runner.old runner.new result }
+        requires access { access_of (knows stepper.old.trace) step ≡ Load }
+        ensures step { Did step stepper.old.trace stepper.new.trace result }
+        ensures pool { KeepsPool stepper.old stepper.new }
     {
-        self.load_as::<Brand>(runner, step, place)
+        self.load_as::<Brand>(&mut stepper.runner, step, place)
     }
 
     // One load of the epoch, which is the step. The runner read `before` last, which its caller looks up
@@ -130,36 +123,27 @@ impl<N: Nodes> Slots<N> {
         found
     }
 
-    // One load of another word than the epoch, and one of the epoch: two steps.
+    // One load of another word than the epoch, and one of the epoch: two steps. The stepper's pass read
+    // `before` last.
     #[inline]
-    pub(crate) fn load_and_epoch(&self, runner: &mut Runner, step: Step, place: Place) -> (u64, u64)
-        requires own { IsOf runner.old self.now }
-        requires accepted { Accepts self.now.start (knows runner.old) step }
+    pub(crate) fn load_and_epoch(
+        &self,
+        stepper: &mut Stepper,
+        before: u64,
+        step: Step,
+        place: Place,
+    ) -> (u64, u64)
+        requires own { IsOf stepper.old.trace self.now }
+        requires before { before ≡ (knows stepper.old.trace).epoch }
+        requires accepted { Accepts self.now.start (knows stepper.old.trace) step }
         requires place { place ≡ place_of_step step }
-        requires access { access_of (knows runner.old) step ≡ Load }
+        requires access { access_of (knows stepper.old.trace) step ≡ Load }
         requires stays { (found epoch : ℕ) → epoch_after step found epoch ≡ epoch }
-        ensures { LoadsThenEpoch step runner.old runner.new result.0 result.1 }
+        ensures { Reads step stepper.old stepper.new result.0 result.1 }
     {
-        let before = runner.epoch();
-        let found = self.load_as::<Brand>(runner, step, place);
-        let epoch = self.read_epoch_as::<Brand>(runner, before);
+        let found = self.load(stepper, step, place);
+        let epoch = self.read_epoch_as::<Brand>(&mut stepper.runner, before);
         (found, epoch)
-    }
-
-    // The loads of the birth and of the link word of a slot, and one of the epoch: three steps.
-    #[inline]
-    pub(crate) fn load_node(&self, runner: &mut Runner, slot: u32) -> (u64, u64, u64)
-        requires own { IsOf runner.old self.now }
-        requires slot { slot < self.now.start.shape.slots }
-        requires held { IsTrue (holds (knows runner.old).checked slot) }
-        ensures { LoadsNode slot runner.old runner.new result.0 result.1 result.2 }
-    {
-        let before = runner.epoch();
-        let at = At::Slot(slot);
-        let birth = self.load_as::<Brand>(runner, Step::LoadBirth { slot }, Place::Birth(slot));
-        let word = self.load_as::<Brand>(runner, Step::LoadLink { at }, Place::LinkOf(slot));
-        let epoch = self.read_epoch_as::<Brand>(runner, before);
-        (birth, word, epoch)
     }
 
     // One store of a word, which is the step.
@@ -236,7 +220,7 @@ impl<N: Nodes> Slots<N> {
 
     // One `|` of the word with bits, which is the step. Returns the word that it found.
     #[inline]
-    fn fetch_or_as<E: Naming>(
+    pub(crate) fn fetch_or_as<E: Naming>(
         &self,
         runner: &mut Runner,
         step: Step,
@@ -259,20 +243,9 @@ impl<N: Nodes> Slots<N> {
         found
     }
 
-    #[inline]
-    pub(crate) fn fetch_or(&self, runner: &mut Runner, step: Step, place: Place, bits: u64) -> u64
-        requires own { IsOf runner.old self.now }
-        requires accepted { Accepts self.now.start (knows runner.old) step }
-        requires place { place ≡ place_of_step step }
-        requires access { access_of (knows runner.old) step ≡ FetchOr bits }
-        ensures { Did step runner.old runner.new result }
-    {
-        self.fetch_or_as::<Brand>(runner, step, place, bits)
-    }
-
     // One `&` of the word with bits, which is the step. Returns the word that it found.
     #[inline]
-    fn fetch_and_as<E: Naming>(
+    pub(crate) fn fetch_and_as<E: Naming>(
         &self,
         runner: &mut Runner,
         step: Step,
@@ -295,20 +268,9 @@ impl<N: Nodes> Slots<N> {
         found
     }
 
-    #[inline]
-    pub(crate) fn fetch_and(&self, runner: &mut Runner, step: Step, place: Place, bits: u64) -> u64
-        requires own { IsOf runner.old self.now }
-        requires accepted { Accepts self.now.start (knows runner.old) step }
-        requires place { place ≡ place_of_step step }
-        requires access { access_of (knows runner.old) step ≡ FetchAnd bits }
-        ensures { Did step runner.old runner.new result }
-    {
-        self.fetch_and_as::<Brand>(runner, step, place, bits)
-    }
-
     // One load of the epoch, which is the step, while the other's seat is joined to the runner's.
     #[inline]
-    fn meet_as<E: Naming>(&self, runner: &mut Runner, other: &mut Runner) -> u64
+    pub(crate) fn meet_as<E: Naming>(&self, runner: &mut Runner, other: &mut Runner) -> u64
         requires named { Names E.event E.opening runner.old self.now ReadEpoch }
         requires own { IsOf runner.old self.now }
         requires other { IsOf other.old self.now }
@@ -324,17 +286,6 @@ impl<N: Nodes> Slots<N> {
         keep_epoch(&mut runner.epoch, Step::ReadEpoch, found);
         other.seat = shared.split_seat::<First>(&mut runner.seat);
         found
-    }
-
-    #[inline]
-    pub(crate) fn meet_runner(&self, runner: &mut Runner, other: &mut Runner) -> u64
-        requires own { IsOf runner.old self.now }
-        requires other { IsOf other.old self.now }
-        ensures step { Did ReadEpoch runner.old runner.new result }
-        ensures same { other.new ≡ other.old }
-        ensures met { BeginsFor other.old.who other.old.seen runner.new.seen }
-    {
-        self.meet_as::<Brand>(runner, other)
     }
 
     // A token of what the runner has seen, which stays as it was.
@@ -363,7 +314,7 @@ impl<N: Nodes> Slots<N> {
     // The runner sees all of the run, and so what a token tells, which is spent. It is no step: the two
     // loads are of the word 0, and nothing is kept of them.
     #[inline]
-    fn catch_up_as<E: Naming>(&self, runner: &mut Runner, token: Seen)
+    pub(crate) fn catch_up_as<E: Naming>(&self, runner: &mut Runner, token: Seen)
         requires named { Names E.event E.opening runner.old self.now ReadEpoch }
         requires own { IsOf runner.old self.now }
         requires token { token.table ≡ self.now.table }
@@ -374,15 +325,5 @@ impl<N: Nodes> Slots<N> {
         let Seen { seat: theirs } = token;
         shared.join_seat::<Both>(&mut runner.seat, theirs);
         shared.load::<Catches<E>>(&mut runner.seat, 0);
-    }
-
-    #[inline]
-    pub(crate) fn catch_up_runner(&self, runner: &mut Runner, token: Seen)
-        requires own { IsOf runner.old self.now }
-        requires token { token.table ≡ self.now.table }
-        ensures since { Since runner.old runner.new }
-        ensures begins { Begins token.seen runner.new.seen }
-    {
-        self.catch_up_as::<Brand>(runner, token);
     }
 }

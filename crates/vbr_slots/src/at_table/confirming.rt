@@ -10,6 +10,7 @@ ghost use Rattle.vbr_slots.specs.Views.{knows};
 
 use crate::at_table::AtTable;
 use crate::stepping::place_of_link;
+use std::marker::Brand;
 use vbr_machine::{Op, Step};
 use vbr_words::{At, Nodes, Place};
 
@@ -33,7 +34,7 @@ impl<N: Nodes> AtTable<'_, N> {
     {
         let (slots, stepper) = (self.slots, &mut *self.stepper);
         let step = Step::ConfirmPresent { op, slot, expected };
-        match slots.load(&mut stepper.runner, step, Place::LinkOf(slot)) {
+        match slots.load(stepper, step, Place::LinkOf(slot)) {
             found if found == expected => Ok(()),
             found => Err(found),
         }
@@ -64,7 +65,7 @@ impl<N: Nodes> AtTable<'_, N> {
             at,
             expected,
         };
-        match slots.load(&mut stepper.runner, step, place_of_link(at)) {
+        match slots.load(stepper, step, place_of_link(at)) {
             found if found == expected => Ok(()),
             found => Err(found),
         }
@@ -94,7 +95,7 @@ impl<N: Nodes> AtTable<'_, N> {
     {
         let (slots, stepper) = (self.slots, &mut *self.stepper);
         let step = step_of_look_up(present, key, at, expected);
-        match slots.load_at(&mut stepper.runner, step, at) {
+        match slots.load_at_as::<Brand>(&mut stepper.runner, step, at) {
             found if found == expected => Ok(()),
             found => Err(found),
         }

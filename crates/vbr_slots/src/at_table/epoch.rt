@@ -19,7 +19,7 @@ impl<N: Nodes> AtTable<'_, N> {
         ensures pool { KeepsPool (pass_of self.old) (pass_of self.new) }
     {
         let (slots, stepper) = (self.slots, &mut *self.stepper);
-        slots.load(&mut stepper.runner, Step::ReadEpoch, Place::Epoch)
+        slots.load(stepper, Step::ReadEpoch, Place::Epoch)
     }
 
     /// Advances the epoch by 1, if it is `from`, in one step, and says whether it was.

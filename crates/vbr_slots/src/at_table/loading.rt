@@ -23,11 +23,7 @@ impl<N: Nodes> AtTable<'_, N> {
         ensures pool { KeepsPool (pass_of self.old) (pass_of self.new) }
     {
         let (slots, stepper) = (self.slots, &mut *self.stepper);
-        slots.load(
-            &mut stepper.runner,
-            Step::LoadLink { at },
-            place_of_link(at),
-        )
+        slots.load(stepper, Step::LoadLink { at }, place_of_link(at))
     }
 
     /// Loads the birth of a held slot, an epoch, in one step.
@@ -40,11 +36,7 @@ impl<N: Nodes> AtTable<'_, N> {
         ensures pool { KeepsPool (pass_of self.old) (pass_of self.new) }
     {
         let (slots, stepper) = (self.slots, &mut *self.stepper);
-        slots.load(
-            &mut stepper.runner,
-            Step::LoadBirth { slot },
-            Place::Birth(slot),
-        )
+        slots.load(stepper, Step::LoadBirth { slot }, Place::Birth(slot))
     }
 
     /// Loads the key of a held slot, in one step.
@@ -57,11 +49,7 @@ impl<N: Nodes> AtTable<'_, N> {
         ensures pool { KeepsPool (pass_of self.old) (pass_of self.new) }
     {
         let (slots, stepper) = (self.slots, &mut *self.stepper);
-        slots.load(
-            &mut stepper.runner,
-            Step::LoadKey { slot },
-            Place::Key(slot),
-        )
+        slots.load(stepper, Step::LoadKey { slot }, Place::Key(slot))
     }
 
     /// Loads the value of a held slot, in one step, where nodes have values.
@@ -75,10 +63,6 @@ impl<N: Nodes> AtTable<'_, N> {
         ensures pool { KeepsPool (pass_of self.old) (pass_of self.new) }
     {
         let (slots, stepper) = (self.slots, &mut *self.stepper);
-        slots.load(
-            &mut stepper.runner,
-            Step::LoadValue { slot },
-            Place::Value(slot),
-        )
+        slots.load(stepper, Step::LoadValue { slot }, Place::Value(slot))
     }
 }

@@ -8,6 +8,7 @@ ghost use Rattle.vbr_slots.specs.Pools.{without};
 ghost use Rattle.vbr_slots.specs.Views.{Did, KeepsPool};
 
 use crate::at_table::AtTable;
+use std::marker::Brand;
 use vbr_machine::Step;
 use vbr_words::flags::{all_but, flag_of, has_flag, word_of_flag};
 use vbr_words::{Nodes, Place};
@@ -23,12 +24,9 @@ impl<N: Nodes> AtTable<'_, N> {
         ensures known { IsKnownStamp (holding_of (pass_of self.old) slot) result }
         ensures pool { KeepsPool (pass_of self.old) (pass_of self.new) }
     {
+        self.law();
         let (slots, stepper) = (self.slots, &mut *self.stepper);
-        slots.load(
-            &mut stepper.runner,
-            Step::LoadStamp { slot },
-            Place::Stamp(slot),
-        )
+        slots.load(stepper, Step::LoadStamp { slot }, Place::Stamp(slot))
     }
 
     /// Stamps a slot that the pass unlinked, in one step, with the last epoch that it read, which
@@ -78,7 +76,7 @@ impl<N: Nodes> AtTable<'_, N> {
     {
         let (slots, stepper) = (self.slots, &mut *self.stepper);
         let place = Place::Flags(word_of_flag(slot));
-        slots.fetch_or(
+        slots.fetch_or_as::<Brand>(
             &mut stepper.runner,
             Step::Raise { slot },
             place,
@@ -99,7 +97,7 @@ impl<N: Nodes> AtTable<'_, N> {
         let (slots, stepper) = (self.slots, &mut *self.stepper);
         let place = Place::Flags(word_of_flag(slot));
         let step = Step::TakeFlag { slot };
-        let found = slots.fetch_and(&mut stepper.runner, step, place, all_but(slot));
+        let found = slots.fetch_and_as::<Brand>(&mut stepper.runner, step, place, all_but(slot));
         stepper.tried = slot;
         if has_flag(found, slot) {
             return Ok(());

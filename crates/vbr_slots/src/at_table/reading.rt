@@ -26,12 +26,9 @@ impl<N: Nodes> AtTable<'_, N> {
             result.0 result.1 }
         ensures pool { KeepsPool (pass_of self.old) (pass_of self.new) }
     {
+        let before = self.epoch();
         let (slots, stepper) = (self.slots, &mut *self.stepper);
-        slots.load_and_epoch(
-            &mut stepper.runner,
-            Step::LoadLink { at },
-            place_of_link(at),
-        )
+        slots.load_and_epoch(stepper, before, Step::LoadLink { at }, place_of_link(at))
     }
 
     /// Loads the key of a held slot, and reads the epoch, in two steps: returns the key and
@@ -45,12 +42,9 @@ impl<N: Nodes> AtTable<'_, N> {
             result.0 result.1 }
         ensures pool { KeepsPool (pass_of self.old) (pass_of self.new) }
     {
+        let before = self.epoch();
         let (slots, stepper) = (self.slots, &mut *self.stepper);
-        slots.load_and_epoch(
-            &mut stepper.runner,
-            Step::LoadKey { slot },
-            Place::Key(slot),
-        )
+        slots.load_and_epoch(stepper, before, Step::LoadKey { slot }, Place::Key(slot))
     }
 
     /// Loads the value of a held slot, and reads the epoch, in two steps: returns the value and
@@ -65,9 +59,11 @@ impl<N: Nodes> AtTable<'_, N> {
             result.0 result.1 }
         ensures pool { KeepsPool (pass_of self.old) (pass_of self.new) }
     {
+        let before = self.epoch();
         let (slots, stepper) = (self.slots, &mut *self.stepper);
         slots.load_and_epoch(
-            &mut stepper.runner,
+            stepper,
+            before,
             Step::LoadValue { slot },
             Place::Value(slot),
         )
@@ -84,7 +80,11 @@ impl<N: Nodes> AtTable<'_, N> {
             result.0 result.1 result.2 }
         ensures pool { KeepsPool (pass_of self.old) (pass_of self.new) }
     {
+        let before = self.epoch();
         let (slots, stepper) = (self.slots, &mut *self.stepper);
-        slots.load_node(&mut stepper.runner, slot)
+        let birth = slots.load(stepper, Step::LoadBirth { slot }, Place::Birth(slot));
+        let step = Step::LoadLink { at: At::Slot(slot) };
+        let (word, epoch) = slots.load_and_epoch(stepper, before, step, Place::LinkOf(slot));
+        (birth, word, epoch)
     }
 }

@@ -1,20 +1,16 @@
-use Rattle.std.proofs.Common.{◌<◌, sym, subst, refl}
+use Rattle.std.proofs.Common.{sym, subst, refl}
 use Rattle.std.specs.Prelude.{Contains}
-use Rattle.vbr_machine.specs.Start.{Start, IsStart}
 use Rattle.vbr_machine.specs.Acceptance.{IsFree}
 use Rattle.vbr_slots.specs.Views.{PassView, knows}
 use Rattle.vbr_slots.proofs.Passes.{pool_raised}
-use Rattle.vbr_slots.proofs.Tried.{keeps_tried}
+use Rattle.vbr_slots.proofs.Steppers.{well_after}
 use Rattle.vbr_slots.proofs.at_table.AtTable.raise_outside.Goals as goal
 
 pub invariant_of-stepper : goal.invariant_of-stepper
 invariant_of-stepper g c =
     let p = c.stepper.inside in
-    let d = c.fetch_or.ensures in
-    record {
-      start = subst IsStart (sym d.same.1) c.stepper.invariant.start;
-      pool = pool_raised p.runner c.fetch_or.new.runner c.args.slot c.fetch_or.result p.pool.items p.hand d (subst (λ (v : PassView). IsFree ((knows v.trace).own c.args.slot)) (sym c.stepper.view_is) c.requires.free)
-          (subst (λ (v : PassView). ¬ (Contains v.pool c.args.slot)) (sym c.stepper.view_is) c.requires.outside) c.stepper.invariant.pool;
-      tried = keeps_tried d refl c.stepper.invariant.tried;
-      low = subst (λ (s : Start). p.tried < s.shape.slots) (sym d.same.1) c.stepper.invariant.low;
-    }
+    let d = c.fetch_or_as.ensures in
+    well_after p p.hand d refl
+    (pool_raised p.runner c.fetch_or_as.new.runner c.args.slot c.fetch_or_as.result p.pool.items p.hand d (subst (λ (v : PassView). IsFree ((knows v.trace).own c.args.slot)) (sym c.stepper.view_is) c.requires.free)
+    (subst (λ (v : PassView). ¬ (Contains v.pool c.args.slot)) (sym c.stepper.view_is) c.requires.outside) c.stepper.invariant.pool)
+    c.stepper.invariant

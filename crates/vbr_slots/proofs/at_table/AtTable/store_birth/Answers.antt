@@ -1,10 +1,10 @@
 use Rattle.std.proofs.Common.{ℕ, ◌<◌, sym, ap, ◌∙◌, subst, refl}
 use Rattle.std.specs.Prelude.{List, Contains}
-use Rattle.vbr_machine.specs.Start.{Start, IsStart}
+use Rattle.vbr_machine.specs.Start.{Start}
 use Rattle.vbr_slots.specs.Views.{Trace, PassView}
 use Rattle.vbr_slots.proofs.Passes.{pool_born}
 use Rattle.vbr_slots.proofs.Pools.{outside}
-use Rattle.vbr_slots.proofs.Tried.{keeps_tried}
+use Rattle.vbr_slots.proofs.Steppers.{well_after}
 use Rattle.vbr_slots.proofs.at_table.AtTable.store_birth.Goals as goal
 
 pub invariant_of-stepper : goal.invariant_of-stepper
@@ -14,10 +14,7 @@ invariant_of-stepper g c =
     let trace = ap (λ (v : PassView). v.trace) c.stepper.view_is ∙ c.leave_pool.ensures.trace in
     let left = ap (λ (v : PassView). v.pool) c.stepper.view_is ∙ c.leave_pool.ensures.pool in
     let start = ap (λ (t : Trace). t.start) trace ∙ c.args.self.now.own.1 in
-    record {
-      start = subst IsStart (sym d.same.1) c.stepper.invariant.start;
-      pool = pool_born p.runner c.store.new.runner c.args.slot _ _ p.pool.items p.hand d (subst (λ (s : Start). c.args.slot < s.shape.slots) (sym start) c.requires.slot)
-          (subst (λ (xs : List ℕ). ¬ (Contains xs c.args.slot)) (sym left) (outside c.args.slot c.args.self.now.stepper.now.pool)) c.stepper.invariant.pool;
-      tried = keeps_tried d refl c.stepper.invariant.tried;
-      low = subst (λ (s : Start). p.tried < s.shape.slots) (sym d.same.1) c.stepper.invariant.low;
-    }
+    well_after p _ d refl
+    (pool_born p.runner c.store.new.runner c.args.slot _ _ p.pool.items p.hand d (subst (λ (s : Start). c.args.slot < s.shape.slots) (sym start) c.requires.slot)
+    (subst (λ (xs : List ℕ). ¬ (Contains xs c.args.slot)) (sym left) (outside c.args.slot c.args.self.now.stepper.now.pool)) c.stepper.invariant.pool)
+    c.stepper.invariant

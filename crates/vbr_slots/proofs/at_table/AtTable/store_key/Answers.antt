@@ -1,12 +1,5 @@
-use Rattle.std.proofs.Common.{refl, rules}
-use Rattle.vbr_slots.proofs.Tried.{keeps_tried}
+use Rattle.vbr_slots.proofs.Steppers.{stays_well}
 use Rattle.vbr_slots.proofs.at_table.AtTable.store_key.Goals as goal
 
 pub invariant_of-stepper : goal.invariant_of-stepper
-invariant_of-stepper g c =
-    record {
-      start = search rules;
-      pool = search rules;
-      tried = keeps_tried c.store.ensures refl c.stepper.invariant.tried;
-      low = search rules;
-    }
+invariant_of-stepper g c = stays_well c.stepper.inside c.store.ensures tt c.stepper.invariant

@@ -1,11 +1,11 @@
-use Rattle.std.proofs.Common.{◌<◌, sym, ap, subst, refl}
-use Rattle.vbr_machine.specs.Start.{Start, IsStart}
+use Rattle.std.proofs.Common.{sym, ap, subst, refl}
+use Rattle.vbr_machine.specs.Start.{Start}
 use Rattle.vbr_machine.specs.Acceptance.{Accepts}
 use Rattle.vbr_machine.specs.declared.event.Step.{Step}
 use Rattle.vbr_machine.specs.declared.event.Step.TheVariants.{Unlink}
 use Rattle.vbr_slots.specs.Views.{Trace, PassView, knows}
 use Rattle.vbr_slots.proofs.Passes.{pool_unlinked}
-use Rattle.vbr_slots.proofs.Tried.{keeps_tried}
+use Rattle.vbr_slots.proofs.Steppers.{well_after}
 use Rattle.vbr_slots.proofs.at_table.AtTable.unlink.Goals as goal
 
 pub invariant_of-stepper : goal.invariant_of-stepper
@@ -17,9 +17,6 @@ invariant_of-stepper g c =
     let ok : Accepts c.args.self.now.slots.now.start (knows now) step = record { in_shape = (c.requires.pred, c.requires.slot); owned = tt; held = c.requires.checked.held; in_range = c.requires.checked.in_range; below_last = tt } in
     let mine : Accepts now.start (knows now) step = subst (λ (s : Start). Accepts s (knows now) step) (sym c.args.self.now.own.1) ok in
     let accepted : Accepts p.runner.start (knows p.runner) step = subst (λ (t : Trace). Accepts t.start (knows t) step) (sym (ap (λ (v : PassView). v.trace) c.stepper.view_is)) mine in
-    record {
-      start = subst IsStart (sym d.same.1) c.stepper.invariant.start;
-      pool = pool_unlinked p.runner c.exchange-found.new.runner c.args.pred c.args.expected c.args.slot c.exchange-found.result p.pool.items p.hand c.stepper.invariant.start accepted d c.stepper.invariant.pool;
-      tried = keeps_tried d refl c.stepper.invariant.tried;
-      low = subst (λ (s : Start). p.tried < s.shape.slots) (sym d.same.1) c.stepper.invariant.low;
-    }
+    well_after p p.hand d refl
+    (pool_unlinked p.runner c.exchange-found.new.runner c.args.pred c.args.expected c.args.slot c.exchange-found.result p.pool.items p.hand c.stepper.invariant.start accepted d c.stepper.invariant.pool)
+    c.stepper.invariant

@@ -3,8 +3,5 @@ use Rattle.vbr_slots.specs.Stepping.{opening_of}
 use Rattle.vbr_slots.specs.Views.{event_of}
 use Rattle.vbr_slots.proofs.slots.Slots.load_and_epoch.Given as goal
 
-abbrev pub ghosts-load_as : goal.ghosts-load_as
-ghosts-load_as g a = record { event = event_of a.runner.now.who a.step; opening = opening_of a.self.now }
-
 abbrev pub ghosts-read_epoch_as : goal.ghosts-read_epoch_as
 ghosts-read_epoch_as g a = record { event = event_of a.runner.now.who ReadEpoch; opening = opening_of a.self.now }

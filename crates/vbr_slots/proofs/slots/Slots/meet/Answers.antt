@@ -1,21 +1,15 @@
-use Rattle.std.proofs.Common.{refl, rules, sym, ap, ◌∙◌}
+use Rattle.std.proofs.Common.{sym, ap, ◌∙◌}
 use Rattle.vbr_slots.specs.declared.pass.Pass.TheInside.{Inside}
 use Rattle.vbr_slots.specs.Views.{counted_steps, steps_of}
 use Rattle.vbr_slots.proofs.Calls.{count_on, did_took}
-use Rattle.vbr_slots.proofs.Tried.{keeps_tried}
+use Rattle.vbr_slots.proofs.Steppers.{stays_well}
 use Rattle.vbr_slots.proofs.slots.Slots.meet.Goals as goal
 
 pub invariant_of-pass-inside : goal.invariant_of-pass-inside
-invariant_of-pass-inside g c =
-    record {
-      start = search rules;
-      pool = search rules;
-      tried = keeps_tried c.meet_runner.ensures.step refl c.pass-inside.invariant.tried;
-      low = search rules;
-    }
+invariant_of-pass-inside g c = stays_well _ c.meet_as.ensures.step tt c.pass-inside.invariant
 
 pub invariant_of-pass : goal.invariant_of-pass
 invariant_of-pass g c =
     let shown = c.pass-inside.view_is in
     let before = ap (λ (p : Inside). p.steps) shown ∙ c.pass.invariant.steps ∙ sym (ap (λ (p : Inside). counted_steps (steps_of p.stepper.trace)) shown) in
-    record { steps = count_on _ _ 1 before c.steps_after-pass-inside-inside.ensures (did_took c.meet_runner.ensures.step) }
+    record { steps = count_on _ _ 1 before c.steps_after-pass-inside-inside.ensures (did_took c.meet_as.ensures.step) }

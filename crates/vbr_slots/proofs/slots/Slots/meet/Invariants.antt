@@ -1,7 +1,7 @@
 use Rattle.vbr_machine.specs.declared.event.Step.TheVariants.{ReadEpoch}
 use Rattle.vbr_slots.specs.Stepping.{opening_of}
 use Rattle.vbr_slots.specs.Views.{event_of}
-use Rattle.vbr_slots.proofs.slots.Slots.meet_runner.Given as goal
+use Rattle.vbr_slots.proofs.slots.Slots.meet.Given as goal
 
 abbrev pub ghosts-meet_as : goal.ghosts-meet_as
 ghosts-meet_as g a = record { event = event_of a.runner.now.who ReadEpoch; opening = opening_of a.self.now }
