@@ -8,7 +8,8 @@ ghost use Rattle.vbr_at_table.specs.Held.{IsSucc};
 use vbr_at_table::{Hand, Held, Rollback};
 use vbr_slots::{AtTable, Pass, Slots};
 
-/// As [`vbr_at_table::update`], by a pass, whose steps are counted.
+/// Links the slot in hand with this key between `pred` and `succ`, as [`vbr_at_table::update`] by a pass,
+/// whose steps are counted, at a table whose nodes have no values.
 #[inline]
 pub fn update(
     slots: &Slots,
@@ -26,6 +27,7 @@ pub fn update(
     ensures inserted { IfOk result (λ _. InsertsKey pass.old pass.new key) }
     ensures lost { IfErr result (GivesBack pass.old pass.new pred.now hand) }
 {
+    slots.kind();
     pass.during_with(
         (hand, succ),
         |stepper, (hand, succ)|
@@ -35,7 +37,7 @@ pub fn update(
             requires hand { IsHandOf stepper.old hand }
         {
             (
-                vbr_at_table::update(&mut AtTable { slots, stepper }, pred, succ, key, hand),
+                vbr_at_table::update(&mut AtTable { slots, stepper }, pred, succ, key, 0, hand),
                 3,
             )
         },
