@@ -16,7 +16,7 @@ use crate::call::PendingCall;
 use crate::found::Found;
 use crate::valuing::steps_to_update;
 use vbr_at_table::budget::affords;
-use vbr_at_table::{Hand, Refusal, Rollback, confirm_present_entry, give_back, take, update_entry};
+use vbr_at_table::{Hand, Refusal, Rollback, confirm_present, give_back, take, update};
 use vbr_machine::Op;
 use vbr_slots::{AtTable, Pass, Slots};
 use vbr_words::{Entries, Nodes};
@@ -39,7 +39,7 @@ impl<N: Nodes> PendingCall<'_, N> {
         };
         self.at.law();
         self.used += 1;
-        confirm_present_entry(&mut self.at, Op::Insert, cur)
+        confirm_present(&mut self.at, Op::Insert, cur)
     }
 
     // Takes a slot with what is left of the budget.
@@ -112,7 +112,7 @@ impl<N: Nodes> PendingCall<'_, N> {
             return Ok(false);
         }
         self.used += steps_to_update(self.at.slots);
-        match update_entry(
+        match update(
             &mut self.at,
             &found.pred,
             found.cur.as_ref(),

@@ -16,9 +16,7 @@ use crate::call::PendingCall;
 use crate::looking::Sight;
 use crate::valuing::{is_yes, steps_to_value_of, value_if_any};
 use vbr_at_table::budget::affords;
-use vbr_at_table::{
-    Held, Refusal, Rollback, confirm_absent_entry, confirm_look_up, confirm_present_entry,
-};
+use vbr_at_table::{Held, Refusal, Rollback, confirm_absent, confirm_look_up, confirm_present};
 use vbr_machine::Op;
 use vbr_slots::{AtTable, Pass, Slots};
 use vbr_words::{Entries, Nodes};
@@ -60,7 +58,7 @@ impl<N: Nodes> PendingCall<'_, N> {
         let read = value_if_any(&mut self.at, node);
         self.used += steps_to_value_of(self.at.slots);
         let value = read?;
-        let outcome = confirm_present_entry(&mut self.at, Op::Get, node);
+        let outcome = confirm_present(&mut self.at, Op::Get, node);
         self.used += 1;
         match outcome {
             Ok(()) => Ok(Some(value)),
@@ -80,7 +78,7 @@ impl<N: Nodes> PendingCall<'_, N> {
         ensures answers { IfOk result (LookUpAnswers true self.old self.new) }
         ensures rolls { IfErr result (LookUpRollsBack self.old self.new (Absent pred.now)) }
     {
-        let outcome = confirm_absent_entry(&mut self.at, Op::Get, self.key, pred);
+        let outcome = confirm_absent(&mut self.at, Op::Get, self.key, pred);
         self.used += 1;
         match outcome {
             Ok(()) => Ok(None),
