@@ -363,9 +363,6 @@ met_quiet p r is ok key q =
 
 -- ---- from an earlier beginning
 
-pub knows_from : (p q r : Trace) → IsSame p q → Begins p.seen q.seen → KnowsEpoch q r → KnowsEpoch p r
-knows_from p q r s a x = record { moment = x.moment; from = begins_trans p.seen q.seen x.moment a x.from; to = x.to; was = ap (λ (start : Start). (incarnations_after start x.moment).epoch) (sym s.start) ∙ x.was }
-
 pub changed_same : (p q : Trace) (key : ℕ) (run : List Event) → IsSame p q → changed_after q key run ≡ changed_after p key run
 changed_same p q key run s = (λ i. own_changes (s.start i) run (s.who i) (bucket_of (let st : Start = s.start i in st.shape) key))
 
