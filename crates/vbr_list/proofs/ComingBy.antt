@@ -36,12 +36,12 @@ module _ {p : PassView} (q : PassView) (law : PassLaw p) (quiet : Quiet p.trace 
   listed_no_more = quiet_adds_none law.start law.is_run quiet alone bucket bucket
 
   -- a pass that was alone and made no call seeks at no more cost than before
-  costs_no_more : seek_costs q.trace bucket ≤ seek_costs p.trace bucket
+  pub costs_no_more : seek_costs q.trace bucket ≤ seek_costs p.trace bucket
   costs_no_more =
       let values : steps_to_value_of q.trace.start ≡ steps_to_value_of p.trace.start = ap steps_to_value_of quiet.same.start in
       omega (arith, listed_no_more, values)
 
-  enough_no_more : enough_to_seek q.trace bucket ≤ enough_to_seek p.trace bucket
+  pub enough_no_more : enough_to_seek q.trace bucket ≤ enough_to_seek p.trace bucket
   enough_no_more = omega (arith, listed_no_more)
 
 -- ---- what the loop keeps

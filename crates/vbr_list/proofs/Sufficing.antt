@@ -2,31 +2,21 @@
 use Rattle.std.proofs.Common.{◌≡◌, ◌≢◌, ℕ, ◌+◌, ◌*◌, ◌<◌, ◌≤◌, List, [], ◌∷◌, Result, Ok, Err, refl, sym, subst, arith}
 use Rattle.std.specs.Prelude.{IfErr}
 use Rattle.vbr_machine.specs.Start.{Start}
-use Rattle.vbr_words.specs.declared.place.At.TheVariants.{Head}
-use Rattle.vbr_words.specs.Buckets.{bucket_of}
-use Rattle.vbr_slots.specs.Alone.{IsAlone, ahead}
+use Rattle.vbr_slots.specs.Alone.{IsAlone}
 use Rattle.vbr_slots.specs.Calls.{Quiet}
 use Rattle.vbr_slots.specs.Views.{Trace, PassView}
-use Rattle.vbr_slots.proofs.Lemmas.{quiet_adds_none}
 use Rattle.vbr_machine.specs.Runs.{Begins}
 use Rattle.vbr_at_table.specs.Budgets.{most_to_take, most_to_take_among, steps_to_take_among}
 use Rattle.vbr_at_table.specs.Gained.{gained}
 use Rattle.vbr_at_table.proofs.Lemmas.{alone_gained, gained_on, gained_since, more_lost, none_lost}
-use Rattle.vbr_slots.specs.PassLaw.{PassLaw}
 use Rattle.vbr_at_table.specs.Steps.{TookWithin}
 use Rattle.vbr_at_table.specs.Values.{steps_to_value}
-use Rattle.vbr_list.specs.Budgets.{IsAnsweredOrSpent, LacksSteps, enough_past, enough_to_insert, insert_costs, insert_costs_past, listed_for}
+use Rattle.vbr_list.specs.Budgets.{IsAnsweredOrSpent, LacksSteps, enough_to_insert, insert_costs, listed_for}
 use Rattle.vbr_list.specs.Disturbed.{disturbed, enough_to_insert_among, insert_costs_among, steps_for_slot}
 use Rattle.vbr_list.specs.Inserting.{InsertIsShort, RefusesInsert}
-use Rattle.vbr_list.proofs.Disturbing.{alone_undisturbed}
+use Rattle.vbr_list.proofs.Disturbing.{undisturbed}
 use Rattle.vbr_at_table.specs.declared.refusal.Refusal.{Refusal}
 use Rattle.vbr_at_table.specs.declared.refusal.Refusal.TheVariants.{OutOfSteps, NoSlot, EpochSpent}
-
--- a pass that was alone and made no call has no more nodes in the list of a key's bucket
-pub no_more_listed : (p : PassView) → PassLaw p → (q : Trace) (key : ℕ) → Quiet p.trace q → IsAlone p.trace q → listed_for q key ≤ listed_for p.trace key
-no_more_listed p sound q key quiet alone =
-    let P : Start → Type 0 = λ start. ahead q (bucket_of start.shape key) (Head (bucket_of start.shape key)) ≤ listed_for p.trace key in
-    subst P (sym quiet.same.start) (quiet_adds_none sound.start sound.is_run quiet alone (bucket_of p.trace.start.shape key) (bucket_of p.trace.start.shape key))
 
 -- where an own pool with slots keeps some, a slot is taken in no more steps than were allowed for before
 take_later : (start : Start) (before now : List ℕ) (less more : ℕ) → less ≤ more → (before ≢ [] → now ≢ []) → steps_to_take_among start now less ≤ most_to_take_among start before more
@@ -77,30 +67,18 @@ had_none p q key before budget (OutOfSteps used) x e = absurd (cc)
 had_none p q key before budget NoSlot x e = x.empty
 had_none p q key before budget (EpochSpent epoch) x e = absurd (cc)
 
--- what is so of a pass that was disturbed so often is so of one that was alone
-lone_short : (n t taking most budget : ℕ) → budget < enough_to_insert_among n t taking → t ≡ 0 → taking ≡ most → budget < enough_past n most
-lone_short n t taking most budget short none same =
-    let P : ℕ → Type 0 = λ u. budget < enough_to_insert_among n u taking in
-    let x = subst P none short in
-    omega (arith, x, same)
+-- what is so of a pass that was disturbed so often, and takes a slot in so many steps, is so of one that was alone
+pub lone : (P : ℕ → ℕ → Type 0) (p : PassView) (q : Trace) (key : ℕ) → P (disturbed p.trace q key) (steps_for_slot p q) → IsAlone p.trace q → P 0 (most_to_take p.trace.start p.pool)
+lone P p q key x alone = subst (P 0) (slot_alone p q alone) (undisturbed (λ t. P t (steps_for_slot p q)) key x alone)
+
+pub took_more : {p q : Trace} {m n : ℕ} → TookWithin p q m → m ≤ n → TookWithin p q n
+took_more x le = record { steps = x.steps; within = (let few = x.within in omega (arith, few, le)); took = x.took }
 
 pub lone_lacks : (p : PassView) (q : Trace) (key budget : ℕ) (refusal : Refusal) → LacksSteps (enough_to_insert_among (listed_for p.trace key) (disturbed p.trace q key) (steps_for_slot p q)) budget refusal → IsAlone p.trace q → LacksSteps (enough_to_insert p key) budget refusal
-lone_lacks p q key budget (OutOfSteps used) short alone = lone_short (listed_for p.trace key) (disturbed p.trace q key) (steps_for_slot p q) (most_to_take p.trace.start p.pool) budget short (alone_undisturbed p.trace q key alone) (slot_alone p q alone)
-lone_lacks p q key budget NoSlot short alone = tt
-lone_lacks p q key budget (EpochSpent epoch) short alone = tt
-
-lone_few : (n t taking most storing now : ℕ) → now ≤ insert_costs_among n t taking storing → t ≡ 0 → taking ≡ most → now ≤ insert_costs_past n most storing
-lone_few n t taking most storing now few none same =
-    let P : ℕ → Type 0 = λ u. now ≤ insert_costs_among n u taking storing in
-    let x = subst P none few in
-    omega (arith, x, same)
+lone_lacks p q key budget refusal short alone = lacks_more _ (enough_to_insert p key) budget refusal (omega arith) (lone (λ t taking. LacksSteps (enough_to_insert_among (listed_for p.trace key) t taking) budget refusal) p q key short alone)
 
 pub lone_costs : (p : PassView) (q : Trace) (key : ℕ) → TookWithin p.trace q (insert_costs_among (listed_for p.trace key) (disturbed p.trace q key) (steps_for_slot p q) (steps_to_value p.trace.start.shape.values)) → IsAlone p.trace q → TookWithin p.trace q (insert_costs p key)
-lone_costs p q key x alone = record {
-  steps = x.steps;
-  within = lone_few (listed_for p.trace key) (disturbed p.trace q key) (steps_for_slot p q) (most_to_take p.trace.start p.pool) (steps_to_value p.trace.start.shape.values) x.steps x.within (alone_undisturbed p.trace q key alone) (slot_alone p q alone);
-  took = x.took;
-}
+lone_costs p q key x alone = took_more (lone (λ t taking. TookWithin p.trace q (insert_costs_among (listed_for p.trace key) t taking (steps_to_value p.trace.start.shape.values))) p q key x alone) (omega arith)
 
 -- with slots in the own pool an insert that has steps enough is answered, or the epoch is spent
 pub answered_or_spent : {A : Type 0} (p q : PassView) (budget n : ℕ) (answer : Result A Refusal) → p.pool ≢ [] → IsAlone p.trace q.trace → 18 * n + 82 ≤ budget → IfErr answer (λ refusal. refusal ≡ NoSlot → p.pool ≡ []) → IfErr answer (λ refusal. IsAlone p.trace q.trace → LacksSteps (18 * n + most_to_take p.trace.start p.pool + 14) budget refusal) → IsAnsweredOrSpent answer

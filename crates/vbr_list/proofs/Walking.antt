@@ -16,7 +16,7 @@ use Rattle.vbr_machine.specs.Machine.{link_at}
 use Rattle.vbr_machine.specs.Runs.{Begins, IsRun, world_after}
 use Rattle.vbr_machine.specs.declared.event.Event.{Event}
 use Rattle.vbr_machine.proofs.Lemmas.{ahead_few, begins_refl, begins_run, begins_trans, disturbances_grow, head_visited, next_visited, own_between, shown_there, since, unmarked_open, visited_few, visited_on}
-use Rattle.vbr_slots.specs.Alone.{IsAlone, IsFresh}
+use Rattle.vbr_slots.specs.Alone.{IsFresh}
 use Rattle.vbr_slots.specs.Calls.{IsSame, Quiet}
 use Rattle.vbr_slots.specs.Views.{Trace, knows}
 use Rattle.vbr_slots.proofs.Lemmas.{quiet_on, same_on}
@@ -24,20 +24,19 @@ use Rattle.vbr_at_table.specs.Held.{held_of}
 use Rattle.vbr_at_table.specs.declared.held.Held.{Held}
 use Rattle.vbr_at_table.specs.declared.held.Marked.{Marked}
 use Rattle.vbr_list.specs.Helping.{OpensPlace}
-use Rattle.vbr_list.specs.Budgets.{enough_to_search, listed_for}
-use Rattle.vbr_list.specs.Nearing.{FoundAlone}
+use Rattle.vbr_list.specs.Budgets.{listed_for}
 use Rattle.vbr_list.specs.declared.found.Found.{Found}
 use Rattle.vbr_at_table.specs.Counts.{advances}
 use Rattle.vbr_list.specs.Disturbed.{changed_after, costs_among, disturbed_after, disturbed, enough_among, enough_to_search_among, find_costs_among}
 use Rattle.vbr_at_table.specs.Values.{steps_to_update, steps_to_value}
-use Rattle.vbr_list.specs.Budgets.{LacksSteps}
+use Rattle.vbr_list.specs.Budgets.{LacksSteps, enough_past}
 use Rattle.vbr_list.specs.Disturbed.{enough_to_insert_among, searches_more}
 use Rattle.vbr_at_table.specs.declared.refusal.Refusal.{Refusal}
 use Rattle.vbr_at_table.specs.declared.refusal.Refusal.TheVariants.{OutOfSteps, NoSlot, EpochSpent}
-use Rattle.vbr_list.specs.Inserting.{SearchedFor, SearchesFor, SearchesInVain}
+use Rattle.vbr_list.specs.Inserting.{SearchedFor, SearchesFor, SearchesInVain, Searches}
 use Rattle.vbr_list.specs.Traversing.{LastWalk}
-use Rattle.vbr_list.specs.Walking.{KnowsEpoch, LosesFound, LosesHeld, MovesSince, NextStandsStill, ReadsFresh, ReadsNext, Repeats, StandsStill, StoodOpen, Walks, WalksAgain, WalksOnce, met_since, nodes_after}
-use Rattle.vbr_list.proofs.Disturbing.{alone_undisturbed, changed_same, disturbed_same, fresh_alone, fresh_at, grows_disturbed, loses_disturb, loses_found_disturb, met_before, met_few, met_less, met_quiet, moves_disturb, next_stands_alone, run_at, stands_alone}
+use Rattle.vbr_list.specs.Walking.{KnowsEpoch, LosesFound, LosesHeld, MovesSince, ReadsFresh, ReadsNext, Repeats, StandsStill, StoodOpen, Walks, WalksAgain, WalksOnce, met_since, nodes_after}
+use Rattle.vbr_list.proofs.Disturbing.{disturbed_same, fresh_at, grows_disturbed, loses_disturb, loses_found_disturb, met_before, met_few, met_less, met_quiet, moves_disturb, run_to, same_between}
 
 abbrev pub stood_on : {p q r : Trace} {key : ℕ} {held : Held} → Begins q.seen r.seen → StoodOpen p q key held → StoodOpen p r key held
 stood_on {p} {q} {r} b x = record { moment = x.moment; from = x.from; to = begins_trans x.moment q.seen r.seen x.to b; shown = x.shown; is_open = x.is_open }
@@ -363,42 +362,6 @@ costs_among_on p m r is ok key each now_used e c x = more_disturbed each (listed
 
 -- ---- rounds of a search
 
-pub still_from : (p q r : Trace) (key : ℕ) (held : Held) → IsSame p q → Begins p.seen q.seen → StandsStill q r key held → StandsStill p r key held
-still_from p q r key held s a x = record {
-  stood = stood_from p q r key held s a x.stood;
-  own = sym (changed_same p q key r.seen s) ∙ x.own ∙ changed_same p q key x.stood.moment s;
-}
-
-pub next_still_from : (p q r : Trace) (key : ℕ) (next : Option Held) → IsSame p q → Begins p.seen q.seen → NextStandsStill q r key next → NextStandsStill p r key next
-next_still_from p q r key None s a x = tt
-next_still_from p q r key (Some node) s a x = still_from p q r key node s a x
-
-once_alone : (before since_then lost m n : ℕ) → since_then ≤ before + (lost + 1) * (9 * m + 3) → lost ≡ 0 → m ≤ n → since_then ≤ before + 3 + 9 * n
-once_alone before since_then lost m n paid none l =
-    let P : ℕ → Type 0 = λ t. since_then ≤ before + (t + 1) * (9 * m + 3) in
-    let x = subst P none paid in
-    omega (arith, x, l)
-
-module _ (p r : Trace) (is : IsStart p.start) (ok : IsRun p.start p.passes r.seen) (key : ℕ) (quiet : Quiet p r) {before used : ℕ} (x : WalksAgain 9 p r key before used) where
-  -- alone, one traversal is enough
-  pub searched_alone : IsAlone p r → used ≤ before + 3 + 9 * listed_for p key
-  searched_alone alone =
-      let none = alone_undisturbed p r key alone in
-      let grows = disturbances_grow (since p.start p.passes p.seen r.seen is ok quiet.seen) p.who (bucket_of p.start.shape key) in
-      let few = x.repeats.few in
-      let met_few = met_quiet p r is ok key quiet in
-      once_alone before used x.lost (met_since p r key) (listed_for p key) x.repeats.paid (omega (arith, none, grows, few)) (omega (arith, none, met_few))
-
-  pub found_alone : advances r ≡ advances p → (told : Found) → KnowsEpoch p r → StandsStill p r key told.pred → NextStandsStill p r key told.cur → IsAlone p r → FoundAlone p r key before used told
-  found_alone steps told knew pred cur alone = record {
-    pred = record { fresh = fresh_alone p r is ok key quiet.same quiet.seen alone steps knew; stands = stands_alone p r is ok key quiet.same quiet.seen alone told.pred pred };
-    cur = next_stands_alone p r is ok key quiet.same quiet.seen alone told.cur cur;
-    paid = searched_alone alone;
-  }
-
-  pub tired_alone : (budget : ℕ) → budget < used + 8 → IsAlone p r → budget < before + enough_to_search p key
-  tired_alone budget short alone = let paid = searched_alone alone in omega (arith, short, paid)
-
 search_few : (lost m n times used : ℕ) → used ≤ 0 + (lost + 1) * (9 * m + 3) → m ≤ n → lost ≤ times → used ≤ (times + 1) * (9 * n + 3)
 search_few lost m n times used x l f =
     let u = mul-le (lost + 1) (9 * m + 3) (times + 1) (9 * n + 3) (omega (arith, f)) (omega (arith, l)) in
@@ -421,12 +384,6 @@ module _ (p r : Trace) (is : IsStart p.start) (ok : IsRun p.start p.passes r.see
 
 -- ---- rounds of a remove
 
-run_on : (p r : Trace) → IsSame p r → IsRun p.start p.passes r.seen → IsRun r.start r.passes r.seen
-run_on p r s ok =
-    let P : Start → Type 0 = λ start. IsRun start p.passes r.seen in
-    let Q : ℕ → Type 0 = λ passes. IsRun r.start passes r.seen in
-    subst Q (sym s.passes) (subst P (sym s.start) ok)
-
 more_searches : (before each tries lost m1 m2 m a b c : ℕ) → a ≤ before + tries * (9 * m1 + (3 + each)) → b ≤ a + (lost + 1) * (9 * m2 + 3) → c ≤ b + each → m1 ≤ m → m2 ≤ m → c ≤ before + (tries + lost + 1) * (9 * m + (3 + each))
 more_searches before each tries lost m1 m2 m a b c x y z l k =
     let u = mul-le tries (9 * m1 + (3 + each)) tries (9 * m + (3 + each)) (omega arith) (omega (arith, l)) in
@@ -440,10 +397,10 @@ pub search_round_on : (p q m r : Trace) → IsStart p.start → IsRun p.start p.
 search_round_on p q m r is ok key each sq qm sr a b c count {before_all} {used} {mid} {now_used} x told last few loses =
     let t = last.begun in
     let st : IsSame p t = same_on sq last.same in
-    let tm : IsSame t m = record { table = qm.table ∙ sym last.same.table; start = qm.start ∙ sym last.same.start; passes = qm.passes ∙ sym last.same.passes; who = qm.who ∙ sym last.same.who } in
-    let tr : IsSame t r = record { table = sr.table ∙ sym st.table; start = sr.start ∙ sym st.start; passes = sr.passes ∙ sym st.passes; who = sr.who ∙ sym st.who } in
+    let tm = same_between last.same qm in
+    let tr = same_between st sr in
     let is_t : IsStart t.start = subst IsStart (sym st.start) is in
-    let less = loses_found_disturb t r is_t (run_at t r tr (run_on p r sr ok)) key tr (count ∙ last.count) m told tm c last.knew last.pred last.cur loses in
+    let less = loses_found_disturb t r is_t (run_to st r.seen ok) key tr (count ∙ last.count) m told tm c last.knew last.pred last.cur loses in
     let here = disturbed_same p q key q.seen sq in
     let mid_there = disturbed_same p q key t.seen sq in
     let there = disturbed_same p t key t.seen st in
@@ -481,32 +438,6 @@ remove_lacks p q m is ok key sq a b quiet {used} {mid} x w budget short =
     let high = met_less p m is ok key q sq a b in
     searches_lack x.lost w.lost (met_since p q key) (met_since q m key) (listed_for p key + disturbed p m key) (disturbed p m key) used mid budget x.repeats.paid w.repeats.paid (omega (arith, few, low)) (omega (arith, few, high)) (omega (arith, before, since_q, here, there)) short
 
--- where nothing disturbed it, that is what is enough alone
-pub enough_alone : (n times : ℕ) {budget : ℕ} → times ≡ 0 → budget < enough_to_search_among n times → budget < 9 * n + 11
-enough_alone n times {budget} none lacks = let P : ℕ → Type 0 = λ t. budget < enough_to_search_among n t in let x = subst P none lacks in omega (arith, x)
-
-first_few : (lost t m1 m2 n used mid : ℕ) → used ≤ 0 + lost * (9 * m1 + 6) → mid ≤ used + (t + 1) * (9 * m2 + 3) → lost ≡ 0 → t ≡ 0 → m2 ≤ n → mid ≤ 0 + 3 + 9 * n
-first_few lost t m1 m2 n used mid x y a b k =
-    let P : ℕ → Type 0 = λ u. used ≤ 0 + u * (9 * m1 + 6) in
-    let Q : ℕ → Type 0 = λ u. mid ≤ used + (u + 1) * (9 * m2 + 3) in
-    let v = subst P a x in
-    let w = subst Q b y in
-    omega (arith, v, w, k)
-
--- and the first search was the last
-pub searches_alone : (p q m : Trace) → IsStart p.start → IsRun p.start p.passes m.seen → (key : ℕ) → IsSame p q → Begins p.seen q.seen → Begins q.seen m.seen → Quiet p m → {used mid : ℕ} → HasRepeated 9 p q key 6 0 used → WalksAgain 9 q m key used mid → IsAlone p m → mid ≤ 0 + 3 + 9 * listed_for p key
-searches_alone p q m is ok key sq a b quiet {used} {mid} x w alone =
-    let none = alone_undisturbed p m key alone in
-    let grows = disturbances_grow (since p.start p.passes p.seen m.seen is ok quiet.seen) p.who (bucket_of p.start.shape key) in
-    let here = disturbed_same p q key q.seen sq in
-    let there = disturbed_same p q key m.seen sq in
-    let before = x.repeats.few in
-    let since_q = w.repeats.few in
-    let few = met_quiet p m is ok key quiet in
-    let low = grows_disturbed p m is ok key q.seen b in
-    let high = met_less p m is ok key q sq a b in
-    first_few x.lost w.lost (met_since p q key) (met_since q m key) (listed_for p key) used mid x.repeats.paid w.repeats.paid (omega (arith, none, grows, here, there, before, since_q, low)) (omega (arith, none, grows, here, there, before, since_q, low)) (omega (arith, none, few, high))
-
 -- ---- searches of an insert
 
 pub few_to_update_most : (start : Start) → steps_to_update start ≤ 4
@@ -516,26 +447,29 @@ few_to_update_most start = go start.shape.values
     go true = omega arith
     go false = omega arith
 
-more_searched : (before tries lost m1 m2 m a b now more all : ℕ) → a ≤ before + tries * (9 * m1 + 7) → b ≤ a + (lost + 1) * (9 * m2 + 3) → now ≤ b + more → more + 3 ≤ all → m1 ≤ m → m2 ≤ m → now ≤ before + 9 * m + (tries + lost) * (9 * m + 7) + all
-more_searched before tries lost m1 m2 m a b now more all x y z w l k =
-    let u = mul-le tries (9 * m1 + 7) tries (9 * m + 7) (omega arith) (omega (arith, l)) in
-    let v = mul-le (lost + 1) (9 * m2 + 3) (lost + 1) (9 * m + 3) (omega arith) (omega (arith, k)) in
-    omega (arith, x, y, z, w, u, v)
+more_searched : (before e each tries lost m1 m2 m a b now more all : ℕ) → (e ≤ each) × (3 ≤ each) → a ≤ before + tries * (9 * m1 + e) → b ≤ a + (lost + 1) * (9 * m2 + 3) → now ≤ b + more → more + 3 ≤ all → m1 ≤ m → m2 ≤ m → now ≤ before + 9 * m + (tries + lost) * (9 * m + each) + all
+more_searched before e each tries lost m1 m2 m a b now more all f x y z w l k =
+    let low = f.0 in
+    let three = f.1 in
+    let u = mul-le tries (9 * m1 + e) tries (9 * m + each) (omega arith) (omega (arith, l, low)) in
+    let v = mul-le lost (9 * m2 + 3) lost (9 * m + each) (omega arith) (omega (arith, k, three)) in
+    omega (arith, x, y, z, w, u, v, k)
 
 -- after so many, and what came then
-pub searches_end : (p q m : Trace) → IsStart p.start → IsRun p.start p.passes m.seen → (key : ℕ) → IsSame p q → Begins p.seen q.seen → Begins q.seen m.seen → {before_all used mid : ℕ} → HasRepeated 9 p q key 7 before_all used → WalksAgain 9 q m key used mid → (since_then more all : ℕ) → since_then ≤ mid + more → more + 3 ≤ all → SearchesFor p m key before_all since_then all
-searches_end p q m is ok key sq a b {before_all} {used} {mid} x w since_then more all le least =
+pub searches_until : (p q m : Trace) → IsStart p.start → IsRun p.start p.passes m.seen → (key : ℕ) → IsSame p q → Begins p.seen q.seen → Begins q.seen m.seen → {e each before_all used mid : ℕ} → (e ≤ each) × (3 ≤ each) → HasRepeated 9 p q key e before_all used → WalksAgain 9 q m key used mid → (since_then more all : ℕ) → since_then ≤ mid + more → more + 3 ≤ all → Searches each p m key before_all since_then all
+searches_until p q m is ok key sq a b {e} {each} {before_all} {used} {mid} f x w since_then more all le least =
     let here = disturbed_same p q key q.seen sq in
     let there = disturbed_same p q key m.seen sq in
     let before = x.repeats.few in
     let since_q = w.repeats.few in
-    let low = met_before p m is ok key q a b in
-    let high = met_less p m is ok key q sq a b in
     record {
       lost = x.lost + w.lost;
       few = omega (arith, before, since_q, here, there);
-      paid = more_searched before_all x.lost w.lost (met_since p q key) (met_since q m key) (met_since p m key) used mid since_then more all x.repeats.paid w.repeats.paid le least low high;
+      paid = more_searched before_all e each x.lost w.lost (met_since p q key) (met_since q m key) (met_since p m key) used mid since_then more all f x.repeats.paid w.repeats.paid le least (met_before p m is ok key q a b) (met_less p m is ok key q sq a b);
     }
+
+pub searches_end : (p q m : Trace) → IsStart p.start → IsRun p.start p.passes m.seen → (key : ℕ) → IsSame p q → Begins p.seen q.seen → Begins q.seen m.seen → {before_all used mid : ℕ} → HasRepeated 9 p q key 7 before_all used → WalksAgain 9 q m key used mid → (since_then more all : ℕ) → since_then ≤ mid + more → more + 3 ≤ all → SearchesFor p m key before_all since_then all
+searches_end p q m is ok key sq a b x w = searches_until p q m is ok key sq a b (omega arith, omega arith) x w
 
 searched_later : (before lost m1 m2 now least most : ℕ) → now ≤ before + 9 * m1 + lost * (9 * m1 + 7) + least → m1 ≤ m2 → least ≤ most → now ≤ before + 9 * m2 + lost * (9 * m2 + 7) + most
 searched_later before lost m1 m2 now least most x l le =
@@ -543,7 +477,7 @@ searched_later before lost m1 m2 now least most x l le =
     omega (arith, x, l, le, u)
 
 -- until a later moment
-pub searches_later : (p m r : Trace) → IsStart p.start → IsRun p.start p.passes r.seen → (key : ℕ) → Begins p.seen m.seen → Begins m.seen r.seen → {before_all since_then least : ℕ} (most : ℕ) → least ≤ most → SearchesFor p m key before_all since_then least → SearchesFor p r key before_all since_then most
+pub searches_later : (p m r : Trace) → IsStart p.start → IsRun p.start p.passes r.seen → (key : ℕ) → Begins p.seen m.seen → Begins m.seen r.seen → {before_all since_then least : ℕ} (most : ℕ) → least ≤ most → Searches 7 p m key before_all since_then least → Searches 7 p r key before_all since_then most
 searches_later p m r is ok key a b {before_all} {since_then} {least} most le x =
     let grows = grows_disturbed p r is ok key m.seen b in
     let few = x.few in
@@ -560,20 +494,20 @@ in_vain p r key before_all mid budget steps all x NoSlot le short = tt
 in_vain p r key before_all mid budget steps all x (EpochSpent epoch) le short = tt
 
 -- one half of an insert
-one_half : (lost m n t now more : ℕ) → now ≤ 0 + 9 * m + lost * (9 * m + 7) + more → m ≤ n + t → lost ≤ t → now ≤ 9 * (n + t) + searches_more n t + more
+one_half : (lost m n t now more : ℕ) → now ≤ 0 + 9 * m + lost * (9 * m + 7) + more → m ≤ n + t → lost ≤ t → now ≤ 9 * (n + t) + searches_more 7 n t + more
 one_half lost m n t now more x l f =
     let u = mul-le lost (9 * m + 7) t (9 * (n + t) + 7) f (omega (arith, l)) in
     omega (arith, x, u, l)
 
 -- and both
-both_halves : (lost lost2 m1 m2 n t used now more more2 : ℕ) → used ≤ 0 + 9 * m1 + lost * (9 * m1 + 7) + more → now ≤ used + 9 * m2 + lost2 * (9 * m2 + 7) + more2 → m1 ≤ n + t → m2 ≤ n + t → lost + lost2 ≤ t → now ≤ 18 * (n + t) + searches_more n t + more + more2
-both_halves lost lost2 m1 m2 n t used now more more2 x y l k f =
-    let u = mul-le lost (9 * m1 + 7) lost (9 * (n + t) + 7) (omega arith) (omega (arith, l)) in
-    let v = mul-le lost2 (9 * m2 + 7) lost2 (9 * (n + t) + 7) (omega arith) (omega (arith, k)) in
-    let w = mul-le (lost + lost2) (9 * (n + t) + 7) t (9 * (n + t) + 7) f (omega arith) in
+both_halves : (each lost lost2 m1 m2 n t used now more more2 : ℕ) → 7 ≤ each → used ≤ 0 + 9 * m1 + lost * (9 * m1 + 7) + more → now ≤ used + 9 * m2 + lost2 * (9 * m2 + each) + more2 → m1 ≤ n + t → m2 ≤ n + t → lost + lost2 ≤ t → now ≤ 18 * (n + t) + searches_more each n t + more + more2
+both_halves each lost lost2 m1 m2 n t used now more more2 e x y l k f =
+    let u = mul-le lost (9 * m1 + 7) lost (9 * (n + t) + each) (omega arith) (omega (arith, l, e)) in
+    let v = mul-le lost2 (9 * m2 + each) lost2 (9 * (n + t) + each) (omega arith) (omega (arith, k)) in
+    let w = mul-le (lost + lost2) (9 * (n + t) + each) t (9 * (n + t) + each) f (omega arith) in
     omega (arith, x, y, u, v, w, l, k)
 
-pub half_searched : (p q : Trace) → IsStart p.start → IsRun p.start p.passes q.seen → (key : ℕ) → Quiet p q → {used more : ℕ} → SearchesFor p q key 0 used more → used ≤ 9 * (listed_for p key + disturbed p q key) + searches_more (listed_for p key) (disturbed p q key) + more
+pub half_searched : (p q : Trace) → IsStart p.start → IsRun p.start p.passes q.seen → (key : ℕ) → Quiet p q → {used more : ℕ} → Searches 7 p q key 0 used more → used ≤ 9 * (listed_for p key + disturbed p q key) + searches_more 7 (listed_for p key) (disturbed p q key) + more
 half_searched p q is ok key quiet {used} {more} x =
     let few = x.few in
     one_half x.lost (met_since p q key) (listed_for p key) (disturbed p q key) used more x.paid (met_quiet p q is ok key quiet) (omega (arith, few))
@@ -583,46 +517,43 @@ vain_lacks p q is ok key budget taking quiet (OutOfSteps used) x = let most = ha
 vain_lacks p q is ok key budget taking quiet NoSlot x = tt
 vain_lacks p q is ok key budget taking quiet (EpochSpent epoch) x = tt
 
--- a search that follows another
-pub both_searched : (p q r : Trace) → IsStart p.start → IsRun p.start p.passes r.seen → (key : ℕ) → IsSame p q → Begins p.seen q.seen → Begins q.seen r.seen → met_since p r key ≤ listed_for p key + disturbed p r key → {used now more more2 : ℕ} → SearchesFor p q key 0 used more → SearchesFor q r key used now more2 → now ≤ 18 * (listed_for p key + disturbed p r key) + searches_more (listed_for p key) (disturbed p r key) + more + more2
-both_searched p q r is ok key sq a b few {used} {now} {more} {more2} x y =
-    let here = disturbed_same p q key q.seen sq in
-    let there = disturbed_same p q key r.seen sq in
-    let before = x.few in
-    let since_q = y.few in
-    let low = met_before p r is ok key q a b in
-    let high = met_less p r is ok key q sq a b in
-    both_halves x.lost y.lost (met_since p q key) (met_since q r key) (listed_for p key) (disturbed p r key) used now more more2 x.paid y.paid (omega (arith, few, low)) (omega (arith, few, high)) (omega (arith, before, since_q, here, there))
-
 -- the first search, until a later moment
 pub searched_first : (p q : Trace) → IsStart p.start → IsRun p.start p.passes q.seen → (key : ℕ) {before_all now more : ℕ} → SearchedFor p q key before_all now more → SearchesFor p q key before_all now more
 searched_first p q is ok key {before_all} {now} {more} x = searches_later p x.ended q is ok key x.quiet.seen x.to more (omega arith) x.searches
 
-more_often : (k n t u now more : ℕ) → now ≤ k * (n + t) + searches_more n t + more → t ≤ u → now ≤ k * (n + u) + searches_more n u + more
-more_often k n t u now more x l =
-    let y = mul-le t (9 * (n + t) + 7) u (9 * (n + u) + 7) l (omega (arith, l)) in
+more_often : (each k n t u now more : ℕ) → now ≤ k * (n + t) + searches_more each n t + more → t ≤ u → now ≤ k * (n + u) + searches_more each n u + more
+more_often each k n t u now more x l =
+    let y = mul-le t (9 * (n + t) + each) u (9 * (n + u) + each) l (omega (arith, l)) in
     let z = mul-le k (n + t) k (n + u) (omega arith) (omega (arith, l)) in
     omega (arith, x, y, z)
 
 -- what an answer cost: after one search
-pub once_paid : (p q : Trace) → IsStart p.start → IsRun p.start p.passes q.seen → (key : ℕ) {used more : ℕ} → SearchedFor p q key 0 used more → used ≤ 9 * (listed_for p key + disturbed p q key) + searches_more (listed_for p key) (disturbed p q key) + more
+pub once_paid : (p q : Trace) → IsStart p.start → IsRun p.start p.passes q.seen → (key : ℕ) {used more : ℕ} → SearchedFor p q key 0 used more → used ≤ 9 * (listed_for p key + disturbed p q key) + searches_more 7 (listed_for p key) (disturbed p q key) + more
 once_paid p q is ok key {used} {more} x =
     let most = half_searched p x.ended is (begins_run p.start p.passes x.ended.seen q.seen x.to ok) key x.quiet x.searches in
-    more_often 9 (listed_for p key) (disturbed p x.ended key) (disturbed p q key) used more most (disturbed_on p x.ended q is ok key x.to)
+    more_often 7 9 (listed_for p key) (disturbed p x.ended key) (disturbed p q key) used more most (disturbed_on p x.ended q is ok key x.to)
 
--- and after two
-pub twice_paid : (p q r : Trace) → IsStart p.start → IsRun p.start p.passes r.seen → (key : ℕ) → Quiet p q → {used now more more2 : ℕ} → SearchedFor p q key 0 used more → SearchedFor q r key used now more2 → now ≤ 18 * (listed_for p key + disturbed p r key) + searches_more (listed_for p key) (disturbed p r key) + (more + more2)
-twice_paid p q r is ok key quiet {used} {now} {more} {more2} x y =
-    let m = y.ended in
-    let ok_m = begins_run p.start p.passes m.seen r.seen y.to ok in
-    let ok_q = begins_run p.start p.passes q.seen m.seen y.quiet.seen ok_m in
-    let first = searched_first p q is ok_q key x in
-    let both = both_searched p q m is ok_m key quiet.same quiet.seen y.quiet.seen (met_quiet p m is ok_m key (quiet_on quiet y.quiet)) first y.searches in
-    more_often 18 (listed_for p key) (disturbed p m key) (disturbed p r key) now (more + more2) (omega (arith, both)) (disturbed_on p m r is ok key y.to)
+-- after two, of which the second ended at an earlier moment
+pub both_paid : (p q m r : Trace) → IsStart p.start → IsRun p.start p.passes r.seen → (key : ℕ) → Quiet p q → Quiet q m → Begins m.seen r.seen → {each used now more more2 : ℕ} → 7 ≤ each → SearchedFor p q key 0 used more → Searches each q m key used now more2 → now ≤ 18 * (listed_for p key + disturbed p r key) + searches_more each (listed_for p key) (disturbed p r key) + (more + more2)
+both_paid p q m r is ok key quiet then on {each} {used} {now} {more} {more2} e x y =
+    let ok_m = begins_run p.start p.passes m.seen r.seen on ok in
+    let first = searched_first p q is (begins_run p.start p.passes q.seen m.seen then.seen ok_m) key x in
+    let here = disturbed_same p q key q.seen quiet.same in
+    let there = disturbed_same p q key m.seen quiet.same in
+    let before = first.few in
+    let since_q = y.few in
+    let few = met_quiet p m is ok_m key (quiet_on quiet then) in
+    let low = met_before p m is ok_m key q quiet.seen then.seen in
+    let high = met_less p m is ok_m key q quiet.same quiet.seen then.seen in
+    let both = both_halves each first.lost y.lost (met_since p q key) (met_since q m key) (listed_for p key) (disturbed p m key) used now more more2 e first.paid y.paid (omega (arith, few, low)) (omega (arith, few, high)) (omega (arith, before, since_q, here, there)) in
+    more_often each 18 (listed_for p key) (disturbed p m key) (disturbed p r key) now (more + more2) (omega (arith, both)) (disturbed_on p m r is ok key on)
+
+pub twice_paid : (p q r : Trace) → IsStart p.start → IsRun p.start p.passes r.seen → (key : ℕ) → Quiet p q → {used now more more2 : ℕ} → SearchedFor p q key 0 used more → SearchedFor q r key used now more2 → now ≤ 18 * (listed_for p key + disturbed p r key) + searches_more 7 (listed_for p key) (disturbed p r key) + (more + more2)
+twice_paid p q r is ok key quiet x y = both_paid p q y.ended r is ok key quiet y.quiet y.to (omega arith) x y.searches
 
 -- a budget that has no room for one more piece was below what is enough
+pub both_lack : (p q r : Trace) → IsStart p.start → IsRun p.start p.passes r.seen → (key budget used taking : ℕ) → Quiet p q → Quiet q r → {each : ℕ} → 7 ≤ each → SearchedFor p q key 0 used (taking + 3) → Searches each q r key used (budget + 1) 11 → budget < enough_past (listed_for p key + disturbed p r key) taking + searches_more each (listed_for p key) (disturbed p r key)
+both_lack p q r is ok key budget used taking quiet then e x y = let both = both_paid p q r r is ok key quiet then (begins_refl r.seen) e x y in omega (arith, both)
+
 pub insert_lacks : (p q r : Trace) → IsStart p.start → IsRun p.start p.passes r.seen → (key budget used taking : ℕ) → Quiet p q → Quiet q r → SearchedFor p q key 0 used (taking + 3) → SearchesFor q r key used (budget + 1) 11 → budget < enough_to_insert_among (listed_for p key) (disturbed p r key) taking
-insert_lacks p q r is ok key budget used taking quiet then x y =
-    let first = searched_first p q is (begins_run p.start p.passes q.seen r.seen then.seen ok) key x in
-    let both = both_searched p q r is ok key quiet.same quiet.seen then.seen (met_quiet p r is ok key (quiet_on quiet then)) first y in
-    omega (arith, both)
+insert_lacks p q r is ok key budget used taking quiet then x y = both_lack p q r is ok key budget used taking quiet then (omega arith) x y

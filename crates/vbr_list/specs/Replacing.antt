@@ -25,9 +25,9 @@ use Rattle.vbr_list.specs.Budgets.{IsAnsweredOrSpent, LacksSteps, enough_to_inse
 use Rattle.vbr_list.specs.Disturbed.{disturbed, disturbed_after, enough_to_replace_among, replace_costs_among, steps_for_slot}
 use Rattle.vbr_list.specs.Helping.{MayHelp}
 use Rattle.vbr_list.specs.Leaving.{LeavesAt, LeavesReplaced}
-use Rattle.vbr_list.specs.Inserting.{GivesHandBack, HasHandAndRoom, InsertIsShort, SearchedFor, SearchesInVain, TakesNone}
+use Rattle.vbr_list.specs.Inserting.{GivesHandBack, HasHandAndRoom, InsertIsShort, SearchedFor, Searches, SearchesInVain, TakesNone}
 use Rattle.vbr_list.specs.Pieces.{HasRoom, IsPiece, IsSameCall, Replies, pass_in, trace_in}
-use Rattle.vbr_list.specs.Removing.{MarksBehind, SearchesOn}
+use Rattle.vbr_list.specs.Removing.{MarksAndSearches, MarksBehind, SearchesOn}
 use Rattle.vbr_list.specs.Traversing.{LocatesFor}
 use Rattle.vbr_list.specs.Walking.{LosesPlace, met_since}
 use Rattle.vbr_list.specs.declared.call.PendingCall.{PendingCall}
@@ -89,18 +89,10 @@ pub record SettlesSoon {N : Type 0} {kind : Ghosts N} (c d : PendingCall N kind)
   pub few : d.used ≤ c.used + 14
   pub leaves : is_some answer ≡ true → c.used + 16 ≤ c.budget → LeavesReplaced (trace_in c) (trace_in d) c.key
 
--- a node was replaced in eight steps at most, and not unlinked, as the place before it was lost since
-pub record ReplacesAndSearches (p q : Trace) (key before since : ℕ) (pred : Held) : Type 0 where
-  pub marked : Trace
-  pub marks : MarksBehind p marked key pred
-  pub used : ℕ
-  pub few : used ≤ before + PIECE
-  pub searches : SearchesOn marked q key used since pred
-
 -- the one or, of a value that was replaced, the other
 abbrev pub SettlesPaid : {N : Type 0} {kind : Ghosts N} → PendingCall N kind → PendingCall N kind → Found → Option ℕ → Type 0
 SettlesPaid c d found None = SettlesSoon c d None
-SettlesPaid c d found (Some old) = SettlesSoon c d (Some old) ⊎ ReplacesAndSearches (trace_in c) (trace_in d) c.key c.used d.used found.pred
+SettlesPaid c d found (Some old) = SettlesSoon c d (Some old) ⊎ MarksAndSearches PIECE (trace_in c) (trace_in d) c.key c.used d.used found.pred
 
 -- a call that may have replaced a value: its steps are counted, and it takes no slot
 pub record MaySettleReplace {N : Type 0} {kind : Ghosts N} (c d : PendingCall N kind) : Type 0 where
@@ -164,11 +156,9 @@ abbrev pub HasUnused : {A E : Type 0} → PassView → PassView → Result A E �
 HasUnused p q (Ok old) = HasAllButOne p q
 HasUnused p q (Err error) = HasStill p q
 
--- searches for a key with a slot in hand, each but the last disturbed: so many steps for each node of each of them, twelve for each that was disturbed, and so many more
-pub record SearchesWith (p q : Trace) (key before since more : ℕ) : Type 0 where
-  pub lost : ℕ
-  pub few : disturbed_after p key p.seen + lost ≤ disturbed_after p key q.seen
-  pub paid : since ≤ before + 9 * met_since p q key + lost * (9 * met_since p q key + 12) + more
+-- searches for a key with a slot in hand: twelve steps for each that was disturbed
+abbrev pub SearchesWith : Trace → Trace → ℕ → ℕ → ℕ → ℕ → Type 0
+SearchesWith p q key before since more = Searches 12 p q key before since more
 
 -- it is answered soon after its last search; with sixteen steps left of the budget then a replaced node has left its list
 pub record AnswersSoon {N : Type 0} {kind : Ghosts N} (c d : PendingCall N kind) (answer : Option ℕ) : Type 0 where
