@@ -2,19 +2,20 @@ use Rattle.std.proofs.Common.{◌≤◌, length, sym, subst, rules, arith}
 use Rattle.vbr_slots.specs.Closing.{AllOf}
 use Rattle.vbr_slots.specs.Views.{TableView}
 use Rattle.std.specs.Prelude.{IfOk}
+use Rattle.vbr_set.specs.Closing.{ClosesBy}
 use Rattle.vbr_set.proofs.Apart.{all_of_first, all_parts_of, all_told, as_many_passes}
 use Rattle.vbr_set.proofs.member.closing_all.report_apart.Goals as goal
 
-pub tell-requires-clause-of_set : goal.tell-requires-clause-of_set
-tell-requires-clause-of_set g c =
+pub report-requires-clause-of_set : goal.report-requires-clause-of_set
+report-requires-clause-of_set g c =
     let first = c.in-Some.first.now in
     let shares = c.args.shares.now in
     let passes = c.args.passes.now.items in
     let all = all_of_first first shares passes c.requires.parts c.requires.one_set c.requires.enough (search rules) in
     subst (λ (t : TableView). AllOf t passes) (sym c.set.ensures) (all_parts_of _ shares passes c.requires.parts all.0)
 
-pub tell-requires-clause-all : goal.tell-requires-clause-all
-tell-requires-clause-all g c =
+pub report-requires-clause-all : goal.report-requires-clause-all
+report-requires-clause-all g c =
     let first = c.in-Some.first.now in
     let shares = c.args.shares.now in
     let passes = c.args.passes.now.items in
@@ -28,4 +29,4 @@ returns-clause-report g c =
     let shares = c.args.shares.now in
     let passes = c.args.passes.now.items in
     let all = all_of_first first shares passes c.requires.parts c.requires.one_set c.requires.enough (search rules) in
-    all_told g.R.ReportOf.closes first shares passes c.requires.parts all c.tell.result (subst (λ (t : TableView). IfOk c.tell.result (g.R.ReportOf.closes t passes)) c.set.ensures c.tell.ensures.report)
+    all_told (ClosesBy g.N.Kind.kind) first shares passes c.requires.parts all c.report.result (subst (λ (t : TableView). IfOk c.report.result (ClosesBy g.N.Kind.kind t passes)) c.set.ensures c.report.ensures.report)
