@@ -2,6 +2,7 @@
 ghost use Rattle.std.specs.Prelude.{◌≡◌, ◌≤◌, [], true, false, length, IfOk, IfErr, IfSome};
 ghost use Rattle.std.specs.Arc.{arc_value};
 ghost use Rattle.std.specs.Vec.{vec_capacity};
+ghost use Rattle.vbr_slots.specs.Closing.{AllOf};
 ghost use Rattle.vbr_set.specs.Closing.{ClosesBy};
 ghost use Rattle.vbr_set.specs.Ends.{AreNumbered, EndsBy, IsBack, IsLast, EndLacksMemory};
 ghost use Rattle.vbr_set.specs.Mailboxes.{IsIdle};
@@ -16,7 +17,7 @@ use crate::member::mailbox::{Mailbox, SeatKnows};
 use crate::member::share::Share;
 use crate::set::VbrSet;
 use atomic_table::Seat;
-use std::alloc::{AllocFailed, Global};
+use std::alloc::{AllocError, AllocFailed, Global};
 use std::sync::Arc;
 use vbr_slots::Pass;
 use vbr_words::Nodes;
@@ -187,13 +188,27 @@ fn end_gathered<N: Kind>(
     if passes.len() != set.count as usize || !are_numbered(&passes) {
         return Err(EndError::Lost);
     }
-    let told = set.report(alloc, &mut passes);
+    let told = tell(&set, alloc, &mut passes);
     let pass = passes.remove(who);
     let last = Member::of(Share::Gathered(set, passes), pass);
     match told {
         Ok(report) => Ok((report, last)),
         Err(_) => Err(EndError::Memory(last)),
     }
+}
+
+// Tells what is in a set, with all its passes, which stay as they were.
+fn tell<N: Kind>(
+    set: &VbrSet<N>,
+    alloc: Global,
+    passes: &mut Vec<Pass>,
+) -> Result<N::Report, AllocError>
+    requires of_set { AllOf set.now passes.old.items }
+    requires all { set.now.passes ≤ length passes.old.items }
+    ensures same { passes.new.items ≡ passes.old.items }
+    ensures report { IfOk result (ClosesBy N.kind set.now passes.old.items) }
+{
+    set.report(alloc, passes)
 }
 
 // Whether each pass stands at its number.

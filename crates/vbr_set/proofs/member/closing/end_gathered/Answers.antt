@@ -5,8 +5,8 @@ use Rattle.vbr_set.specs.Sharing.{AreOthers, ArePassesOf}
 use Rattle.vbr_set.proofs.Ends.{all_of, out_again, with_own}
 use Rattle.vbr_set.proofs.member.closing.end_gathered.Goals as goal
 
-pub report-told-requires-clause-of_set : goal.report-told-requires-clause-of_set
-report-told-requires-clause-of_set g c = all_of c.args.set c.insert.new.self.items (with_own c.args.set c.args.passes.items c.insert.new.self.items c.who-who.result c.args.pass (search rules) c.requires.passes c.requires.ready.own)
+pub tell-told-requires-clause-of_set : goal.tell-told-requires-clause-of_set
+tell-told-requires-clause-of_set g c = all_of c.args.set c.insert.new.self.items (with_own c.args.set c.args.passes.items c.insert.new.self.items c.who-who.result c.args.pass (search rules) c.requires.passes c.requires.ready.own)
 
 pub of-last-requires : goal.of-last-requires
 of-last-requires g c =

@@ -1,6 +1,6 @@
-use Rattle.std.proofs.Common.{◌≤◌, length, sym, subst, rules, arith}
+use Rattle.std.proofs.Common.{◌≤◌, List, length, sym, subst, rules, arith}
 use Rattle.vbr_slots.specs.Closing.{AllOf}
-use Rattle.vbr_slots.specs.Views.{TableView}
+use Rattle.vbr_slots.specs.Views.{PassView, TableView}
 use Rattle.std.specs.Prelude.{IfOk}
 use Rattle.vbr_set.specs.Closing.{ClosesBy}
 use Rattle.vbr_set.proofs.Apart.{all_of_first, all_parts_of, all_told, as_many_passes}
@@ -12,7 +12,7 @@ report-requires-clause-of_set g c =
     let shares = c.args.shares.now in
     let passes = c.args.passes.now.items in
     let all = all_of_first first shares passes c.requires.parts c.requires.one_set c.requires.enough (search rules) in
-    subst (λ (t : TableView). AllOf t passes) (sym c.set.ensures) (all_parts_of _ shares passes c.requires.parts all.0)
+    subst (λ (x : TableView × List PassView). AllOf x.0 x.1) (λ i. (sym c.set.ensures i, sym c.deref_mut.ensures.value i)) (all_parts_of _ shares passes c.requires.parts all.0)
 
 pub report-requires-clause-all : goal.report-requires-clause-all
 report-requires-clause-all g c =
@@ -21,7 +21,7 @@ report-requires-clause-all g c =
     let passes = c.args.passes.now.items in
     let all = all_of_first first shares passes c.requires.parts c.requires.one_set c.requires.enough (search rules) in
     let many = as_many_passes shares passes c.requires.parts in
-    subst (λ (t : TableView). t.passes ≤ length passes) (sym c.set.ensures) (let some = all.1 in omega arith)
+    subst (λ (x : TableView × List PassView). x.0.passes ≤ length x.1) (λ i. (sym c.set.ensures i, sym c.deref_mut.ensures.value i)) (let some = all.1 in omega arith)
 
 pub returns-clause-report : goal.returns-clause-report
 returns-clause-report g c =
@@ -29,4 +29,5 @@ returns-clause-report g c =
     let shares = c.args.shares.now in
     let passes = c.args.passes.now.items in
     let all = all_of_first first shares passes c.requires.parts c.requires.one_set c.requires.enough (search rules) in
-    all_told (ClosesBy g.N.Kind.kind) first shares passes c.requires.parts all c.report.result (subst (λ (t : TableView). IfOk c.report.result (ClosesBy g.N.Kind.kind t passes)) c.set.ensures c.report.ensures.report)
+    let told = subst (λ (x : TableView × List PassView). IfOk c.report.result (ClosesBy g.N.Kind.kind x.0 x.1)) (λ i. (c.set.ensures i, c.deref_mut.ensures.value i)) c.report.ensures.report in
+    all_told (ClosesBy g.N.Kind.kind) first shares passes c.requires.parts all c.report.result told
