@@ -108,9 +108,11 @@ fn end_all<N: Kind, I: Listed<N>, H: HandleOf<N>>(
     room: usize,
 ) -> Result<N::Report, (CloseAllRefusal<N::Report>, Vec<Member<N>>)>
     requires { AreOfOneSet members.items }
-    ensures ends { IfOk result (EndsAll H.member (ClosesBy N.kind) I.listing members.items [] room) }
+    ensures ends { IfOk result
+        (EndsAll H.member (ClosesBy N.kind) I.listing members.items [] room) }
     ensures not { IfErr result
-        (λ e. IsUnended (ClosesBy N.kind) I.listing H.member members.items [] [] room e.0 e.1.items) }
+        (λ e. IsUnended (ClosesBy N.kind) I.listing H.member
+            members.items [] [] room e.0 e.1.items) }
 {
     match Member::<N>::report_all(alloc, members) {
         Ok((report, members)) => {
