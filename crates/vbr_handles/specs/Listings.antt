@@ -1,7 +1,7 @@
 -- What of nodes crosses to C: the keys of a set, or the entries of a map, where a table opens with them and where a report tells them.
 use Rattle.std.specs.Prelude.{ℕ, Bool, true, false, List, [], map}
 use Rattle.vbr_machine.specs.Maps.{keys_listed, values_listed}
-use Rattle.vbr_set.specs.declared.map.report.MapReport.{MapReport}
+use Rattle.vbr_set.specs.declared.report.MapReport.{MapReport}
 use Rattle.vbr_set.specs.declared.report.Report.{Report}
 use Rattle.vbr_handles.specs.declared.entry.Entry.{Entry}
 use Rattle.vbr_handles.specs.declared.report_numbers.ReportNumbers.{ReportNumbers}

@@ -1,8 +1,7 @@
 -- What a close of a handle tells as a number, and writes of the report.
 use Rattle.std.specs.Prelude.{◌≡◌, ℤ, ℕ, List, ◌++◌, length, drop, Option, None, Some, Result, Ok, Err}
 use Rattle.vbr_slots.specs.Views.{PassView, TableView}
-use Rattle.vbr_set.specs.Closing.{Closes}
-use Rattle.vbr_set.specs.MapClosing.{MapCloses}
+use Rattle.vbr_set.specs.Closing.{Closes, MapCloses}
 use Rattle.vbr_set.specs.Members.{MemberView as Member}
 use Rattle.vbr_handles.specs.AllHandles.{ClosesAll}
 use Rattle.vbr_handles.specs.Closing.{ClosesAs}

@@ -1,12 +1,13 @@
 //! Closing handles, one after another.
 ghost use Rattle.std.specs.Prelude.{◌≡◌, None};
+ghost use Rattle.vbr_set.specs.Closing.{ClosesBy};
 ghost use Rattle.vbr_handles.specs.Closing.{ClosesAs};
 
 use crate::listed::Listed;
 use crate::owner::Owner;
 use std::alloc::Global;
 use vbr_set::member::Member;
-use vbr_set::{EndError, Report};
+use vbr_set::{EndError, Kind, Report};
 use vbr_words::Nodes;
 
 /// Why a handle got no answer to its close; `R` is the report, that of a set by itself.
@@ -27,17 +28,17 @@ pub enum CloseRefusal<R = Report> {
 /// Gives the pass of a handle back and leaves the handle empty. While other handles of its set are
 /// full the answer is None; the last one is told what is in the set, where there is room for so many
 /// keys, and the set ends. So it is of a map, whose report has entries.
-pub fn close<N: Nodes, I: Listed<N>>(
+pub fn close<N: Kind, I: Listed<N>>(
     alloc: Global,
     owner: &mut Owner<Member<N>>,
     room: usize,
-) -> Result<Option<I::Report>, CloseRefusal<I::Report>>
-    ensures { ClosesAs I.Report.closes I.listing owner.old.member owner.new.member room result }
+) -> Result<Option<N::Report>, CloseRefusal<N::Report>>
+    ensures { ClosesAs (ClosesBy N.kind) I.listing owner.old.member owner.new.member room result }
 {
     let Some((member, block)) = owner.take_out(alloc) else {
         return Err(CloseRefusal::Empty);
     };
-    match member.tell_last::<I::Report>(alloc) {
+    match member.report_last(alloc) {
         Ok(None) => {
             block.free();
             Ok(None)

@@ -2,6 +2,7 @@
 ghost use Rattle.std.specs.Prelude.{◌≡◌, ◌+◌, ◌≤◌, ◌++◌, [], true, false, length, None, Some, IfErr, IfOk, IfSome, IsSome};
 ghost use Rattle.std.specs.Vec.{vec_capacity};
 ghost use Rattle.vbr_set.specs.AllMembers.{AreOfOneSet};
+ghost use Rattle.vbr_set.specs.Closing.{ClosesBy};
 ghost use Rattle.vbr_handles.specs.AllHandles.{AreFull, ClosesAll, EndsAll, members_by};
 ghost use Rattle.vbr_handles.specs.Unended.{IsUnended};
 
@@ -11,7 +12,7 @@ use crate::owner::Owner;
 use std::alloc::Global;
 use std_alloc::room::Vacant;
 use vbr_set::member::Member;
-use vbr_set::{CloseAllError, Report};
+use vbr_set::{CloseAllError, Kind, Report};
 use vbr_words::Nodes;
 
 /// Why all handles of a set got no report; `R` is the report, that of a set by itself. The handles are as
@@ -34,13 +35,13 @@ pub enum CloseAllRefusal<R = Report> {
 /// Closes a set by all its handles at once, in any order, and leaves them empty: what is in the set, where
 /// there is room for so many keys. It asks that all are of one set. So it is of a map, whose report has
 /// entries.
-pub fn close_all<N: Nodes, I: Listed<N>, H: HandleOf<N>>(
+pub fn close_all<N: Kind, I: Listed<N>, H: HandleOf<N>>(
     alloc: Global,
     handles: &mut [H],
     room: usize,
-) -> Result<I::Report, CloseAllRefusal<I::Report>>
+) -> Result<N::Report, CloseAllRefusal<N::Report>>
     requires { AreOfOneSet (members_by H.member handles.old) }
-    ensures { ClosesAll H.member I.Report.closes I.listing handles.old handles.new room result }
+    ensures { ClosesAll H.member (ClosesBy N.kind) I.listing handles.old handles.new room result }
 {
     if !are_full::<N, H>(handles) {
         return Err(CloseAllRefusal::Empty);
@@ -62,18 +63,18 @@ pub fn close_all<N: Nodes, I: Listed<N>, H: HandleOf<N>>(
 
 // Takes the members out of the handles and ends their set together with these; where that is refused, puts
 // them back, and gives these back.
-fn end_with<N: Nodes, I: Listed<N>, H: HandleOf<N>>(
+fn end_with<N: Kind, I: Listed<N>, H: HandleOf<N>>(
     alloc: Global,
     handles: &mut [H],
     mut members: Vec<Member<N>>,
     room: usize,
-) -> Result<I::Report, (CloseAllRefusal<I::Report>, Vec<Member<N>>)>
+) -> Result<N::Report, (CloseAllRefusal<N::Report>, Vec<Member<N>>)>
     requires full { AreFull H.member handles.old }
     requires one_set { AreOfOneSet (members.items ++ members_by H.member handles.old) }
     requires room { length members.items + length handles.old ≤ vec_capacity members }
-    ensures ends { IfOk result (EndsAll H.member I.Report.closes I.listing
+    ensures ends { IfOk result (EndsAll H.member (ClosesBy N.kind) I.listing
         (members.items ++ members_by H.member handles.old) handles.new room) }
-    ensures not { IfErr result (λ e. IsUnended I.Report.closes I.listing
+    ensures not { IfErr result (λ e. IsUnended (ClosesBy N.kind) I.listing
         H.member members.items handles.old handles.new room e.0 e.1.items) }
 {
     let Some((first, others)) = handles.split_first_mut() else {
@@ -101,17 +102,19 @@ fn end_with<N: Nodes, I: Listed<N>, H: HandleOf<N>>(
 }
 
 // Ends a set by all its members, where there is room for its keys.
-fn end_all<N: Nodes, I: Listed<N>, H: HandleOf<N>>(
+fn end_all<N: Kind, I: Listed<N>, H: HandleOf<N>>(
     alloc: Global,
     members: Vec<Member<N>>,
     room: usize,
-) -> Result<I::Report, (CloseAllRefusal<I::Report>, Vec<Member<N>>)>
+) -> Result<N::Report, (CloseAllRefusal<N::Report>, Vec<Member<N>>)>
     requires { AreOfOneSet members.items }
-    ensures ends { IfOk result (EndsAll H.member I.Report.closes I.listing members.items [] room) }
+    ensures ends { IfOk result
+        (EndsAll H.member (ClosesBy N.kind) I.listing members.items [] room) }
     ensures not { IfErr result
-        (λ e. IsUnended I.Report.closes I.listing H.member members.items [] [] room e.0 e.1.items) }
+        (λ e. IsUnended (ClosesBy N.kind) I.listing H.member
+            members.items [] [] room e.0 e.1.items) }
 {
-    match Member::tell_all::<I::Report>(alloc, members) {
+    match Member::<N>::report_all(alloc, members) {
         Ok((report, members)) => {
             if I::count(&report) > room {
                 return Err((CloseAllRefusal::Room(report), members));

@@ -11,8 +11,6 @@ use vbr_set::{MapMember, MapReport, OpenError};
 use vbr_words::{Entries, Shape};
 
 impl Listed<Entries> for Entry {
-    type Report = MapReport;
-
     ghost listing = { as_entries };
 
     fn can_open(entries: &[Entry], slots: u32) -> bool {

@@ -10,8 +10,6 @@ use vbr_set::{Member, OpenError, Report};
 use vbr_words::{Keys, Shape};
 
 impl Listed<Keys> for u64 {
-    type Report = Report;
-
     ghost listing = { as_keys };
 
     fn can_open(keys: &[u64], slots: u32) -> bool {

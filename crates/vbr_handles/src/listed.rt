@@ -8,16 +8,13 @@ ghost use Rattle.vbr_handles.specs.Opening.{CanOpen};
 use crate::report_numbers::ReportNumbers;
 use std::alloc::Global;
 use vbr_set::member::Member;
-use vbr_set::{OpenError, ReportOf};
-use vbr_words::{Nodes, Shape};
+use vbr_set::{Kind, OpenError};
+use vbr_words::Shape;
 
 /// What is listed of a node of a kind: its key, or its key with its value. A set or a map opens with such
 /// items, and its report lists them.
-pub trait Listed<N: Nodes>: Copy {
-    /// The report of a set or a map.
-    type Report: ReportOf<N>;
-
-    ghost listing: { Listing Self.Report Self };
+pub trait Listed<N: Kind>: Copy {
+    ghost listing: { Listing N.Report Self };
 
     /// Whether the keys ascend, each above the one before, and there are no more of them than slots.
     fn can_open(items: &[Self], slots: u32) -> bool
@@ -38,15 +35,15 @@ pub trait Listed<N: Nodes>: Copy {
         ensures refused { IsErrOf result OpenError.Passes → ((passes ≡ 0) ⊎ (64 < passes)) };
 
     /// The numbers of a report.
-    fn numbers(report: &Self::Report) -> ReportNumbers
+    fn numbers(report: &N::Report) -> ReportNumbers
         ensures { result ≡ listing.numbers report.now };
 
     /// How many keys a report lists.
-    fn count(report: &Self::Report) -> usize
+    fn count(report: &N::Report) -> usize
         ensures { result ≡ length (listing.items report.now) };
 
     /// Writes what a report lists in front of what was there.
-    fn write(report: &Self::Report, items: &mut [Self])
+    fn write(report: &N::Report, items: &mut [Self])
         requires { length (listing.items report.now) ≤ length items.old }
         ensures { items.new
             ≡ listing.items report.now ++ drop (length (listing.items report.now)) items.old };

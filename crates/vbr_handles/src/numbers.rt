@@ -3,6 +3,7 @@
 ghost use Rattle.std.specs.Prelude.{◌≡◌, []};
 ghost use Rattle.vbr_machine.specs.declared.history.Op.TheVariants.{Insert, Remove, Has};
 ghost use Rattle.vbr_set.specs.AllMembers.{AreOfOneSet};
+ghost use Rattle.vbr_set.specs.Closing.{ClosesBy};
 ghost use Rattle.vbr_handles.specs.AllHandles.{members_by};
 ghost use Rattle.vbr_handles.specs.Codes.{call_code, close_all_code, close_code, open_code};
 ghost use Rattle.vbr_handles.specs.Calls.{TellsCall};
@@ -21,7 +22,7 @@ use crate::opening::{OpenRefusal, ShapeNumbers};
 use crate::owner::Owner;
 use crate::report_numbers::ReportNumbers;
 use std::alloc::Global;
-use vbr_set::Refusal;
+use vbr_set::{Kind, Refusal};
 use vbr_set::member::Member;
 use vbr_words::{Keys, Nodes};
 
@@ -56,7 +57,7 @@ const MISSING: i32 = -12;
 const MIXED: i32 = -13;
 
 /// Opens an empty set for handles, or an empty map, as [`crate::open`] does.
-pub fn open<N: Nodes, I: Listed<N>, H: HandleOf<N>>(
+pub fn open<N: Kind, I: Listed<N>, H: HandleOf<N>>(
     alloc: Global,
     handles: &mut [H],
     slots: u32,
@@ -70,7 +71,7 @@ pub fn open<N: Nodes, I: Listed<N>, H: HandleOf<N>>(
 }
 
 /// Opens a set of these keys for handles, or a map of these entries, as [`crate::open_with`] does.
-pub fn open_with<N: Nodes, I: Listed<N>, H: HandleOf<N>>(
+pub fn open_with<N: Kind, I: Listed<N>, H: HandleOf<N>>(
     alloc: Global,
     handles: &mut [H],
     numbers: ShapeNumbers,
@@ -114,13 +115,13 @@ pub fn has<N: Nodes>(owner: &mut Owner<Member<N>>, key: u64, budget: u32) -> i32
 
 /// Closes a handle, as [`crate::close`] does, and writes the report where there is one: what it lists in
 /// front of what was there, where all has room, and else its numbers alone.
-pub fn close<N: Nodes, I: Listed<N>>(
+pub fn close<N: Kind, I: Listed<N>>(
     alloc: Global,
     owner: &mut Owner<Member<N>>,
     items: &mut [I],
     told: &mut ReportNumbers,
 ) -> i32
-    ensures { TellsCloseBy I.listing I.Report.closes owner.old.member owner.new.member
+    ensures { TellsCloseBy I.listing (ClosesBy N.kind) owner.old.member owner.new.member
         items.old items.new told.old told.new result }
 {
     let answer = crate::closing::close::<N, I>(alloc, owner, items.len());
@@ -137,14 +138,14 @@ pub fn close<N: Nodes, I: Listed<N>>(
 
 /// Closes all handles of a set or of a map, as [`crate::close_all`] does, and writes the report as
 /// [`close`] does.
-pub fn close_all<N: Nodes, I: Listed<N>, H: HandleOf<N>>(
+pub fn close_all<N: Kind, I: Listed<N>, H: HandleOf<N>>(
     alloc: Global,
     handles: &mut [H],
     items: &mut [I],
     told: &mut ReportNumbers,
 ) -> i32
     requires { AreOfOneSet (members_by H.member handles.old) }
-    ensures { TellsCloseAllBy I.listing I.Report.closes H.member handles.old handles.new
+    ensures { TellsCloseAllBy I.listing (ClosesBy N.kind) H.member handles.old handles.new
         items.old items.new told.old told.new result }
 {
     let answer = crate::closing_all::close_all::<N, I, H>(alloc, handles, items.len());

@@ -8,7 +8,7 @@ use crate::listed::Listed;
 use crate::owner::Owner;
 use std::alloc::{AllocError, Global};
 use vbr_set::member::Member;
-use vbr_set::{OpenError, Shape};
+use vbr_set::{Kind, OpenError, Shape};
 use vbr_words::Nodes;
 
 /// Why handles were not opened. The tests are made in this order, and the handles are as they were.
@@ -52,7 +52,7 @@ impl ShapeNumbers {
 
 /// Opens an empty set with a pass for each of the handles, in the order of the passes' numbers; for the
 /// handles of a map, an empty map.
-pub fn open<N: Nodes, I: Listed<N>, H: HandleOf<N>>(
+pub fn open<N: Kind, I: Listed<N>, H: HandleOf<N>>(
     alloc: Global,
     handles: &mut [H],
     slots: u32,
@@ -73,7 +73,7 @@ pub fn open<N: Nodes, I: Listed<N>, H: HandleOf<N>>(
 /// Opens a set of these keys, which ascend, each above the one before, with a pass for each of the
 /// handles, in the order of the passes' numbers. It goes once over the keys, and takes 8 bytes for each
 /// while it runs. For the handles of a map it opens one of these entries, and takes 48 bytes for each.
-pub fn open_with<N: Nodes, I: Listed<N>, H: HandleOf<N>>(
+pub fn open_with<N: Kind, I: Listed<N>, H: HandleOf<N>>(
     alloc: Global,
     handles: &mut [H],
     numbers: ShapeNumbers,

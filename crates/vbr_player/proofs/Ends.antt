@@ -5,11 +5,9 @@ use Rattle.vbr_machine.specs.Start.{start_with}
 use Rattle.vbr_machine.specs.Maps.{entries_in, keys_listed, map_start, opening_entries, values_listed}
 use Rattle.vbr_machine.specs.Runs.{world_after}
 use Rattle.vbr_slots.specs.Views.{PassView, TableView}
-use Rattle.vbr_set.specs.Closing.{Closes}
-use Rattle.vbr_set.specs.MapClosing.{MapCloses}
-use Rattle.vbr_set.specs.MapRenewing.{MapRenews}
-use Rattle.vbr_set.specs.Renewing.{Renews}
-use Rattle.vbr_set.specs.declared.map.report.MapReport.{MapReport}
+use Rattle.vbr_set.specs.Closing.{Closes, MapCloses}
+use Rattle.vbr_set.specs.Renewing.{MapRenews, Renews}
+use Rattle.vbr_set.specs.declared.report.MapReport.{MapReport}
 use Rattle.vbr_set.specs.declared.report.Report.{Report}
 use Rattle.vbr_script.specs.declared.script.Kind.TheVariants.{Set, Map}
 use Rattle.vbr_transcript.specs.Contents.{opening_contents, opened_with, contents_after}
@@ -25,7 +23,7 @@ set_closes set passes report closes = record {
   begins = closes.begins;
   safe = closes.safe;
   legal = closes.legal;
-  contents = closes.reports.keys;
+  contents = closes.reports.listed;
   last = closes.reports.epoch;
 }
 
@@ -36,7 +34,7 @@ set_renews set passes next renews = record {
   epoch = renews.report.epoch;
   closes = set_closes set passes renews.report renews.closes;
   start = renews.start;
-  opens = set_opens set.start renews.report.keys.items _ renews.closes.reports.keys;
+  opens = set_opens set.start renews.report.keys.items _ renews.closes.reports.listed;
   count = renews.count;
 }
 
@@ -49,7 +47,7 @@ map_closes map passes report closes = record {
   begins = closes.begins;
   safe = closes.safe;
   legal = closes.legal;
-  contents = (closes.reports.entries.ascending, closes.reports.entries.same);
+  contents = (closes.reports.listed.ascending, closes.reports.listed.same);
   last = closes.reports.epoch;
 }
 
@@ -65,7 +63,7 @@ map_renews map passes next opens_as values renews =
     let valued : opening_contents Map (opened_with Map start listed) ≡ opening_entries (map_start start.shape listed) =
     λ i. opening_entries (start_with (record start.shape { values = values i }) (keys_listed listed) (values_listed listed)) in
     let left = contents_after Map (opening_contents Map start) (world_after start renews.closes.run).calls in
-    let each : (key : ℕ) → opening_contents Map (opened_with Map start listed) key ≡ left key = λ key. (λ i. valued i key) ∙ opens_as start.shape listed key ∙ renews.closes.reports.entries.same key in
+    let each : (key : ℕ) → opening_contents Map (opened_with Map start listed) key ≡ left key = λ key. (λ i. valued i key) ∙ opens_as start.shape listed key ∙ renews.closes.reports.listed.same key in
     record {
       listed = listed;
       epoch = renews.report.epoch;

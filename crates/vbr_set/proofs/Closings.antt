@@ -4,17 +4,17 @@ use Rattle.vbr_words.specs.Dimensions.{Dimensions}
 use Rattle.vbr_machine.specs.Start.{Start, IsStart}
 use Rattle.vbr_machine.specs.Calls.{own_calls}
 use Rattle.vbr_machine.specs.Incarnations.{Incarnations}
-use Rattle.vbr_machine.specs.Nodes.{key_in_slot}
 use Rattle.vbr_machine.specs.declared.event.Event.{Event}
 use Rattle.vbr_slots.specs.Closing.{AllOf, EachSeen, Ends}
 use Rattle.vbr_slots.specs.Views.{PassView, TableView}
-use Rattle.vbr_set.specs.Closing.{Closes, EachMade, Reports}
+use Rattle.vbr_set.specs.Closing.{ClosesBy, EachMade, ReportsBy}
 use Rattle.vbr_set.specs.Contents.{Holds, TellsEnd}
+use Rattle.vbr_set.specs.Histories.{calls_of}
+use Rattle.vbr_set.specs.Kinds.{KindOf}
 use Rattle.vbr_slots.specs.declared.rule.Opened.{Opened}
 use Rattle.vbr_slots.specs.Rule.{opened_of, with_opened}
 use Rattle.vbr_set.specs.Walking.{AreAfter}
 use Rattle.vbr_set.specs.declared.contents.Contents.{Contents}
-use Rattle.vbr_set.specs.declared.report.Report.{Report}
 use Rattle.vbr_set.proofs.Histories.{calls_made}
 
 -- of each pass the calls of the run are those that it has made
@@ -23,13 +23,15 @@ each_made t run [] all seen = tt
 each_made t run (p ∷ ps) all seen =
     (calls_made t.start p.trace.who p.trace.seen run seen.0 ∙ ap (λ (s : Start). own_calls s p.trace.seen p.trace.who) (sym all.0.1), each_made t run ps all.1 seen.1)
 
-pub closes : (set : TableView) (passes : List PassView) (told : Contents ℕ) (report : Report) → AllOf set passes → (e : TellsEnd key_in_slot set passes told) → Reports set.start e.ends.run report → Closes set passes report
-closes set passes told report all e reports = record {
+-- so a report that tells its run tells its end
+pub closes : {Item R : Type 0} (kind : KindOf Item R) (shown : Incarnations → ℕ → Item) (table : TableView) (passes : List PassView) (told : Contents Item) (report : R) → AllOf table passes → (e : TellsEnd shown table passes told) → kind.legal table.start (calls_of table.start e.ends.run)
+    → ReportsBy kind table.start e.ends.run report → ClosesBy kind table passes report
+closes kind shown table passes told report all e legal reports = record {
   run = e.ends.run;
   is_run = e.ends.is_run;
   begins = e.ends.begins;
-  made = each_made set e.ends.run passes all e.ends.begins;
-  legal = e.ends.safe.legal;
+  made = each_made table e.ends.run passes all e.ends.begins;
+  legal = legal;
   safe = e.ends.safe;
   reports = reports;
 }

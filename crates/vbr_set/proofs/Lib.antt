@@ -1,4 +1,3 @@
-mod NoValues
 mod Histories
 mod MapHistories
 mod CatchingUp

@@ -24,7 +24,7 @@ use Rattle.vbr_machine.specs.declared.history.Op.TheVariants.{Insert, Remove, Ha
 use Rattle.vbr_machine.proofs.Lemmas.{stands_key}
 use Rattle.vbr_set.specs.Contents.{entry_in_slot}
 use Rattle.vbr_set.specs.Histories.{calls_of}
-use Rattle.vbr_set.specs.MapClosing.{AreEntriesOf}
+use Rattle.vbr_set.specs.Kinds.{AreEntriesOf}
 use Rattle.vbr_set.specs.Walking.{AreAfter, linked_keys, linked_of}
 use Rattle.vbr_set.proofs.LinkedKeys.{linked_in, lists_keys}
 use Rattle.vbr_set.proofs.ShownNodes.{agrees}

@@ -8,6 +8,7 @@ use Rattle.vbr_machine.specs.declared.event.Event.{Event}
 use Rattle.vbr_machine.specs.declared.history.Call.{Call}
 use Rattle.vbr_slots.specs.Calls.{Made}
 use Rattle.vbr_slots.specs.Views.{Trace}
+use Rattle.vbr_list.specs.Sparing.{GivesAlone}
 use Rattle.vbr_set.specs.MapCalls.{MapAnswers}
 use Rattle.vbr_set.proofs.Histories.{answers, start_of}
 
@@ -16,6 +17,6 @@ abbrev RunsAreMaps : Type 0
 RunsAreMaps = (start : Start) (passes : ℕ) (run : List Event) → IsStart start → IsRun start passes run → IsMapLegal (opening_entries start) (world_after start run).calls
 
 -- an answer, if there is one
-pub each_map_answers : RunsAreMaps → {A E : Type 0} (told : A → Call) (p q : Trace) (answer : Result A E) → IsStart p.start → IfOk answer (λ reply. Made (told reply) p q) → IfOk answer (λ reply. MapAnswers (told reply) p q)
-each_map_answers maps told p q (Ok reply) is made = record { answers = answers is made; legal = maps q.start q.passes q.seen (start_of p.start q.start made.same.start is) made.is_run }
-each_map_answers maps told p q (Err refusal) is made = tt
+pub each_map_answers : RunsAreMaps → {A E : Type 0} (told : A → Call) (p q : Trace) (answer : Result A E) → IsStart p.start → IfOk answer (λ reply. Made (told reply) p q) → IfOk answer (λ reply. GivesAlone p (told reply)) → IfOk answer (λ reply. MapAnswers (told reply) p q)
+each_map_answers maps told p q (Ok reply) is made gives = record { answers = answers is made; legal = maps q.start q.passes q.seen (start_of p.start q.start made.same.start is) made.is_run; gives = gives }
+each_map_answers maps told p q (Err refusal) is made gives = tt

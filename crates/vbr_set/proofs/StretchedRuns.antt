@@ -28,8 +28,8 @@ use Rattle.vbr_list.specs.Cursors.{SeesMore}
 use Rattle.vbr_list.specs.Disturbed.{disturbed, steps_for_slot}
 use Rattle.vbr_at_table.specs.declared.refusal.Refusal.{Refusal}
 use Rattle.vbr_list.proofs.Lemmas.{enough_among_more, enough_to_insert_more, enough_to_search_more, lacks_more, sees_on}
-use Rattle.vbr_set.specs.MapCalls.{MapCalled}
-use Rattle.vbr_set.specs.Members.{Called, MemberView}
+use Rattle.vbr_set.specs.MapCalls.{MapAnswers}
+use Rattle.vbr_set.specs.Members.{Called, CalledBy, MemberView}
 use Rattle.vbr_set.specs.Stretches.{BeganIn, CameBy, PassesComeByCalls, Stretch, StretchesDisturb, StretchesMakeProgress, inserts_begun, most_disturbed_by}
 use Rattle.vbr_set.specs.Tokens.{CatchesUp}
 use Rattle.vbr_set.proofs.PassSums.{one_in_sum, sum_both, sum_no_more, sum_same}
@@ -144,7 +144,7 @@ sees_called : (op : Op) (m n : MemberView) (key budget : ℕ) (answer : Result B
 sees_called op m n key budget (Ok reply) law c = record { same = c.same; begins = c.answers.begins; is_run = c.answers.is_run }
 sees_called op m n key budget (Err refusal) law c = record { same = c.same; begins = c.quiet.seen; is_run = c.quiet.is_run law.is_run }
 
-sees_entry : {A : Type 0} (told : A → Call) (SparesSo : Result A Refusal → Type 0) (m n : MemberView) (budget : ℕ) (answer : Result A Refusal) → PassLaw m.pass → MapCalled told SparesSo m n budget answer → SeesMore m.pass.trace n.pass.trace
+sees_entry : {A : Type 0} (told : A → Call) (SparesSo : Result A Refusal → Type 0) (m n : MemberView) (budget : ℕ) (answer : Result A Refusal) → PassLaw m.pass → CalledBy MapAnswers told SparesSo m n budget answer → SeesMore m.pass.trace n.pass.trace
 sees_entry told SparesSo m n budget (Ok reply) law c = record { same = c.same; begins = c.answers.answers.begins; is_run = c.answers.answers.is_run }
 sees_entry told SparesSo m n budget (Err refusal) law c = record { same = c.same; begins = c.quiet.seen; is_run = c.quiet.is_run law.is_run }
 

@@ -1,12 +1,11 @@
 -- How a set ends by all its members at once, and what they are told.
 use Rattle.std.specs.Prelude.{◌≡◌, ◌<◌, ◌≤◌, List, [], ◌∷◌, length, map}
 use Rattle.vbr_slots.specs.Views.{PassView, TableView}
-use Rattle.vbr_set.specs.Closing.{Closes}
-use Rattle.vbr_set.specs.MapClosing.{MapCloses}
+use Rattle.vbr_set.specs.Closing.{Closes, MapCloses}
 use Rattle.vbr_set.specs.Members.{MemberView}
 use Rattle.vbr_set.specs.declared.close_all_error.CloseAllError.{CloseAllError}
 use Rattle.vbr_set.specs.declared.close_all_error.CloseAllError.TheVariants.{Missing, Memory}
-use Rattle.vbr_set.specs.declared.map.report.MapReport.{MapReport}
+use Rattle.vbr_set.specs.declared.report.MapReport.{MapReport}
 use Rattle.vbr_set.specs.declared.report.Report.{Report}
 
 -- all are of the set

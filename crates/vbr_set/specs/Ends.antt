@@ -1,13 +1,12 @@
 -- How a set ends by its members, and what the last one is told.
 use Rattle.std.specs.Prelude.{◌≡◌, ℕ, ◌<◌, List, length, slice_index_or, Option, None, Some, Result, Ok, Err}
 use Rattle.vbr_slots.specs.Views.{PassView, TableView}
-use Rattle.vbr_set.specs.Closing.{Closes}
-use Rattle.vbr_set.specs.MapClosing.{MapCloses}
+use Rattle.vbr_set.specs.Closing.{Closes, MapCloses}
 use Rattle.vbr_set.specs.Members.{MemberView}
 use Rattle.vbr_set.specs.Sharing.{ArePassesOf}
 use Rattle.vbr_set.specs.declared.end_error.EndError.{EndError}
 use Rattle.vbr_set.specs.declared.end_error.EndError.TheVariants.{Lost, Memory}
-use Rattle.vbr_set.specs.declared.map.report.MapReport.{MapReport}
+use Rattle.vbr_set.specs.declared.report.MapReport.{MapReport}
 use Rattle.vbr_set.specs.declared.report.Report.{Report}
 
 -- each pass stands at its number

@@ -2,14 +2,14 @@ pub mod Histories
 pub mod Answers
 pub mod Meetings
 pub mod Tokens
+pub mod Contents
+pub mod Kinds
+pub mod KindLaws
 pub mod Closing
 pub mod Renewing
 pub mod MapCalls
-pub mod MapClosing
-pub mod MapRenewing
 pub mod Messages
 pub mod Walking
-pub mod Contents
 pub mod Mailboxes
 pub mod Members
 pub mod Iterating

@@ -2,9 +2,10 @@
 use Rattle.std.specs.Prelude.{◌≡◌, ℕ, Bool, Result, IfOk, IfErr, List, map, None}
 use Rattle.vbr_machine.specs.Start.{Start}
 use Rattle.vbr_machine.specs.History.{set_call}
+use Rattle.vbr_machine.specs.declared.history.Call.{Call}
 use Rattle.vbr_machine.specs.declared.history.Op.{Op}
 use Rattle.vbr_slots.specs.Calls.{IsSame, Quiet}
-use Rattle.vbr_slots.specs.Views.{PassView, TableView, new_passes}
+use Rattle.vbr_slots.specs.Views.{PassView, TableView, Trace, new_passes}
 use Rattle.vbr_at_table.specs.Steps.{TookWithin}
 use Rattle.vbr_at_table.specs.Soundness.{HasSafeRun}
 use Rattle.vbr_list.specs.Alone.{AnswersAlone}
@@ -32,14 +33,18 @@ pub record AreNew (start : Start) (count : ℕ) (members : List MemberView) : Ty
   pub counted : set.passes ≡ count
   pub are : members ≡ new_members set count
 
--- the member is the same pass of the same set; where the call was answered, the answer stands in one legal history of what its pass has then seen, once, behind its calls before; where it was refused, it made no call; in each case what its pass has then seen is a safe run; it has no slot in hand; and it made no more steps than its budget
-pub record Called (op : Op) (m n : MemberView) (key budget : ℕ) (answer : Result Bool Refusal) : Type 0 where
+-- the member is the same pass of the same set or map; where the call was answered, the call that the answer tells leaves what an answer leaves, and alone it got the reply of a plain set; where it was refused, it made no call; in each case what its pass has then seen is a safe run; it has no slot in hand; and it made no more steps than its budget
+pub record CalledBy {A : Type 0} (Leaves : Call → Trace → Trace → Type 0) (told : A → Call) (SparesSo : Result A Refusal → Type 0) (m n : MemberView) (budget : ℕ) (answer : Result A Refusal) : Type 0 where
   pub set : n.set ≡ m.set
   pub same : IsSame m.pass.trace n.pass.trace
-  pub answers : IfOk answer (λ reply. Answers (set_call m.pass.trace.who op key reply) m.pass.trace n.pass.trace)
-  pub alone : IfOk answer (λ reply. AnswersAlone m.pass.trace op key reply)
+  pub answers : IfOk answer (λ reply. Leaves (told reply) m.pass.trace n.pass.trace)
+  pub alone : IfOk answer (λ reply. AnswersAlone m.pass.trace (told reply).op (told reply).key (told reply).reply)
   pub quiet : IfErr answer (λ refusal. Quiet m.pass.trace n.pass.trace)
   pub safe : HasSafeRun n.pass.trace
   pub hand : n.pass.hand ≡ None
   pub steps : TookWithin m.pass.trace n.pass.trace budget
-  pub spares : Spares op m.pass n.pass key budget answer
+  pub spares : SparesSo answer
+
+-- so it is of a call of a set: its answer stands in one legal history of what its pass has then seen, once, behind its calls before
+abbrev pub Called : Op → MemberView → MemberView → ℕ → ℕ → Result Bool Refusal → Type 0
+Called op m n key budget answer = CalledBy Answers (set_call m.pass.trace.who op key) (Spares op m.pass n.pass key budget) m n budget answer

@@ -1,27 +1,40 @@
--- How a set is renewed: it is closed, and a fresh one opens with the keys that it had.
+-- How a set or a map is renewed: it is closed, and a fresh one opens with what it had.
 use Rattle.std.specs.Prelude.{◌≡◌, List}
 use Rattle.vbr_slots.specs.Views.{PassView, TableView}
-use Rattle.vbr_set.specs.Closing.{Closes}
+use Rattle.vbr_set.specs.Closing.{ClosesBy}
+use Rattle.vbr_set.specs.Kinds.{KindOf, as_map, as_set}
 use Rattle.vbr_set.specs.declared.renew_error.RenewError.{RenewError}
 use Rattle.vbr_set.specs.declared.renew_error.RenewError.TheVariants.{Missing, Memory, Closed}
+use Rattle.vbr_set.specs.declared.report.MapReport.{MapReport}
 use Rattle.vbr_set.specs.declared.report.Report.{Report}
 
--- the set is closed, with the report that its close gives, and the new set opens with the keys of this report: those that the calls of all passes leave in the old one; its shape is else the same, and so is its number of passes
-pub record Renews (set : TableView) (passes : List PassView) (new : TableView) : Type 0 where
-  pub report : Report
-  pub closes : Closes set passes report
-  pub start : new.start ≡ record set.start { keys = report.keys.items }
-  pub count : new.passes ≡ set.passes
+module _ {Item R : Type 0} (kind : KindOf Item R) where
+  -- it is closed, with the report that its close gives, and the new one opens with what this report lists, which is what the calls of all passes leave in the old one; its shape is else the same, and so is its number of passes
+  pub record RenewsBy (t : TableView) (passes : List PassView) (new : TableView) : Type 0 where
+    pub report : R
+    pub closes : ClosesBy kind t passes report
+    pub start : new.start ≡ kind.with_items t.start (kind.contents report).listed.items
+    pub count : new.passes ≡ t.passes
 
--- where a renewal is refused, the table and the passes come back as they were; or it is closed, and the report is that of its close
-abbrev pub IsUnrenewedBy : {R : Type 0} → (TableView → List PassView → R → Type 0) → RenewError TableView R → TableView → List PassView → Type 0
-IsUnrenewedBy closes (Missing t ps) set passes = (t ≡ set) × (ps.items ≡ passes)
-IsUnrenewedBy closes (Memory t ps) set passes = (t ≡ set) × (ps.items ≡ passes)
-IsUnrenewedBy closes (Closed report) set passes = closes set passes report
+  -- where a renewal is refused, the table and the passes come back as they were; or it is closed, and the report is that of its close
+  abbrev pub IsUnrenewedBy : RenewError TableView R → TableView → List PassView → Type 0
+  IsUnrenewedBy (Missing t ps) table passes = (t ≡ table) × (ps.items ≡ passes)
+  IsUnrenewedBy (Memory t ps) table passes = (t ≡ table) × (ps.items ≡ passes)
+  IsUnrenewedBy (Closed report) table passes = ClosesBy kind table passes report
 
--- the same of a set
+-- so it is of a set, which opens with the keys
+abbrev pub Renews : TableView → List PassView → TableView → Type 0
+Renews = RenewsBy as_set
+
 abbrev pub IsUnrenewed : RenewError TableView Report → TableView → List PassView → Type 0
-IsUnrenewed = IsUnrenewedBy Closes
+IsUnrenewed = IsUnrenewedBy as_set
+
+-- and so of a map, which opens with the entries, each key with its value
+abbrev pub MapRenews : TableView → List PassView → TableView → Type 0
+MapRenews = RenewsBy as_map
+
+abbrev pub IsMapUnrenewed : RenewError TableView MapReport → TableView → List PassView → Type 0
+IsMapUnrenewed = IsUnrenewedBy as_map
 
 -- passes are missing; the other errors are that there is no memory
 abbrev pub LacksPasses : {S R : Type 0} → RenewError S R → Type 0

@@ -37,11 +37,11 @@
 #![tactic(auto)]
 
 pub mod close_all_error;
-mod contents;
+pub mod contents;
 pub mod end_error;
+pub mod kind;
 pub mod laws;
 pub mod list_error;
-pub mod map;
 pub mod member;
 pub mod renew_error;
 pub mod report;
@@ -53,11 +53,10 @@ mod walking;
 
 pub use close_all_error::CloseAllError;
 pub use end_error::EndError;
+pub use kind::Kind;
 pub use list_error::ListError;
-pub use map::report::MapReport;
-pub use member::telling::ReportOf;
 pub use renew_error::RenewError;
-pub use report::Report;
+pub use report::{MapReport, Report};
 pub use set_ref::VbrSetRef;
 pub use vbr_list::{Cursor, Refusal};
 pub use vbr_machine::{Call, Op};

@@ -5,11 +5,11 @@ pub mod closing_all;
 mod common;
 pub mod iterating;
 mod mailbox;
+pub mod map_calls;
 pub mod meeting;
 pub mod opening;
 mod share;
 mod sharing;
-pub mod telling;
 pub mod tokens;
 
 ghost use Rattle.std.specs.Prelude.{◌≡◌};

@@ -2,6 +2,7 @@
 pub mod calls;
 pub mod closing;
 pub mod iterating;
+pub mod map_calls;
 pub mod meeting;
 pub mod opening;
 pub mod renewing;

@@ -1,33 +1,34 @@
-//! Closing a set by its members, one after another.
+//! Closing a set or a map by its members, one after another.
 ghost use Rattle.std.specs.Prelude.{◌≡◌, ◌≤◌, [], true, false, length, IfOk, IfErr, IfSome};
 ghost use Rattle.std.specs.Arc.{arc_value};
 ghost use Rattle.std.specs.Vec.{vec_capacity};
-ghost use Rattle.vbr_set.specs.Ends.{AreNumbered, EndsBy, EndsWith, IsBack, IsLast, EndLacksMemory};
+ghost use Rattle.vbr_slots.specs.Closing.{AllOf};
+ghost use Rattle.vbr_set.specs.Closing.{ClosesBy};
+ghost use Rattle.vbr_set.specs.Ends.{AreNumbered, EndsBy, IsBack, IsLast, EndLacksMemory};
 ghost use Rattle.vbr_set.specs.Mailboxes.{IsIdle};
 ghost use Rattle.vbr_set.specs.Members.{as_member};
 ghost use Rattle.vbr_set.specs.Sharing.{AreOthers, ArePassesOf, AreMailboxesOf, HasOthers, IsSeatOf};
 
 use crate::end_error::EndError;
+use crate::kind::Kind;
 use crate::member::Member;
 use crate::member::common::Common;
 use crate::member::mailbox::{Mailbox, SeatKnows};
 use crate::member::share::Share;
-use crate::member::telling::ReportOf;
-use crate::report::Report;
 use crate::set::VbrSet;
 use atomic_table::Seat;
-use std::alloc::{AllocFailed, Global};
+use std::alloc::{AllocError, AllocFailed, Global};
 use std::sync::Arc;
 use vbr_slots::Pass;
 use vbr_words::Nodes;
 
-impl Member {
+impl<N: Kind> Member<N> {
     /// Gives its pass back. While others have a share of the set, the answer is None. The last member
     /// ends the set, and is told what is in it, as [`VbrSet::close`] tells it with all passes. The
     /// member of a set that was opened for one is always the last.
     ///
-    /// Only the last member needs memory: 9 bytes for each slot, for the report, and the words once
-    /// more while it runs. A close has no budget, and makes no call of the set.
+    /// Only the last member needs memory: 9 bytes for each slot of a set and 17 of a map, for the report,
+    /// and the words once more while it runs. A close has no budget, and makes no call of the set.
     ///
     /// # Errors
     ///
@@ -48,8 +49,9 @@ impl Member {
     /// ```
     ///
     /// [`VbrSet::close`]: crate::VbrSet::close
-    pub fn close(self, alloc: Global) -> Result<Option<Report>, EndError>
-        ensures report { IfOk result (λ report. IfSome report (EndsWith self.set self.pass)) }
+    pub fn close(self, alloc: Global) -> Result<Option<N::Report>, EndError<Member<N>>>
+        ensures report { IfOk result
+            (λ report. IfSome report (EndsBy (ClosesBy N.kind) self.set self.pass)) }
         ensures stays { IfErr result (IsBack self.set self.pass) }
         ensures alone { self.set.passes ≡ 1 → IsLast result }
     {
@@ -68,26 +70,12 @@ impl Member {
     /// set ends with it, also where it is dropped.
     ///
     /// Memory and errors are those of a close.
-    pub fn report_last(self, alloc: Global) -> Result<Option<(Report, Member)>, EndError>
-        ensures report { IfOk result
-            (λ told. IfSome told (λ last. EndsWith self.set self.pass last.0)) }
-        ensures same { IfOk result (λ told. IfSome told (λ last. last.1 ≡ self)) }
-        ensures stays { IfErr result (IsBack self.set self.pass) }
-        ensures alone { self.set.passes ≡ 1 → IsLast result }
-    {
-        self.tell_last(alloc)
-    }
-}
-
-impl<N: Nodes> Member<N> {
-    /// Gives its pass back; the last one is told the report of a set or of a map, and comes back as it was:
-    /// [`Member::report_last`], whichever the report is.
-    pub fn tell_last<R: ReportOf<N>>(
+    pub fn report_last(
         self,
         alloc: Global,
-    ) -> Result<Option<(R, Member<N>)>, EndError<Member<N>>>
+    ) -> Result<Option<(N::Report, Member<N>)>, EndError<Member<N>>>
         ensures report { IfOk result
-            (λ told. IfSome told (λ last. EndsBy R.closes self.set self.pass last.0)) }
+            (λ told. IfSome told (λ last. EndsBy (ClosesBy N.kind) self.set self.pass last.0)) }
         ensures same { IfOk result (λ told. IfSome told (λ last. last.1 ≡ self)) }
         ensures stays { IfErr result (IsBack self.set self.pass) }
         ensures alone { self.set.passes ≡ 1 → IsLast result }
@@ -132,16 +120,16 @@ pub(crate) fn leave<N: Nodes>(
 }
 
 // Tells what is in a set whose other passes lie in their mailboxes.
-fn end_alone<N: Nodes, R: ReportOf<N>>(
+fn end_alone<N: Kind>(
     alloc: Global,
     set: VbrSet<N>,
     mailboxes: Vec<Mailbox<N>>,
     pass: Pass,
-) -> Result<(R, Member<N>), EndError<Member<N>>>
+) -> Result<(N::Report, Member<N>), EndError<Member<N>>>
     requires ready { IsIdle set pass }
     requires mailboxes { AreMailboxesOf set mailboxes.items }
     requires others { HasOthers set }
-    ensures ended { IfOk result (λ last. EndsBy R.closes set pass last.0) }
+    ensures ended { IfOk result (λ last. EndsBy (ClosesBy N.kind) set pass last.0) }
     ensures same { IfOk result (λ last. last.1 ≡ as_member set pass) }
     ensures stays { IfErr result (IsBack set pass) }
 {
@@ -175,16 +163,16 @@ fn gather<N: Nodes>(
 }
 
 // Tells what is in a set, with the other passes.
-fn end_gathered<N: Nodes, R: ReportOf<N>>(
+fn end_gathered<N: Kind>(
     alloc: Global,
     set: VbrSet<N>,
     mut passes: Vec<Pass>,
     pass: Pass,
-) -> Result<(R, Member<N>), EndError<Member<N>>>
+) -> Result<(N::Report, Member<N>), EndError<Member<N>>>
     requires ready { IsIdle set pass }
     requires passes { ArePassesOf set passes.items }
     requires others { AreOthers set passes.items }
-    ensures ended { IfOk result (λ last. EndsBy R.closes set pass last.0) }
+    ensures ended { IfOk result (λ last. EndsBy (ClosesBy N.kind) set pass last.0) }
     ensures same { IfOk result (λ last. last.1 ≡ as_member set pass) }
     ensures stays { IfErr result (IsBack set pass) }
     ensures alone { set.passes ≡ 1 → IfErr result EndLacksMemory }
@@ -200,13 +188,27 @@ fn end_gathered<N: Nodes, R: ReportOf<N>>(
     if passes.len() != set.count as usize || !are_numbered(&passes) {
         return Err(EndError::Lost);
     }
-    let told = R::tell(&set, alloc, &mut passes);
+    let told = tell(&set, alloc, &mut passes);
     let pass = passes.remove(who);
     let last = Member::of(Share::Gathered(set, passes), pass);
     match told {
         Ok(report) => Ok((report, last)),
         Err(_) => Err(EndError::Memory(last)),
     }
+}
+
+// Tells what is in a set, with all its passes, which stay as they were.
+fn tell<N: Kind>(
+    set: &VbrSet<N>,
+    alloc: Global,
+    passes: &mut Vec<Pass>,
+) -> Result<N::Report, AllocError>
+    requires of_set { AllOf set.now passes.old.items }
+    requires all { set.now.passes ≤ length passes.old.items }
+    ensures same { passes.new.items ≡ passes.old.items }
+    ensures report { IfOk result (ClosesBy N.kind set.now passes.old.items) }
+{
+    set.report(alloc, passes)
 }
 
 // Whether each pass stands at its number.

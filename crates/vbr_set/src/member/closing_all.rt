@@ -1,28 +1,27 @@
-//! All members of a set at once.
+//! All members of a set or of a map at once.
 ghost use Rattle.std.specs.Prelude.{◌≡◌, ◌≤◌, ◌↔◌, [], true, false, length, IfErr, IfOk, OnOk};
 ghost use Rattle.std.specs.Vec.{vec_capacity};
-ghost use Rattle.vbr_set.specs.AllMembers.{AreOfOneSet, AreTooFew, HasBack, LacksMembers};
-ghost use Rattle.vbr_set.specs.AllMembers.{ReportsAll, ReportsAllBy};
+ghost use Rattle.vbr_set.specs.AllMembers.{AreOfOneSet, AreTooFew, HasBack, LacksMembers, ReportsAllBy};
 ghost use Rattle.vbr_set.specs.Apart.{AreParts, members_of};
+ghost use Rattle.vbr_set.specs.Closing.{ClosesBy};
 
 use crate::close_all_error::CloseAllError;
+use crate::kind::Kind;
 use crate::member::Member;
 use crate::member::share::Share;
-use crate::member::telling::ReportOf;
-use crate::report::Report;
 use std::alloc::{AllocError, Global};
 use std::sync::Arc;
 use vbr_slots::Pass;
-use vbr_words::{Keys, Nodes};
+use vbr_words::Nodes;
 
-impl Member {
-    /// Ends a set by all its members at once, in any order, and tells what is in it: the keys that the
-    /// calls of all of them leave in a set with the keys that it opened with, in one legal history, which
+impl<N: Kind> Member<N> {
+    /// Ends a set or a map by all its members at once, in any order, and tells what is in it: the keys, or
+    /// the entries, that the calls of all of them leave of what it opened with, in one legal history, which
     /// begins with what each member has seen and has of each just the calls that it has made.
     ///
-    /// It makes no call of the set. It takes 9 bytes for each slot, and the words once more while it runs.
-    /// A member that was given back by [`Member::close`] before doesn't come, so the others are closed
-    /// so too.
+    /// It makes no call of the set. It takes 9 bytes for each slot of a set and 17 of a map, and the words
+    /// once more while it runs. A member that was given back by [`Member::close`] before doesn't come, so
+    /// the others are closed so too.
     ///
     /// # Errors
     ///
@@ -36,46 +35,31 @@ impl Member {
     /// ```rattle file=crates/vbr_set_tests/src/reports.rt
     /// let report = Member::close_all(alloc, members)?;
     /// ```
-    pub fn close_all(alloc: Global, members: Vec<Member>) -> Result<Report, CloseAllError>
+    pub fn close_all(
+        alloc: Global,
+        members: Vec<Member<N>>,
+    ) -> Result<N::Report, CloseAllError<Member<N>>>
         requires { AreOfOneSet members.items }
-        ensures report { IfOk result (ReportsAll members.items) }
+        ensures report { IfOk result (ReportsAllBy (ClosesBy N.kind) members.items) }
         ensures back { IfErr result (HasBack members.items) }
         ensures missing { IfErr result (λ error. LacksMembers error ↔ AreTooFew members.items) }
         ensures enough { OnOk result (¬ (AreTooFew members.items)) }
     {
-        let (report, all) = Member::<Keys>::report_all(alloc, members)?;
+        let (report, all) = Member::<N>::report_all(alloc, members)?;
         drop(all);
         Ok(report)
     }
 
-    /// Tells what is in a set by all its members, as [`Member::close_all`] does, and the set stays open: the
-    /// members come back beside the report as they were, and can make calls.
+    /// Tells what is in a set or a map by all its members, as [`Member::close_all`] does, and it stays open:
+    /// the members come back beside the report as they were, and can make calls.
     ///
     /// Memory and errors are those of [`Member::close_all`].
     pub fn report_all(
         alloc: Global,
-        members: Vec<Member>,
-    ) -> Result<(Report, Vec<Member>), CloseAllError>
-        requires { AreOfOneSet members.items }
-        ensures report { IfOk result (λ told. ReportsAll members.items told.0) }
-        ensures same { IfOk result (λ told. told.1.items ≡ members.items) }
-        ensures back { IfErr result (HasBack members.items) }
-        ensures missing { IfErr result (λ error. LacksMembers error ↔ AreTooFew members.items) }
-        ensures enough { OnOk result (¬ (AreTooFew members.items)) }
-    {
-        Member::tell_all(alloc, members)
-    }
-}
-
-impl<N: Nodes> Member<N> {
-    /// Tells the report of a set or of a map by all its members, which come back as they were:
-    /// [`Member::report_all`], whichever the report is.
-    pub fn tell_all<R: ReportOf<N>>(
-        alloc: Global,
         members: Vec<Member<N>>,
-    ) -> Result<(R, Vec<Member<N>>), CloseAllError<Member<N>>>
+    ) -> Result<(N::Report, Vec<Member<N>>), CloseAllError<Member<N>>>
         requires { AreOfOneSet members.items }
-        ensures report { IfOk result (λ told. ReportsAllBy R.closes members.items told.0) }
+        ensures report { IfOk result (λ told. ReportsAllBy (ClosesBy N.kind) members.items told.0) }
         ensures same { IfOk result (λ told. told.1.items ≡ members.items) }
         ensures back { IfErr result (HasBack members.items) }
         ensures missing { IfErr result (λ error. LacksMembers error ↔ AreTooFew members.items) }
@@ -102,7 +86,9 @@ impl<N: Nodes> Member<N> {
             Err(_) => Err(CloseAllError::Memory(members)),
         }
     }
+}
 
+impl<N: Nodes> Member<N> {
     /// Whether the other member has its share of the same set in memory. It is a probe, for who can't know
     /// it otherwise: it looks whether one more owner of the one is one more of the other. No contract says
     /// what it answers; where neither set has a member that comes or goes meanwhile, it is right. It says
@@ -134,22 +120,22 @@ fn are_too_few<N: Nodes>(members: &[Member<N>]) -> bool
 }
 
 // Tells what is in the set of these parts.
-fn report_apart<N: Nodes, R: ReportOf<N>>(
+fn report_apart<N: Kind>(
     alloc: Global,
     shares: &[Share<N>],
     passes: &mut Vec<Pass>,
-) -> Result<R, AllocError>
+) -> Result<N::Report, AllocError>
     requires parts { AreParts shares.now passes.old.items }
     requires one_set { AreOfOneSet (members_of shares.now passes.old.items) }
     requires enough { ¬ (AreTooFew (members_of shares.now passes.old.items)) }
     ensures same { passes.new.items ≡ passes.old.items }
     ensures report { IfOk result
-        (ReportsAllBy R.closes (members_of shares.now passes.old.items)) }
+        (ReportsAllBy (ClosesBy N.kind) (members_of shares.now passes.old.items)) }
 {
     let Some(first) = shares.first() else {
         unreachable!()
     };
-    R::tell(first.set(), alloc, passes)
+    first.set().report(alloc, passes)
 }
 
 // Takes members apart, in their order.

@@ -1,13 +1,13 @@
-//! Opening a set for members.
+//! Opening a set or a map for members.
 ghost use Rattle.std.specs.Prelude.{◌≡◌, ◌<◌, ◌≤◌, ◌↔◌, ◌⊎◌, All, [], length, map, IfOk, IsErrOf};
 ghost use Rattle.std.specs.List.Sorted.{IsStrictlyIncreasing};
-ghost use Rattle.vbr_machine.specs.Start.{set_start};
 ghost use Rattle.vbr_slots.specs.Views.{new_passes};
 ghost use Rattle.vbr_set.specs.MemberView.{IsMember};
 ghost use Rattle.vbr_set.specs.Members.{AreNew, as_member};
 ghost use Rattle.vbr_set.specs.Seats.{AreSeats};
 ghost use Rattle.vbr_set.specs.Sharing.{HasOthers, IsPart, set_shared};
 
+use crate::kind::Kind;
 use crate::member::Member;
 use crate::member::common::Common;
 use crate::member::mailbox::{Mailbox, SeatKnows};
@@ -17,12 +17,12 @@ use atomic_table::Seat;
 use std::alloc::{AllocError, Global};
 use std::sync::Arc;
 use vbr_slots::{OpenError, Pass};
-use vbr_words::{Keys, Nodes, Shape};
+use vbr_words::{Nodes, Shape};
 
-impl Member {
-    /// Opens an empty set and gives its members, from 1 to 64 of them, in the order of their numbers,
-    /// which begin with 0. They have seen nothing. No call takes memory later, but for the close of
-    /// the last member.
+impl<N: Kind> Member<N> {
+    /// Opens an empty set or map and gives its members, from 1 to 64 of them, in the order of their
+    /// numbers, which begin with 0. They have seen nothing. No call takes memory later, but for the close
+    /// of the last member.
     ///
     /// Besides what [`VbrSet::open`] takes, each member takes about 1,200 bytes. No pass has made a step
     /// then.
@@ -39,18 +39,19 @@ impl Member {
     /// ```rattle file=crates/vbr_example/src/claiming.rt
     /// let members = Member::open(alloc, Shape::new(64, 16, MAX_EPOCH)?, 4)?;
     /// ```
-    pub fn open(alloc: Global, shape: Shape, passes: u32) -> Result<Vec<Member>, OpenError>
+    pub fn open(alloc: Global, shape: Shape, passes: u32) -> Result<Vec<Member<N>>, OpenError>
         ensures members { IfOk result
-            (λ members. AreNew (set_start shape []) passes members.items) }
+            (λ members. AreNew (N.kind.start shape []) passes members.items) }
         ensures refused { IsErrOf result OpenError.Passes ↔ ((passes ≡ 0) ⊎ (64 < passes)) }
     {
         let _slots = shape.slots();
-        Member::<Keys>::open_with(alloc, shape, passes, &[])
+        Member::<N>::open_with(alloc, shape, passes, &[])
     }
 
-    /// Opens a set that has these keys and gives its members, as [`Member::open`] does for an empty one.
-    /// The keys come ascending, each once, and there are no more of them than slots. The report of the
-    /// last member's [`Member::close`] has such keys, so with them a set goes on with a fresh epoch.
+    /// Opens a set that has these keys, or a map that has these entries, and gives its members, as
+    /// [`Member::open`] does for an empty one. They come ascending by key, each key once, and there are no
+    /// more of them than slots. The report of the last member's [`Member::close`] lists such keys or
+    /// entries, so with them a set or a map goes on with a fresh epoch.
     ///
     /// Time and memory are those of [`VbrSet::open_with`], and about 1,200 bytes for each member.
     ///
@@ -59,7 +60,7 @@ impl Member {
     /// They are tested in this order, and nothing is kept then.
     ///
     /// - Passes: the number of passes is 0 or above 64.
-    /// - Memory: there is no room for the words, the keys or the members.
+    /// - Memory: there is no room for the words, the copies or the members.
     ///
     /// # Example
     ///
@@ -70,15 +71,15 @@ impl Member {
         alloc: Global,
         shape: Shape,
         passes: u32,
-        keys: &[u64],
-    ) -> Result<Vec<Member>, OpenError>
-        requires ascending { IsStrictlyIncreasing keys.now }
-        requires few { length keys.now ≤ shape.slots }
+        items: &[N::Item],
+    ) -> Result<Vec<Member<N>>, OpenError>
+        requires ascending { IsStrictlyIncreasing (N.kind.keys items.now) }
+        requires few { length items.now ≤ shape.slots }
         ensures members { IfOk result (λ members.
-            AreNew (set_start shape keys.now) passes members.items) }
+            AreNew (N.kind.start shape items.now) passes members.items) }
         ensures refused { IsErrOf result OpenError.Passes ↔ ((passes ≡ 0) ⊎ (64 < passes)) }
     {
-        let (set, opened) = VbrSet::<Keys>::open_with(alloc, shape, passes, keys)?;
+        let (set, opened) = VbrSet::<N>::open_with(alloc, shape, passes, items)?;
         match hand_out(alloc, set, opened) {
             Ok(members) => Ok(members),
             Err(_) => Err(OpenError::Memory),

@@ -1,31 +1,30 @@
-//! Closing a set.
+//! Closing a set or a map.
 ghost use Rattle.std.specs.Prelude.{◌≡◌, ◌<◌, ◌≤◌, ◌↔◌, length, IfOk, IfErr, OnOk};
 ghost use Rattle.vbr_slots.specs.Closing.{AllOf, HandsBack, IsMissing};
-ghost use Rattle.vbr_set.specs.Closing.{Closes};
+ghost use Rattle.vbr_set.specs.Closing.{ClosesBy};
 ghost use Rattle.vbr_set.specs.Contents.{TellsEnd};
 
-use crate::contents::{Contents, Listed, contents_of};
-use crate::report::Report;
+use crate::contents::{Contents, contents_of};
+use crate::kind::Kind;
 use crate::set::VbrSet;
 use std::alloc::Global;
 use vbr_slots::{CloseError, Pass};
-use vbr_words::Nodes;
 
-impl VbrSet {
-    /// Ends the set and tells what is in it: the keys that the calls of all passes leave in a set with
-    /// the keys that it opened with, in one legal history, which begins with what each pass has seen and
-    /// has just the calls that it has made.
+impl<N: Kind> VbrSet<N> {
+    /// Ends the set or the map and tells what is in it: the keys, or the entries, that the calls of all
+    /// passes leave of what it opened with, in one legal history, which begins with what each pass has
+    /// seen and has just the calls that it has made.
     ///
-    /// It goes once over the buckets and once over the slots, and takes 9 bytes for each slot, and the
-    /// words once more while it runs. It has all passes, so no other call runs, and it has no budget.
-    /// That the marked nodes which it meets aren't in the set is Michael's (Michael 2002).
+    /// It goes once over the buckets and once over the slots. It takes 9 bytes for each slot of a set and
+    /// 17 of a map, and the words once more while it runs. It has all passes, so no other call runs, and it
+    /// has no budget. That the marked nodes which it meets aren't in the set is Michael's (Michael 2002).
     ///
     /// # Errors
     ///
     /// Both hand the set and the passes back, unchanged.
     ///
     /// - Missing: fewer passes came than were opened. It is tested first.
-    /// - Memory: there is no room, for a key and a note for each slot and then for the words. All of it
+    /// - Memory: there is no room, for an item and a note for each slot and then for the words. All of it
     ///   is made before anything is changed.
     ///
     /// # Example
@@ -34,28 +33,26 @@ impl VbrSet {
     /// let report = match self.close(alloc, passes) {
     ///     Ok(report) => report,
     /// ```
-    pub fn close(self, alloc: Global, passes: Vec<Pass>) -> Result<Report, CloseError<VbrSet>>
+    pub fn close(self, alloc: Global, passes: Vec<Pass>) -> Result<N::Report, CloseError<VbrSet<N>>>
         requires { AllOf self passes.items }
-        ensures ok { IfOk result (λ report. Closes self passes.items report) }
+        ensures ok { IfOk result (ClosesBy N.kind self passes.items) }
         ensures all { OnOk result (self.passes ≤ length passes.items) }
         ensures back { IfErr result (λ e. HandsBack e self passes.items) }
         ensures missing { IfErr result (λ e. IsMissing e ↔ (length passes.items < self.passes)) }
     {
+        self.slots.kind();
         let told = self.end(alloc, passes)?;
-        Ok(Report::of(told))
+        Ok(N::report(told))
     }
-}
 
-impl<N: Nodes> VbrSet<N> {
-    // Ends the set or the map, and tells what its words tell. The errors are those of [`VbrSet::close`].
-    pub(crate) fn end<T: Listed>(
+    // Ends it, and tells what its words tell. The errors are those of [`VbrSet::close`].
+    fn end(
         self,
         alloc: Global,
         passes: Vec<Pass>,
-    ) -> Result<Contents<T>, CloseError<VbrSet<N>>>
-        requires of_set { AllOf self passes.items }
-        requires kind { N.VALUES ≡ T.VALUES }
-        ensures ok { IfOk result (TellsEnd T.shown self passes.items) }
+    ) -> Result<Contents<N::Item>, CloseError<VbrSet<N>>>
+        requires { AllOf self passes.items }
+        ensures ok { IfOk result (TellsEnd N.shown self passes.items) }
         ensures all { OnOk result (self.passes ≤ length passes.items) }
         ensures back { IfErr result (λ e. HandsBack e self passes.items) }
         ensures missing { IfErr result (λ e. IsMissing e ↔ (length passes.items < self.passes)) }
@@ -72,7 +69,7 @@ impl<N: Nodes> VbrSet<N> {
         };
         let VbrSet { slots, count } = self;
         match slots.close(alloc, passes) {
-            Ok(words) => Ok(contents_of(&shape, &words, notes, listed)),
+            Ok(words) => Ok(contents_of::<N>(&shape, &words, notes, listed)),
             Err(CloseError::Missing(slots, passes)) => {
                 Err(CloseError::Missing(VbrSet { slots, count }, passes))
             }

@@ -1,21 +1,21 @@
-//! Opening a set.
+//! Opening a set or a map.
 ghost use Rattle.std.specs.Prelude.{◌≡◌, ◌<◌, ◌≤◌, ◌↔◌, ◌⊎◌, [], length, IfOk, IsErrOf};
 ghost use Rattle.std.specs.List.Sorted.{IsStrictlyIncreasing};
-ghost use Rattle.vbr_machine.specs.Start.{set_start};
 ghost use Rattle.vbr_slots.specs.Views.{new_passes};
 
-use crate::VbrSet;
+use crate::kind::Kind;
+use crate::set::VbrSet;
 use std::alloc::Global;
-use vbr_slots::{OpenError, Pass, Slots};
+use vbr_slots::{OpenError, Pass};
 use vbr_words::Shape;
 
-impl VbrSet {
-    /// Opens an empty set, with so many passes, from 1 to 64. They stand in the order of their
+impl<N: Kind> VbrSet<N> {
+    /// Opens an empty set or map, with so many passes, from 1 to 64. They stand in the order of their
     /// numbers, which begin with 0, and have seen nothing. No call takes memory later, but for
     /// [`VbrSet::close`]. It takes 8 * (2 + buckets + 4 * slots + slots / 64) bytes, the last part
-    /// rounded up, 320 for each pass, and the words once more while it runs. No pass has made a step
-    /// then. Each slot is in the shared pool, which the passes take from and put back into (Sheffi,
-    /// Herlihy and Petrank 2021).
+    /// rounded up, in a map 8 more for each slot, 320 for each pass, and the words once more while it runs.
+    /// No pass has made a step then. Each slot is in the shared pool, which the passes take from and put
+    /// back into (Sheffi, Herlihy and Petrank 2021).
     ///
     /// # Errors
     ///
@@ -29,50 +29,55 @@ impl VbrSet {
     /// ```rattle file=crates/vbr_set_tests/src/set.rt
     /// match VbrSet::open(alloc, shape, passes) {
     /// ```
-    pub fn open(alloc: Global, shape: Shape, passes: u32) -> Result<(VbrSet, Vec<Pass>), OpenError>
+    pub fn open(
+        alloc: Global,
+        shape: Shape,
+        passes: u32,
+    ) -> Result<(VbrSet<N>, Vec<Pass>), OpenError>
         ensures table { IfOk result (λ r.
-            (r.0.start ≡ set_start shape []) × (r.0.passes ≡ passes)) }
+            (r.0.start ≡ N.kind.start shape []) × (r.0.passes ≡ passes)) }
         ensures passes { IfOk result (λ r. r.1.items ≡ new_passes r.0 0 passes) }
         ensures refused { IsErrOf result OpenError.Passes ↔ ((passes ≡ 0) ⊎ (64 < passes)) }
     {
         let _slots = shape.slots();
-        VbrSet::open_with(alloc, shape, passes, &[])
+        VbrSet::<N>::open_with(alloc, shape, passes, &[])
     }
 
-    /// Opens a set that has these keys, with so many passes, as [`VbrSet::open`] opens an empty one: the
-    /// keys are there before any call. They come ascending, each once, and there are no more of them
-    /// than slots. Key number i, from 0, stands in slot i, and the other slots are in the shared pool.
+    /// Opens a set that has these keys, or a map that has these entries, with so many passes, as
+    /// [`VbrSet::open`] opens an empty one: they are there before any call. They come ascending by key, each
+    /// key once, and there are no more of them than slots. The one with number i, from 0, stands in slot i,
+    /// and the other slots are in the shared pool.
     ///
     /// It takes time in proportion to the number of words and of keys: for each key it reads three words
-    /// and writes five, in no order of memory. Besides what [`VbrSet::open`] takes it takes a copy of the
-    /// keys while it runs, 8 bytes for each.
+    /// and writes five, in a map six, in no order of memory. Besides what [`VbrSet::open`] takes it takes a
+    /// copy of the keys while it runs, 8 bytes for each; of entries it takes two copies, 32 bytes for each.
     ///
     /// # Errors
     ///
     /// They are tested in this order, and nothing is kept then.
     ///
     /// - Passes: the number of passes is 0 or above 64.
-    /// - Memory: there is no room for the words, the keys or the passes.
+    /// - Memory: there is no room for the words, the copies or the passes.
     ///
     /// # Example
     ///
     /// ```rattle file=crates/vbr_set/src/set/renewing.rt
-    /// match VbrSet::open_with(alloc, shape, count, &report.keys) {
+    /// match VbrSet::<N>::open_with(alloc, shape, count, N::items(&report)) {
     /// ```
     pub fn open_with(
         alloc: Global,
         shape: Shape,
         passes: u32,
-        keys: &[u64],
-    ) -> Result<(VbrSet, Vec<Pass>), OpenError>
-        requires ascending { IsStrictlyIncreasing keys.now }
-        requires few { length keys.now ≤ shape.slots }
+        items: &[N::Item],
+    ) -> Result<(VbrSet<N>, Vec<Pass>), OpenError>
+        requires ascending { IsStrictlyIncreasing (N.kind.keys items.now) }
+        requires few { length items.now ≤ shape.slots }
         ensures table { IfOk result (λ r.
-            (r.0.start ≡ set_start shape keys.now) × (r.0.passes ≡ passes)) }
+            (r.0.start ≡ N.kind.start shape items.now) × (r.0.passes ≡ passes)) }
         ensures passes { IfOk result (λ r. r.1.items ≡ new_passes r.0 0 passes) }
         ensures refused { IsErrOf result OpenError.Passes ↔ ((passes ≡ 0) ⊎ (64 < passes)) }
     {
-        let (slots, opened) = Slots::open_with(alloc, shape, passes, keys)?;
+        let (slots, opened) = N::open_slots(alloc, shape, passes, items)?;
         let set = VbrSet {
             slots,
             count: passes,

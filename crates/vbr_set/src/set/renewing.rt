@@ -1,19 +1,20 @@
-//! Renewing a set.
+//! Renewing a set or a map.
 ghost use Rattle.std.specs.Prelude.{◌≡◌, ◌<◌, ◌≤◌, ◌↔◌, length, IfOk, IfErr, OnOk};
 ghost use Rattle.vbr_slots.specs.Closing.{AllOf};
 ghost use Rattle.vbr_slots.specs.Views.{new_passes};
-ghost use Rattle.vbr_set.specs.Renewing.{IsUnrenewed, LacksPasses, Renews};
+ghost use Rattle.vbr_set.specs.Renewing.{IsUnrenewedBy, LacksPasses, RenewsBy};
 
-use crate::VbrSet;
+use crate::kind::Kind;
 use crate::renew_error::RenewError;
+use crate::set::VbrSet;
 use std::alloc::Global;
 use vbr_slots::{CloseError, OpenError, Pass};
 
-impl VbrSet {
-    /// Ends the set and opens a fresh one of the same shape, with the keys that were in it and with as
-    /// many passes: the epoch is 1 again, each slot without a key is in the shared pool, and the passes
-    /// have made no step. It is for a set whose epoch comes near its last one, which refuses inserts
-    /// with [`Refusal::EpochSpent`] once it is spent.
+impl<N: Kind> VbrSet<N> {
+    /// Ends the set or the map and opens a fresh one of the same shape, with the keys, or the entries, that
+    /// were in it and with as many passes: the epoch is 1 again, each slot without a key is in the shared
+    /// pool, and the passes have made no step. It is for one whose epoch comes near its last one, which
+    /// refuses inserts with [`Refusal::EpochSpent`] once it is spent.
     ///
     /// It takes the time and the memory of [`VbrSet::close`] and then those of [`VbrSet::open_with`],
     /// while the report is kept. It has all passes, so no other call runs, and it has no budget.
@@ -24,7 +25,7 @@ impl VbrSet {
     ///   come back, unchanged.
     /// - Memory: there is no room to close the set. The set and the passes come back, unchanged.
     /// - Closed: the set is closed, and there is no room for the fresh one. The report of the close
-    ///   comes back, and [`VbrSet::open_with`] with its keys goes on from there.
+    ///   comes back, and [`VbrSet::open_with`] with what it lists goes on from there.
     ///
     /// # Example
     ///
@@ -33,12 +34,16 @@ impl VbrSet {
     /// ```
     ///
     /// [`Refusal::EpochSpent`]: crate::Refusal::EpochSpent
-    pub fn renew(self, alloc: Global, passes: Vec<Pass>) -> Result<(VbrSet, Vec<Pass>), RenewError>
+    pub fn renew(
+        self,
+        alloc: Global,
+        passes: Vec<Pass>,
+    ) -> Result<(VbrSet<N>, Vec<Pass>), RenewError<VbrSet<N>, N::Report>>
         requires { AllOf self passes.items }
-        ensures renewed { IfOk result (λ r. Renews self passes.items r.0) }
+        ensures renewed { IfOk result (λ r. RenewsBy N.kind self passes.items r.0) }
         ensures passes { IfOk result (λ r. r.1.items ≡ new_passes r.0 0 self.passes) }
         ensures all { OnOk result (self.passes ≤ length passes.items) }
-        ensures unrenewed { IfErr result (λ e. IsUnrenewed e self passes.items) }
+        ensures unrenewed { IfErr result (λ e. IsUnrenewedBy N.kind e self passes.items) }
         ensures missing { IfErr result (λ e. LacksPasses e ↔ (length passes.items < self.passes)) }
     {
         let shape = self.slots.shape();
@@ -52,7 +57,7 @@ impl VbrSet {
                 return Err(RenewError::Memory(set, passes));
             }
         };
-        match VbrSet::open_with(alloc, shape, count, &report.keys) {
+        match VbrSet::<N>::open_with(alloc, shape, count, N::items(&report)) {
             Ok(opened) => Ok(opened),
             Err(OpenError::Memory) => Err(RenewError::Closed(report)),
             Err(OpenError::Passes) => unreachable!(),

@@ -2,6 +2,7 @@ use Rattle.std.proofs.Common.{length, sym, ap, subst, arith}
 use Rattle.std.specs.Prelude.{IsSome}
 use Rattle.std.proofs.lemmas.List.Elements.{All-rest}
 use Rattle.vbr_set.specs.AllMembers.{AreOfOneSet}
+use Rattle.vbr_set.specs.Closing.{ClosesBy}
 use Rattle.vbr_handles.proofs.AllHandles.{ends_more, moved, unended_more}
 use Rattle.vbr_handles.proofs.closing_all.+end_with.Goals as goal
 
@@ -27,7 +28,7 @@ returns-in-Ok-end_with-clause-ends g t c =
     let first = c.in-Some.first.now in
     let others = c.in-Some.others.now in
     let same = moved member c.args.members.items c.push.new.self.items c.in-Some-take_out.member first others handles c.in-Ok.ensures.items c.in-Some.ensures.cases.0 c.in-Some-take_out.ensures.is in
-    ends_more member g.I.Report.ReportOf.closes g.I.Listed.listing _ _ c.take_out.new.handle c.end_with.new.handles c.args.room c.in-Ok-end_with.report same c.take_out.ensures.left c.in-Ok-end_with.ensures.ends
+    ends_more member (ClosesBy g.N.Kind.kind) g.I.Listed.listing _ _ c.take_out.new.handle c.end_with.new.handles c.args.room c.in-Ok-end_with.report same c.take_out.ensures.left c.in-Ok-end_with.ensures.ends
 
 pub returns-in-Ok-end_with-clause-not : goal.returns-in-Ok-end_with-clause-not
 returns-in-Ok-end_with-clause-not g t c = tt

@@ -52,5 +52,5 @@ returns-clause-gathered g c = λ opened run x lists.
     let high = c.loop-slot.auto.slot-end in
     let end = c.slots-slot-end.ensures.slots in
     let all : c.loop-slot.slot ≡ c.args.shape.now.slots = omega (arith, low, high, end) in
-    let told = subst (λ (s : ℕ). Gathered (g.T.Listed.shown (incarnations_after (with_opened c.args.shape.now opened) run)) (incarnations_after (with_opened c.args.shape.now opened) run) s c.loop-slot.listed.items c.loop-slot.live c.loop-slot.marked) all (c.loop-slot.invariant.gathered opened run x lists) in
+    let told = subst (λ (s : ℕ). Gathered (g.N.Kind.shown (incarnations_after (with_opened c.args.shape.now opened) run)) (incarnations_after (with_opened c.args.shape.now opened) run) s c.loop-slot.listed.items c.loop-slot.live c.loop-slot.marked) all (c.loop-slot.invariant.gathered opened run x lists) in
     (told.listed_is, told.live_is, told.marked_is)

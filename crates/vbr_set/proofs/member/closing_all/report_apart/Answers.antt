@@ -1,26 +1,27 @@
-use Rattle.std.proofs.Common.{◌≤◌, length, sym, subst, rules, arith}
+use Rattle.std.proofs.Common.{◌≤◌, List, length, sym, subst, rules, arith}
 use Rattle.vbr_slots.specs.Closing.{AllOf}
-use Rattle.vbr_slots.specs.Views.{TableView}
+use Rattle.vbr_slots.specs.Views.{PassView, TableView}
 use Rattle.std.specs.Prelude.{IfOk}
+use Rattle.vbr_set.specs.Closing.{ClosesBy}
 use Rattle.vbr_set.proofs.Apart.{all_of_first, all_parts_of, all_told, as_many_passes}
 use Rattle.vbr_set.proofs.member.closing_all.report_apart.Goals as goal
 
-pub tell-requires-clause-of_set : goal.tell-requires-clause-of_set
-tell-requires-clause-of_set g c =
+pub report-requires-clause-of_set : goal.report-requires-clause-of_set
+report-requires-clause-of_set g c =
     let first = c.in-Some.first.now in
     let shares = c.args.shares.now in
     let passes = c.args.passes.now.items in
     let all = all_of_first first shares passes c.requires.parts c.requires.one_set c.requires.enough (search rules) in
-    subst (λ (t : TableView). AllOf t passes) (sym c.set.ensures) (all_parts_of _ shares passes c.requires.parts all.0)
+    subst (λ (x : TableView × List PassView). AllOf x.0 x.1) (λ i. (sym c.set.ensures i, sym c.deref_mut.ensures.value i)) (all_parts_of _ shares passes c.requires.parts all.0)
 
-pub tell-requires-clause-all : goal.tell-requires-clause-all
-tell-requires-clause-all g c =
+pub report-requires-clause-all : goal.report-requires-clause-all
+report-requires-clause-all g c =
     let first = c.in-Some.first.now in
     let shares = c.args.shares.now in
     let passes = c.args.passes.now.items in
     let all = all_of_first first shares passes c.requires.parts c.requires.one_set c.requires.enough (search rules) in
     let many = as_many_passes shares passes c.requires.parts in
-    subst (λ (t : TableView). t.passes ≤ length passes) (sym c.set.ensures) (let some = all.1 in omega arith)
+    subst (λ (x : TableView × List PassView). x.0.passes ≤ length x.1) (λ i. (sym c.set.ensures i, sym c.deref_mut.ensures.value i)) (let some = all.1 in omega arith)
 
 pub returns-clause-report : goal.returns-clause-report
 returns-clause-report g c =
@@ -28,4 +29,5 @@ returns-clause-report g c =
     let shares = c.args.shares.now in
     let passes = c.args.passes.now.items in
     let all = all_of_first first shares passes c.requires.parts c.requires.one_set c.requires.enough (search rules) in
-    all_told g.R.ReportOf.closes first shares passes c.requires.parts all c.tell.result (subst (λ (t : TableView). IfOk c.tell.result (g.R.ReportOf.closes t passes)) c.set.ensures c.tell.ensures.report)
+    let told = subst (λ (x : TableView × List PassView). IfOk c.report.result (ClosesBy g.N.Kind.kind x.0 x.1)) (λ i. (c.set.ensures i, c.deref_mut.ensures.value i)) c.report.ensures.report in
+    all_told (ClosesBy g.N.Kind.kind) first shares passes c.requires.parts all c.report.result told

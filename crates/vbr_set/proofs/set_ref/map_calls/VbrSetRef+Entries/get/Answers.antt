@@ -8,4 +8,4 @@ returns c =
     let e = c.get.ensures in
     let i = c.self.inside in
     subst (λ (m : MemberView). GetsEntry m (as_member i.set.now c.get.new.pass) c.args.key c.args.budget c.get.result) c.self.view_is
-    (record { set = refl; same = e.same; answers = e.answers; alone = e.alone; gives = e.gives; quiet = e.quiet; safe = e.safe; hand = e.hand; steps = e.steps; spares = e.spares })
+    (record { set = refl; same = e.same; answers = e.answers; alone = e.alone; quiet = e.quiet; safe = e.safe; hand = e.hand; steps = e.steps; spares = e.spares })

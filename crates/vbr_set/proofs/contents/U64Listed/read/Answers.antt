@@ -1,7 +1,0 @@
-use Rattle.std.proofs.Common.{ap, ◌∙◌}
-use Rattle.std.specs.Prelude.{slice_index}
-use Rattle.vbr_set.proofs.ShownNodes.{key_read}
-use Rattle.vbr_set.proofs.contents.U64Listed.read.Goals as goal
-
-pub returns : goal.returns
-returns c = λ opened run x. ap (slice_index c.args.words.now) c.place_index.ensures.index ∙ key_read x c.args.slot c.requires.slot

@@ -1,0 +1,74 @@
+//! The nodes of a set: it opens with keys, and its report lists keys.
+ghost use Rattle.std.specs.Prelude.{◌≡◌, List, false, refl};
+ghost use Rattle.vbr_machine.specs.Nodes.{key_in_slot};
+ghost use Rattle.vbr_slots.specs.Closing.{AllOf};
+ghost use Rattle.vbr_slots.specs.Views.{PassView, TableView};
+ghost use Rattle.vbr_set.specs.Closing.{Closes};
+ghost use Rattle.vbr_set.specs.Contents.{TellsEnd};
+ghost use Rattle.vbr_set.specs.Kinds.{as_set};
+ghost use Rattle.vbr_set.specs.KindLaws.{keys_ascend, set_reopens};
+
+use crate::contents::Contents;
+use crate::kind::Kind;
+use crate::report::Report;
+use std::alloc::Global;
+use vbr_slots::{OpenError, Pass, Slots};
+use vbr_words::{Keys, Place, Shape, place_index};
+
+impl Kind for Keys {
+    type Item = u64;
+
+    type Report = Report;
+
+    ghost kind = { as_set };
+
+    ghost shown = { key_in_slot };
+
+    #[inline]
+    fn open_slots(
+        alloc: Global,
+        shape: Shape,
+        passes: u32,
+        keys: &[u64],
+    ) -> Result<(Slots, Vec<Pass>), OpenError> {
+        Slots::open_with(alloc, shape, passes, keys)
+    }
+
+    #[inline]
+    fn read(shape: &Shape, words: &[u64], slot: u32) -> u64 {
+        words[place_index(shape, Place::Key(slot))]
+    }
+
+    fn report(told: Contents<u64>) -> Report
+        ensures { (table : TableView) (passes : List PassView) → AllOf table passes →
+            table.start.shape.values ≡ false → TellsEnd key_in_slot table passes told →
+            Closes table passes result }
+    {
+        let Contents {
+            listed: mut keys,
+            epoch,
+            live,
+            marked,
+            free,
+        } = told;
+        keys.sort_unstable();
+        Report {
+            keys,
+            epoch,
+            live,
+            marked,
+            free,
+        }
+    }
+
+    #[inline]
+    fn items(report: &Report) -> &[u64] {
+        &report.keys
+    }
+
+    ghost no_keys = { refl };
+
+    ghost ascends = { keys_ascend };
+
+    ghost reopens = { set_reopens };
+}
