@@ -18,7 +18,7 @@ use core::fmt::Debug;
 /// # Ok::<(), Box<dyn std::error::Error>>(())
 /// ```
 #[allow(private_bounds, reason = "the calls of the library are of this crate alone, so no other crate makes a kind")]
-pub trait Kind: Calls<<Self as Kind>::Item, <Self as Kind>::Given, <Self as Kind>::Report> + 'static {
+pub trait Kind: Calls<<Self as Kind>::Item, <Self as Kind>::Given, <Self as Kind>::Report> + Sized + 'static {
     /// What a table opens with, and what its report has: a key, or an [`Entry`](crate::Entry).
     type Item: Copy + Debug + Default + Ord + Send + Sync + 'static;
 
