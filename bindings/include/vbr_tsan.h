@@ -58,73 +58,11 @@ static inline void vbr_tsan_map_uses(const vbr_map_handle *handle) {
     if (handle) vbr_tsan_owned(handle->owned);
 }
 
-VBR_NODISCARD static inline vbr_answer vbr_tsan_insert(vbr_handle *handle, uint64_t key, uint32_t budget) VBR_NOEXCEPT {
-    vbr_tsan_uses(handle);
-    __tsan_release(vbr_tsan_there(key));
-    vbr_answer answer = vbr_insert(handle, key, budget);
+/* What comes before the answer of an insert. */
+static inline vbr_answer vbr_tsan_added(uint64_t key, vbr_answer answer) {
     if (answer == VBR_YES) __tsan_acquire(vbr_tsan_gone(key));
     if (answer == VBR_NO) __tsan_acquire(vbr_tsan_there(key));
     return answer;
-}
-
-VBR_NODISCARD static inline vbr_answer vbr_tsan_remove(vbr_handle *handle, uint64_t key, uint32_t budget) VBR_NOEXCEPT {
-    vbr_tsan_uses(handle);
-    __tsan_release(vbr_tsan_gone(key));
-    vbr_answer answer = vbr_remove(handle, key, budget);
-    if (answer == VBR_YES) __tsan_acquire(vbr_tsan_there(key));
-    if (answer == VBR_NO) __tsan_acquire(vbr_tsan_gone(key));
-    return answer;
-}
-
-VBR_NODISCARD static inline vbr_answer vbr_tsan_has(vbr_handle *handle, uint64_t key, uint32_t budget) VBR_NOEXCEPT {
-    vbr_tsan_uses(handle);
-    vbr_answer answer = vbr_has(handle, key, budget);
-    if (answer == VBR_YES) __tsan_acquire(vbr_tsan_there(key));
-    if (answer == VBR_NO) __tsan_acquire(vbr_tsan_gone(key));
-    return answer;
-}
-
-VBR_NODISCARD static inline vbr_answer vbr_tsan_close(vbr_handle *handle, uint64_t *keys, size_t room, vbr_totals *report) VBR_NOEXCEPT {
-    vbr_tsan_uses(handle);
-    __tsan_release(vbr_tsan_closed());
-    vbr_answer answer = vbr_close(handle, keys, room, report);
-    if (answer == VBR_YES || answer == VBR_LOST) __tsan_acquire(vbr_tsan_closed());
-    return answer;
-}
-
-VBR_NODISCARD static inline vbr_answer vbr_tsan_close_all(vbr_handle *handles, size_t count, uint64_t *keys, size_t room,
-                                                          vbr_totals *report) VBR_NOEXCEPT {
-    for (size_t i = 0; i < count; i++) vbr_tsan_uses(&handles[i]);
-    __tsan_release(vbr_tsan_closed());
-    vbr_answer answer = vbr_close_all(handles, count, keys, room, report);
-    if (answer == VBR_YES) __tsan_acquire(vbr_tsan_closed());
-    return answer;
-}
-
-static inline void vbr_tsan_drop(vbr_handle *handle) VBR_NOEXCEPT {
-    vbr_tsan_uses(handle);
-    __tsan_release(vbr_tsan_closed());
-    vbr_drop(handle);
-}
-
-VBR_NODISCARD static inline uint64_t vbr_tsan_epoch(vbr_handle *handle) VBR_NOEXCEPT {
-    vbr_tsan_uses(handle);
-    return vbr_epoch(handle);
-}
-
-VBR_NODISCARD static inline uint64_t vbr_tsan_last_epoch(vbr_handle *handle) VBR_NOEXCEPT {
-    vbr_tsan_uses(handle);
-    return vbr_last_epoch(handle);
-}
-
-VBR_NODISCARD static inline uint32_t vbr_tsan_slots(vbr_handle *handle) VBR_NOEXCEPT {
-    vbr_tsan_uses(handle);
-    return vbr_slots(handle);
-}
-
-VBR_NODISCARD static inline uint32_t vbr_tsan_buckets(vbr_handle *handle) VBR_NOEXCEPT {
-    vbr_tsan_uses(handle);
-    return vbr_buckets(handle);
 }
 
 /* What comes before an answer that tells whether a key was there, and that a value was written beside it. */
@@ -146,6 +84,23 @@ static inline vbr_answer vbr_tsan_walked(vbr_cursor *cursor, uint64_t *key, vbr_
     return answer == VBR_YES ? vbr_tsan_found(*key, vbr_tsan_given(key, answer)) : answer;
 }
 
+VBR_NODISCARD static inline vbr_answer vbr_tsan_insert(vbr_handle *handle, uint64_t key, uint32_t budget) VBR_NOEXCEPT {
+    vbr_tsan_uses(handle);
+    __tsan_release(vbr_tsan_there(key));
+    return vbr_tsan_added(key, vbr_insert(handle, key, budget));
+}
+
+VBR_NODISCARD static inline vbr_answer vbr_tsan_remove(vbr_handle *handle, uint64_t key, uint32_t budget) VBR_NOEXCEPT {
+    vbr_tsan_uses(handle);
+    __tsan_release(vbr_tsan_gone(key));
+    return vbr_tsan_found(key, vbr_remove(handle, key, budget));
+}
+
+VBR_NODISCARD static inline vbr_answer vbr_tsan_has(vbr_handle *handle, uint64_t key, uint32_t budget) VBR_NOEXCEPT {
+    vbr_tsan_uses(handle);
+    return vbr_tsan_found(key, vbr_has(handle, key, budget));
+}
+
 VBR_NODISCARD static inline vbr_answer vbr_tsan_next(vbr_handle *handle, vbr_cursor *cursor, uint32_t budget, uint64_t *key) VBR_NOEXCEPT {
     vbr_tsan_uses(handle);
     return vbr_tsan_walked(cursor, key, vbr_next(handle, cursor, budget, key));
@@ -154,10 +109,7 @@ VBR_NODISCARD static inline vbr_answer vbr_tsan_next(vbr_handle *handle, vbr_cur
 VBR_NODISCARD static inline vbr_answer vbr_tsan_map_insert(vbr_map_handle *handle, uint64_t key, uint64_t value, uint32_t budget) VBR_NOEXCEPT {
     vbr_tsan_map_uses(handle);
     __tsan_release(vbr_tsan_there(key));
-    vbr_answer answer = vbr_map_insert(handle, key, value, budget);
-    if (answer == VBR_YES) __tsan_acquire(vbr_tsan_gone(key));
-    if (answer == VBR_NO) __tsan_acquire(vbr_tsan_there(key));
-    return answer;
+    return vbr_tsan_added(key, vbr_map_insert(handle, key, value, budget));
 }
 
 VBR_NODISCARD static inline vbr_answer vbr_tsan_map_remove(vbr_map_handle *handle, uint64_t key, uint32_t budget, uint64_t *value) VBR_NOEXCEPT {
@@ -181,48 +133,46 @@ VBR_NODISCARD static inline vbr_answer vbr_tsan_map_next(vbr_map_handle *handle,
     return vbr_tsan_given(value, vbr_tsan_walked(cursor, key, vbr_map_next(handle, cursor, budget, key, value)));
 }
 
-VBR_NODISCARD static inline vbr_answer vbr_tsan_map_close(vbr_map_handle *handle, vbr_entry *entries, size_t room, vbr_totals *report) VBR_NOEXCEPT {
-    vbr_tsan_map_uses(handle);
-    __tsan_release(vbr_tsan_closed());
-    vbr_answer answer = vbr_map_close(handle, entries, room, report);
-    if (answer == VBR_YES || answer == VBR_LOST) __tsan_acquire(vbr_tsan_closed());
-    return answer;
-}
+/* The calls that sets and maps have alike: FOR is nothing for a set and map_ for a map, and `item` is what a report has. */
+#define VBR_TSAN_CALLS(FOR, item) \
+    VBR_NODISCARD static inline vbr_answer vbr_tsan_##FOR##close(vbr_##FOR##handle *handle, item *items, size_t room, \
+                                                                 vbr_totals *report) VBR_NOEXCEPT { \
+        vbr_tsan_##FOR##uses(handle); \
+        __tsan_release(vbr_tsan_closed()); \
+        vbr_answer answer = vbr_##FOR##close(handle, items, room, report); \
+        if (answer == VBR_YES || answer == VBR_LOST) __tsan_acquire(vbr_tsan_closed()); \
+        return answer; \
+    } \
+    VBR_NODISCARD static inline vbr_answer vbr_tsan_##FOR##close_all(vbr_##FOR##handle *handles, size_t count, item *items, \
+                                                                     size_t room, vbr_totals *report) VBR_NOEXCEPT { \
+        for (size_t i = 0; i < count; i++) vbr_tsan_##FOR##uses(&handles[i]); \
+        __tsan_release(vbr_tsan_closed()); \
+        vbr_answer answer = vbr_##FOR##close_all(handles, count, items, room, report); \
+        if (answer == VBR_YES) __tsan_acquire(vbr_tsan_closed()); \
+        return answer; \
+    } \
+    static inline void vbr_tsan_##FOR##drop(vbr_##FOR##handle *handle) VBR_NOEXCEPT { \
+        vbr_tsan_##FOR##uses(handle); \
+        __tsan_release(vbr_tsan_closed()); \
+        vbr_##FOR##drop(handle); \
+    } \
+    VBR_TSAN_NUMBER(FOR, uint64_t, epoch) \
+    VBR_TSAN_NUMBER(FOR, uint64_t, last_epoch) \
+    VBR_TSAN_NUMBER(FOR, uint32_t, slots) \
+    VBR_TSAN_NUMBER(FOR, uint32_t, buckets)
 
-VBR_NODISCARD static inline vbr_answer vbr_tsan_map_close_all(vbr_map_handle *handles, size_t count, vbr_entry *entries, size_t room,
-                                                              vbr_totals *report) VBR_NOEXCEPT {
-    for (size_t i = 0; i < count; i++) vbr_tsan_map_uses(&handles[i]);
-    __tsan_release(vbr_tsan_closed());
-    vbr_answer answer = vbr_map_close_all(handles, count, entries, room, report);
-    if (answer == VBR_YES) __tsan_acquire(vbr_tsan_closed());
-    return answer;
-}
+/* A call that shows a number. */
+#define VBR_TSAN_NUMBER(FOR, type, call) \
+    VBR_NODISCARD static inline type vbr_tsan_##FOR##call(vbr_##FOR##handle *handle) VBR_NOEXCEPT { \
+        vbr_tsan_##FOR##uses(handle); \
+        return vbr_##FOR##call(handle); \
+    }
 
-static inline void vbr_tsan_map_drop(vbr_map_handle *handle) VBR_NOEXCEPT {
-    vbr_tsan_map_uses(handle);
-    __tsan_release(vbr_tsan_closed());
-    vbr_map_drop(handle);
-}
+VBR_TSAN_CALLS(, uint64_t)
+VBR_TSAN_CALLS(map_, vbr_entry)
 
-VBR_NODISCARD static inline uint64_t vbr_tsan_map_epoch(vbr_map_handle *handle) VBR_NOEXCEPT {
-    vbr_tsan_map_uses(handle);
-    return vbr_map_epoch(handle);
-}
-
-VBR_NODISCARD static inline uint64_t vbr_tsan_map_last_epoch(vbr_map_handle *handle) VBR_NOEXCEPT {
-    vbr_tsan_map_uses(handle);
-    return vbr_map_last_epoch(handle);
-}
-
-VBR_NODISCARD static inline uint32_t vbr_tsan_map_slots(vbr_map_handle *handle) VBR_NOEXCEPT {
-    vbr_tsan_map_uses(handle);
-    return vbr_map_slots(handle);
-}
-
-VBR_NODISCARD static inline uint32_t vbr_tsan_map_buckets(vbr_map_handle *handle) VBR_NOEXCEPT {
-    vbr_tsan_map_uses(handle);
-    return vbr_map_buckets(handle);
-}
+#undef VBR_TSAN_CALLS
+#undef VBR_TSAN_NUMBER
 
 #define vbr_epoch(handle) vbr_tsan_epoch(handle)
 #define vbr_last_epoch(handle) vbr_tsan_last_epoch(handle)

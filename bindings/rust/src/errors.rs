@@ -1,5 +1,5 @@
 //! Why a set or a map isn't opened, a call isn't answered, and a handle isn't closed.
-use crate::{Handle, MapHandle, ShapeError};
+use crate::{Handle, HandleOf, Kind, ShapeError};
 use core::error::Error;
 use core::fmt;
 
@@ -70,16 +70,6 @@ pub enum CloseError<H = Handle> {
     Memory(Unclosed<H>),
 }
 
-impl<H> CloseError<H> {
-    /// The same error, with the handle as `handle_of` makes it.
-    pub(crate) fn of<T>(self, handle_of: fn(H) -> T) -> CloseError<T> {
-        match self {
-            CloseError::Lost => CloseError::Lost,
-            CloseError::Memory(Unclosed(handle)) => CloseError::Memory(Unclosed(handle_of(handle))),
-        }
-    }
-}
-
 /// A handle that couldn't be closed, within an error that threads may share: a map's as `Unclosed<MapHandle>`.
 ///
 /// ```
@@ -92,10 +82,7 @@ impl<H> CloseError<H> {
 pub struct Unclosed<H = Handle>(pub(crate) H);
 
 // SAFETY: a reference to it gives nothing but its name.
-unsafe impl Sync for Unclosed<Handle> {}
-
-// SAFETY: the same.
-unsafe impl Sync for Unclosed<MapHandle> {}
+unsafe impl<K: Kind> Sync for Unclosed<HandleOf<K>> {}
 
 impl<H> Unclosed<H> {
     /// The handle, to go on with, or to be closed again.

@@ -1,9 +1,10 @@
 //! Going over all keys while other threads make calls.
-use crate::{Handle, Refusal};
+use crate::{Handle, HandleOf, Kind, Refusal};
 use core::fmt;
+use core::iter::FusedIterator;
 
-/// Where a walk over all keys stands: before the first key, after one, or at the end. [`Handle::next`] and
-/// [`MapHandle::next`] take it on, and no thread that makes calls holds it up.
+/// Where a walk over all keys stands: before the first key, after one, or at the end. [`HandleOf::next`] takes it on, and no
+/// thread that makes calls holds it up.
 ///
 /// It is plain: it can be copied and kept, and the walk goes on from a copy as well. With another handle of the set it is
 /// another walk, from there on. With a set of another shape it does no harm, and has no meaning.
@@ -18,8 +19,6 @@ use core::fmt;
 /// assert_eq!(handles[1].next(&mut copy, 1_000)?, Some(5));
 /// # Ok::<(), Box<dyn std::error::Error>>(())
 /// ```
-///
-/// [`MapHandle::next`]: crate::MapHandle::next
 #[repr(C)]
 #[derive(Clone, Copy, Debug, Default, PartialEq, Eq, Hash)]
 pub struct Cursor {
@@ -44,8 +43,8 @@ impl Cursor {
     }
 }
 
-/// A walk over all keys of a set, as [`Handle::iter`] begins it, or over all entries of a map, each a key and its value, as
-/// [`MapHandle::iter`] does: of a map's as `Iter<'_, MapHandle>`.
+/// A walk over all keys of a set, or over all entries of a map, each a key and its value, as [`HandleOf::iter`] begins it: of a
+/// map's as `Iter<'_, MapHandle>`.
 ///
 /// Each call of the library has the same budget of steps. One that is refused and has come further is made again, as often as
 /// need be. Where a whole call didn't come to a later bucket, the item is `Err(`[`Refusal::OutOfSteps`]`)`. The walk isn't over
@@ -63,8 +62,6 @@ impl Cursor {
 /// # assert_eq!(sum_of_values(handle.iter(1_000))?, 141);
 /// # Ok::<(), Box<dyn std::error::Error>>(())
 /// ```
-///
-/// [`MapHandle::iter`]: crate::MapHandle::iter
 #[must_use = "a walk makes no call before it is asked for a key"]
 pub struct Iter<'h, H = Handle> {
     handle: &'h H,
@@ -76,22 +73,24 @@ impl<'h, H> Iter<'h, H> {
     pub(crate) fn new(handle: &'h H, budget: u32) -> Iter<'h, H> {
         Iter { handle, cursor: Cursor::first(), budget }
     }
+}
 
-    /// What the next call gives that isn't refused on its way.
+impl<K: Kind> Iterator for Iter<'_, HandleOf<K>> {
+    type Item = Result<K::Given, Refusal>;
+
     #[inline]
-    pub(crate) fn step<T>(
-        &mut self,
-        next: impl Fn(&H, &mut Cursor, u32) -> Result<Option<T>, Refusal>,
-    ) -> Option<Result<T, Refusal>> {
+    fn next(&mut self) -> Option<Result<K::Given, Refusal>> {
         loop {
             let before = self.cursor;
-            let told = next(self.handle, &mut self.cursor, self.budget);
+            let told = self.handle.next(&mut self.cursor, self.budget);
             if told.is_ok() || self.cursor == before {
                 return told.transpose();
             }
         }
     }
 }
+
+impl<K: Kind> FusedIterator for Iter<'_, HandleOf<K>> {}
 
 impl<H> fmt::Debug for Iter<'_, H> {
     fn fmt(&self, f: &mut fmt::Formatter<'_>) -> fmt::Result {

@@ -35,7 +35,7 @@
 //!
 //! [`Map`] has a value beside each key. It is opened, used and closed as a [`Set`], and what is said here of sets and their
 //! handles is so of maps and theirs. A key keeps the value that it was inserted with until it is removed; [`MapHandle::get`]
-//! and [`MapHandle::remove`] give it.
+//! and [`MapHandle::remove`] give it. [`Table`] and [`HandleOf`] have the calls of both, for either [`Kind`].
 //!
 //! ```
 //! use vbr::{Entry, Map, Shape};
@@ -57,7 +57,7 @@
 //!
 //! # Going over all keys
 //!
-//! [`Handle::iter`] goes over all keys, and [`MapHandle::iter`] over all entries, while other threads make calls. Each key that
+//! [`HandleOf::iter`] goes over all keys, and of a map over all entries, while other threads make calls. Each key that
 //! is there all the while is given, once, and none that wasn't there at a moment of its call. What isn't said is that they were
 //! there together at one moment.
 //!
@@ -78,8 +78,8 @@
 //! # Ok::<(), Box<dyn std::error::Error>>(())
 //! ```
 //!
-//! Between the calls of [`Handle::next`] and [`MapHandle::next`], which have a [`Cursor`] in place of an iterator, the handle
-//! itself makes other calls too.
+//! Between the calls of [`HandleOf::next`], which has a [`Cursor`] in place of an iterator, the handle itself makes other calls
+//! too.
 //!
 //! # Threads
 //!
@@ -104,21 +104,25 @@
 extern crate alloc;
 
 mod errors;
+mod handle;
 mod iterating;
 mod kind;
 mod lending;
 mod library;
 mod map;
-mod owned;
 mod set;
 mod shape;
+mod table;
 
 pub use errors::{CloseError, OpenError, Refusal, Unclosed};
+pub use handle::HandleOf;
 pub use iterating::{Cursor, Iter};
+pub use kind::{Entries, Keys, Kind};
 pub use lending::Lent;
 pub use map::{Entry, Map, MapHandle, MapReport};
 pub use set::{Handle, Report, Set};
 pub use shape::{Shape, ShapeError};
+pub use table::Table;
 
 /// The greatest number of slots.
 ///

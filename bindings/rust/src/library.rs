@@ -1,7 +1,6 @@
 //! The calls of the library, and which of them are those of a set and which those of a map.
-use crate::map::Entry;
-use crate::owned::Owned;
-use crate::{Cursor, Refusal};
+use crate::handle::Contents;
+use crate::{Cursor, Entries, Entry, Keys, MapReport, Refusal, Report};
 use core::ffi::c_void;
 
 /// As C sees a handle: one pointer, null where it is empty.
@@ -64,18 +63,14 @@ extern "C" {
     fn vbr_map_drop(handle: *mut Raw);
 }
 
-/// What handles of sets and of maps have alike: the calls of the library that open and close them, look up, walk, and show their
-/// numbers.
-pub(crate) trait Kind: Sized {
-    /// What an opening is given and a report tells: keys, or entries.
-    type Item: Copy + Default;
-
-    /// What a walk gives: a key, or a key with its value.
-    type Given: Default;
+/// The calls of the library that sets and maps have alike, over what they open with, what a walk gives, and what a close tells.
+pub(crate) trait Calls<Item, Given, Told> {
+    /// The names of a table and of its handles.
+    const NAMES: (&'static str, &'static str);
 
     const OPEN: unsafe extern "C" fn(*mut Raw, usize, u32, u32, u64) -> i32;
-    const OPEN_WITH: unsafe extern "C" fn(*mut Raw, usize, u32, u32, u64, *const Self::Item, usize) -> i32;
-    const CLOSE_ALL: unsafe extern "C" fn(*mut Raw, usize, *mut Self::Item, usize, *mut ReportNumbers) -> i32;
+    const OPEN_WITH: unsafe extern "C" fn(*mut Raw, usize, u32, u32, u64, *const Item, usize) -> i32;
+    const CLOSE_ALL: unsafe extern "C" fn(*mut Raw, usize, *mut Item, usize, *mut ReportNumbers) -> i32;
     const DROP: unsafe extern "C" fn(*mut Raw);
     const HAS: unsafe extern "C" fn(*mut Raw, u64, u32) -> i32;
     const EPOCH: unsafe extern "C" fn(*mut Raw) -> u64;
@@ -84,15 +79,18 @@ pub(crate) trait Kind: Sized {
     const BUCKETS: unsafe extern "C" fn(*mut Raw) -> u32;
 
     /// The next call of a walk.
-    fn next(handle: &Owned<Self>, cursor: &mut Cursor, budget: u32, given: &mut Self::Given) -> i32;
+    ///
+    /// # Safety
+    ///
+    /// Nothing else has the handle meanwhile.
+    unsafe fn next(handle: *mut Raw, cursor: &mut Cursor, budget: u32, given: &mut Given) -> i32;
+
+    /// What the last close tells.
+    fn report(contents: Contents<Item>) -> Told;
 }
 
-/// The kind of sets.
-pub(crate) struct Keys;
-
-impl Kind for Keys {
-    type Item = u64;
-    type Given = u64;
+impl Calls<u64, u64, Report> for Keys {
+    const NAMES: (&'static str, &'static str) = ("Set", "Handle");
 
     const OPEN: unsafe extern "C" fn(*mut Raw, usize, u32, u32, u64) -> i32 = vbr_open;
     const OPEN_WITH: unsafe extern "C" fn(*mut Raw, usize, u32, u32, u64, *const u64, usize) -> i32 = vbr_open_with;
@@ -105,19 +103,17 @@ impl Kind for Keys {
     const BUCKETS: unsafe extern "C" fn(*mut Raw) -> u32 = vbr_buckets;
 
     #[inline]
-    fn next(handle: &Owned<Keys>, cursor: &mut Cursor, budget: u32, key: &mut u64) -> i32 {
-        // SAFETY: one thread at a time has the handle, which is not `Sync`, and the call lends it to nobody; nothing else has the
-        // cursor and the key.
-        unsafe { vbr_next(handle.raw(), cursor, budget, key) }
+    unsafe fn next(handle: *mut Raw, cursor: &mut Cursor, budget: u32, key: &mut u64) -> i32 {
+        vbr_next(handle, cursor, budget, key)
+    }
+
+    fn report(Contents { items: keys, epoch, marked, free }: Contents<u64>) -> Report {
+        Report { keys, epoch, marked, free }
     }
 }
 
-/// The kind of maps.
-pub(crate) struct Entries;
-
-impl Kind for Entries {
-    type Item = Entry;
-    type Given = (u64, u64);
+impl Calls<Entry, (u64, u64), MapReport> for Entries {
+    const NAMES: (&'static str, &'static str) = ("Map", "MapHandle");
 
     const OPEN: unsafe extern "C" fn(*mut Raw, usize, u32, u32, u64) -> i32 = vbr_map_open;
     const OPEN_WITH: unsafe extern "C" fn(*mut Raw, usize, u32, u32, u64, *const Entry, usize) -> i32 = vbr_map_open_with;
@@ -130,9 +126,12 @@ impl Kind for Entries {
     const BUCKETS: unsafe extern "C" fn(*mut Raw) -> u32 = vbr_map_buckets;
 
     #[inline]
-    fn next(handle: &Owned<Entries>, cursor: &mut Cursor, budget: u32, (key, value): &mut (u64, u64)) -> i32 {
-        // SAFETY: as for a set; nothing else has the value.
-        unsafe { vbr_map_next(handle.raw(), cursor, budget, key, value) }
+    unsafe fn next(handle: *mut Raw, cursor: &mut Cursor, budget: u32, (key, value): &mut (u64, u64)) -> i32 {
+        vbr_map_next(handle, cursor, budget, key, value)
+    }
+
+    fn report(Contents { items: entries, epoch, marked, free }: Contents<Entry>) -> MapReport {
+        MapReport { entries, epoch, marked, free }
     }
 }
 

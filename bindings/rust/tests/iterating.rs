@@ -1,10 +1,13 @@
 //! Walks over all keys of sets and all entries of maps: their order, the budgets that are just enough, what a refused call
 //! leaves, and what they give while other threads make calls. Each test is made of sets and of maps.
+mod both;
+
+use both::{entry_of, key_of, value_of, Both};
 use std::collections::BTreeSet;
 use std::iter::FusedIterator;
 use std::sync::atomic::{AtomicU64, Ordering};
 use std::thread;
-use vbr::{Cursor, Entry, Handle, Map, MapHandle, Refusal, Set, Shape, MAX_EPOCH};
+use vbr::{Cursor, HandleOf, Map, Refusal, Set, Shape, Table, MAX_EPOCH};
 
 const BUDGET: u32 = 1 << 20;
 
@@ -12,88 +15,21 @@ const BUDGET: u32 = 1 << 20;
 /// ratio, 0x9e3779b97f4a7c15.
 const ORDER: [u64; 9] = [2, 5, 4, 7, 1, 6, 9, 3, 8];
 
-/// The value that a map has with a key in these tests.
-fn value_of(key: u64) -> u64 {
-    !key
+fn keys_of<K: Both>(handle: &HandleOf<K>, budget: u32) -> impl FusedIterator<Item = Result<u64, Refusal>> + '_ {
+    handle.iter(budget).map(|given| given.map(K::key))
 }
 
-fn entry_of(key: u64) -> Entry {
-    Entry { key, value: value_of(key) }
+/// A whole walk, none of whose calls is refused for good.
+fn all_keys<K: Both>(handle: &HandleOf<K>, budget: u32) -> Vec<u64> {
+    keys_of(handle, budget).collect::<Result<_, _>>().expect("steps")
 }
 
-fn key_of((key, value): (u64, u64)) -> u64 {
-    assert_eq!(value, value_of(key));
-    key
+fn next_key<K: Both>(handle: &HandleOf<K>, cursor: &mut Cursor, budget: u32) -> Result<Option<u64>, Refusal> {
+    Ok(handle.next(cursor, budget)?.map(K::key))
 }
 
-/// A handle of either kind.
-trait Caller: Sized + Send {
-    fn open(shape: Shape, handles: usize, keys: &[u64]) -> Vec<Self>;
-    fn insert_key(&mut self, key: u64) -> Result<bool, Refusal>;
-    fn remove_key(&mut self, key: u64, budget: u32) -> Result<bool, Refusal>;
-    fn next_key(&self, cursor: &mut Cursor, budget: u32) -> Result<Option<u64>, Refusal>;
-    fn keys(&self, budget: u32) -> impl FusedIterator<Item = Result<u64, Refusal>>;
-
-    /// A whole walk, none of whose calls is refused for good.
-    fn all_keys(&self, budget: u32) -> Vec<u64> {
-        self.keys(budget).collect::<Result<_, _>>().expect("steps")
-    }
-}
-
-impl Caller for Handle {
-    fn open(shape: Shape, handles: usize, keys: &[u64]) -> Vec<Handle> {
-        Set::open_with(shape, handles, keys).expect("a set")
-    }
-
-    fn insert_key(&mut self, key: u64) -> Result<bool, Refusal> {
-        self.insert(key, BUDGET)
-    }
-
-    fn remove_key(&mut self, key: u64, budget: u32) -> Result<bool, Refusal> {
-        self.remove(key, budget)
-    }
-
-    fn next_key(&self, cursor: &mut Cursor, budget: u32) -> Result<Option<u64>, Refusal> {
-        self.next(cursor, budget)
-    }
-
-    fn keys(&self, budget: u32) -> impl FusedIterator<Item = Result<u64, Refusal>> {
-        self.iter(budget)
-    }
-}
-
-impl Caller for MapHandle {
-    fn open(shape: Shape, handles: usize, keys: &[u64]) -> Vec<MapHandle> {
-        let entries: Vec<_> = keys.iter().copied().map(entry_of).collect();
-        Map::open_with(shape, handles, &entries).expect("a map")
-    }
-
-    fn insert_key(&mut self, key: u64) -> Result<bool, Refusal> {
-        self.insert(key, value_of(key), BUDGET)
-    }
-
-    fn remove_key(&mut self, key: u64, budget: u32) -> Result<bool, Refusal> {
-        Ok(self.remove(key, budget)?.is_some_and(|value| key_of((key, value)) == key))
-    }
-
-    fn next_key(&self, cursor: &mut Cursor, budget: u32) -> Result<Option<u64>, Refusal> {
-        Ok(self.next(cursor, budget)?.map(key_of))
-    }
-
-    fn keys(&self, budget: u32) -> impl FusedIterator<Item = Result<u64, Refusal>> {
-        self.iter(budget).map(|entry| entry.map(key_of))
-    }
-}
-
-macro_rules! of_sets_and_maps {
-    ($($test:ident)*) => {
-        mod sets {
-            $(#[test] fn $test() { super::$test::<vbr::Handle>() })*
-        }
-        mod maps {
-            $(#[test] fn $test() { super::$test::<vbr::MapHandle>() })*
-        }
-    };
+fn open<K: Both>(shape: Shape, handles: usize, keys: &[u64]) -> Vec<HandleOf<K>> {
+    Table::open_with(shape, handles, &K::items(keys)).expect("a set")
 }
 
 of_sets_and_maps! {
@@ -106,71 +42,71 @@ of_sets_and_maps! {
     what_threads_leave_alone_and_what_they_change
 }
 
-fn keys_come_bucket_by_bucket<H: Caller>() {
+fn keys_come_bucket_by_bucket<K: Both>() {
     let keys: Vec<u64> = (1..10).collect();
-    assert_eq!(H::open(Shape::new(16, 4, 10), 1, &keys)[0].all_keys(BUDGET), ORDER);
-    assert_eq!(H::open(Shape::new(16, 1, 10), 1, &keys)[0].all_keys(BUDGET), keys);
-    assert_eq!(H::open(Shape::new(16, 4, 10), 1, &[])[0].all_keys(BUDGET), []);
-    let handle = H::open(Shape::new(8, 1, 10), 1, &[0, u64::MAX]).remove(0);
+    assert_eq!(all_keys(&open::<K>(Shape::new(16, 4, 10), 1, &keys)[0], BUDGET), ORDER);
+    assert_eq!(all_keys(&open::<K>(Shape::new(16, 1, 10), 1, &keys)[0], BUDGET), keys);
+    assert_eq!(all_keys(&open::<K>(Shape::new(16, 4, 10), 1, &[])[0], BUDGET), []);
+    let handle = open::<K>(Shape::new(8, 1, 10), 1, &[0, u64::MAX]).remove(0);
     let mut cursor = Cursor::first();
     for key in [Some(0), Some(u64::MAX), None, None] {
-        assert_eq!(handle.next_key(&mut cursor, BUDGET), Ok(key));
+        assert_eq!(next_key(&handle, &mut cursor, BUDGET), Ok(key));
     }
 }
 
 /// A call makes three steps for each bucket that it enters, and five for each node that it visits, and before each of these
 /// eight have to be left. The buckets have no key, 4 and 7, 1, and no key; after 7 and 1 the cursor stands before the next one.
-fn budgets_that_are_just_enough<H: Caller>() {
-    let handle = H::open(Shape::new(8, 4, 10), 1, &[1, 4, 7]).remove(0);
+fn budgets_that_are_just_enough<K: Both>() {
+    let handle = open::<K>(Shape::new(8, 4, 10), 1, &[1, 4, 7]).remove(0);
     let mut cursor = Cursor::first();
     for (key, least, stays) in [(Some(4), 14, false), (Some(7), 16, true), (Some(1), 11, true), (None, 8, true)] {
         let mut short = cursor;
-        assert_eq!(handle.next_key(&mut short, least - 1), Err(Refusal::OutOfSteps));
+        assert_eq!(next_key(&handle, &mut short, least - 1), Err(Refusal::OutOfSteps));
         assert_eq!(short == cursor, stays);
-        let again = handle.next_key(&mut short, least - 1);
+        let again = next_key(&handle, &mut short, least - 1);
         assert_eq!(again, if stays { Err(Refusal::OutOfSteps) } else { Ok(key) });
-        assert_eq!(handle.next_key(&mut cursor, least), Ok(key));
+        assert_eq!(next_key(&handle, &mut cursor, least), Ok(key));
         assert_eq!(short == cursor, !stays);
     }
-    assert_eq!(handle.next_key(&mut cursor, 0), Ok(None));
+    assert_eq!(next_key(&handle, &mut cursor, 0), Ok(None));
 }
 
 /// A remove with sixteen steps marks its node and leaves it. A walk passes it in three.
-fn a_marked_node_is_passed<H: Caller>() {
-    let mut handle = H::open(Shape::new(8, 4, 10), 1, &[4, 7]).remove(0);
-    assert_eq!(handle.remove_key(4, 16), Ok(true));
+fn a_marked_node_is_passed<K: Both>() {
+    let mut handle = open::<K>(Shape::new(8, 4, 10), 1, &[4, 7]).remove(0);
+    assert_eq!(K::remove(&mut handle, 4, 16), Ok(true));
     let mut cursor = Cursor::first();
-    assert_eq!(handle.next_key(&mut cursor.clone(), 16), Err(Refusal::OutOfSteps));
-    assert_eq!(handle.next_key(&mut cursor, 17), Ok(Some(7)));
-    assert_eq!(handle.all_keys(BUDGET), [7]);
+    assert_eq!(next_key(&handle, &mut cursor.clone(), 16), Err(Refusal::OutOfSteps));
+    assert_eq!(next_key(&handle, &mut cursor, 17), Ok(Some(7)));
+    assert_eq!(all_keys(&handle, BUDGET), [7]);
 }
 
 /// A call with 100 steps passes 31 buckets that are empty, one with 8 a single one.
-fn empty_buckets_that_one_call_cannot_pass<H: Caller>() {
+fn empty_buckets_that_one_call_cannot_pass<K: Both>() {
     for (buckets, budget, refusals) in [(310, 100, 9), (311, 100, 10), (5, 8, 4), (1 << 20, 100_000, 31)] {
-        let handle = H::open(Shape::new(8, buckets, 10), 1, &[]).remove(0);
+        let handle = open::<K>(Shape::new(8, buckets, 10), 1, &[]).remove(0);
         let mut cursor = Cursor::first();
         for _ in 0..refusals {
             let before = cursor;
-            assert_eq!(handle.next_key(&mut cursor, budget), Err(Refusal::OutOfSteps));
+            assert_eq!(next_key(&handle, &mut cursor, budget), Err(Refusal::OutOfSteps));
             assert_ne!(cursor, before);
         }
-        assert_eq!(handle.next_key(&mut cursor, budget), Ok(None));
-        assert_eq!(handle.all_keys(budget), []);
+        assert_eq!(next_key(&handle, &mut cursor, budget), Ok(None));
+        assert_eq!(all_keys(&handle, budget), []);
     }
-    let handle = H::open(Shape::new(8, 1 << 20, 10), 1, &[2, 3, 4]).remove(0);
+    let handle = open::<K>(Shape::new(8, 1 << 20, 10), 1, &[2, 3, 4]).remove(0);
     for budget in [11, 100, 100_000] {
-        assert_eq!(handle.all_keys(budget), [2, 4, 3]);
+        assert_eq!(all_keys(&handle, budget), [2, 4, 3]);
     }
 }
 
 /// With 21 steps a call visits three nodes of a bucket, and no fourth.
-fn a_budget_that_is_too_small<H: Caller>() {
+fn a_budget_that_is_too_small<K: Both>() {
     let keys: Vec<u64> = (1..10).collect();
-    let mut handles = H::open(Shape::new(16, 1, 10), 2, &keys);
+    let mut handles = open::<K>(Shape::new(16, 1, 10), 2, &keys);
     let mut other = handles.remove(1);
-    let mut walk = handles[0].keys(21);
-    let mut takes = |key| assert_eq!(other.remove_key(key, BUDGET), Ok(true));
+    let mut walk = keys_of(&handles[0], 21);
+    let mut takes = |key| assert_eq!(K::remove(&mut other, key, BUDGET), Ok(true));
     for key in 1..4 {
         assert_eq!(walk.next(), Some(Ok(key)));
     }
@@ -183,26 +119,26 @@ fn a_budget_that_is_too_small<H: Caller>() {
     (6..10).for_each(takes);
     assert_eq!((walk.next(), walk.next()), (None, None));
     drop(walk);
-    assert_eq!(handles[0].all_keys(BUDGET), [3, 4, 5]);
-    assert_eq!(handles[0].keys(21).count(), 3);
-    assert_eq!(handles[0].keys(7).next(), Some(Err(Refusal::OutOfSteps)));
+    assert_eq!(all_keys(&handles[0], BUDGET), [3, 4, 5]);
+    assert_eq!(handles[0].iter(21).count(), 3);
+    assert_eq!(handles[0].iter(7).next(), Some(Err(Refusal::OutOfSteps)));
 }
 
 /// Each key that comes is taken out, and another one put in, which comes too unless its place is passed.
-fn calls_between_those_of_a_walk<H: Caller>() {
+fn calls_between_those_of_a_walk<K: Both>() {
     let keys: Vec<u64> = (0..1_000).collect();
-    let mut handle = H::open(Shape::for_keys(1_000, 1), 1, &keys).remove(0);
+    let mut handle = open::<K>(Shape::for_keys(1_000, 1), 1, &keys).remove(0);
     let mut given = BTreeSet::new();
     let mut cursor = Cursor::first();
-    while let Some(key) = handle.next_key(&mut cursor, BUDGET).expect("steps") {
+    while let Some(key) = next_key(&handle, &mut cursor, BUDGET).expect("steps") {
         assert!(given.insert(key), "{key} twice");
-        assert_eq!(handle.remove_key(key, BUDGET), Ok(true));
+        assert_eq!(K::remove(&mut handle, key, BUDGET), Ok(true));
         if key < 1_000 {
-            assert_eq!(handle.insert_key(key + 1_000), Ok(true));
+            assert_eq!(K::insert(&mut handle, key + 1_000, BUDGET), Ok(true));
         }
     }
     assert!(given.is_superset(&keys.into_iter().collect()));
-    let left: BTreeSet<_> = handle.all_keys(BUDGET).into_iter().collect();
+    let left: BTreeSet<_> = all_keys(&handle, BUDGET).into_iter().collect();
     assert!(!left.is_empty() && given.len() > 1_000);
     assert!(left.is_disjoint(&given));
     assert!(left.union(&given).copied().eq(0..2_000));
@@ -229,14 +165,14 @@ fn key_of_round(writer: u64, round: u64) -> u64 {
 }
 
 impl Writer {
-    fn work<H: Caller>(&self, number: u64, handle: &mut H, is_over: impl Fn() -> bool) {
+    fn work<K: Both>(&self, number: u64, handle: &mut HandleOf<K>, is_over: impl Fn() -> bool) {
         for round in 0.. {
             if round >= ROUNDS && is_over() {
                 return;
             }
-            self.tells(0, round, || handle.insert_key(key_of_round(number, round)));
+            self.tells(0, round, || K::insert(handle, key_of_round(number, round), BUDGET));
             if round >= BEHIND {
-                self.tells(1, round - BEHIND, || handle.remove_key(key_of_round(number, round - BEHIND), BUDGET));
+                self.tells(1, round - BEHIND, || K::remove(handle, key_of_round(number, round - BEHIND), BUDGET));
             }
         }
     }
@@ -250,10 +186,10 @@ impl Writer {
 
 /// A walk, and whether it gave what it has to by what the program's order says: each key once that was inserted before it and
 /// whose remove wasn't begun when it ended, and none whose insert wasn't begun then or that was removed before.
-fn walk_and_check<H: Caller>(handle: &H, writers: &[Writer]) {
+fn walk_and_check<K: Both>(handle: &HandleOf<K>, writers: &[Writer]) {
     let loads = |of: &[AtomicU64; 2]| of.each_ref().map(|it| it.load(Ordering::Acquire));
     let before: Vec<_> = writers.iter().map(|it| loads(&it.done)).collect();
-    let all = handle.all_keys(BUDGET);
+    let all = all_keys(handle, BUDGET);
     let given: BTreeSet<_> = all.iter().copied().collect();
     assert_eq!(given.len(), all.len(), "a key twice");
     assert!((0..LASTING).all(|round| given.contains(&key_of_round(WRITERS, round))), "a lasting key is missing");
@@ -266,12 +202,12 @@ fn walk_and_check<H: Caller>(handle: &H, writers: &[Writer]) {
     assert_eq!(possible, all.len(), "a key that wasn't there");
 }
 
-fn what_threads_leave_alone_and_what_they_change<H: Caller>() {
+fn what_threads_leave_alone_and_what_they_change<K: Both>() {
     let lasting: Vec<_> = (0..LASTING).map(|round| key_of_round(WRITERS, round)).collect();
     let keys = (LASTING + WRITERS * (BEHIND + 1)) as u32;
     for buckets in [1, 16, 256] {
         let shape = Shape { buckets, last_epoch: MAX_EPOCH, ..Shape::for_keys(keys, (WRITERS + WALKERS) as usize) };
-        let mut handles = H::open(shape, (WRITERS + WALKERS) as usize, &lasting);
+        let mut handles = open::<K>(shape, (WRITERS + WALKERS) as usize, &lasting);
         let writers: Vec<_> = (0..WRITERS).map(|_| Writer::default()).collect();
         let walks: Vec<_> = (0..WALKERS).map(|_| AtomicU64::new(0)).collect();
         let walked = || walks.iter().all(|it| it.load(Ordering::Relaxed) >= WALKS);

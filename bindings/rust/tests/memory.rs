@@ -1,9 +1,12 @@
 //! Memory of the crate's own: the last close alone asks for some, it is refused without loss, and what isn't needed is given
 //! back where there is memory for that. Where the library is refused memory for a close, all handles stay as they were.
+mod both;
+
+use both::Both;
 use std::alloc::{GlobalAlloc, Layout, System};
 use std::cell::Cell;
 use std::ffi::c_void;
-use vbr::{CloseError, Entry, Map, OpenError, Set, Shape};
+use vbr::{CloseError, OpenError, Shape, Table};
 
 /// Counts what this thread asks for, and refuses it while it is told to.
 struct Counting;
@@ -71,14 +74,25 @@ fn refused_in_the_library<T>(call: impl FnOnce() -> T) -> T {
     told
 }
 
+of_sets_and_maps! {
+    one_report_and_no_loss
+    a_report_that_there_is_no_memory_to_shorten
+    a_close_that_the_library_refuses
+}
+
+/// How many bytes a key of a report takes, and an entry.
 #[test]
-fn one_report_and_no_loss() {
+fn bytes_of_a_report() {
+    assert_eq!((size_of::<u64>(), size_of::<vbr::Entry>()), (8, 16));
+}
+
+fn one_report_and_no_loss<K: Both>() {
     let shape = Shape::for_keys(1_000, 3);
-    assert_eq!(refused(|| Set::open(shape, 3).err()), Some(OpenError::Memory));
-    assert!(matches!(refused(|| Set::lending(shape, 3).err()), Some(OpenError::Memory)));
-    let mut handles = Set::open(shape, 3).expect("a set");
-    assert_eq!(handles[0].insert(5, 100_000), Ok(true));
-    assert_eq!(handles[2].insert(7, 100_000), Ok(true));
+    assert_eq!(refused(|| Table::<K>::open(shape, 3).err()), Some(OpenError::Memory));
+    assert!(matches!(refused(|| Table::<K>::lending(shape, 3).err()), Some(OpenError::Memory)));
+    let mut handles = Table::<K>::open(shape, 3).expect("a set");
+    assert_eq!(K::insert(&mut handles[0], 5, 100_000), Ok(true));
+    assert_eq!(K::insert(&mut handles[2], 7, 100_000), Ok(true));
     let before = ASKED.get();
     let last = refused(|| {
         let last = handles.pop().expect("three handles");
@@ -92,29 +106,29 @@ fn one_report_and_no_loss() {
     };
     let mut handle = unclosed.into_handle();
     assert_eq!(handle.has(5, 100_000), Ok(true));
-    assert_eq!(handle.insert(6, 100_000), Ok(true));
+    assert_eq!(K::insert(&mut handle, 6, 100_000), Ok(true));
     let before = ASKED.get();
     let report = handle.close().expect("memory").expect("the last handle");
-    assert_eq!(ASKED.get() - before, 8 * (1_000 + 3 * 64) + 8 * 3);
-    assert_eq!(report.keys, [5, 6, 7]);
-    assert_eq!(report.keys.capacity(), 3);
+    assert_eq!(ASKED.get() - before, size_of::<K::Item>() * (1_000 + 3 * 64 + 3));
+    let (report, room) = K::report(report);
+    assert_eq!((report.keys, room), (vec![5, 6, 7], 3));
 }
 
-#[test]
-fn a_report_that_there_is_no_memory_to_shorten() {
-    let handle = Set::open_with(Shape::for_keys(1_000, 1), 1, &[5, 7]).expect("a set").remove(0);
+fn a_report_that_there_is_no_memory_to_shorten<K: Both>() {
+    let handle = Table::<K>::open_with(Shape::for_keys(1_000, 1), 1, &K::items(&[5, 7])).expect("a set").remove(0);
     let report = granted(1, || handle.close()).expect("memory for the report").expect("the only handle");
-    assert_eq!(report.keys, [5, 7]);
-    assert_eq!(report.keys.capacity(), 1_000 + 64);
+    let (report, room) = K::report(report);
+    assert_eq!((report.keys, room), (vec![5, 7], 1_000 + 64));
 }
 
-#[test]
-fn a_close_that_the_library_refuses() {
+fn a_close_that_the_library_refuses<K: Both>() {
     let shape = Shape::for_keys(1_000, 3);
-    assert_eq!(refused_in_the_library(|| Set::open(shape, 3).err()), Some(OpenError::Memory));
-    let mut handles = Set::open(shape, 3).expect("a set");
+    assert_eq!(refused_in_the_library(|| Table::<K>::open(shape, 3).err()), Some(OpenError::Memory));
+    let items = K::items(&[1, 2]);
+    assert_eq!(refused_in_the_library(|| Table::<K>::open_with(shape, 3, &items).err()), Some(OpenError::Memory));
+    let mut handles = Table::<K>::open(shape, 3).expect("a set");
     for (key, handle) in (5..).zip(&mut handles) {
-        assert_eq!(handle.insert(key, 100_000), Ok(true));
+        assert_eq!(K::insert(handle, key, 100_000), Ok(true));
     }
     let mut handle = handles.remove(1);
     drop(handles);
@@ -123,76 +137,11 @@ fn a_close_that_the_library_refuses() {
             panic!("a report without memory");
         };
         handle = unclosed.into_handle();
-        assert_eq!((handle.has(5, 100_000), handle.insert(key, 100_000)), (Ok(true), Ok(true)));
+        assert_eq!((handle.has(5, 100_000), K::insert(&mut handle, key, 100_000)), (Ok(true), Ok(true)));
     }
-    let report = handle.close().expect("memory").expect("the last handle");
+    let (report, _) = K::report(handle.close().expect("memory").expect("the last handle"));
     assert_eq!((report.keys, report.free), (vec![5, 6, 7, 8, 9], shape.slots - 5));
-    let mut handles = Set::open(shape, 2).expect("a set");
-    drop(handles.pop());
-    assert!(refused_in_the_library(|| handles.remove(0).close()).is_err());
-}
-
-#[test]
-fn one_report_of_a_map_and_no_loss() {
-    let shape = Shape::for_keys(1_000, 3);
-    assert_eq!(refused(|| Map::open(shape, 3).err()), Some(OpenError::Memory));
-    assert!(matches!(refused(|| Map::lending(shape, 3).err()), Some(OpenError::Memory)));
-    let mut handles = Map::open(shape, 3).expect("a map");
-    assert_eq!(handles[0].insert(5, 70, 100_000), Ok(true));
-    assert_eq!(handles[2].insert(7, 71, 100_000), Ok(true));
-    let before = ASKED.get();
-    let last = refused(|| {
-        let last = handles.pop().expect("three handles");
-        drop(handles.pop());
-        assert!(handles.pop().expect("three handles").close().expect("no memory is needed").is_none());
-        last
-    });
-    assert_eq!(ASKED.get(), before);
-    let Err(CloseError::Memory(unclosed)) = refused(|| last.close()) else {
-        panic!("a report without memory");
-    };
-    let mut handle = unclosed.into_handle();
-    assert_eq!(handle.get(5, 100_000), Ok(Some(70)));
-    assert_eq!(handle.insert(6, 72, 100_000), Ok(true));
-    let before = ASKED.get();
-    let report = handle.close().expect("memory").expect("the last handle");
-    assert_eq!(ASKED.get() - before, 16 * (1_000 + 3 * 64) + 16 * 3);
-    assert_eq!(report.entries, [(5, 70), (6, 72), (7, 71)].map(Entry::from));
-    assert_eq!(report.entries.capacity(), 3);
-}
-
-#[test]
-fn a_report_of_a_map_that_there_is_no_memory_to_shorten() {
-    let entries = [(5, 70), (7, 71)].map(Entry::from);
-    let handle = Map::open_with(Shape::for_keys(1_000, 1), 1, &entries).expect("a map").remove(0);
-    let report = granted(1, || handle.close()).expect("memory for the report").expect("the only handle");
-    assert_eq!(report.entries, entries);
-    assert_eq!(report.entries.capacity(), 1_000 + 64);
-}
-
-#[test]
-fn a_close_of_a_map_that_the_library_refuses() {
-    let shape = Shape::for_keys(1_000, 3);
-    assert_eq!(refused_in_the_library(|| Map::open(shape, 3).err()), Some(OpenError::Memory));
-    let entries = [(1, 10), (2, 20)].map(Entry::from);
-    assert_eq!(refused_in_the_library(|| Map::open_with(shape, 3, &entries).err()), Some(OpenError::Memory));
-    let mut handles = Map::open(shape, 3).expect("a map");
-    for (key, handle) in (5..).zip(&mut handles) {
-        assert_eq!(handle.insert(key, 10 * key, 100_000), Ok(true));
-    }
-    let mut handle = handles.remove(1);
-    drop(handles);
-    for key in 8..10 {
-        let Err(CloseError::Memory(unclosed)) = refused_in_the_library(|| handle.close()) else {
-            panic!("a report without memory");
-        };
-        handle = unclosed.into_handle();
-        assert_eq!((handle.get(5, 100_000), handle.insert(key, 10 * key, 100_000)), (Ok(Some(50)), Ok(true)));
-    }
-    let report = handle.close().expect("memory").expect("the last handle");
-    assert_eq!(report.entries, [5, 6, 7, 8, 9].map(|key| Entry { key, value: 10 * key }));
-    assert_eq!(report.free, shape.slots - 5);
-    let mut handles = Map::open(shape, 2).expect("a map");
+    let mut handles = Table::<K>::open(shape, 2).expect("a set");
     drop(handles.pop());
     assert!(refused_in_the_library(|| handles.remove(0).close()).is_err());
 }

@@ -1,10 +1,14 @@
 -- What a pass that is kept in lists learns.
-use Rattle.std.specs.Prelude.{◌≡◌, ◌≤◌, ℕ, List, [], ◌++◌, length, slice_index_or}
+use Rattle.std.specs.Prelude.{◌≡◌, ◌≤◌, ℕ, List, [], ◌∷◌, ◌++◌, None, length, slice_index_or}
 use Rattle.std.specs.List.{AllByRecursion}
+use Rattle.vbr_words.specs.declared.link.Link.{Link}
+use Rattle.vbr_words.specs.declared.place.At.{At}
+use Rattle.vbr_words.specs.declared.place.At.TheVariants.{Slot}
 use Rattle.vbr_words.specs.declared.shape.TheConstants.{MAX_EPOCH}
 use Rattle.vbr_machine.specs.Knowledge.{Know}
-use Rattle.vbr_machine.specs.Learning.{reread}
+use Rattle.vbr_machine.specs.Learning.{birth_in_hand, key_in_hand, link_in_hand, reread, value_in_hand, value_read, with_checked, with_own}
 use Rattle.vbr_machine.specs.Put.{put}
+use Rattle.vbr_machine.specs.declared.knowledge.Read.TheVariants.{LinkAt, BirthOf, KeyOf}
 use Rattle.vbr_machine.specs.declared.event.Step.{Step}
 use Rattle.vbr_machine.specs.declared.event.Step.TheVariants.{ReadEpoch, LoadBirth}
 use Rattle.vbr_core.specs.WorldInLists.{KeptPass, know_of, opening_pass}
@@ -25,6 +29,11 @@ with_epoch epoch know = record know { epoch = epoch; pending = []; checked = [] 
 -- each slot that the pass unlinked may be stamped
 abbrev pub with_all_reread : Know → Know
 with_all_reread know = record know { own = λ s. reread (know.own s) }
+
+-- a slot in hand was linked at a place, by this link: both links and what was stored in the slot are checked, and the slot is no longer the pass's
+abbrev pub with_linked : At → Link → ℕ → Know → Know
+with_linked at link s know =
+    with_own (with_checked know (LinkAt at link ∷ BirthOf s (birth_in_hand (know.own s)) ∷ KeyOf s (key_in_hand (know.own s)) ∷ LinkAt (Slot s) (link_in_hand (know.own s)) ∷ value_read s (value_in_hand (know.own s)))) s None
 
 -- each pass has so many slots in its list
 abbrev pub HaveSlots : ℕ → List KeptPass → Type 0

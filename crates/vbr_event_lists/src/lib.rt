@@ -3,6 +3,7 @@
 
 mod lists;
 mod replaced;
+mod rows;
 mod standing;
 mod valued;
 

@@ -1,4 +1,5 @@
 //! Worked lists of events, each with its effect.
+use crate::rows::rows;
 use vbr_machine::{Effect, Step};
 use vbr_words::At;
 
@@ -6,315 +7,75 @@ use vbr_words::At;
 pub type Row = (u32, Step, Effect);
 
 /// A slot is unlinked, retired and born again while pass 1 stands in it, whose exchange is then lost.
-pub const REBORN_SLOT: [Row; 44] = [
-    (0, Step::ReadEpoch, Effect::Value(1)),
-    (0, Step::TakeFlag { slot: 0 }, Effect::Won),
-    (0, Step::LoadStamp { slot: 0 }, Effect::Value(0)),
-    (0, Step::StoreBirth { slot: 0, birth: 1 }, Effect::Done),
-    (0, Step::StoreKey { slot: 0, key: 30 }, Effect::Done),
-    (0, Step::LoadLink { at: At::Head(0) }, Effect::Value(0)),
-    (0, Step::ReadEpoch, Effect::Value(1)),
-    (
-        0,
-        Step::StoreLink {
-            slot: 0,
-            next: None,
-        },
-        Effect::Done,
-    ),
-    (
-        0,
-        Step::Publish {
-            pred: At::Head(0),
-            expected: 0,
-            slot: 0,
-        },
-        Effect::Won,
-    ),
-    (0, Step::TakeFlag { slot: 1 }, Effect::Won),
-    (0, Step::StoreBirth { slot: 1, birth: 1 }, Effect::Done),
-    (0, Step::StoreKey { slot: 1, key: 20 }, Effect::Done),
-    (
-        0,
-        Step::StoreLink {
-            slot: 1,
-            next: Some(0),
-        },
-        Effect::Done,
-    ),
-    (
-        0,
-        Step::Publish {
-            pred: At::Head(0),
-            expected: 33_554_433,
-            slot: 1,
-        },
-        Effect::Won,
-    ),
-    (1, Step::ReadEpoch, Effect::Value(1)),
-    (
-        1,
-        Step::LoadLink { at: At::Head(0) },
-        Effect::Value(33_554_434),
-    ),
-    (1, Step::ReadEpoch, Effect::Value(1)),
-    (1, Step::LoadKey { slot: 1 }, Effect::Value(20)),
-    (1, Step::LoadBirth { slot: 1 }, Effect::Value(1)),
-    (
-        1,
-        Step::LoadLink { at: At::Slot(1) },
-        Effect::Value(33_554_433),
-    ),
-    (1, Step::ReadEpoch, Effect::Value(1)),
-    (1, Step::LoadKey { slot: 0 }, Effect::Value(30)),
-    (1, Step::LoadBirth { slot: 0 }, Effect::Value(1)),
-    (1, Step::ReadEpoch, Effect::Value(1)),
-    (1, Step::TakeFlag { slot: 2 }, Effect::Won),
-    (1, Step::StoreBirth { slot: 2, birth: 1 }, Effect::Done),
-    (1, Step::StoreKey { slot: 2, key: 25 }, Effect::Done),
-    (
-        1,
-        Step::StoreLink {
-            slot: 2,
-            next: Some(0),
-        },
-        Effect::Done,
-    ),
-    (
-        0,
-        Step::Mark {
-            slot: 1,
-            expected: 33_554_433,
-        },
-        Effect::Won,
-    ),
-    (
-        0,
-        Step::Unlink {
-            pred: At::Head(0),
-            expected: 33_554_434,
-            slot: 1,
-        },
-        Effect::Won,
-    ),
-    (0, Step::ReadEpoch, Effect::Value(1)),
-    (0, Step::StoreStamp { slot: 1, stamp: 1 }, Effect::Done),
-    (0, Step::Advance { from: 1 }, Effect::Won),
-    (0, Step::ReadEpoch, Effect::Value(2)),
-    (0, Step::StoreBirth { slot: 1, birth: 2 }, Effect::Done),
-    (0, Step::StoreKey { slot: 1, key: 10 }, Effect::Done),
-    (
-        0,
-        Step::LoadLink { at: At::Head(0) },
-        Effect::Value(33_554_433),
-    ),
-    (0, Step::ReadEpoch, Effect::Value(2)),
-    (0, Step::LoadKey { slot: 0 }, Effect::Value(30)),
-    (0, Step::LoadBirth { slot: 0 }, Effect::Value(1)),
-    (0, Step::ReadEpoch, Effect::Value(2)),
-    (
-        0,
-        Step::StoreLink {
-            slot: 1,
-            next: Some(0),
-        },
-        Effect::Done,
-    ),
-    (
-        0,
-        Step::Publish {
-            pred: At::Head(0),
-            expected: 33_554_433,
-            slot: 1,
-        },
-        Effect::Won,
-    ),
-    (
-        1,
-        Step::Publish {
-            pred: At::Slot(1),
-            expected: 33_554_433,
-            slot: 2,
-        },
-        Effect::Lost(67_108_865),
-    ),
+pub const REBORN_SLOT: [Row; 44] = rows![bare:
+    0 ReadEpoch => Value(1);
+    0 TakeFlag { slot: 0 } => Won;
+    0 LoadStamp { slot: 0 } => Value(0);
+    0 StoreBirth { slot: 0, birth: 1 } => Done;
+    0 StoreKey { slot: 0, key: 30 } => Done;
+    0 LoadLink { at: At::Head(0) } => Value(0);
+    0 ReadEpoch => Value(1);
+    0 links { slot: 0, next: None, pred: At::Head(0), expected: 0 };
+    0 makes { slot: 1, birth: 1, key: 20 };
+    0 links { slot: 1, next: Some(0), pred: At::Head(0), expected: 33_554_433 };
+    1 ReadEpoch => Value(1);
+    1 visits { slot: 1, at: At::Head(0), link: 33_554_434, epoch: 1, key: 20, birth: 1, next: 33_554_433 };
+    1 LoadKey { slot: 0 } => Value(30);
+    1 LoadBirth { slot: 0 } => Value(1);
+    1 ReadEpoch => Value(1);
+    1 makes { slot: 2, birth: 1, key: 25 };
+    1 StoreLink { slot: 2, next: Some(0) } => Done;
+    0 Mark { slot: 1, expected: 33_554_433 } => Won;
+    0 Unlink { pred: At::Head(0), expected: 33_554_434, slot: 1 } => Won;
+    0 ReadEpoch => Value(1);
+    0 StoreStamp { slot: 1, stamp: 1 } => Done;
+    0 Advance { from: 1 } => Won;
+    0 ReadEpoch => Value(2);
+    0 StoreBirth { slot: 1, birth: 2 } => Done;
+    0 StoreKey { slot: 1, key: 10 } => Done;
+    0 visits { slot: 0, at: At::Head(0), link: 33_554_433, epoch: 2, key: 30, birth: 1 };
+    0 links { slot: 1, next: Some(0), pred: At::Head(0), expected: 33_554_433 };
+    1 Publish { pred: At::Slot(1), expected: 33_554_433, slot: 2 } => Lost(67_108_865);
 ];
 
 /// A head shows a word, another, and the first again, for the same nodes; the exchange on it is won.
-pub const SAME_WORD: [Row; 37] = [
-    (0, Step::ReadEpoch, Effect::Value(1)),
-    (0, Step::Advance { from: 1 }, Effect::Won),
-    (0, Step::ReadEpoch, Effect::Value(2)),
-    (0, Step::TakeFlag { slot: 0 }, Effect::Won),
-    (0, Step::StoreBirth { slot: 0, birth: 2 }, Effect::Done),
-    (0, Step::StoreKey { slot: 0, key: 30 }, Effect::Done),
-    (0, Step::LoadLink { at: At::Head(0) }, Effect::Value(0)),
-    (0, Step::ReadEpoch, Effect::Value(2)),
-    (
-        0,
-        Step::StoreLink {
-            slot: 0,
-            next: None,
-        },
-        Effect::Done,
-    ),
-    (
-        0,
-        Step::Publish {
-            pred: At::Head(0),
-            expected: 0,
-            slot: 0,
-        },
-        Effect::Won,
-    ),
-    (1, Step::ReadEpoch, Effect::Value(2)),
-    (
-        1,
-        Step::LoadLink { at: At::Head(0) },
-        Effect::Value(67_108_865),
-    ),
-    (1, Step::ReadEpoch, Effect::Value(2)),
-    (1, Step::LoadKey { slot: 0 }, Effect::Value(30)),
-    (1, Step::LoadBirth { slot: 0 }, Effect::Value(2)),
-    (1, Step::ReadEpoch, Effect::Value(2)),
-    (1, Step::TakeFlag { slot: 1 }, Effect::Won),
-    (1, Step::StoreBirth { slot: 1, birth: 2 }, Effect::Done),
-    (1, Step::StoreKey { slot: 1, key: 20 }, Effect::Done),
-    (
-        1,
-        Step::StoreLink {
-            slot: 1,
-            next: Some(0),
-        },
-        Effect::Done,
-    ),
-    (0, Step::Advance { from: 2 }, Effect::Won),
-    (0, Step::Advance { from: 3 }, Effect::Won),
-    (0, Step::Advance { from: 4 }, Effect::Won),
-    (0, Step::ReadEpoch, Effect::Value(5)),
-    (0, Step::TakeFlag { slot: 2 }, Effect::Won),
-    (0, Step::StoreBirth { slot: 2, birth: 5 }, Effect::Done),
-    (0, Step::StoreKey { slot: 2, key: 10 }, Effect::Done),
-    (
-        0,
-        Step::LoadLink { at: At::Head(0) },
-        Effect::Value(67_108_865),
-    ),
-    (0, Step::ReadEpoch, Effect::Value(5)),
-    (0, Step::LoadKey { slot: 0 }, Effect::Value(30)),
-    (0, Step::LoadBirth { slot: 0 }, Effect::Value(2)),
-    (0, Step::ReadEpoch, Effect::Value(5)),
-    (
-        0,
-        Step::StoreLink {
-            slot: 2,
-            next: Some(0),
-        },
-        Effect::Done,
-    ),
-    (
-        0,
-        Step::Publish {
-            pred: At::Head(0),
-            expected: 67_108_865,
-            slot: 2,
-        },
-        Effect::Won,
-    ),
-    (
-        0,
-        Step::Mark {
-            slot: 2,
-            expected: 167_772_161,
-        },
-        Effect::Won,
-    ),
-    (
-        0,
-        Step::Unlink {
-            pred: At::Head(0),
-            expected: 167_772_163,
-            slot: 2,
-        },
-        Effect::Won,
-    ),
-    (
-        1,
-        Step::Publish {
-            pred: At::Head(0),
-            expected: 67_108_865,
-            slot: 1,
-        },
-        Effect::Won,
-    ),
+pub const SAME_WORD: [Row; 37] = rows![bare:
+    0 ReadEpoch => Value(1);
+    0 Advance { from: 1 } => Won;
+    0 ReadEpoch => Value(2);
+    0 makes { slot: 0, birth: 2, key: 30 };
+    0 LoadLink { at: At::Head(0) } => Value(0);
+    0 ReadEpoch => Value(2);
+    0 links { slot: 0, next: None, pred: At::Head(0), expected: 0 };
+    1 ReadEpoch => Value(2);
+    1 visits { slot: 0, at: At::Head(0), link: 67_108_865, epoch: 2, key: 30, birth: 2 };
+    1 makes { slot: 1, birth: 2, key: 20 };
+    1 StoreLink { slot: 1, next: Some(0) } => Done;
+    0 Advance { from: 2 } => Won;
+    0 Advance { from: 3 } => Won;
+    0 Advance { from: 4 } => Won;
+    0 ReadEpoch => Value(5);
+    0 makes { slot: 2, birth: 5, key: 10 };
+    0 visits { slot: 0, at: At::Head(0), link: 67_108_865, epoch: 5, key: 30, birth: 2 };
+    0 links { slot: 2, next: Some(0), pred: At::Head(0), expected: 67_108_865 };
+    0 Mark { slot: 2, expected: 167_772_161 } => Won;
+    0 Unlink { pred: At::Head(0), expected: 167_772_163, slot: 2 } => Won;
+    1 Publish { pred: At::Head(0), expected: 67_108_865, slot: 1 } => Won;
 ];
 
 /// Two passes unlink one node, and one of them wins.
-pub const TWO_HELPERS: [Row; 18] = [
-    (0, Step::ReadEpoch, Effect::Value(1)),
-    (0, Step::TakeFlag { slot: 0 }, Effect::Won),
-    (0, Step::StoreBirth { slot: 0, birth: 1 }, Effect::Done),
-    (0, Step::StoreKey { slot: 0, key: 7 }, Effect::Done),
-    (0, Step::LoadLink { at: At::Head(0) }, Effect::Value(0)),
-    (0, Step::ReadEpoch, Effect::Value(1)),
-    (
-        0,
-        Step::StoreLink {
-            slot: 0,
-            next: None,
-        },
-        Effect::Done,
-    ),
-    (
-        0,
-        Step::Publish {
-            pred: At::Head(0),
-            expected: 0,
-            slot: 0,
-        },
-        Effect::Won,
-    ),
-    (1, Step::ReadEpoch, Effect::Value(1)),
-    (
-        1,
-        Step::LoadLink { at: At::Head(0) },
-        Effect::Value(33_554_433),
-    ),
-    (1, Step::ReadEpoch, Effect::Value(1)),
-    (
-        0,
-        Step::Mark {
-            slot: 0,
-            expected: 33_554_432,
-        },
-        Effect::Won,
-    ),
-    (1, Step::LoadKey { slot: 0 }, Effect::Value(7)),
-    (1, Step::LoadBirth { slot: 0 }, Effect::Value(1)),
-    (
-        1,
-        Step::LoadLink { at: At::Slot(0) },
-        Effect::Value(50_331_648),
-    ),
-    (1, Step::ReadEpoch, Effect::Value(1)),
-    (
-        1,
-        Step::Unlink {
-            pred: At::Head(0),
-            expected: 33_554_433,
-            slot: 0,
-        },
-        Effect::Won,
-    ),
-    (
-        0,
-        Step::Unlink {
-            pred: At::Head(0),
-            expected: 33_554_433,
-            slot: 0,
-        },
-        Effect::Lost(0),
-    ),
+pub const TWO_HELPERS: [Row; 18] = rows![bare:
+    inserts_7;
+    1 ReadEpoch => Value(1);
+    1 LoadLink { at: At::Head(0) } => Value(33_554_433);
+    1 ReadEpoch => Value(1);
+    0 Mark { slot: 0, expected: 33_554_432 } => Won;
+    1 LoadKey { slot: 0 } => Value(7);
+    1 LoadBirth { slot: 0 } => Value(1);
+    1 LoadLink { at: At::Slot(0) } => Value(50_331_648);
+    1 ReadEpoch => Value(1);
+    1 Unlink { pred: At::Head(0), expected: 33_554_433, slot: 0 } => Won;
+    0 Unlink { pred: At::Head(0), expected: 33_554_433, slot: 0 } => Lost(0);
 ];
 
 /// The link words that the callers of the first list name, in order: those of its steps that store,

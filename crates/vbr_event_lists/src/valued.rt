@@ -3,87 +3,27 @@ ghost use Rattle.std.specs.Prelude.{◌≡◌, IfOk};
 ghost use Rattle.vbr_event_lists.specs.Valued.{value_stored, with_values};
 
 use crate::lists::Row;
+use crate::rows::rows;
 use std::alloc::{AllocError, Global};
 use vbr_machine::{Effect, Op, Step};
 use vbr_words::At;
 
 /// Pass 0 inserts 7 with the value 107 and reads the value back. Pass 1 reads both and gets the value,
 /// then pass 0 removes 7, and a second get of pass 1 is lost.
-pub const STORED_VALUE: [Row; 21] = [
-    (0, Step::ReadEpoch, Effect::Value(1)),
-    (0, Step::TakeFlag { slot: 0 }, Effect::Won),
-    (0, Step::StoreBirth { slot: 0, birth: 1 }, Effect::Done),
-    (0, Step::StoreKey { slot: 0, key: 7 }, Effect::Done),
-    (
-        0,
-        Step::StoreValue {
-            slot: 0,
-            value: 107,
-        },
-        Effect::Done,
-    ),
-    (0, Step::LoadLink { at: At::Head(0) }, Effect::Value(0)),
-    (0, Step::ReadEpoch, Effect::Value(1)),
-    (
-        0,
-        Step::StoreLink {
-            slot: 0,
-            next: None,
-        },
-        Effect::Done,
-    ),
-    (
-        0,
-        Step::Publish {
-            pred: At::Head(0),
-            expected: 0,
-            slot: 0,
-        },
-        Effect::Won,
-    ),
-    (0, Step::LoadValue { slot: 0 }, Effect::Value(107)),
-    (0, Step::ReadEpoch, Effect::Value(1)),
-    (1, Step::ReadEpoch, Effect::Value(1)),
-    (
-        1,
-        Step::LoadLink { at: At::Head(0) },
-        Effect::Value(33_554_433),
-    ),
-    (1, Step::ReadEpoch, Effect::Value(1)),
-    (1, Step::LoadKey { slot: 0 }, Effect::Value(7)),
-    (
-        1,
-        Step::LoadLink { at: At::Slot(0) },
-        Effect::Value(33_554_432),
-    ),
-    (1, Step::LoadValue { slot: 0 }, Effect::Value(107)),
-    (1, Step::ReadEpoch, Effect::Value(1)),
-    (
-        1,
-        Step::ConfirmPresent {
-            op: Op::Get,
-            slot: 0,
-            expected: 33_554_432,
-        },
-        Effect::Answered(true),
-    ),
-    (
-        0,
-        Step::Mark {
-            slot: 0,
-            expected: 33_554_432,
-        },
-        Effect::Won,
-    ),
-    (
-        1,
-        Step::ConfirmPresent {
-            op: Op::Get,
-            slot: 0,
-            expected: 33_554_432,
-        },
-        Effect::Lost(50_331_648),
-    ),
+pub const STORED_VALUE: [Row; 21] = rows![valued:
+    inserts_7;
+    0 LoadValue { slot: 0 } => Value(107);
+    0 ReadEpoch => Value(1);
+    1 ReadEpoch => Value(1);
+    1 LoadLink { at: At::Head(0) } => Value(33_554_433);
+    1 ReadEpoch => Value(1);
+    1 LoadKey { slot: 0 } => Value(7);
+    1 LoadLink { at: At::Slot(0) } => Value(33_554_432);
+    1 LoadValue { slot: 0 } => Value(107);
+    1 ReadEpoch => Value(1);
+    1 ConfirmPresent { op: Op::Get, slot: 0, expected: 33_554_432 } => Answered(true);
+    0 Mark { slot: 0, expected: 33_554_432 } => Won;
+    1 ConfirmPresent { op: Op::Get, slot: 0, expected: 33_554_432 } => Lost(50_331_648);
 ];
 
 /// The link words that the callers of its steps name.

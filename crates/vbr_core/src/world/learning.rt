@@ -3,7 +3,7 @@ ghost use Rattle.std.specs.Prelude.{◌≡◌, ◌<◌, length, Some, None, OnOk
 ghost use Rattle.vbr_machine.specs.Acceptance.{Accepts};
 ghost use Rattle.vbr_machine.specs.Learning.{learn};
 ghost use Rattle.vbr_machine.specs.Making.{ahead_made, call_made};
-ghost use Rattle.vbr_core.specs.Growth.{NeedsMemory, ReadsMore};
+ghost use Rattle.vbr_core.specs.Growth.{ReadsMore, RefusesMemory};
 ghost use Rattle.vbr_core.specs.WorldInLists.{world_of};
 ghost use Rattle.vbr_core.specs.KeptSteps.{IsAcceptedIn, KeepsStart, found_in};
 ghost use Rattle.vbr_core.specs.KeptLearning.{HasRoom, HaveSlots, LearnsAt, known_by};
@@ -23,8 +23,7 @@ impl Lists {
         requires found { found ≡ found_in self.old event.step }
         ensures learned { OnOk result (world_of self.new
             ≡ with_answer self.old.start (world_of self.old) event.pass event.step) }
-        ensures refused { OnErr result (self.new ≡ self.old) }
-        ensures grows { OnErr result (NeedsMemory self.old.start (world_of self.old) event) }
+        ensures refused { OnErr result (RefusesMemory self.old self.new event) }
         ensures epoch { self.new.epoch ≡ self.old.epoch }
         ensures stays { KeepsStart self.old self.new }
     {
@@ -34,65 +33,48 @@ impl Lists {
                 learn_at(&mut self.passes, &self.start, event, found, stamp)?;
                 Ok(())
             }
-            Some(call) => match self.ahead_made(event, found) {
-                None => self.learn_once(event, found, stamp, call),
-                Some(ahead) => self.learn_twice(event, found, stamp, ahead, call),
-            },
+            Some(call) => {
+                let ahead = self.ahead_made(event, found);
+                self.learn_calling(event, found, stamp, ahead, call)
+            }
         }
     }
 
-    // As `learn`, of a step that makes one call.
-    fn learn_once(
+    // As `learn`, of a step that makes a call, and maybe another ahead of it.
+    fn learn_calling(
         &mut self,
         event: Event,
         found: u64,
         stamp: u64,
+        ahead: Option<Call>,
         call: Call,
     ) -> Result<(), AllocError>
         requires step { IsAnswered self.old event found stamp }
         requires ahead { ahead_made self.old.start (world_of self.old) event.pass event.step
-            ≡ None }
+            ≡ ahead }
         requires call { call_made self.old.start (world_of self.old) event.pass event.step
             ≡ Some call }
         ensures learned { OnOk result (world_of self.new
             ≡ with_answer self.old.start (world_of self.old) event.pass event.step) }
-        ensures refused { OnErr result (self.new ≡ self.old) }
-        ensures grows { OnErr result (NeedsMemory self.old.start (world_of self.old) event) }
+        ensures refused { OnErr result (RefusesMemory self.old self.new event) }
         ensures epoch { self.new.epoch ≡ self.old.epoch }
         ensures stays { KeepsStart self.old self.new }
     {
-        self.calls.reserve(1)?;
-        learn_at(&mut self.passes, &self.start, event, found, stamp)?;
-        self.calls.push_reserved(call);
-        Ok(())
-    }
-
-    // As `learn`, of a step that makes two calls.
-    fn learn_twice(
-        &mut self,
-        event: Event,
-        found: u64,
-        stamp: u64,
-        first: Call,
-        second: Call,
-    ) -> Result<(), AllocError>
-        requires step { IsAnswered self.old event found stamp }
-        requires first { ahead_made self.old.start (world_of self.old) event.pass event.step
-            ≡ Some first }
-        requires second { call_made self.old.start (world_of self.old) event.pass event.step
-            ≡ Some second }
-        ensures learned { OnOk result (world_of self.new
-            ≡ with_answer self.old.start (world_of self.old) event.pass event.step) }
-        ensures refused { OnErr result (self.new ≡ self.old) }
-        ensures grows { OnErr result (NeedsMemory self.old.start (world_of self.old) event) }
-        ensures epoch { self.new.epoch ≡ self.old.epoch }
-        ensures stays { KeepsStart self.old self.new }
-    {
-        self.calls.reserve(2)?;
-        learn_at(&mut self.passes, &self.start, event, found, stamp)?;
-        self.calls.push_reserved(first);
-        self.calls.push_reserved(second);
-        Ok(())
+        match ahead {
+            None => {
+                self.calls.reserve(1)?;
+                learn_at(&mut self.passes, &self.start, event, found, stamp)?;
+                self.calls.push_reserved(call);
+                Ok(())
+            }
+            Some(first) => {
+                self.calls.reserve(2)?;
+                learn_at(&mut self.passes, &self.start, event, found, stamp)?;
+                self.calls.push_reserved(first);
+                self.calls.push_reserved(call);
+                Ok(())
+            }
+        }
     }
 }
 

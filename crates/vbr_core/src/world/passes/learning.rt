@@ -7,7 +7,7 @@ ghost use Rattle.vbr_machine.specs.Acceptance.{Accepts, stamp_in, MayPublish, Ma
 ghost use Rattle.vbr_machine.specs.Learning.{newborn, with_key, with_value, with_link, link_in_hand, learn, with_own, with_checked, with_pending, read_epoch};
 ghost use Rattle.vbr_core.specs.Growth.{ReadsMore};
 ghost use Rattle.vbr_core.specs.WorldInLists.{know_of, FitsRead, FitsHolding};
-ghost use Rattle.vbr_core.specs.KeptLearning.{HasRoom, Learns, with_all_checked, with_all_reread, with_epoch};
+ghost use Rattle.vbr_core.specs.KeptLearning.{HasRoom, Learns, with_all_checked, with_all_reread, with_epoch, with_linked};
 
 use crate::world::holdings;
 use crate::world::passes::PassState;
@@ -206,6 +206,43 @@ impl PassState {
         holdings::link_in_hand(self.own[slot as usize])
     }
 
+    // A slot in hand was linked at a place, by this link, and has this one itself: both are checked
+    // then, with what was stored in it, and the slot is no longer the pass's.
+    fn learn_linked(
+        &mut self,
+        at: At,
+        link: Link,
+        slot: u32,
+        own_link: Link,
+    ) -> Result<(), AllocError>
+        requires slot { slot < length self.old.own }
+        requires own { own_link ≡ link_in_hand (slice_index_or self.old.own slot None) }
+        requires fits { IsLink link × IsLink own_link }
+        ensures learned { OnOk result (Learns self.old self.new (with_linked at link slot)) }
+        ensures refused { OnErr result (self.new ≡ self.old) }
+    {
+        let holding = self.holding(slot);
+        let birth = holdings::birth_in_hand(holding);
+        let key = holdings::key_in_hand(holding);
+        match holdings::value_in_hand(holding) {
+            None => self.add_checked(&[
+                Read::LinkAt(at, link),
+                Read::BirthOf(slot, birth),
+                Read::KeyOf(slot, key),
+                Read::LinkAt(At::Slot(slot), own_link),
+            ])?,
+            Some(value) => self.add_checked(&[
+                Read::LinkAt(at, link),
+                Read::BirthOf(slot, birth),
+                Read::KeyOf(slot, key),
+                Read::LinkAt(At::Slot(slot), own_link),
+                Read::ValueOf(slot, value),
+            ])?,
+        }
+        self.put(slot, None);
+        Ok(())
+    }
+
     // The publication of a slot in hand has succeeded.
     fn learn_publish(
         &mut self,
@@ -228,27 +265,8 @@ impl PassState {
                 slot,
             },
         );
-        let holding = self.holding(slot);
-        let link_in_hand = self.link_in_hand(start, pred, expected, slot);
-        let birth = holdings::birth_in_hand(holding);
-        let key = holdings::key_in_hand(holding);
-        match holdings::value_in_hand(holding) {
-            None => self.add_checked(&[
-                Read::LinkAt(pred, link),
-                Read::BirthOf(slot, birth),
-                Read::KeyOf(slot, key),
-                Read::LinkAt(At::Slot(slot), link_in_hand),
-            ])?,
-            Some(value) => self.add_checked(&[
-                Read::LinkAt(pred, link),
-                Read::BirthOf(slot, birth),
-                Read::KeyOf(slot, key),
-                Read::LinkAt(At::Slot(slot), link_in_hand),
-                Read::ValueOf(slot, value),
-            ])?,
-        }
-        self.put(slot, None);
-        Ok(())
+        let own_link = self.link_in_hand(start, pred, expected, slot);
+        self.learn_linked(pred, link, slot, own_link)
     }
 
     // The link of a slot in hand that is ready to take the place of a node.
@@ -284,27 +302,8 @@ impl PassState {
                 new,
             },
         );
-        let holding = self.holding(new);
-        let link_in_hand = self.link_in_place(start, slot, expected, new);
-        let birth = holdings::birth_in_hand(holding);
-        let key = holdings::key_in_hand(holding);
-        match holdings::value_in_hand(holding) {
-            None => self.add_checked(&[
-                Read::LinkAt(At::Slot(slot), link),
-                Read::BirthOf(new, birth),
-                Read::KeyOf(new, key),
-                Read::LinkAt(At::Slot(new), link_in_hand),
-            ])?,
-            Some(value) => self.add_checked(&[
-                Read::LinkAt(At::Slot(slot), link),
-                Read::BirthOf(new, birth),
-                Read::KeyOf(new, key),
-                Read::LinkAt(At::Slot(new), link_in_hand),
-                Read::ValueOf(new, value),
-            ])?,
-        }
-        self.put(new, None);
-        Ok(())
+        let own_link = self.link_in_place(start, slot, expected, new);
+        self.learn_linked(At::Slot(slot), link, new, own_link)
     }
 
     // The removal of a node has succeeded.

@@ -1,0 +1,404 @@
+//! Handles: opened together, and closed one by one.
+use crate::library::{answer, answer_with, Raw, ReportNumbers};
+use crate::{CloseError, Cursor, Iter, Kind, OpenError, Refusal, Shape, Unclosed, MAX_HANDLES};
+use alloc::boxed::Box;
+use alloc::vec::Vec;
+use core::cell::UnsafeCell;
+use core::ffi::c_void;
+use core::fmt;
+use core::marker::PhantomData;
+use core::mem::swap;
+use core::ptr::{null_mut, NonNull};
+use core::sync::atomic::{AtomicPtr, AtomicUsize, Ordering};
+
+/// A handle to a set, by the name of [`Handle`](crate::Handle), or to a map, by that of [`MapHandle`](crate::MapHandle): a pass,
+/// the right of one thread at a time to make calls, and a share of the set. What is said here of a set and its keys is so of a
+/// map and its entries.
+///
+/// It may go to another thread, and is neither `Clone` nor `Sync`. One that is dropped is closed, and nothing is lost by it: the
+/// handle that is closed last gets the report. Where the last one is dropped, the set goes with it.
+///
+/// ```
+/// # use vbr::{Set, Shape};
+/// let mut handles = Set::open(Shape::for_keys(8, 2), 2)?;
+/// let mut other = handles.pop().expect("two handles");
+/// std::thread::spawn(move || other.insert(5, 100_000)).join().expect("a thread")?;
+/// assert!(handles[0].has(5, 100_000)?);
+/// # Ok::<(), Box<dyn std::error::Error>>(())
+/// ```
+pub struct HandleOf<K: Kind> {
+    raw: UnsafeCell<Raw>,
+    number: usize,
+    /// What the handles of its set or map share, until it is closed.
+    shared: Option<NonNull<Shared>>,
+    kind: PhantomData<K>,
+}
+
+// SAFETY: the library proves `Send` of its `Handle`, which `raw` is, and what is shared changes by atomic steps alone.
+unsafe impl<K: Kind> Send for HandleOf<K> {}
+
+/// What the handles of a set or a map share: how many are open, and those that were closed. So the last one is known before
+/// the library is asked for the report: it closes all of them at once, and memory is needed for one report alone.
+struct Shared {
+    open: AtomicUsize,
+    /// How many handles were opened.
+    count: usize,
+    slots: u32,
+    parked: [AtomicPtr<c_void>; MAX_HANDLES],
+}
+
+/// What a set or a map held when it was closed.
+pub(crate) struct Contents<T> {
+    pub(crate) items: Vec<T>,
+    pub(crate) epoch: u64,
+    pub(crate) marked: u32,
+    pub(crate) free: u32,
+}
+
+impl<K: Kind> HandleOf<K> {
+    /// The handles of an empty set.
+    pub(crate) fn open(shape: Shape, handles: usize) -> Result<Vec<Self>, OpenError> {
+        let Shape { slots, buckets, last_epoch } = shape;
+        // SAFETY: the pointer has `count` empty handles, which nothing else reaches.
+        open_by(shape, handles, |raw, count| unsafe { K::OPEN(raw, count, slots, buckets, last_epoch) })
+    }
+
+    /// The handles of a set that has these keys.
+    pub(crate) fn open_with(shape: Shape, handles: usize, items: &[K::Item]) -> Result<Vec<Self>, OpenError> {
+        let Shape { slots, buckets, last_epoch } = shape;
+        // SAFETY: the pointer has `count` empty handles, which nothing else reaches, and `items` has as many as are told.
+        open_by(shape, handles, |raw, count| unsafe {
+            K::OPEN_WITH(raw, count, slots, buckets, last_epoch, items.as_ptr(), items.len())
+        })
+    }
+
+    /// The handle as the calls of the library take it. A call may have it where nothing else does meanwhile: the handle isn't
+    /// `Sync`, and no call lends it to anybody.
+    #[inline]
+    pub(crate) fn raw(&self) -> *mut Raw {
+        self.raw.get()
+    }
+
+    /// Whether a key is there, in at most `budget` steps, all of them loads. While the other handles stand still, 5n + 11 are
+    /// enough, with n nodes in the bucket of the key.
+    ///
+    /// It changes what the handle owns, and nothing that another handle sees, so it takes `&self` of a type that is not `Sync`.
+    ///
+    /// ```
+    /// # use vbr::{Set, Shape};
+    /// let handle = Set::open_with(Shape::for_keys(8, 1), 1, &[5])?.remove(0);
+    /// assert!(handle.has(5, 1_000)? && !handle.has(6, 1_000)?);
+    /// # Ok::<(), Box<dyn std::error::Error>>(())
+    /// ```
+    ///
+    /// # Errors
+    ///
+    /// [`Refusal::OutOfSteps`] alone. No call was made then.
+    #[inline]
+    pub fn has(&self, key: u64, budget: u32) -> Result<bool, Refusal> {
+        // SAFETY: one thread at a time has the handle, which is not `Sync`, and the call lends it to nobody.
+        answer(unsafe { K::HAS(self.raw(), key, budget) })
+    }
+
+    /// Goes over all keys while other threads make calls: a walk, which makes each of its calls in at most `budget` steps, all of
+    /// them loads. [`ample_budget`](crate::ample_budget) is enough in short buckets.
+    ///
+    /// Each key that is in the set from the first call of the walk to the last is given, once. No key is given twice, and none
+    /// that wasn't in the set at a moment of the call that gives it. Keys come bucket by bucket, and those of a bucket ascend.
+    /// What isn't said is that they were there together at one moment, as those of a report were: a key that is inserted or
+    /// removed meanwhile is given or not.
+    ///
+    /// The walk borrows the handle, which can look keys up meanwhile. Other handles make any calls; with [`HandleOf::next`] this
+    /// one does too.
+    ///
+    /// ```
+    /// # use vbr::{Refusal, Set, Shape};
+    /// fn count_even(handle: &vbr::Handle) -> Result<u64, Refusal> {
+    ///     let mut count = 0;
+    ///     for key in handle.iter(100_000) {
+    ///         count += u64::from(key? % 2 == 0);
+    ///     }
+    ///     Ok(count)
+    /// }
+    ///
+    /// let handle = Set::open_with(Shape::for_keys(8, 1), 1, &[2, 5, 9])?.remove(0);
+    /// assert_eq!(count_even(&handle)?, 1);
+    /// let mut keys = handle.iter(100_000).collect::<Result<Vec<_>, _>>()?;
+    /// keys.sort();
+    /// assert_eq!(keys, [2, 5, 9]);
+    /// # Ok::<(), Box<dyn std::error::Error>>(())
+    /// ```
+    ///
+    /// Of a map it gives each key with its value. The two were in the map together at a moment of the call that gives them.
+    ///
+    /// ```
+    /// # use vbr::{Entry, Map, Shape};
+    /// let handle = Map::open_with(Shape::for_keys(8, 1), 1, &[(5, 70), (7, 71)].map(Entry::from))?.remove(0);
+    /// let mut entries = handle.iter(100_000).collect::<Result<Vec<_>, _>>()?;
+    /// entries.sort();
+    /// assert_eq!(entries, [(5, 70), (7, 71)]);
+    /// for entry in handle.iter(100_000) {
+    ///     let (key, value) = entry?;
+    ///     assert_eq!(handle.get(key, 100_000)?, Some(value)); // as nobody else makes calls
+    /// }
+    /// # Ok::<(), Box<dyn std::error::Error>>(())
+    /// ```
+    ///
+    /// # Errors
+    ///
+    /// Of an item [`Refusal::OutOfSteps`] alone, where a whole call didn't come to a later bucket, as [`Iter`] says. While the
+    /// other handles stand still that is so only if the budget is below 5n + 11, with n nodes in the bucket.
+    #[inline]
+    pub fn iter(&self, budget: u32) -> Iter<'_, HandleOf<K>> {
+        Iter::new(self, budget)
+    }
+
+    /// The next key of a walk, in at most `budget` steps, all of them loads; `None` at its end. The cursor is after the key
+    /// then. A walk begins at [`Cursor::first`], and what [`HandleOf::iter`] says of one is so of these calls of one handle.
+    ///
+    /// It makes three steps for each bucket that it enters, three for a removed node that is still in its list, and five for
+    /// another; and of a map two more, to read the value. After the last node of a bucket the cursor is before the next bucket.
+    ///
+    /// Between two of them the handle makes any other calls.
+    ///
+    /// ```
+    /// # use vbr::{Cursor, Set, Shape};
+    /// let mut handle = Set::open_with(Shape::for_keys(8, 1), 1, &[2, 5, 9])?.remove(0);
+    /// let mut cursor = Cursor::first();
+    /// while let Some(key) = handle.next(&mut cursor, 100_000)? {
+    ///     if key % 2 == 1 {
+    ///         handle.remove(key, 100_000)?;
+    ///     }
+    /// }
+    /// assert_eq!(handle.close()?.expect("the only handle").keys, [2]);
+    /// # Ok::<(), Box<dyn std::error::Error>>(())
+    /// ```
+    ///
+    /// ```
+    /// # use vbr::{Cursor, Entry, Map, Shape};
+    /// # let mut handle = Map::open_with(Shape::for_keys(8, 1), 1, &[(5, 70), (7, 71)].map(Entry::from))?.remove(0);
+    /// # let mut cursor = Cursor::first();
+    /// while let Some((key, value)) = handle.next(&mut cursor, 100_000)? {
+    ///     if value > 70 {
+    ///         handle.remove(key, 100_000)?;
+    ///     }
+    /// }
+    /// # assert_eq!(handle.close()?.expect("the only handle").entries, [Entry { key: 5, value: 70 }]);
+    /// # Ok::<(), Box<dyn std::error::Error>>(())
+    /// ```
+    ///
+    /// # Errors
+    ///
+    /// [`Refusal::OutOfSteps`] alone. The cursor keeps how far it has come, so make the call again. While the other handles
+    /// stand still, it has come to a later bucket, or the budget was below 5n + 11, with n nodes in the cursor's bucket.
+    #[inline]
+    pub fn next(&self, cursor: &mut Cursor, budget: u32) -> Result<Option<K::Given>, Refusal> {
+        // SAFETY: as for `has`; nothing else has the cursor and what is given.
+        answer_with(|given| unsafe { K::next(self.raw(), cursor, budget, given) })
+    }
+
+    /// The last epoch that the handle read in a call; 1 before its first. It makes no step, so others may have advanced the
+    /// epoch since. Renew the set before it comes to [`HandleOf::last_epoch`].
+    ///
+    /// ```
+    /// # use vbr::{Set, Shape};
+    /// let handle = Set::open(Shape::new(8, 2, 100), 1)?.remove(0);
+    /// let is_near = handle.epoch() + 10 >= handle.last_epoch(); // then renew the set
+    /// assert!(!is_near);
+    /// # Ok::<(), Box<dyn std::error::Error>>(())
+    /// ```
+    #[inline]
+    pub fn epoch(&self) -> u64 {
+        // SAFETY: as for `has`.
+        unsafe { K::EPOCH(self.raw()) }
+    }
+
+    /// The last epoch of the set.
+    ///
+    /// ```
+    /// # use vbr::{Set, Shape};
+    /// let handle = Set::open(Shape::new(8, 2, 100), 1)?.remove(0);
+    /// assert_eq!(handle.last_epoch(), 100);
+    /// # Ok::<(), Box<dyn std::error::Error>>(())
+    /// ```
+    #[inline]
+    pub fn last_epoch(&self) -> u64 {
+        // SAFETY: as for `has`.
+        unsafe { K::LAST_EPOCH(self.raw()) }
+    }
+
+    /// How many slots the set has.
+    ///
+    /// ```
+    /// # use vbr::{ample_budget, Set, Shape};
+    /// let handle = Set::open(Shape::new(640, 2, 100), 1)?.remove(0);
+    /// assert_eq!(ample_budget(handle.slots()), 100_010);
+    /// # Ok::<(), Box<dyn std::error::Error>>(())
+    /// ```
+    #[inline]
+    pub fn slots(&self) -> u32 {
+        // SAFETY: as for `has`.
+        unsafe { K::SLOTS(self.raw()) }
+    }
+
+    /// How many buckets the set has.
+    ///
+    /// ```
+    /// # use vbr::{Set, Shape};
+    /// let handle = Set::open(Shape::for_keys(1_000, 1), 1)?.remove(0);
+    /// assert_eq!(handle.buckets(), 1_024);
+    /// # Ok::<(), Box<dyn std::error::Error>>(())
+    /// ```
+    #[inline]
+    pub fn buckets(&self) -> u32 {
+        // SAFETY: as for `has`.
+        unsafe { K::BUCKETS(self.raw()) }
+    }
+
+    /// Closes the handle. The answer is `None` while other handles of the set are open; the last one is told what is in the set.
+    /// It alone takes memory: for each slot 8 bytes of a set, 16 of a map, of which what isn't needed is given back where there is
+    /// memory for the keys alone; and while it runs as much as the words of the set, and 9 bytes for each slot, or 17 of a map.
+    ///
+    /// ```
+    /// # use vbr::{Set, Shape};
+    /// let mut handles = Set::open_with(Shape::for_keys(8, 2), 2, &[5, 7])?;
+    /// let last = handles.pop().expect("two handles");
+    /// assert!(handles.remove(0).close()?.is_none());
+    /// let report = last.close()?.expect("the last handle");
+    /// assert_eq!(report.keys, [5, 7]);
+    /// # Ok::<(), Box<dyn std::error::Error>>(())
+    /// ```
+    ///
+    /// # Errors
+    ///
+    /// [`CloseError::Memory`], with the handle as it was; of the last handle alone. [`CloseError::Lost`], which no program is
+    /// known to get.
+    pub fn close(mut self) -> Result<Option<K::Report>, CloseError<HandleOf<K>>> {
+        let Some(shared) = self.last() else {
+            return Ok(None);
+        };
+        // SAFETY: this is the last handle, which frees it when it is dropped.
+        let shared = unsafe { shared.as_ref() };
+        let mut items = Vec::new();
+        if items.try_reserve_exact(shared.slots as usize).is_err() {
+            return Err(CloseError::Memory(Unclosed(self)));
+        }
+        items.resize(shared.slots as usize, K::Item::default());
+        let mut all = shared.take_parked();
+        swap(&mut all[self.number], self.raw.get_mut());
+        let mut told = ReportNumbers::default();
+        // SAFETY: these are all handles of the set or map, nothing else has one of them, and `items` has as much room as is
+        // told.
+        let code = unsafe { K::CLOSE_ALL(all.as_mut_ptr(), shared.count, items.as_mut_ptr(), items.len(), &mut told) };
+        // They are empty now, or stay as they were.
+        swap(&mut all[self.number], self.raw.get_mut());
+        shared.park(all);
+        match code {
+            1 => {
+                let ReportNumbers { epoch, live, marked, free } = told;
+                items.truncate(live as usize);
+                Ok(Some(K::report(Contents { items: fitted(items), epoch, marked, free })))
+            }
+            -8 => Err(CloseError::Memory(Unclosed(self))),
+            _ => Err(CloseError::Lost),
+        }
+    }
+
+    /// What the handles share, if all others are closed. If not, this one is closed then too: it is parked.
+    fn last(&mut self) -> Option<NonNull<Shared>> {
+        let at = self.shared?;
+        // SAFETY: it is freed by the handle that is closed last, and this one is open.
+        let shared = unsafe { at.as_ref() };
+        if shared.open.load(Ordering::Acquire) == 1 {
+            return Some(at);
+        }
+        shared.parked[self.number].store(self.raw.get_mut().0, Ordering::Relaxed);
+        if shared.open.fetch_sub(1, Ordering::AcqRel) == 1 {
+            shared.parked[self.number].store(null_mut(), Ordering::Relaxed);
+            shared.open.store(1, Ordering::Relaxed);
+            return Some(at);
+        }
+        self.shared = None;
+        None
+    }
+}
+
+impl Shared {
+    /// The handles that are parked, each at its number.
+    fn take_parked(&self) -> [Raw; MAX_HANDLES] {
+        self.parked.each_ref().map(|it| Raw(it.swap(null_mut(), Ordering::Relaxed)))
+    }
+
+    fn park(&self, handles: [Raw; MAX_HANDLES]) {
+        for (place, handle) in self.parked.iter().zip(handles) {
+            place.store(handle.0, Ordering::Relaxed);
+        }
+    }
+}
+
+impl<K: Kind> fmt::Debug for HandleOf<K> {
+    fn fmt(&self, f: &mut fmt::Formatter<'_>) -> fmt::Result {
+        f.debug_struct(K::NAMES.1).finish_non_exhaustive()
+    }
+}
+
+impl<K: Kind> Drop for HandleOf<K> {
+    fn drop(&mut self) {
+        let Some(shared) = self.last() else {
+            return;
+        };
+        // SAFETY: all others are closed, so nothing else reaches what they shared, which was one boxed value; and `&mut`
+        // is exclusive. A handle that is empty, after its close, stays so.
+        unsafe {
+            for mut handle in shared.as_ref().take_parked() {
+                K::DROP(&mut handle);
+            }
+            K::DROP(self.raw.get());
+            drop(Box::from_raw(shared.as_ptr()));
+        }
+    }
+}
+
+/// The handles that a call of the library opens, which is given empty ones and their number.
+fn open_by<K: Kind>(
+    shape: Shape,
+    handles: usize,
+    open: impl FnOnce(*mut Raw, usize) -> i32,
+) -> Result<Vec<HandleOf<K>>, OpenError> {
+    shape.check()?;
+    let mut raw: [Raw; MAX_HANDLES] = [const { Raw(null_mut()) }; MAX_HANDLES];
+    let mut opened = Vec::new();
+    let mut shared = Vec::new();
+    if opened.try_reserve_exact(handles.min(MAX_HANDLES)).is_err() || shared.try_reserve_exact(1).is_err() {
+        return Err(OpenError::Memory);
+    }
+    // The library reads no handle of an opening whose count is out of range.
+    let count = if handles > MAX_HANDLES { 0 } else { handles };
+    match open(raw.as_mut_ptr(), count) {
+        0 => {}
+        -7 => return Err(OpenError::Handles),
+        -10 => return Err(OpenError::Keys),
+        _ => return Err(OpenError::Memory),
+    }
+    let parked = [const { AtomicPtr::new(null_mut()) }; MAX_HANDLES];
+    shared.push(Shared { open: AtomicUsize::new(count), count, slots: shape.slots, parked });
+    // Whoever closes the last handle frees it.
+    let shared = NonNull::from(Box::leak(shared.into_boxed_slice())).cast::<Shared>();
+    opened.extend(raw.into_iter().take(count).enumerate().map(|(number, raw)| HandleOf {
+        raw: UnsafeCell::new(raw),
+        number,
+        shared: Some(shared),
+        kind: PhantomData,
+    }));
+    Ok(opened)
+}
+
+/// The items in a block that is as long as they are, or in the one where they stand if there is no memory for that.
+fn fitted<T: Copy>(items: Vec<T>) -> Vec<T> {
+    let mut fitted = Vec::new();
+    if fitted.try_reserve_exact(items.len()).is_err() {
+        return items;
+    }
+    fitted.extend_from_slice(&items);
+    fitted
+}
