@@ -7,10 +7,10 @@ use Rattle.vbr_list.proofs.Preparing.{if_failed, if_went}
 use Rattle.vbr_list.proofs.call.PendingCall.unlink_marked.Goals as goal
 
 pub returns-then-is_err-clause-goes : goal.returns-then-is_err-clause-goes
-returns-then-is_err-clause-goes g c = record { call = search rules; goes = goes_on (c.unlink_and_retire-outcome.ensures.goes c.args.self.now.used) c.walk_by_copy-self.ensures.goes; more = omega (arith, c.walk_by_copy-self.ensures.within.1) }
+returns-then-is_err-clause-goes g c = record { call = search rules; goes = goes_on (c.unlink_and_retire-outcome.ensures.goes c.args.self.now.used) c.walk_on-self.ensures.goes; more = omega (arith, c.walk_on-self.ensures.within.1) }
 
 pub returns-then-is_err-clause-clear : goal.returns-then-is_err-clause-clear
-returns-then-is_err-clause-clear g c = λ room. clear_since (c.unlink_and_retire-outcome.ensures.goes 0).quiet (c.walk_by_copy-self.ensures.clear room)
+returns-then-is_err-clause-clear g c = λ room. clear_since (c.unlink_and_retire-outcome.ensures.goes 0).quiet (c.walk_on-self.ensures.clear room)
 
 pub returns-else-is_err-clause-goes : goal.returns-else-is_err-clause-goes
 returns-else-is_err-clause-goes g c = record { call = search rules; goes = c.unlink_and_retire-outcome.ensures.goes c.args.self.now.used; more = omega arith }
@@ -27,8 +27,8 @@ returns-then-is_err-clause-paid g c =
       loses = never.loses;
       used = c.args.self.now.used + tried.result.1;
       few = omega (arith, few);
-      then = c.walk_by_copy-self.ensures.goes.quiet;
-      walks = c.walk_by_copy-self.ensures.walks;
+      then = c.walk_on-self.ensures.goes.quiet;
+      walks = c.walk_on-self.ensures.walks;
     })
 
 pub returns-else-is_err-clause-paid : goal.returns-else-is_err-clause-paid
@@ -38,7 +38,7 @@ pub returns-then-is_err-clause-soon : goal.returns-then-is_err-clause-soon
 returns-then-is_err-clause-soon g c = λ fresh stands alone.
     let tried = c.unlink_and_retire-outcome in
     let never : IsLostPlace c.args.self.now.at.stepper.now tried.new.at.stepper.now c.args.pred.now = if_failed tried.result.0 (sym c.is_err.ensures.value ∙ c.if-is_err.true) tried.ensures.lost in
-    absurd (never.still fresh stands (first_of (tried.ensures.goes 0).quiet c.walk_by_copy-self.ensures.goes.quiet alone))
+    absurd (never.still fresh stands (first_of (tried.ensures.goes 0).quiet c.walk_on-self.ensures.goes.quiet alone))
 
 pub returns-else-is_err-clause-soon : goal.returns-else-is_err-clause-soon
 returns-else-is_err-clause-soon g c = λ fresh stands alone.
