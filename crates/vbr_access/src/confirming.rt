@@ -14,7 +14,7 @@ use vbr_machine::Op;
 use vbr_slots::{AtTable, Pass, Slots};
 use vbr_words::Nodes;
 
-/// As [`vbr_at_table::confirm_present`], by a pass, whose steps are counted.
+/// As [`confirm_present_entry`], of an operation of a set.
 #[inline]
 pub fn confirm_present(slots: &Slots, pass: &mut Pass, op: Op, held: &Held) -> Result<(), Rollback>
     requires own { IsOf pass.old.trace slots.now }
@@ -24,21 +24,10 @@ pub fn confirm_present(slots: &Slots, pass: &mut Pass, op: Op, held: &Held) -> R
     ensures answers { OnOk result (AnswersPresent pass.old.trace pass.new.trace op held.now) }
     ensures lost { IfErr result (FindsAnother pass.old.trace pass.new.trace held.now) }
 {
-    pass.during(
-        |stepper|
-            requires own { IsOf stepper.old.trace slots.now }
-            requires node { IsPresent (knows stepper.old.trace) held.now }
-            requires op { IsOther Remove op }
-        {
-            (
-                vbr_at_table::confirm_present(&mut AtTable { slots, stepper }, op, held),
-                1,
-            )
-        },
-    )
+    confirm_present_entry(slots, pass, op, held)
 }
 
-/// As [`vbr_at_table::confirm_present_entry`], by a pass, whose steps are counted.
+/// As [`vbr_at_table::confirm_present`], by a pass, whose steps are counted.
 #[inline]
 pub fn confirm_present_entry<N: Nodes>(
     slots: &Slots<N>,
@@ -62,14 +51,14 @@ pub fn confirm_present_entry<N: Nodes>(
             requires asked { IsAsked stepper.old.trace op held.now.at }
         {
             (
-                vbr_at_table::confirm_present_entry(&mut AtTable { slots, stepper }, op, held),
+                vbr_at_table::confirm_present(&mut AtTable { slots, stepper }, op, held),
                 1,
             )
         },
     )
 }
 
-/// As [`vbr_at_table::confirm_absent`], by a pass, whose steps are counted.
+/// As [`confirm_absent_entry`], of an operation of a set.
 #[inline]
 pub fn confirm_absent(
     slots: &Slots,
@@ -85,21 +74,10 @@ pub fn confirm_absent(
     ensures answers { OnOk result (AnswersAbsent pass.old.trace pass.new.trace op key) }
     ensures lost { IfErr result (FindsAnother pass.old.trace pass.new.trace pred.now) }
 {
-    pass.during(
-        |stepper|
-            requires own { IsOf stepper.old.trace slots.now }
-            requires gap { IsAbsent stepper.old.trace.start (knows stepper.old.trace) key pred.now }
-            requires op { IsOther Insert op }
-        {
-            (
-                vbr_at_table::confirm_absent(&mut AtTable { slots, stepper }, op, key, pred),
-                1,
-            )
-        },
-    )
+    confirm_absent_entry(slots, pass, op, key, pred)
 }
 
-/// As [`vbr_at_table::confirm_absent_entry`], by a pass, whose steps are counted.
+/// As [`vbr_at_table::confirm_absent`], by a pass, whose steps are counted.
 #[inline]
 pub fn confirm_absent_entry<N: Nodes>(
     slots: &Slots<N>,
@@ -122,7 +100,7 @@ pub fn confirm_absent_entry<N: Nodes>(
             requires op { IsOtherIn stepper.old.trace.start Insert op }
         {
             (
-                vbr_at_table::confirm_absent_entry(&mut AtTable { slots, stepper }, op, key, pred),
+                vbr_at_table::confirm_absent(&mut AtTable { slots, stepper }, op, key, pred),
                 1,
             )
         },

@@ -9,7 +9,7 @@ use vbr_at_table::{Held, Marked, Rollback};
 use vbr_slots::{AtTable, Pass, Slots};
 use vbr_words::Nodes;
 
-/// As [`vbr_at_table::mark`], by a pass, whose steps are counted.
+/// As [`mark_entry`], at a table whose nodes have no values: the pass has removed the key of the node.
 #[inline]
 pub fn mark(slots: &Slots, pass: &mut Pass, held: &Held) -> Result<Marked, Rollback>
     requires own { IsOf pass.old.trace slots.now }
@@ -18,15 +18,11 @@ pub fn mark(slots: &Slots, pass: &mut Pass, held: &Held) -> Result<Marked, Rollb
     ensures removed { IfOk result (RemovesKey pass.old.trace pass.new.trace held.now) }
     ensures lost { IfErr result (LosesExchange pass.old.trace pass.new.trace held.now) }
 {
-    pass.during(
-        |stepper|
-            requires own { IsOf stepper.old.trace slots.now }
-            requires node { IsPresent (knows stepper.old.trace) held.now }
-        { (vbr_at_table::mark(&mut AtTable { slots, stepper }, held), 1) },
-    )
+    slots.kind();
+    mark_entry(slots, pass, held)
 }
 
-/// As [`vbr_at_table::mark_entry`], by a pass, whose steps are counted.
+/// As [`vbr_at_table::mark`], by a pass, whose steps are counted.
 #[inline]
 pub fn mark_entry<N: Nodes>(
     slots: &Slots<N>,
@@ -45,11 +41,6 @@ pub fn mark_entry<N: Nodes>(
             requires own { IsOf stepper.old.trace slots.now }
             requires node { IsPresent (knows stepper.old.trace) held.now }
             requires valued { IsValued stepper.old.trace held.now.at }
-        {
-            (
-                vbr_at_table::mark_entry(&mut AtTable { slots, stepper }, held),
-                1,
-            )
-        },
+        { (vbr_at_table::mark(&mut AtTable { slots, stepper }, held), 1) },
     )
 }

@@ -1,5 +1,6 @@
 //! Linking a new node: an insert.
 ghost use Rattle.std.specs.Prelude.{IfOk, IfErr};
+ghost use Rattle.vbr_slots.specs.AtTables.{IsSameTable, pass_of, trace_of};
 ghost use Rattle.vbr_slots.specs.Views.{IsOf, knows};
 ghost use Rattle.vbr_at_table.specs.Hands.{IsHandOf};
 ghost use Rattle.vbr_at_table.specs.Exchanges.{StoresIn, IsGap, GivesBack, InsertsKey};
@@ -8,7 +9,7 @@ ghost use Rattle.vbr_at_table.specs.Held.{IsSucc};
 use vbr_at_table::{Hand, Held, Rollback};
 use vbr_slots::{AtTable, Pass, Slots};
 
-/// As [`vbr_at_table::update`], by a pass, whose steps are counted.
+/// As [`vbr_at_table::update`], by a pass, whose steps are counted, at a table whose nodes have no values.
 #[inline]
 pub fn update(
     slots: &Slots,
@@ -35,9 +36,30 @@ pub fn update(
             requires hand { IsHandOf stepper.old hand }
         {
             (
-                vbr_at_table::update(&mut AtTable { slots, stepper }, pred, succ, key, hand),
+                update_key(&mut AtTable { slots, stepper }, pred, succ, key, hand),
                 3,
             )
         },
     )
+}
+
+// As `update`, where no step is counted.
+#[inline]
+fn update_key(
+    at: &mut AtTable<'_>,
+    pred: &Held,
+    succ: Option<&Held>,
+    key: u64,
+    hand: Hand,
+) -> Result<(), (Hand, Rollback)>
+    requires gap { IsGap (trace_of at.old) key pred.now }
+    requires succ { IsSucc (knows (trace_of at.old)) pred.now succ }
+    requires hand { IsHandOf (pass_of at.old) hand }
+    ensures table { IsSameTable at.old at.new }
+    ensures stores { StoresIn (pass_of at.old) (pass_of at.new) 3 }
+    ensures inserted { IfOk result (λ _. InsertsKey (pass_of at.old) (pass_of at.new) key) }
+    ensures lost { IfErr result (GivesBack (pass_of at.old) (pass_of at.new) pred.now hand) }
+{
+    at.slots.kind();
+    vbr_at_table::update(at, pred, succ, key, 0, hand)
 }

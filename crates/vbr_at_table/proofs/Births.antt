@@ -16,7 +16,7 @@ use Rattle.vbr_at_table.specs.Hands.{HandView}
 use Rattle.vbr_at_table.specs.Pieces.{BearsNone, IsBorn, IsStampedBelow}
 use Rattle.vbr_at_table.specs.KeptSlots.{HasSlot, HasFree}
 use Rattle.vbr_at_table.specs.declared.budget.TheConstants.{PIECE}
-use Rattle.vbr_at_table.specs.declared.refusal.TakeRefusal.TheVariants.{OutOfSteps}
+use Rattle.vbr_at_table.specs.declared.refusal.Refusal.TheVariants.{OutOfSteps}
 use Rattle.vbr_at_table.proofs.InTurn.{did_turn}
 use Rattle.vbr_at_table.proofs.Advancing.{did_stamps, nobody, same_advances, same_flags}
 use Rattle.vbr_at_table.proofs.Counting.{counts_none, counts_one}

@@ -18,8 +18,8 @@ use Rattle.vbr_at_table.specs.Refusals.{AllStamped}
 use Rattle.vbr_at_table.specs.Steps.{CountsSteps}
 use Rattle.vbr_at_table.specs.Taking.{IsOldest}
 use Rattle.vbr_at_table.specs.declared.budget.TheConstants.{PIECE}
-use Rattle.vbr_at_table.specs.declared.refusal.TakeRefusal.{TakeRefusal}
-use Rattle.vbr_at_table.specs.declared.refusal.TakeRefusal.TheVariants.{OutOfSteps, EpochSpent}
+use Rattle.vbr_at_table.specs.declared.refusal.Refusal.{Refusal}
+use Rattle.vbr_at_table.specs.declared.refusal.Refusal.TheVariants.{OutOfSteps, EpochSpent}
 use Rattle.vbr_at_table.proofs.InTurn.{did_turn}
 use Rattle.vbr_at_table.proofs.Advancing.{same_advances, same_flags, nobody, slots_kept_on, keeps_refl, keeps_known, shared_on, none_on, did_none, once, once_after, once_before}
 use Rattle.vbr_at_table.proofs.Counting.{counts_none, counts_one, counts_on, uses_on, uses_more}
@@ -79,7 +79,7 @@ module _ (p q r : PassView) (e budget used : ℕ) (read : Did ReadEpoch p.trace 
   uses_then uses = uses_more (length p.pool + 1) (let e = long in omega arith) (uses_on first uses)
 
   -- the budget had no room to look it through
-  pub short_then : (told : TakeRefusal × ℕ) → ScansPart q r budget (used + 1) told → ChoosesNone p r budget used told
+  pub short_then : (told : Refusal × ℕ) → ScansPart q r budget (used + 1) told → ChoosesNone p r budget used told
   short_then told part = record { uses = uses_then part.uses; why = subst (IsShortOrSpent r budget told.1) (sym part.why) (refl, part.short) }
 
   module _ (found : Option ℕ) (since : ℕ) (scanned : IsScanned q r e budget (used + 1) (found, since)) where

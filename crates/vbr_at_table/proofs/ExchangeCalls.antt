@@ -1,6 +1,6 @@
 -- A step that exchanges a link word, as what its call tells.
-use Rattle.std.proofs.Common.{◌≡◌, ◌≢◌, ℕ, true, false, List, [], ◌∷◌, ◌++◌, refl, sym, ap, ◌∙◌, subst}
-use Rattle.std.specs.Prelude.{Option, Result, Ok, Err, IfErr, None, Some}
+use Rattle.std.proofs.Common.{◌≡◌, ◌≢◌, ℕ, true, List, [], ◌∷◌, ◌++◌, refl, sym, ap, ◌∙◌, subst}
+use Rattle.std.specs.Prelude.{Result, Ok, Err, IfErr, None}
 use Rattle.vbr_machine.specs.Start.{Start, IsStart}
 use Rattle.vbr_words.specs.Words.{link_of}
 use Rattle.vbr_words.specs.declared.link.Link.{Link}
@@ -18,7 +18,7 @@ use Rattle.vbr_machine.specs.Runs.{IsRun, know_after}
 use Rattle.vbr_machine.specs.declared.event.Event.{Event}
 use Rattle.vbr_machine.specs.declared.event.Step.{Step}
 use Rattle.vbr_machine.specs.declared.event.Step.TheVariants.{Mark, Publish, Unlink}
-use Rattle.vbr_machine.specs.declared.history.Op.TheVariants.{Insert, Remove}
+use Rattle.vbr_machine.specs.declared.history.Op.TheVariants.{Insert}
 use Rattle.vbr_machine.specs.declared.knowledge.Read.TheVariants.{LinkAt}
 use Rattle.vbr_machine.proofs.Lemmas.{is_run_before, is_run_last, mark_out, others_leave_know}
 use Rattle.vbr_slots.specs.Alone.{IsAlone, IsFresh, nodes}
@@ -30,8 +30,7 @@ use Rattle.vbr_at_table.specs.Hands.{UnlinkedView}
 use Rattle.vbr_at_table.proofs.Advancing.{none_on}
 use Rattle.vbr_at_table.specs.Alone.{StandsNow}
 use Rattle.vbr_at_table.specs.Values.{InsertsEntry, RemovesEntry, ValueAt, entry_call}
-use Rattle.vbr_at_table.proofs.NoValues.{none_kept, not_valued}
-use Rattle.vbr_at_table.specs.Exchanges.{InsertsKey, IsUnmarked, LosesExchange, RemovesKey, UnlinksNode, UnlinksNone}
+use Rattle.vbr_at_table.specs.Exchanges.{IsUnmarked, LosesExchange, UnlinksNode, UnlinksNone}
 use Rattle.vbr_at_table.specs.Held.{IsHeld, HoldsMarked, Names}
 use Rattle.vbr_at_table.specs.Keeping.{Keeps}
 use Rattle.vbr_at_table.specs.Reading.{IsBirthRead, ReadsIn}
@@ -84,20 +83,6 @@ mark_told {p} {q} {s} {word} node start is_run held at d link =
       alone = λ alone. marked_alone node start at d alone;
     }
 
--- where nodes have no values, an entry is a key
-pub key_removed : {p q : Trace} {node : Held} {now : Marked} → p.start.shape.values ≡ false → RemovesEntry p q node now → RemovesKey p q node now
-key_removed {p} {q} bare removed = record {
-  made = (λ key k.
-      let P : Option ℕ → Type 0 = λ value. Made (record { who = p.who; op = Remove; key = key; reply = true; value = value }) p q in
-      subst P (none_kept p.start bare (Some 0)) (removed.made key 0 k (λ has. not_valued bare has)));
-  at = removed.at;
-  link = removed.link;
-  held = removed.held;
-  out = removed.out;
-  leaves = removed.leaves;
-  alone = removed.alone;
-}
-
 -- ---- a publication, after what filled the hand
 
 pub entry_told : {key value : ℕ} (p q r : PassView) → Quiet p.trace q.trace → Made (entry_call q.trace.start q.trace.who Insert key true value) q.trace r.trace → r.hand ≡ None → InsertsEntry p r key value
@@ -108,14 +93,6 @@ entry_told {key} {value} p q r fill made spent = record {
       let R : ℕ → Type 0 = λ who. P who p.trace.start in
       subst R fill.same.who (subst Q fill.same.start one));
   spent = spent;
-}
-
--- where nodes have no values, an entry is a key
-pub key_inserted : {key value : ℕ} {p q : PassView} → p.trace.start.shape.values ≡ false → InsertsEntry p q key value → InsertsKey p q key
-key_inserted {key} {value} {p} {q} bare inserted = record {
-  made = (let P : Option ℕ → Type 0 = λ v. Made (record { who = p.trace.who; op = Insert; key = key; reply = true; value = v }) p.trace q.trace in
-      subst P (none_kept p.trace.start bare (Some value)) inserted.made);
-  spent = inserted.spent;
 }
 
 pub run_after : {step : Step} {p q : Trace} {r : ℕ} → IsStart p.start → Did step p q r → IsRun p.start p.passes q.seen

@@ -30,3 +30,5 @@ pub use Rattle.vbr_at_table.proofs.Gained.{alone_gained, gained_on, gained_since
 pub use Rattle.vbr_at_table.proofs.Unchanged.{unchanged_by_none}
 -- A replacement, after what made no call; and what was known of a node stays known.
 pub use Rattle.vbr_at_table.proofs.Replacements.{key_on, replaced_since, two_before, two_on, value_on}
+-- What a call tells at a table whose nodes have no values.
+pub use Rattle.vbr_at_table.proofs.OfKeys.{key_asked, key_inserted, key_present, key_removed, key_stored, key_valued}

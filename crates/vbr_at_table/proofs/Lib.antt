@@ -37,5 +37,6 @@ mod NoneUnlinked
 mod LookUps
 mod Filled
 mod ExchangeCalls
+mod OfKeys
 mod Replacements
 pub mod Lemmas

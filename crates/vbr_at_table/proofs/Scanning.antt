@@ -15,7 +15,7 @@ use Rattle.vbr_at_table.specs.Pieces.{IsScanned, Scans, ScansPart}
 use Rattle.vbr_at_table.specs.Steps.{CountsSteps}
 use Rattle.vbr_at_table.specs.Taking.{IsOldest}
 use Rattle.vbr_at_table.specs.declared.budget.TheConstants.{PIECE}
-use Rattle.vbr_at_table.specs.declared.refusal.TakeRefusal.TheVariants.{OutOfSteps}
+use Rattle.vbr_at_table.specs.declared.refusal.Refusal.TheVariants.{OutOfSteps}
 use Rattle.vbr_at_table.proofs.Advancing.{did_none, none_on}
 use Rattle.vbr_at_table.proofs.Counting.{counts_one, counts_on}
 

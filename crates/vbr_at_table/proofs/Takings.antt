@@ -17,8 +17,8 @@ use Rattle.vbr_at_table.specs.Pieces.{BearsNone, Chooses, ChoosesNone, HasSlots,
 use Rattle.vbr_at_table.specs.Refusals.{LeavesPool, RefusesTake, TakeIsRefused, TellsSpent}
 use Rattle.vbr_at_table.specs.SharedPool.{CameByFlag}
 use Rattle.vbr_at_table.specs.Taking.{IsOldest, IsTaken, Takes}
-use Rattle.vbr_at_table.specs.declared.refusal.TakeRefusal.{TakeRefusal}
-use Rattle.vbr_at_table.specs.declared.refusal.TakeRefusal.TheVariants.{OutOfSteps, NoSlot, EpochSpent}
+use Rattle.vbr_at_table.specs.declared.refusal.Refusal.{Refusal}
+use Rattle.vbr_at_table.specs.declared.refusal.Refusal.TheVariants.{OutOfSteps, NoSlot, EpochSpent}
 use Rattle.vbr_at_table.proofs.Advancing.{slots_kept_on, longer, needed_after, needed_before, shared_on, shares_more}
 use Rattle.vbr_at_table.proofs.Counting.{uses_on, took_all}
 use Rattle.vbr_at_table.proofs.Gained.{alone_gained, gained_on, more_lost, none_lost}
@@ -27,20 +27,20 @@ use Rattle.vbr_at_table.proofs.Shown.{came_before}
 -- ---- no slot is won
 
 -- a refusal that says so whatever others do says so to a pass that was alone
-alone_enough : (p q : PassView) (budget : ℕ) (refusal : TakeRefusal) → NeedsMore (steps_to_take_among p.trace.start p.pool (gained p.trace q.trace)) budget refusal → IsAlone p.trace q.trace → NeedsMore (steps_to_take p.trace.start p.pool) budget refusal
+alone_enough : (p q : PassView) (budget : ℕ) (refusal : Refusal) → NeedsMore (steps_to_take_among p.trace.start p.pool (gained p.trace q.trace)) budget refusal → IsAlone p.trace q.trace → NeedsMore (steps_to_take p.trace.start p.pool) budget refusal
 alone_enough p q budget (OutOfSteps used) short alone = let none = none_lost p.pool (gained p.trace q.trace) (alone_gained p.trace q.trace alone) in omega (arith, short, none)
 alone_enough p q budget NoSlot short alone = tt
 alone_enough p q budget (EpochSpent epoch) short alone = tt
 
 -- the steps to win a slot are fewer than those of a call that takes one
-win_enough : (p : PassView) (budget gains : ℕ) (refusal : TakeRefusal) → p.pool ≡ [] → NeedsMore (steps_to_win p.trace.start + gains) budget refusal → NeedsMore (steps_to_take_among p.trace.start p.pool gains) budget refusal
+win_enough : (p : PassView) (budget gains : ℕ) (refusal : Refusal) → p.pool ≡ [] → NeedsMore (steps_to_win p.trace.start + gains) budget refusal → NeedsMore (steps_to_take_among p.trace.start p.pool gains) budget refusal
 win_enough p budget gains (OutOfSteps used) empty short =
     let P : List ℕ → Type 0 = λ pool. budget < steps_to_take_among p.trace.start pool gains + 7 in
     subst P (sym empty) (omega (arith, short))
 win_enough p budget gains NoSlot empty short = tt
 win_enough p budget gains (EpochSpent epoch) empty short = tt
 
-module _ (p q : PassView) (budget : ℕ) (told : TakeRefusal × ℕ) (first : Probes p q) (none : WinsNone p q budget told) where
+module _ (p q : PassView) (budget : ℕ) (told : Refusal × ℕ) (first : Probes p q) (none : WinsNone p q budget told) where
   pub unwon_takes : Takes p q budget
   unwon_takes = record {
     steps = record { steps = told.1; within = none.uses.within; took = took_all none.uses.counts };
@@ -135,16 +135,16 @@ module _ (p q r : PassView) (budget used : ℕ) (first : Probes p q) (begun : Ha
       omega (arith, few, more)
 
   -- no slot was chosen
-  module _ (told : TakeRefusal × ℕ) (none : ChoosesNone q r budget used told) where
+  module _ (told : Refusal × ℕ) (none : ChoosesNone q r budget used told) where
     pub unchosen_took : Took p.trace r.trace told.1
     unchosen_took = took_all (all_uses none.uses).counts
 
-    why_none : (refusal : TakeRefusal) → IsShortOrSpent r budget told.1 refusal → TakeIsRefused p r budget refusal
+    why_none : (refusal : Refusal) → IsShortOrSpent r budget told.1 refusal → TakeIsRefused p r budget refusal
     why_none (OutOfSteps n) why = subst (λ (n : ℕ). TakeIsRefused p r budget (OutOfSteps n)) (sym why.0) (record { took = unchosen_took; within = none.uses.within; short = why.1 })
     why_none NoSlot why = absurd why
     why_none (EpochSpent e) why = (why.0, record { steps = told.1; room = why.1; took = unchosen_took })
 
-    ready_none : (refusal : TakeRefusal) → IsShortOrSpent r budget told.1 refusal → p.pool ≢ [] → 80 ≤ budget → TellsSpent refusal
+    ready_none : (refusal : Refusal) → IsShortOrSpent r budget told.1 refusal → p.pool ≢ [] → 80 ≤ budget → TellsSpent refusal
     ready_none (OutOfSteps n) why some ample =
         let few = few_own some in
         let made = none.uses.at_most in
@@ -153,7 +153,7 @@ module _ (p q r : PassView) (budget used : ℕ) (first : Probes p q) (begun : Ha
     ready_none NoSlot why some ample = absurd why
     ready_none (EpochSpent e) why some ample = tt
 
-    among_none : (refusal : TakeRefusal) → IsShortOrSpent r budget told.1 refusal → NeedsMore (steps_to_take_among p.trace.start p.pool (gained p.trace r.trace)) budget refusal
+    among_none : (refusal : Refusal) → IsShortOrSpent r budget told.1 refusal → NeedsMore (steps_to_take_among p.trace.start p.pool (gained p.trace r.trace)) budget refusal
     among_none (OutOfSteps n) why =
         let most = few_later r then.quiet.seen in
         let made = none.uses.at_most in
@@ -235,7 +235,7 @@ module _ (p q r : PassView) (budget used : ℕ) (first : Probes p q) (begun : Ha
       }
 
     -- or it wasn't
-    module _ (told : TakeRefusal × ℕ) (none : BearsNone r t budget since told) where
+    module _ (told : Refusal × ℕ) (none : BearsNone r t budget since told) where
       at_end : (P : PassView → Type 0) → P r → P t
       at_end P x = subst P (sym none.same) x
 
@@ -266,31 +266,31 @@ module _ (p q r : PassView) (budget used : ℕ) (first : Probes p q) (begun : Ha
               omega (arith, lost, most, made, used, short)
 
     -- whatever came of it
-    module _ (result : Result (HandView × ℕ) (TakeRefusal × ℕ)) (ok : IfOk result (IsBorn r t slot budget since)) (none : IfErr result (BearsNone r t budget since)) where
+    module _ (result : Result (HandView × ℕ) (Refusal × ℕ)) (ok : IfOk result (IsBorn r t slot budget since)) (none : IfErr result (BearsNone r t budget since)) where
       pub ends_took : Took p.trace t.trace (told_steps result)
       ends_took = go result ok none
         where
-          go : (x : Result (HandView × ℕ) (TakeRefusal × ℕ)) → IfOk x (IsBorn r t slot budget since) → IfErr x (BearsNone r t budget since) → Took p.trace t.trace (told_steps x)
+          go : (x : Result (HandView × ℕ) (Refusal × ℕ)) → IfOk x (IsBorn r t slot budget since) → IfErr x (BearsNone r t budget since) → Took p.trace t.trace (told_steps x)
           go (Ok told) born none = born_took told born
           go (Err told) born none = unborn_took told none
 
       pub ends_takes : Takes p t budget
       ends_takes = go result ok none
         where
-          go : (x : Result (HandView × ℕ) (TakeRefusal × ℕ)) → IfOk x (IsBorn r t slot budget since) → IfErr x (BearsNone r t budget since) → Takes p t budget
+          go : (x : Result (HandView × ℕ) (Refusal × ℕ)) → IfOk x (IsBorn r t slot budget since) → IfErr x (BearsNone r t budget since) → Takes p t budget
           go (Ok told) born none = born_takes told born
           go (Err told) born none = unborn_takes told none
 
       pub ends_taken : IfOk result (λ told. IsTaken p t told.0)
       ends_taken = go result ok
         where
-          go : (x : Result (HandView × ℕ) (TakeRefusal × ℕ)) → IfOk x (IsBorn r t slot budget since) → IfOk x (λ told. IsTaken p t told.0)
+          go : (x : Result (HandView × ℕ) (Refusal × ℕ)) → IfOk x (IsBorn r t slot budget since) → IfOk x (λ told. IsTaken p t told.0)
           go (Ok told) born = born_taken told born
           go (Err told) born = tt
 
       pub ends_refused : IfErr result (λ told. RefusesTake p t budget told.0)
       ends_refused = go result none
         where
-          go : (x : Result (HandView × ℕ) (TakeRefusal × ℕ)) → IfErr x (BearsNone r t budget since) → IfErr x (λ told. RefusesTake p t budget told.0)
+          go : (x : Result (HandView × ℕ) (Refusal × ℕ)) → IfErr x (BearsNone r t budget since) → IfErr x (λ told. RefusesTake p t budget told.0)
           go (Ok told) none = tt
           go (Err told) none = unborn_refused told none

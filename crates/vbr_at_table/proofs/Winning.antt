@@ -18,7 +18,7 @@ use Rattle.vbr_at_table.specs.Pieces.{HasSlots, Probes, WinsNone}
 use Rattle.vbr_at_table.specs.SharedPool.{WasOutside, ComesBefore, CameByFlag}
 use Rattle.vbr_at_table.specs.Steps.{CountsSteps}
 use Rattle.vbr_at_table.specs.declared.budget.TheConstants.{PIECE}
-use Rattle.vbr_at_table.specs.declared.refusal.TakeRefusal.TheVariants.{OutOfSteps, NoSlot}
+use Rattle.vbr_at_table.specs.declared.refusal.Refusal.TheVariants.{OutOfSteps, NoSlot}
 use Rattle.vbr_at_table.proofs.Gained.{gained_on, gained_same}
 use Rattle.vbr_at_table.proofs.Probing.{Probed, probed_lost, probed_next, probed_few}
 use Rattle.vbr_at_table.proofs.InTurn.{did_turn}

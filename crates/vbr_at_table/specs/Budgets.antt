@@ -3,8 +3,8 @@ use Rattle.std.specs.Prelude.{ℕ, ◌+◌, ◌<◌, max, List, [], ◌∷◌}
 use Rattle.vbr_machine.specs.Start.{Start}
 use Rattle.vbr_words.specs.Flags.{flag_words}
 use Rattle.vbr_slots.specs.declared.pass.TheConstants.{POOL}
-use Rattle.vbr_at_table.specs.declared.refusal.TakeRefusal.{TakeRefusal}
-use Rattle.vbr_at_table.specs.declared.refusal.TakeRefusal.TheVariants.{OutOfSteps, NoSlot, EpochSpent}
+use Rattle.vbr_at_table.specs.declared.refusal.Refusal.{Refusal}
+use Rattle.vbr_at_table.specs.declared.refusal.Refusal.TheVariants.{OutOfSteps, NoSlot, EpochSpent}
 
 -- out of the shared pool into an empty own pool: a probe for each flag word, and one more where a word showed that another flag of it is set
 abbrev pub steps_to_win : Start → ℕ
@@ -34,7 +34,7 @@ abbrev pub most_to_take_among : Start → List ℕ → ℕ → ℕ
 most_to_take_among start pool gains = most_to_take start pool + probes_lost pool gains
 
 -- a refusal for want of steps comes of a budget that has no room for so many steps: before each piece it must have room for eight, the most that a piece has
-abbrev pub NeedsMore : ℕ → ℕ → TakeRefusal → Type 0
+abbrev pub NeedsMore : ℕ → ℕ → Refusal → Type 0
 NeedsMore steps budget (OutOfSteps used) = budget < steps + 7
 NeedsMore steps budget NoSlot = Unit {0}
 NeedsMore steps budget (EpochSpent epoch) = Unit {0}

@@ -15,8 +15,8 @@ use Rattle.vbr_at_table.specs.SharedPool.{CameByFlag}
 use Rattle.vbr_at_table.specs.Steps.{CountsSteps}
 use Rattle.vbr_at_table.specs.Taking.{Births, IsOldest}
 use Rattle.vbr_at_table.specs.declared.budget.TheConstants.{PIECE}
-use Rattle.vbr_at_table.specs.declared.refusal.TakeRefusal.{TakeRefusal}
-use Rattle.vbr_at_table.specs.declared.refusal.TakeRefusal.TheVariants.{OutOfSteps, NoSlot, EpochSpent}
+use Rattle.vbr_at_table.specs.declared.refusal.Refusal.{Refusal}
+use Rattle.vbr_at_table.specs.declared.refusal.Refusal.TheVariants.{OutOfSteps, NoSlot, EpochSpent}
 
 -- ---- steps
 
@@ -32,7 +32,7 @@ told_steps (Ok told) = told.1
 told_steps (Err told) = told.1
 
 -- a piece was refused, since the steps that were used leave no room in the budget for one more
-pub record FallsShort (p q : PassView) (budget before most : ℕ) (told : TakeRefusal × ℕ) : Type 0 where
+pub record FallsShort (p q : PassView) (budget before most : ℕ) (told : Refusal × ℕ) : Type 0 where
   pub uses : Uses p q budget before told.1 most
   pub why : told.0 ≡ OutOfSteps told.1
   pub short : budget < told.1 + PIECE
@@ -59,7 +59,7 @@ pub record HasSlots (p q : PassView) (budget used : ℕ) : Type 0 where
   pub few : p.pool ≡ [] → used ≤ steps_to_win p.trace.start + gained p.trace q.trace
 
 -- the own pool was empty, and no slot was won, for what the refusal says
-pub record WinsNone (p q : PassView) (budget : ℕ) (told : TakeRefusal × ℕ) : Type 0 where
+pub record WinsNone (p q : PassView) (budget : ℕ) (told : Refusal × ℕ) : Type 0 where
   pub uses : Uses p q budget 0 told.1 budget
   pub empty : p.pool ≡ []
   pub pool : KeepsPool p q
@@ -88,7 +88,7 @@ pub record IsScanned (p q : PassView) (epoch budget before : ℕ) (told : Option
   pub below : IsStampedBelow q epoch told.0
 
 -- it was looked through in part, and the budget has no room for more
-abbrev pub ScansPart : PassView → PassView → ℕ → ℕ → TakeRefusal × ℕ → Type 0
+abbrev pub ScansPart : PassView → PassView → ℕ → ℕ → Refusal × ℕ → Type 0
 ScansPart p q budget before told = FallsShort p q budget before (length p.pool) told
 
 -- a slot was to be chosen: no call was made, the pool and the hand stay, no slot was lost or put into the shared pool, and the epoch was advanced only where it had to be
@@ -105,13 +105,13 @@ pub record IsChosen (p q : PassView) (budget before : ℕ) (told : ℕ × ℕ) :
   pub below : IsStampedBelow q (knows q.trace).epoch (Some told.0)
 
 -- a refusal says that the budget has no room for one more piece; or that the epoch is spent, where it had room
-abbrev pub IsShortOrSpent : PassView → ℕ → ℕ → TakeRefusal → Type 0
+abbrev pub IsShortOrSpent : PassView → ℕ → ℕ → Refusal → Type 0
 IsShortOrSpent q budget since (OutOfSteps used) = (used ≡ since) × (budget < since + PIECE)
 IsShortOrSpent q budget since NoSlot = ⊥
 IsShortOrSpent q budget since (EpochSpent epoch) = IsSpent q epoch × (since + PIECE ≤ budget)
 
 -- no slot was chosen, for what the refusal says
-pub record ChoosesNone (p q : PassView) (budget before : ℕ) (told : TakeRefusal × ℕ) : Type 0 where
+pub record ChoosesNone (p q : PassView) (budget before : ℕ) (told : Refusal × ℕ) : Type 0 where
   pub uses : Uses p q budget before told.1 (length p.pool + 1)
   pub why : IsShortOrSpent q budget told.1 told.0
 
@@ -135,6 +135,6 @@ pub record IsBorn (p q : PassView) (chosen budget before : ℕ) (told : HandView
   pub leaves : TakesOne p q
 
 -- no incarnation was born: no step was made
-pub record BearsNone (p q : PassView) (budget before : ℕ) (told : TakeRefusal × ℕ) : Type 0 where
+pub record BearsNone (p q : PassView) (budget before : ℕ) (told : Refusal × ℕ) : Type 0 where
   pub same : q ≡ p
   pub short : FallsShort p q budget before 0 told

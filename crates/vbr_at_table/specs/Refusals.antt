@@ -8,8 +8,8 @@ use Rattle.vbr_at_table.specs.Budgets.{NeedsMore, steps_to_take, steps_to_take_a
 use Rattle.vbr_at_table.specs.Gained.{gained}
 use Rattle.vbr_at_table.specs.SharedPool.{WasOutside, CameByFlag}
 use Rattle.vbr_at_table.specs.declared.budget.TheConstants.{PIECE}
-use Rattle.vbr_at_table.specs.declared.refusal.TakeRefusal.{TakeRefusal}
-use Rattle.vbr_at_table.specs.declared.refusal.TakeRefusal.TheVariants.{OutOfSteps, NoSlot, EpochSpent}
+use Rattle.vbr_at_table.specs.declared.refusal.Refusal.{Refusal}
+use Rattle.vbr_at_table.specs.declared.refusal.Refusal.TheVariants.{OutOfSteps, NoSlot, EpochSpent}
 
 -- the own pool was empty and is, and each slot was outside the shared pool at some moment of the call
 pub record HasNoSlot (p q : PassView) : Type 0 where
@@ -41,7 +41,7 @@ pub record IsOutOfSteps (p q : PassView) (budget used : ℕ) : Type 0 where
   pub short : budget < used + PIECE
 
 -- what a refusal says of a call; that the epoch is spent is told only where the budget had room for the piece that would advance it
-abbrev pub TakeIsRefused : PassView → PassView → ℕ → TakeRefusal → Type 0
+abbrev pub TakeIsRefused : PassView → PassView → ℕ → Refusal → Type 0
 TakeIsRefused p q budget (OutOfSteps used) = IsOutOfSteps p q budget used
 TakeIsRefused p q budget NoSlot = HasNoSlot p q
 TakeIsRefused p q budget (EpochSpent epoch) = IsSpent q epoch × LeavesRoom p q budget
@@ -52,12 +52,12 @@ LeavesPool p q = (q.pool ≡ p.pool)
     ⊎ ((p.pool ≡ []) × (slot : ℕ) × (q.pool ≡ slot ∷ []) × CameByFlag p.trace q.trace slot)
 
 -- a refusal tells that the epoch is spent
-abbrev pub TellsSpent : TakeRefusal → Type 0
+abbrev pub TellsSpent : Refusal → Type 0
 TellsSpent (EpochSpent epoch) = Unit {0}
 TellsSpent _ = ⊥
 
 -- no slot was taken, for what the refusal says, and none is in hand; with a slot in the own pool and a budget of 80 it says that the epoch is spent, and to a pass that was alone it says so of a budget that has no room for the steps that it takes, as to any other, but for one more for each slot that others took out of the shared pool, where its own was empty
-pub record RefusesTake (p q : PassView) (budget : ℕ) (refusal : TakeRefusal) : Type 0 where
+pub record RefusesTake (p q : PassView) (budget : ℕ) (refusal : Refusal) : Type 0 where
   pub why : TakeIsRefused p q budget refusal
   pub pool : LeavesPool p q
   pub hand : q.hand ≡ None

@@ -3,8 +3,8 @@ ghost use Rattle.std.specs.Prelude.{◌≢◌, OnOk, IfErr};
 ghost use Rattle.vbr_machine.specs.declared.history.Op.TheVariants.{Insert, Remove};
 ghost use Rattle.vbr_slots.specs.AtTables.{IsSameTable, trace_of, pass_of};
 ghost use Rattle.vbr_slots.specs.Views.{knows};
-ghost use Rattle.vbr_at_table.specs.Answering.{AnswersAbsent, AnswersLookUp, AnswersPresent};
-ghost use Rattle.vbr_at_table.specs.Answering.{FindsAnother, IsAbsent, IsOther, IsPresent};
+ghost use Rattle.vbr_at_table.specs.Answering.{AnswersAbsent, AnswersLookUp};
+ghost use Rattle.vbr_at_table.specs.Answering.{FindsAnother, IsAbsent, IsPresent};
 ghost use Rattle.vbr_at_table.specs.Answering.{KeepsByLoad};
 ghost use Rattle.vbr_at_table.specs.Exchanges.{IsUnmarked};
 ghost use Rattle.vbr_at_table.specs.LookUps.{TellsKey};
@@ -16,25 +16,12 @@ use vbr_machine::Op;
 use vbr_slots::AtTable;
 use vbr_words::{At, Nodes};
 
-/// Answers, in one step, that the key of a node is present: a look-up with yes, an insert with no.
-/// It does so only where the node's link is still the unmarked one that is held. Else it answers
-/// LostExchange: no call was made, and what the pass knew it knows.
+/// Answers, in one step, that the key of a node is present: a look-up with yes, an insert with no, and
+/// a get, where nodes have values and the one of this node was checked, with its value. It does so only
+/// where the node's link is still the unmarked one that is held. Else it answers LostExchange: no call
+/// was made, and what the pass knew it knows.
 #[inline]
-pub fn confirm_present(at: &mut AtTable<'_>, op: Op, held: &Held) -> Result<(), Rollback>
-    requires node { IsPresent (knows (trace_of at.old)) held.now }
-    requires op { IsOther Remove op }
-    ensures table { IsSameTable at.old at.new }
-    ensures keeps { KeepsByLoad (pass_of at.old) (pass_of at.new) }
-    ensures answers { OnOk result (AnswersPresent (trace_of at.old) (trace_of at.new) op held.now) }
-    ensures lost { IfErr result (FindsAnother (trace_of at.old) (trace_of at.new) held.now) }
-{
-    confirm_present_entry(at, op, held)
-}
-
-/// As [`confirm_present`], at a table of either kind, and for a get too: where nodes have values and
-/// the one of this node was checked, a get gives it.
-#[inline]
-pub fn confirm_present_entry<N: Nodes>(
+pub fn confirm_present<N: Nodes>(
     at: &mut AtTable<'_, N>,
     op: Op,
     held: &Held,
@@ -57,25 +44,13 @@ pub fn confirm_present_entry<N: Nodes>(
     }
 }
 
-/// Answers, in one step, that a key is absent: a look-up or a remove with no. It would stand behind
-/// `pred` and before what its link names, or what marked nodes lead to from there. It does so only
-/// where that link is still the unmarked one that is held: then all nodes between are still marked.
-/// Else it answers LostExchange: no call was made, and what the pass knew it knows.
+/// Answers, in one step, that a key is absent: a look-up or a remove with no, and a get with no, where
+/// nodes have values. The key would stand behind `pred` and before what its link names, or what marked
+/// nodes lead to from there. It does so only where that link is still the unmarked one that is held:
+/// then all nodes between are still marked. Else it answers LostExchange: no call was made, and what the
+/// pass knew it knows.
 #[inline]
-pub fn confirm_absent(at: &mut AtTable<'_>, op: Op, key: u64, pred: &Held) -> Result<(), Rollback>
-    requires gap { IsAbsent (trace_of at.old).start (knows (trace_of at.old)) key pred.now }
-    requires op { IsOther Insert op }
-    ensures table { IsSameTable at.old at.new }
-    ensures keeps { KeepsByLoad (pass_of at.old) (pass_of at.new) }
-    ensures answers { OnOk result (AnswersAbsent (trace_of at.old) (trace_of at.new) op key) }
-    ensures lost { IfErr result (FindsAnother (trace_of at.old) (trace_of at.new) pred.now) }
-{
-    confirm_absent_entry(at, op, key, pred)
-}
-
-/// As [`confirm_absent`], at a table of either kind: where nodes have values, a get is answered too.
-#[inline]
-pub fn confirm_absent_entry<N: Nodes>(
+pub fn confirm_absent<N: Nodes>(
     at: &mut AtTable<'_, N>,
     op: Op,
     key: u64,

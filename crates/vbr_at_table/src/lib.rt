@@ -33,19 +33,17 @@ pub mod unlinked;
 pub mod unlinking;
 pub mod updating;
 
-pub use confirming::{
-    confirm_absent, confirm_absent_entry, confirm_look_up, confirm_present, confirm_present_entry,
-};
+pub use confirming::{confirm_absent, confirm_look_up, confirm_present};
 pub use giving_back::give_back;
 pub use hand::Hand;
 pub use held::{Checkpoint, Held, Marked};
-pub use marking::{mark, mark_entry};
+pub use marking::mark;
 pub use reading::{checkpoint, first, key_of, next, value_of};
-pub use refusal::TakeRefusal;
-pub use replacing::{birth_after, replace_entry};
+pub use refusal::Refusal;
+pub use replacing::{birth_after, replace};
 pub use retiring::retire;
 pub use rollback::Rollback;
 pub use taking::take;
 pub use unlinked::Unlinked;
 pub use unlinking::{steps_to_unlink, unlink};
-pub use updating::{update, update_entry};
+pub use updating::update;

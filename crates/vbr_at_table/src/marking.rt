@@ -3,7 +3,7 @@ ghost use Rattle.std.specs.Prelude.{IfOk, IfErr};
 ghost use Rattle.vbr_slots.specs.AtTables.{IsSameTable, trace_of, pass_of};
 ghost use Rattle.vbr_slots.specs.Views.{knows};
 ghost use Rattle.vbr_at_table.specs.Answering.{KeepsIn, IsPresent};
-ghost use Rattle.vbr_at_table.specs.Exchanges.{RemovesKey, LosesExchange};
+ghost use Rattle.vbr_at_table.specs.Exchanges.{LosesExchange};
 ghost use Rattle.vbr_at_table.specs.Values.{IsValued, RemovesEntry};
 
 use crate::held::{Held, Marked};
@@ -11,25 +11,11 @@ use crate::rollback::Rollback;
 use vbr_slots::AtTable;
 use vbr_words::{At, Nodes, with_mark};
 
-/// Marks a node, in one step: the pass has removed its key. It does so only where the node's link
-/// is still the unmarked one that is held. Else it answers LostExchange: no call was made, and what
-/// the pass knew it knows.
+/// Marks a node, in one step: the pass has removed its key. Where nodes have values, the one of this
+/// node was checked, and the call gives it. It does so only where the node's link is still the unmarked
+/// one that is held. Else it answers LostExchange: no call was made, and what the pass knew it knows.
 #[inline]
-pub fn mark(at: &mut AtTable<'_>, held: &Held) -> Result<Marked, Rollback>
-    requires node { IsPresent (knows (trace_of at.old)) held.now }
-    ensures table { IsSameTable at.old at.new }
-    ensures keeps { KeepsIn (pass_of at.old) (pass_of at.new) 1 }
-    ensures removed { IfOk result (RemovesKey (trace_of at.old) (trace_of at.new) held.now) }
-    ensures lost { IfErr result (LosesExchange (trace_of at.old) (trace_of at.new) held.now) }
-{
-    at.slots.kind();
-    mark_entry(at, held)
-}
-
-/// As [`mark`], at a table of either kind: where nodes have values, the one of this node was checked,
-/// and the call gives it.
-#[inline]
-pub fn mark_entry<N: Nodes>(at: &mut AtTable<'_, N>, held: &Held) -> Result<Marked, Rollback>
+pub fn mark<N: Nodes>(at: &mut AtTable<'_, N>, held: &Held) -> Result<Marked, Rollback>
     requires node { IsPresent (knows (trace_of at.old)) held.now }
     requires valued { IsValued (trace_of at.old) held.now.at }
     ensures table { IsSameTable at.old at.new }

@@ -47,7 +47,7 @@ pub fn birth_after<N: Nodes>(at: &mut AtTable<'_, N>, held: &Held) -> Result<u64
 /// unmarked one that is held. Then the node is marked, and its link names the slot that was in
 /// hand. Else the hand comes back with LostExchange: no call was made.
 #[inline]
-pub fn replace_entry<N: Nodes>(
+pub fn replace<N: Nodes>(
     at: &mut AtTable<'_, N>,
     held: &Held,
     next_birth: u64,

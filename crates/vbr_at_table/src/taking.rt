@@ -13,7 +13,7 @@ ghost use Rattle.vbr_at_table.specs.Taking.{IsTaken, Takes};
 
 use crate::budget::affords;
 use crate::hand::Hand;
-use crate::refusal::TakeRefusal;
+use crate::refusal::Refusal;
 use vbr_slots::AtTable;
 use vbr_words::Nodes;
 use vbr_words::flags::{FLAGS, next_flag};
@@ -34,7 +34,7 @@ use vbr_words::flags::{FLAGS, next_flag};
 /// out of the shared pool meanwhile.
 ///
 /// It tells how many steps it made.
-pub fn take<N: Nodes>(at: &mut AtTable<'_, N>, budget: u32) -> (Result<Hand, TakeRefusal>, u32)
+pub fn take<N: Nodes>(at: &mut AtTable<'_, N>, budget: u32) -> (Result<Hand, Refusal>, u32)
     requires empty_hand { (pass_of at.old).hand ≡ None }
     ensures table { IsSameTable at.old at.new }
     ensures took { Took (trace_of at.old) (trace_of at.new) result.1 }
@@ -49,10 +49,7 @@ pub fn take<N: Nodes>(at: &mut AtTable<'_, N>, budget: u32) -> (Result<Hand, Tak
 }
 
 // Takes a slot piece by piece. Returns the hand, or why there is none, each with how many steps were made.
-fn take_on<N: Nodes>(
-    at: &mut AtTable<'_, N>,
-    budget: u32,
-) -> Result<(Hand, u32), (TakeRefusal, u32)>
+fn take_on<N: Nodes>(at: &mut AtTable<'_, N>, budget: u32) -> Result<(Hand, u32), (Refusal, u32)>
     requires empty_hand { (pass_of at.old).hand ≡ None }
     ensures table { IsSameTable at.old at.new }
     ensures took { Took (trace_of at.old) (trace_of at.new) (told_steps result) }
@@ -69,7 +66,7 @@ fn take_on<N: Nodes>(
 // round the flag words, and begins with that of the slot that the pass tried last. It probes the first
 // slot of each, and then the lowest whose flag it found there, until the word has none. Returns how many
 // steps were used.
-fn win_slot<N: Nodes>(at: &mut AtTable<'_, N>, budget: u32) -> Result<u32, (TakeRefusal, u32)>
+fn win_slot<N: Nodes>(at: &mut AtTable<'_, N>, budget: u32) -> Result<u32, (Refusal, u32)>
     requires empty_hand { (pass_of at.old).hand ≡ None }
     ensures table { IsSameTable at.old at.new }
     ensures probes { Probes (pass_of at.old) (pass_of at.new) }
@@ -87,7 +84,7 @@ fn win_slot<N: Nodes>(at: &mut AtTable<'_, N>, budget: u32) -> Result<u32, (Take
     let mut end = at.slots.shape().slots();
     while slot < end {
         if !affords(budget, probes) {
-            return Err((TakeRefusal::OutOfSteps { used: probes }, probes));
+            return Err((Refusal::OutOfSteps { used: probes }, probes));
         }
         probes += 1;
         match at.take_flag(slot) {
@@ -105,7 +102,7 @@ fn win_slot<N: Nodes>(at: &mut AtTable<'_, N>, budget: u32) -> Result<u32, (Take
             }
         }
     }
-    Err((TakeRefusal::NoSlot, probes))
+    Err((Refusal::NoSlot, probes))
 }
 
 // Reads the epoch and chooses the oldest slot of the own pool that is stamped below it. If there is none,
@@ -115,7 +112,7 @@ fn choose<N: Nodes>(
     at: &mut AtTable<'_, N>,
     budget: u32,
     used: u32,
-) -> Result<(u32, u32), (TakeRefusal, u32)>
+) -> Result<(u32, u32), (Refusal, u32)>
     requires some { (pass_of at.old).pool ≢ [] }
     requires empty_hand { (pass_of at.old).hand ≡ None }
     requires within { used ≤ budget }
@@ -125,7 +122,7 @@ fn choose<N: Nodes>(
     ensures none { IfErr result (ChoosesNone (pass_of at.old) (pass_of at.new) budget used) }
 {
     if !affords(budget, used) {
-        return Err((TakeRefusal::OutOfSteps { used }, used));
+        return Err((Refusal::OutOfSteps { used }, used));
     }
     let epoch = at.read_epoch();
     let (found, used) = scan(at, epoch, budget, used + 1)?;
@@ -134,10 +131,10 @@ fn choose<N: Nodes>(
         return Ok((slot, used));
     }
     if !affords(budget, used) {
-        return Err((TakeRefusal::OutOfSteps { used }, used));
+        return Err((Refusal::OutOfSteps { used }, used));
     }
     if epoch == at.slots.shape().last_epoch() {
-        return Err((TakeRefusal::EpochSpent { epoch }, used));
+        return Err((Refusal::EpochSpent { epoch }, used));
     }
     at.advance(epoch);
     at.read_epoch();
@@ -151,7 +148,7 @@ fn scan<N: Nodes>(
     epoch: u64,
     budget: u32,
     mut used: u32,
-) -> Result<(Option<u32>, u32), (TakeRefusal, u32)>
+) -> Result<(Option<u32>, u32), (Refusal, u32)>
     requires within { used ≤ budget }
     ensures table { IsSameTable at.old at.new }
     ensures scans { Scans (pass_of at.old) (pass_of at.new) }
@@ -160,7 +157,7 @@ fn scan<N: Nodes>(
 {
     for i in 0..at.pool().len() {
         if !affords(budget, used) {
-            return Err((TakeRefusal::OutOfSteps { used }, used));
+            return Err((Refusal::OutOfSteps { used }, used));
         }
         let slot = at.pool()[i];
         let stamp = at.load_stamp(slot);
@@ -179,7 +176,7 @@ fn bear<N: Nodes>(
     slot: u32,
     budget: u32,
     used: u32,
-) -> Result<(Hand, u32), (TakeRefusal, u32)>
+) -> Result<(Hand, u32), (Refusal, u32)>
     requires within { used ≤ budget }
     requires below { IsStampedBelow (pass_of at.old) (knows (trace_of at.old)).epoch (Some slot) }
     requires empty_hand { (pass_of at.old).hand ≡ None }
@@ -188,7 +185,7 @@ fn bear<N: Nodes>(
     ensures none { IfErr result (BearsNone (pass_of at.old) (pass_of at.new) budget used) }
 {
     if !affords(budget, used) {
-        return Err((TakeRefusal::OutOfSteps { used }, used));
+        return Err((Refusal::OutOfSteps { used }, used));
     }
     // What is known of the slots of the pool is told with it.
     let _pool = at.pool();

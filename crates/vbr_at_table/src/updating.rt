@@ -5,7 +5,7 @@ ghost use Rattle.vbr_machine.specs.Membership.{BirthNamed};
 ghost use Rattle.vbr_slots.specs.AtTables.{IsSameTable, trace_of, pass_of};
 ghost use Rattle.vbr_slots.specs.Views.{knows};
 ghost use Rattle.vbr_at_table.specs.Hands.{IsHandOf};
-ghost use Rattle.vbr_at_table.specs.Exchanges.{StoresIn, IsGap, GivesBack, InsertsKey};
+ghost use Rattle.vbr_at_table.specs.Exchanges.{StoresIn, IsGap, GivesBack};
 ghost use Rattle.vbr_at_table.specs.Held.{IsHeld, IsSucc};
 ghost use Rattle.vbr_at_table.specs.Values.{FillsEntry, InsertsEntry, PutsValue};
 ghost use Rattle.vbr_at_table.specs.Values.{steps_to_update, steps_to_value};
@@ -74,34 +74,13 @@ pub(crate) fn fill<N: Nodes>(
     at.store_link(slot, link);
 }
 
-/// Links the slot in hand with this key between `pred` and `succ`, in three steps: the pass has
-/// inserted the key. `succ` is the node that the link of `pred` names, if it names one. It does so
-/// only where the link of `pred` is still the unmarked one that is held. Else the hand comes back
-/// with LostExchange: no call was made, and what the pass knew it knows.
+/// Links the slot in hand with this key between `pred` and `succ`: the pass has inserted the key. It
+/// takes three steps, and a fourth where nodes have values, for this value. `succ` is the node that the
+/// link of `pred` names, if it names one. It does so only where the link of `pred` is still the unmarked
+/// one that is held. Else the hand comes back with LostExchange: no call was made, and what the pass
+/// knew it knows.
 #[inline]
-pub fn update(
-    at: &mut AtTable<'_>,
-    pred: &Held,
-    succ: Option<&Held>,
-    key: u64,
-    hand: Hand,
-) -> Result<(), (Hand, Rollback)>
-    requires gap { IsGap (trace_of at.old) key pred.now }
-    requires succ { IsSucc (knows (trace_of at.old)) pred.now succ }
-    requires hand { IsHandOf (pass_of at.old) hand }
-    ensures table { IsSameTable at.old at.new }
-    ensures stores { StoresIn (pass_of at.old) (pass_of at.new) 3 }
-    ensures inserted { IfOk result (λ _. InsertsKey (pass_of at.old) (pass_of at.new) key) }
-    ensures lost { IfErr result (GivesBack (pass_of at.old) (pass_of at.new) pred.now hand) }
-{
-    at.slots.kind();
-    update_entry(at, pred, succ, key, 0, hand)
-}
-
-/// As [`update`], at a table of either kind: where nodes have values, the node gets this one, in a
-/// fourth step.
-#[inline]
-pub fn update_entry<N: Nodes>(
+pub fn update<N: Nodes>(
     at: &mut AtTable<'_, N>,
     pred: &Held,
     succ: Option<&Held>,

@@ -1,7 +1,7 @@
 -- What a call through a handle tells.
 use Rattle.std.specs.Prelude.{◌≡◌, ℕ, ℤ, Bool, Option, None, Some, Result}
 use Rattle.vbr_machine.specs.declared.history.Op.{Op}
-use Rattle.vbr_list.specs.declared.refusal.Refusal.{Refusal}
+use Rattle.vbr_at_table.specs.declared.refusal.Refusal.{Refusal}
 use Rattle.vbr_set.specs.MapCalls.{InsertsEntry}
 use Rattle.vbr_set.specs.Members.{Called}
 use Rattle.vbr_set.specs.Members.{MemberView as Member}

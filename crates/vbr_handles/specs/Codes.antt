@@ -1,7 +1,7 @@
 -- The number of each answer: 1 is yes, 0 is no or done, and each refusal has a number below 0.
 use Rattle.std.specs.Prelude.{ℤ, pos, negsuc, Bool, true, false, Option, None, Some, Result, Ok, Err}
-use Rattle.vbr_list.specs.declared.refusal.Refusal.{Refusal}
-use Rattle.vbr_list.specs.declared.refusal.Refusal.TheVariants.{OutOfSteps, NoSlot, EpochSpent}
+use Rattle.vbr_at_table.specs.declared.refusal.Refusal.{Refusal}
+use Rattle.vbr_at_table.specs.declared.refusal.Refusal.TheVariants.{OutOfSteps, NoSlot, EpochSpent}
 use Rattle.vbr_handles.specs.declared.closing.CloseRefusal.{CloseRefusal}
 use Rattle.vbr_handles.specs.declared.closing.CloseRefusal.TheVariants as closing
 use Rattle.vbr_handles.specs.declared.closing_all.CloseAllRefusal.{CloseAllRefusal}

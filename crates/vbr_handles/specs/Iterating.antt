@@ -1,7 +1,7 @@
 -- What a call of an iteration tells through a handle.
 use Rattle.std.specs.Prelude.{◌≡◌, ℕ, ℤ, Option, Result, IfNone}
 use Rattle.vbr_list.specs.declared.cursor.Cursor.{Cursor}
-use Rattle.vbr_list.specs.declared.refusal.Refusal.{Refusal}
+use Rattle.vbr_at_table.specs.declared.refusal.Refusal.{Refusal}
 use Rattle.vbr_set.specs.Iterating.{CallsNext, CallsNextEntry}
 use Rattle.vbr_set.specs.Members.{MemberView as Member}
 use Rattle.vbr_handles.specs.ValueCalls.{GivesBy}

@@ -16,7 +16,7 @@ use Rattle.vbr_list.specs.Pieces.{Goes, Observes}
 use Rattle.vbr_list.specs.Seeking.{Sought}
 use Rattle.vbr_list.specs.declared.cursor.Cursor.{Cursor}
 use Rattle.vbr_list.specs.declared.seeking.NextNode.{NextNode}
-use Rattle.vbr_list.specs.declared.refusal.Refusal.TheVariants.{OutOfSteps}
+use Rattle.vbr_at_table.specs.declared.refusal.Refusal.TheVariants.{OutOfSteps}
 use Rattle.vbr_list.proofs.Cursors.{entry_since, passes_bucket, passes_key, passes_last, passes_on, passes_still}
 use Rattle.vbr_list.proofs.Going.{goes_on, goes_refl, within_of}
 use Rattle.vbr_list.proofs.Nearing.{first_of, then_of}

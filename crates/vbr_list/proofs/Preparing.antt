@@ -19,8 +19,8 @@ use Rattle.vbr_at_table.specs.Moments.{WasSo}
 use Rattle.vbr_list.specs.Inserting.{CountsWithin, InsertIsShort, InsertShowsSpent, Prepares, RefusesInsert, TakesNone}
 use Rattle.vbr_list.specs.Pieces.{GoesOn, HasRoom, IsSameCall, pass_in, trace_in}
 use Rattle.vbr_list.specs.Refusals.{IsRefusedInsert}
-use Rattle.vbr_list.specs.declared.refusal.Refusal.{Refusal}
-use Rattle.vbr_list.specs.declared.refusal.Refusal.TheVariants.{OutOfSteps, NoSlot, EpochSpent}
+use Rattle.vbr_at_table.specs.declared.refusal.Refusal.{Refusal}
+use Rattle.vbr_at_table.specs.declared.refusal.Refusal.TheVariants.{OutOfSteps, NoSlot, EpochSpent}
 use Rattle.vbr_list.specs.declared.call.PendingCall.{PendingCall}
 use Rattle.vbr_list.proofs.Going.{call_on, counts_step, within_call}
 use Rattle.vbr_list.proofs.Moments.{so_before}

@@ -26,7 +26,7 @@ use Rattle.vbr_list.specs.Leaving.{LeavesReplaced}
 use Rattle.vbr_list.specs.Pieces.{pass_in, trace_in}
 use Rattle.vbr_list.specs.Replacing.{AnswersLate, AnswersPaid, AnswersSoon, CallsReplace, HasUnspent, ReplaceAnswers, ReplacesNone, SearchesWith}
 use Rattle.vbr_list.specs.declared.call.PendingCall.{PendingCall}
-use Rattle.vbr_list.specs.declared.refusal.Refusal.{Refusal}
+use Rattle.vbr_at_table.specs.declared.refusal.Refusal.{Refusal}
 use Rattle.vbr_list.proofs.Disturbing.{alone_undisturbed, run_at}
 use Rattle.vbr_list.proofs.Going.{room_left}
 use Rattle.vbr_list.proofs.Preparing.{made_since, within_all, within_most, within_on}

@@ -24,8 +24,8 @@ use Rattle.vbr_at_table.specs.Hands.{HandView}
 use Rattle.vbr_list.specs.Pieces.{KeepsHand}
 use Rattle.vbr_list.specs.Replacing.{HasUnspent, IsRefusedReplace, SearchesWith, WasPresentFor}
 use Rattle.vbr_list.specs.Walking.{MovesOn, WalksAgain, met_since}
-use Rattle.vbr_list.specs.declared.refusal.Refusal.{Refusal}
-use Rattle.vbr_list.specs.declared.refusal.Refusal.TheVariants.{OutOfSteps, NoSlot, EpochSpent}
+use Rattle.vbr_at_table.specs.declared.refusal.Refusal.{Refusal}
+use Rattle.vbr_at_table.specs.declared.refusal.Refusal.TheVariants.{OutOfSteps, NoSlot, EpochSpent}
 use Rattle.vbr_list.proofs.Disturbing.{alone_undisturbed, disturbed_same, met_before, met_less, met_quiet}
 use Rattle.vbr_list.proofs.Sufficing.{lacks_more, slot_alone}
 use Rattle.vbr_list.proofs.Walking.{HasRepeated, once_paid, searched_first, vain_lacks}

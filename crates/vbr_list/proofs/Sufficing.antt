@@ -19,8 +19,8 @@ use Rattle.vbr_list.specs.Budgets.{IsAnsweredOrSpent, LacksSteps, enough_past, e
 use Rattle.vbr_list.specs.Disturbed.{disturbed, enough_to_insert_among, insert_costs_among, steps_for_slot}
 use Rattle.vbr_list.specs.Inserting.{InsertIsShort, RefusesInsert}
 use Rattle.vbr_list.proofs.Disturbing.{alone_undisturbed}
-use Rattle.vbr_list.specs.declared.refusal.Refusal.{Refusal}
-use Rattle.vbr_list.specs.declared.refusal.Refusal.TheVariants.{OutOfSteps, NoSlot, EpochSpent}
+use Rattle.vbr_at_table.specs.declared.refusal.Refusal.{Refusal}
+use Rattle.vbr_at_table.specs.declared.refusal.Refusal.TheVariants.{OutOfSteps, NoSlot, EpochSpent}
 
 -- a pass that was alone and made no call has no more nodes in the list of a key's bucket
 pub no_more_listed : (p : PassView) → PassLaw p → (q : Trace) (key : ℕ) → Quiet p.trace q → IsAlone p.trace q → listed_for q key ≤ listed_for p.trace key

@@ -15,8 +15,8 @@ use Rattle.vbr_list.specs.Pieces.{Goes, Observes, Tries}
 use Rattle.vbr_list.specs.Refusals.{IsTired}
 use Rattle.vbr_list.specs.Sparing.{CallsAs, SparesLookUp}
 use Rattle.vbr_list.specs.Walking.{Repeats, WalksAgain}
-use Rattle.vbr_list.specs.declared.refusal.Refusal.{Refusal}
-use Rattle.vbr_list.specs.declared.refusal.Refusal.TheVariants.{OutOfSteps}
+use Rattle.vbr_at_table.specs.declared.refusal.Refusal.{Refusal}
+use Rattle.vbr_at_table.specs.declared.refusal.Refusal.TheVariants.{OutOfSteps}
 use Rattle.vbr_list.proofs.Disturbing.{alone_undisturbed, own_at, run_at}
 use Rattle.vbr_list.proofs.Going.{goes_on, within_of}
 use Rattle.vbr_list.proofs.Observing.{observes_on}

@@ -15,7 +15,7 @@ use Rattle.vbr_list.specs.Alone.{AnswersAlone}
 use Rattle.vbr_list.specs.Sparing.{CallsAs, CallsEntry, SparesLookUp}
 use Rattle.vbr_list.specs.Leaving.{SparesRemove}
 use Rattle.vbr_list.specs.Told.{given_call, given_in, is_yes, kept_call, stored_call, stored_in}
-use Rattle.vbr_list.specs.declared.refusal.Refusal.{Refusal}
+use Rattle.vbr_at_table.specs.declared.refusal.Refusal.{Refusal}
 use Rattle.vbr_list.proofs.LonePasses.{gives_alone}
 
 -- ---- what is kept

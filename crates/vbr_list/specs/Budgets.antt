@@ -7,8 +7,8 @@ use Rattle.vbr_slots.specs.Alone.{ahead}
 use Rattle.vbr_slots.specs.Views.{PassView, Trace}
 use Rattle.vbr_at_table.specs.Budgets.{most_to_take}
 use Rattle.vbr_at_table.specs.Values.{steps_to_value}
-use Rattle.vbr_list.specs.declared.refusal.Refusal.{Refusal}
-use Rattle.vbr_list.specs.declared.refusal.Refusal.TheVariants.{OutOfSteps, NoSlot, EpochSpent}
+use Rattle.vbr_at_table.specs.declared.refusal.Refusal.{Refusal}
+use Rattle.vbr_at_table.specs.declared.refusal.Refusal.TheVariants.{OutOfSteps, NoSlot, EpochSpent}
 
 -- how many nodes, linked or marked, are in the list of a key's bucket, in what the pass has seen
 abbrev pub listed_for : Trace → ℕ → ℕ

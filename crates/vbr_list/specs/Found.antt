@@ -11,7 +11,7 @@ use Rattle.vbr_list.specs.Leaving.{WasClear}
 use Rattle.vbr_list.specs.Places.{Locates}
 use Rattle.vbr_list.specs.Refusals.{IsTired}
 use Rattle.vbr_list.specs.declared.found.Found.{Found}
-use Rattle.vbr_list.specs.declared.refusal.Refusal.{Refusal}
+use Rattle.vbr_at_table.specs.declared.refusal.Refusal.{Refusal}
 
 -- the node, if there is one, stood so at a moment
 abbrev pub CurStood : Trace → Trace → Option Held → Type 0

@@ -14,7 +14,7 @@ use Rattle.vbr_at_table.specs.Steps.{TookWithin}
 use Rattle.vbr_list.specs.Budgets.{enough_to_search, enough_to_unlink, listed_for, remove_costs, steps_to_value_of}
 use Rattle.vbr_list.specs.Disturbed.{disturbed, enough_to_search_among, remove_costs_among}
 use Rattle.vbr_list.specs.Refusals.{IsTired}
-use Rattle.vbr_list.specs.declared.refusal.Refusal.{Refusal}
+use Rattle.vbr_at_table.specs.declared.refusal.Refusal.{Refusal}
 
 -- at a moment of what the pass did, no marked node of the key was in a list
 pub record WasClear (p q : Trace) (key : ℕ) : Type 0 where

@@ -21,4 +21,3 @@ pub mod Seeking
 pub mod Inserting
 pub mod Removing
 pub mod Replacing
-pub mod Messages

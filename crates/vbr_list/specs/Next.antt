@@ -10,7 +10,7 @@ use Rattle.vbr_at_table.specs.Moments.{WasEntry, WasSo}
 use Rattle.vbr_at_table.specs.Steps.{TookWithin}
 use Rattle.vbr_list.specs.Budgets.{steps_to_value_of}
 use Rattle.vbr_list.specs.Refusals.{IsTired}
-use Rattle.vbr_list.specs.declared.refusal.Refusal.{Refusal}
+use Rattle.vbr_at_table.specs.declared.refusal.Refusal.{Refusal}
 
 -- ---- what is told
 

@@ -4,8 +4,8 @@ use Rattle.vbr_slots.specs.Views.{PassView}
 use Rattle.vbr_at_table.specs.Refusals.{IsOutOfSteps, IsSpent, LeavesRoom}
 use Rattle.vbr_at_table.specs.SharedPool.{WasOutside}
 use Rattle.vbr_at_table.specs.Moments.{WasSo}
-use Rattle.vbr_list.specs.declared.refusal.Refusal.{Refusal}
-use Rattle.vbr_list.specs.declared.refusal.Refusal.TheVariants.{OutOfSteps, NoSlot, EpochSpent}
+use Rattle.vbr_at_table.specs.declared.refusal.Refusal.{Refusal}
+use Rattle.vbr_at_table.specs.declared.refusal.Refusal.TheVariants.{OutOfSteps, NoSlot, EpochSpent}
 
 -- the steps leave no room in the budget, and there is no other refusal
 abbrev pub IsTired : PassView → PassView → ℕ → Refusal → Type 0

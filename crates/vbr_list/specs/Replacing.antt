@@ -32,8 +32,8 @@ use Rattle.vbr_list.specs.Traversing.{LocatesFor}
 use Rattle.vbr_list.specs.Walking.{LosesPlace, met_since}
 use Rattle.vbr_list.specs.declared.call.PendingCall.{PendingCall}
 use Rattle.vbr_list.specs.declared.found.Found.{Found}
-use Rattle.vbr_list.specs.declared.refusal.Refusal.{Refusal}
-use Rattle.vbr_list.specs.declared.refusal.Refusal.TheVariants.{OutOfSteps, NoSlot, EpochSpent}
+use Rattle.vbr_at_table.specs.declared.refusal.Refusal.{Refusal}
+use Rattle.vbr_at_table.specs.declared.refusal.Refusal.TheVariants.{OutOfSteps, NoSlot, EpochSpent}
 
 -- nodes have values, and the pass has a slot in hand
 pub record HasHandForValue {N : Type 0} {kind : Ghosts N} (c : PendingCall N kind) (given : HandView) : Type 0 where

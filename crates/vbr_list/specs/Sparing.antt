@@ -18,7 +18,7 @@ use Rattle.vbr_list.specs.Disturbed.{costs_among, disturbed, enough_among, enoug
 use Rattle.vbr_list.specs.Leaving.{SparesRemove}
 use Rattle.vbr_list.specs.Refusals.{IsRefusedInsert, IsTired}
 use Rattle.vbr_list.specs.Told.{given_call, stored_call}
-use Rattle.vbr_list.specs.declared.refusal.Refusal.{Refusal}
+use Rattle.vbr_at_table.specs.declared.refusal.Refusal.{Refusal}
 
 -- what an insert promises besides: it advances the epoch only where that is needed, loses no slot, has each that it had but for the one that it published, puts one into the shared pool only where its own has no more than two places left, and is refused where it must be; alone it has steps enough with a budget that is known before, and with a slot in the own pool it is answered, unless the epoch is spent; and alone its answer costs no more than is known before; and so it is of a pass that was disturbed so often, where with an empty own pool one step more is counted for each slot that others took out of the shared pool
 pub record SparesInsert (p q : PassView) (key budget : ℕ) (answer : Result Bool Refusal) : Type 0 where

@@ -9,8 +9,8 @@ ghost use Rattle.vbr_list.specs.Traversing.{Finds, SearchTires};
 
 use crate::call::{PendingCall, begin};
 use crate::found::Found;
-use crate::refusal::Refusal;
 use crate::traversal::Stop;
+use vbr_at_table::Refusal;
 use vbr_at_table::budget::affords;
 use vbr_slots::{Pass, Slots, Stepper};
 use vbr_words::Nodes;

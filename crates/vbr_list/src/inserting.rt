@@ -13,12 +13,9 @@ ghost use Rattle.vbr_list.specs.Traversing.{LocatesFor};
 
 use crate::call::{PendingCall, begin};
 use crate::found::Found;
-use crate::refusal::Refusal;
 use crate::valuing::steps_to_update;
 use vbr_at_table::budget::affords;
-use vbr_at_table::{
-    Hand, Rollback, TakeRefusal, confirm_present_entry, give_back, take, update_entry,
-};
+use vbr_at_table::{Hand, Refusal, Rollback, confirm_present, give_back, take, update};
 use vbr_machine::Op;
 use vbr_slots::{Pass, Slots, Stepper};
 use vbr_words::{Entries, Nodes};
@@ -41,7 +38,7 @@ impl<N: Nodes> PendingCall<'_, N> {
         };
         self.at.law();
         self.used += 1;
-        confirm_present_entry(&mut self.at, Op::Insert, cur)
+        confirm_present(&mut self.at, Op::Insert, cur)
     }
 
     // Takes a slot with what is left of the budget.
@@ -59,11 +56,11 @@ impl<N: Nodes> PendingCall<'_, N> {
         match outcome {
             Ok(hand) => Ok(hand),
             Err(refusal) => match refusal {
-                TakeRefusal::OutOfSteps { used: more } => Err(Refusal::OutOfSteps {
+                Refusal::OutOfSteps { used: more } => Err(Refusal::OutOfSteps {
                     used: before + more,
                 }),
-                TakeRefusal::NoSlot => Err(Refusal::NoSlot),
-                TakeRefusal::EpochSpent { epoch } => Err(Refusal::EpochSpent { epoch }),
+                Refusal::NoSlot => Err(Refusal::NoSlot),
+                Refusal::EpochSpent { epoch } => Err(Refusal::EpochSpent { epoch }),
             },
         }
     }
@@ -114,7 +111,7 @@ impl<N: Nodes> PendingCall<'_, N> {
             return Ok(false);
         }
         self.used += steps_to_update(self.at.slots);
-        match update_entry(
+        match update(
             &mut self.at,
             &found.pred,
             found.cur.as_ref(),

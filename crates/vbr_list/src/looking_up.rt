@@ -13,10 +13,9 @@ ghost use Rattle.vbr_list.specs.Told.{given_in, look_up_op};
 
 use crate::call::{PendingCall, begin};
 use crate::looking::Sight;
-use crate::refusal::Refusal;
 use crate::valuing::{is_yes, steps_to_value_of, value_if_any};
 use vbr_at_table::budget::affords;
-use vbr_at_table::{Held, Rollback, confirm_absent_entry, confirm_look_up, confirm_present_entry};
+use vbr_at_table::{Held, Refusal, Rollback, confirm_absent, confirm_look_up, confirm_present};
 use vbr_machine::Op;
 use vbr_slots::{Pass, Slots, Stepper};
 use vbr_words::{Entries, Nodes};
@@ -58,7 +57,7 @@ impl<N: Nodes> PendingCall<'_, N> {
         let read = value_if_any(&mut self.at, node);
         self.used += steps_to_value_of(self.at.slots);
         let value = read?;
-        let outcome = confirm_present_entry(&mut self.at, Op::Get, node);
+        let outcome = confirm_present(&mut self.at, Op::Get, node);
         self.used += 1;
         match outcome {
             Ok(()) => Ok(Some(value)),
@@ -78,7 +77,7 @@ impl<N: Nodes> PendingCall<'_, N> {
         ensures answers { IfOk result (LookUpAnswers true self.old self.new) }
         ensures rolls { IfErr result (LookUpRollsBack self.old self.new (Absent pred.now)) }
     {
-        let outcome = confirm_absent_entry(&mut self.at, Op::Get, self.key, pred);
+        let outcome = confirm_absent(&mut self.at, Op::Get, self.key, pred);
         self.used += 1;
         match outcome {
             Ok(()) => Ok(None),

@@ -6,8 +6,8 @@ ghost use Rattle.vbr_slots.specs.Views.{IsOf};
 ghost use Rattle.vbr_list.specs.Next.{Seeks, SeeksEntry, SeeksKey};
 ghost use Rattle.vbr_list.specs.Seeking.{TellsWhere};
 
-use crate::refusal::Refusal;
 use crate::seeking::seek_in;
+use vbr_at_table::Refusal;
 use vbr_slots::{AtTable, Pass, Slots};
 use vbr_words::{Entries, Nodes};
 

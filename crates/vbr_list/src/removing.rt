@@ -16,10 +16,9 @@ ghost use Rattle.vbr_list.specs.Walking.{WalksAgain};
 use crate::call::{PendingCall, begin};
 use crate::found::Found;
 use crate::helping::unlink_and_retire;
-use crate::refusal::Refusal;
 use crate::valuing::{is_yes, steps_to_value_of, value_if_any};
 use vbr_at_table::budget::affords;
-use vbr_at_table::{Held, Marked, Rollback, confirm_absent_entry, mark_entry};
+use vbr_at_table::{Held, Marked, Refusal, Rollback, confirm_absent, mark};
 use vbr_machine::Op;
 use vbr_slots::{AtTable, Pass, Slots, Stepper};
 use vbr_words::{Entries, Nodes};
@@ -106,7 +105,7 @@ impl<N: Nodes> PendingCall<'_, N> {
         let read = value_if_any(&mut self.at, cur);
         self.used += steps_to_value_of(self.at.slots);
         let value = read?;
-        let outcome = mark_entry(&mut self.at, cur);
+        let outcome = mark(&mut self.at, cur);
         self.used += 1;
         let marked = outcome?;
         if affords(self.budget, self.used) {
@@ -128,7 +127,7 @@ impl<N: Nodes> PendingCall<'_, N> {
         if found.present {
             return self.mark_and_unlink(found);
         }
-        let outcome = confirm_absent_entry(&mut self.at, Op::Remove, self.key, &found.pred);
+        let outcome = confirm_absent(&mut self.at, Op::Remove, self.key, &found.pred);
         self.used += 1;
         outcome?;
         Ok(None)

@@ -14,12 +14,10 @@ ghost use Rattle.vbr_list.specs.Traversing.{LocatesFor};
 use crate::call::{PendingCall, begin};
 use crate::found::Found;
 use crate::helping::unlink_and_retire;
-use crate::refusal::Refusal;
 use crate::removing::walk_on;
 use vbr_at_table::budget::affords;
 use vbr_at_table::{
-    Hand, Held, Marked, Rollback, birth_after, confirm_absent_entry, give_back, replace_entry,
-    value_of,
+    Hand, Held, Marked, Refusal, Rollback, birth_after, confirm_absent, give_back, value_of,
 };
 use vbr_machine::Op;
 use vbr_slots::{Pass, Slots, Stepper};
@@ -67,7 +65,7 @@ impl<N: Nodes> PendingCall<'_, N> {
             return Err(hand);
         };
         self.used += 4;
-        match replace_entry(&mut self.at, cur, birth, self.key, value, hand) {
+        match vbr_at_table::replace(&mut self.at, cur, birth, self.key, value, hand) {
             Ok(marked) => Ok((old, marked)),
             Err((back, _)) => Err(back),
         }
@@ -87,7 +85,7 @@ impl<N: Nodes> PendingCall<'_, N> {
     {
         self.at.law();
         self.used += 1;
-        confirm_absent_entry(&mut self.at, Op::Remove, self.key, &found.pred)
+        confirm_absent(&mut self.at, Op::Remove, self.key, &found.pred)
     }
 
     // Looks for the key without a hand: a hand, once the key was found present; or none, and the answer

@@ -9,8 +9,7 @@ ghost use Rattle.vbr_list.specs.Budgets.{steps_to_value_of};
 ghost use Rattle.vbr_list.specs.Told.{is_yes};
 ghost use Rattle.vbr_list.specs.Valuing.{LosesValue, ReadsValue};
 
-use crate::refusal::Refusal;
-use vbr_at_table::{Held, Rollback, value_of};
+use vbr_at_table::{Held, Refusal, Rollback, value_of};
 use vbr_slots::{AtTable, Slots};
 use vbr_words::Nodes;
 

@@ -16,8 +16,8 @@ use Rattle.vbr_slots.specs.Views.{PassView, TableView, Trace, new_trace}
 use Rattle.vbr_slots.proofs.Lemmas.{same_on, same_refl}
 use Rattle.vbr_list.specs.Budgets.{LacksSteps, enough_to_insert, enough_to_look_up, enough_to_search}
 use Rattle.vbr_list.specs.Sparing.{Spares, SparesInsert}
-use Rattle.vbr_list.specs.declared.refusal.Refusal.{Refusal}
-use Rattle.vbr_list.specs.declared.refusal.Refusal.TheVariants.{OutOfSteps, NoSlot, EpochSpent}
+use Rattle.vbr_at_table.specs.declared.refusal.Refusal.{Refusal}
+use Rattle.vbr_at_table.specs.declared.refusal.Refusal.TheVariants.{OutOfSteps, NoSlot, EpochSpent}
 use Rattle.vbr_set.specs.MapCalls.{MapCalled}
 use Rattle.vbr_set.specs.Members.{Called, MemberView}
 use Rattle.vbr_set.specs.Names.{HasSafeRun, listed_for, most_to_take}

@@ -17,8 +17,8 @@ use Rattle.vbr_slots.proofs.Lemmas.{same_refl}
 use Rattle.vbr_list.specs.Refusals.{IsRefusedInsert, IsTired}
 use Rattle.vbr_list.specs.Sparing.{Spares}
 use Rattle.vbr_list.specs.Told.{given_by, given_call, stored_call}
-use Rattle.vbr_list.specs.declared.refusal.Refusal.{Refusal}
-use Rattle.vbr_list.specs.declared.refusal.Refusal.TheVariants.{OutOfSteps, NoSlot, EpochSpent}
+use Rattle.vbr_at_table.specs.declared.refusal.Refusal.{Refusal}
+use Rattle.vbr_at_table.specs.declared.refusal.Refusal.TheVariants.{OutOfSteps, NoSlot, EpochSpent}
 use Rattle.vbr_set.specs.Answers.{Answers}
 use Rattle.vbr_set.specs.MapCalls.{InsertsEntry, MapCalled}
 use Rattle.vbr_set.specs.Members.{MemberView, Called}

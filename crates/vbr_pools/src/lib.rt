@@ -14,4 +14,4 @@ pub mod taking;
 pub use giving_back::give_back;
 pub use retiring::retire;
 pub use taking::take;
-pub use vbr_at_table::{Hand, TakeRefusal, Unlinked, budget};
+pub use vbr_at_table::{Hand, Refusal as TakeRefusal, Unlinked, budget};

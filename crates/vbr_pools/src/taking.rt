@@ -4,12 +4,12 @@ ghost use Rattle.vbr_slots.specs.Views.{IsOf};
 ghost use Rattle.vbr_at_table.specs.Refusals.{RefusesTake};
 ghost use Rattle.vbr_at_table.specs.Taking.{IsTaken, Takes};
 
-use vbr_at_table::{Hand, TakeRefusal};
+use vbr_at_table::{Hand, Refusal};
 use vbr_slots::{AtTable, Pass, Slots};
 use vbr_words::Nodes;
 
 /// As [`vbr_at_table::take`], by a pass, whose steps are counted.
-pub fn take<N: Nodes>(slots: &Slots<N>, pass: &mut Pass, budget: u32) -> Result<Hand, TakeRefusal>
+pub fn take<N: Nodes>(slots: &Slots<N>, pass: &mut Pass, budget: u32) -> Result<Hand, Refusal>
     requires own { IsOf pass.old.trace slots.now }
     requires empty_hand { pass.old.hand ≡ None }
     ensures takes { Takes pass.old pass.new budget }

@@ -19,7 +19,7 @@ use Rattle.vbr_at_table.proofs.Lemmas.{none_on, none_refl}
 use Rattle.vbr_list.specs.Cursors.{HasGiven, HasGivenAll, HasStayedOrMoved, IsAtEnd, IsPastKey, IsToCome, SeesMore, StopsShort, costs_over, first_cursor}
 use Rattle.vbr_list.specs.Next.{enough_to_seek, listed_in}
 use Rattle.vbr_list.specs.declared.cursor.Cursor.{Cursor}
-use Rattle.vbr_list.specs.declared.refusal.Refusal.{Refusal}
+use Rattle.vbr_at_table.specs.declared.refusal.Refusal.{Refusal}
 use Rattle.vbr_list.proofs.Lemmas.{entry_more, entry_since, given_all, given_none, given_on, sees_on}
 use Rattle.vbr_set.specs.Iterating.{CallsNextWhere, GoesOnSafe, GoesOver, HasCounted, HasGoneOverEntries, HasGoneOverWhere, HasListed, StandsShort}
 use Rattle.vbr_set.specs.Members.{MemberView, as_member}

@@ -26,7 +26,7 @@ use Rattle.vbr_at_table.proofs.Lemmas.{did_none}
 use Rattle.vbr_list.specs.Budgets.{listed_for}
 use Rattle.vbr_list.specs.Cursors.{SeesMore}
 use Rattle.vbr_list.specs.Disturbed.{disturbed, steps_for_slot}
-use Rattle.vbr_list.specs.declared.refusal.Refusal.{Refusal}
+use Rattle.vbr_at_table.specs.declared.refusal.Refusal.{Refusal}
 use Rattle.vbr_list.proofs.Lemmas.{enough_among_more, enough_to_insert_more, enough_to_search_more, lacks_more, sees_on}
 use Rattle.vbr_set.specs.MapCalls.{MapCalled}
 use Rattle.vbr_set.specs.Members.{Called, MemberView}

@@ -10,7 +10,7 @@ use Rattle.vbr_at_table.specs.Steps.{TookWithin}
 use Rattle.vbr_list.specs.Cursors.{HasGiven, HasGivenAll, IteratesEntries, IteratesKeys, IteratesWhere, SeesMore, StopsShort}
 use Rattle.vbr_list.specs.Next.{enough_to_seek}
 use Rattle.vbr_list.specs.declared.cursor.Cursor.{Cursor}
-use Rattle.vbr_list.specs.declared.refusal.Refusal.{Refusal}
+use Rattle.vbr_at_table.specs.declared.refusal.Refusal.{Refusal}
 use Rattle.vbr_set.specs.Members.{MemberView}
 use Rattle.vbr_set.specs.declared.list_error.ListError.{ListError}
 use Rattle.vbr_set.specs.declared.list_error.ListError.TheVariants.{Refused, Memory}

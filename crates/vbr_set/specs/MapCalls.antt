@@ -12,7 +12,7 @@ use Rattle.vbr_list.specs.Sparing.{GivesAlone, SparesInsert, SparesLookUp}
 use Rattle.vbr_list.specs.Budgets.{get_costs}
 use Rattle.vbr_list.specs.Leaving.{SparesRemove}
 use Rattle.vbr_list.specs.Told.{given_call, stored_call}
-use Rattle.vbr_list.specs.declared.refusal.Refusal.{Refusal}
+use Rattle.vbr_at_table.specs.declared.refusal.Refusal.{Refusal}
 use Rattle.vbr_set.specs.Answers.{Answers}
 use Rattle.vbr_set.specs.Histories.{calls_of}
 use Rattle.vbr_set.specs.Members.{MemberView}

@@ -1,6 +1,6 @@
 -- What errors print.
 use Rattle.std.specs.Prelude.{ℕ, List, codes}
-use Rattle.vbr_list.specs.Messages.{refusal_text}
+use Rattle.vbr_at_table.specs.Messages.{refusal_text}
 use Rattle.vbr_set.specs.declared.list_error.ListError.{ListError}
 use Rattle.vbr_set.specs.declared.list_error.ListError.TheVariants as listing
 use Rattle.vbr_set.specs.declared.renew_error.RenewError.{RenewError}

@@ -29,5 +29,5 @@ pub use Rattle.vbr_list.specs.Alone.{AnswersAlone}
 pub use Rattle.vbr_list.specs.Budgets.{IsAnsweredOrSpent, LacksSteps, enough_past, enough_to_insert, enough_to_look_up, enough_to_search, enough_to_unlink, enough_with_a_slot, find_costs, insert_costs, listed_for, look_up_costs, remove_costs}
 pub use Rattle.vbr_list.specs.Leaving.{Leaves}
 pub use Rattle.vbr_list.specs.Refusals.{IsRefusedInsert, IsTired}
-pub use Rattle.vbr_list.specs.declared.refusal.Refusal.{Refusal}
-pub use Rattle.vbr_list.specs.declared.refusal.Refusal.TheVariants.{OutOfSteps, NoSlot, EpochSpent}
+pub use Rattle.vbr_at_table.specs.declared.refusal.Refusal.{Refusal}
+pub use Rattle.vbr_at_table.specs.declared.refusal.Refusal.TheVariants.{OutOfSteps, NoSlot, EpochSpent}

@@ -17,7 +17,7 @@ use Rattle.vbr_list.specs.Budgets.{LacksSteps, listed_for}
 use Rattle.vbr_list.specs.Cursors.{SeesMore}
 use Rattle.vbr_list.specs.Disturbed.{disturbed, enough_among, enough_to_insert_among, enough_to_search_among, steps_for_slot}
 use Rattle.vbr_list.specs.Sparing.{Calls}
-use Rattle.vbr_list.specs.declared.refusal.Refusal.{Refusal}
+use Rattle.vbr_at_table.specs.declared.refusal.Refusal.{Refusal}
 use Rattle.vbr_set.specs.MapCalls.{GetsEntry, InsertsEntry, RemovesEntry}
 use Rattle.vbr_set.specs.Members.{Called, MemberView}
 use Rattle.vbr_set.specs.Tokens.{CatchesUp}

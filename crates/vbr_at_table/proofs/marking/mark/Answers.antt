@@ -1,22 +1,54 @@
-use Rattle.std.proofs.Common.{ap, ◌∙◌}
-use Rattle.std.specs.Prelude.{Result, Ok, Err, IfOk}
+use Rattle.std.proofs.Common.{◌<◌, subst, refl, rules}
 use Rattle.vbr_machine.specs.Start.{Start}
-use Rattle.vbr_slots.specs.Views.{Trace}
-use Rattle.vbr_at_table.specs.Exchanges.{RemovesKey}
-use Rattle.vbr_at_table.specs.Values.{RemovesEntry}
-use Rattle.vbr_at_table.specs.declared.held.Held.{Held}
-use Rattle.vbr_at_table.specs.declared.held.Marked.{Marked}
-use Rattle.vbr_at_table.specs.declared.rollback.Rollback.{Rollback}
-use Rattle.vbr_at_table.proofs.ExchangeCalls.{key_removed}
-use Rattle.vbr_at_table.proofs.NoValues.{not_valued}
+use Rattle.vbr_words.specs.declared.place.At.{At}
+use Rattle.vbr_at_table.proofs.Advancing.{did_none}
+use Rattle.std.proofs.Common.{◌≡◌}
+use Rattle.vbr_words.specs.Words.{link_of}
+use Rattle.vbr_machine.specs.Images.{link_shown_at}
+use Rattle.vbr_slots.specs.Alone.{nodes}
+use Rattle.vbr_slots.proofs.Lemmas.{did_same, did_seen}
+use Rattle.vbr_at_table.proofs.AloneExchanges.{mark_wins}
+use Rattle.vbr_at_table.proofs.ExchangeCalls.{run_after}
+use Rattle.vbr_at_table.proofs.Unchanged.{unchanged_by_none}
+use Rattle.vbr_at_table.proofs.Accepted.{accepted_checked, mark_accepted}
+use Rattle.vbr_at_table.proofs.WonExchanges.{mark_keeps}
+use Rattle.vbr_at_table.proofs.MadeCalls.{mark_adds_none, mark_failed}
+use Rattle.vbr_at_table.proofs.ExchangeCalls.{mark_told}
 use Rattle.vbr_at_table.proofs.marking.mark.Goals as goal
 
-pub mark_entry-requires-clause-valued : goal.mark_entry-requires-clause-valued
-mark_entry-requires-clause-valued c = λ has. not_valued (ap (λ (d : Start). d.shape.values) c.args.at.now.own.1 ∙ c.kind.ensures) has
+pub mark-requires-clause-slot : goal.mark-requires-clause-slot
+mark-requires-clause-slot g c =
+    let P : Start → Type 0 = λ start. c.in-Slot.slot < start.shape.slots in
+    subst P c.args.at.now.own.1 (mark_accepted c.args.at.now.stepper.now c.law.ensures c.args.held.now c.in-Slot.slot c.requires.node.held c.in-Slot.is c.requires.node.key c.requires.node.unmarked c.requires.valued).in_shape
 
-of_entry : {p q : Trace} {node : Held} (result : Result Marked Rollback) → ((now : Marked) → RemovesEntry p q node now → RemovesKey p q node now) → IfOk result (RemovesEntry p q node) → IfOk result (RemovesKey p q node)
-of_entry (Ok now) key removed = key now removed
-of_entry (Err rollback) key removed = tt
+pub mark-requires-clause-checked : goal.mark-requires-clause-checked
+mark-requires-clause-checked g c = accepted_checked c.args.at.now.own (mark_accepted c.args.at.now.stepper.now c.law.ensures c.args.held.now c.in-Slot.slot c.requires.node.held c.in-Slot.is c.requires.node.key c.requires.node.unmarked c.requires.valued)
 
-pub returns-clause-removed : goal.returns-clause-removed
-returns-clause-removed c = of_entry c.mark_entry.result (λ now removed. key_removed (ap (λ (d : Start). d.shape.values) c.args.at.now.own.1 ∙ c.kind.ensures) removed) c.mark_entry.ensures.removed
+pub returns-in-Ok-clause-keeps : goal.returns-in-Ok-clause-keeps
+returns-in-Ok-clause-keeps g c = record {
+  took = search rules;
+  own = search rules;
+  takes_no_slot = did_none c.in-Ok.ensures.found.did refl c.in-Ok.ensures.found.keeps;
+  keeps = mark_keeps c.in-Ok.ensures.found.did;
+}
+
+pub returns-in-Err-clause-keeps : goal.returns-in-Err-clause-keeps
+returns-in-Err-clause-keeps g c = record {
+  took = search rules;
+  own = search rules;
+  takes_no_slot = did_none c.in-Err.ensures.other.did refl c.in-Err.ensures.other.keeps;
+  keeps = search rules;
+}
+
+pub returns-in-Ok-clause-removed : goal.returns-in-Ok-clause-removed
+returns-in-Ok-clause-removed g c = mark_told c.args.held.now c.law.ensures.start c.law.ensures.is_run c.requires.node.held c.in-Slot.is c.in-Ok.ensures.found.did c.with_mark.ensures
+
+pub returns-in-Err-clause-lost : goal.returns-in-Err-clause-lost
+returns-in-Err-clause-lost g c = record {
+  quiet = mark_failed c.in-Err.ensures.other.did c.in-Err.ensures.other.unexpected;
+  lost = search rules;
+  unchanged = unchanged_by_none c.law.ensures.start (run_after c.law.ensures.start c.in-Err.ensures.other.did) (did_same c.in-Err.ensures.other.did) (did_seen c.in-Err.ensures.other.did) (mark_adds_none c.in-Err.ensures.other.did c.in-Err.ensures.other.unexpected);
+  wins = (λ alone stands.
+      let P : At → Type 0 = λ at. link_shown_at (nodes c.args.at.now.stepper.now.trace) at ≡ link_of c.args.held.now.word in
+      mark_wins c.law.ensures.start alone c.in-Slot.slot c.args.held.now.word c.in-Err.ensures.other.did c.in-Err.ensures.other.unexpected (subst P c.in-Slot.is stands));
+}

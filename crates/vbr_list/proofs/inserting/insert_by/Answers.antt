@@ -12,7 +12,7 @@ use Rattle.vbr_list.specs.Disturbed.{disturbed, enough_to_insert_among, insert_c
 use Rattle.vbr_list.specs.Inserting.{InsertIsShort, LinksNone, SearchedFor, SearchesFor}
 use Rattle.vbr_list.specs.Refusals.{IsRefusedInsert}
 use Rattle.vbr_list.specs.Told.{stored_in}
-use Rattle.vbr_list.specs.declared.refusal.Refusal.TheVariants.{NoSlot}
+use Rattle.vbr_at_table.specs.declared.refusal.Refusal.TheVariants.{NoSlot}
 use Rattle.vbr_list.proofs.Disturbing.{run_at}
 use Rattle.vbr_list.proofs.Going.{ok_as}
 use Rattle.vbr_list.proofs.LonePasses.{alone, each_alone}

@@ -5,7 +5,7 @@ use Rattle.vbr_machine.specs.declared.history.Op.TheVariants.{Has}
 use Rattle.vbr_list.specs.Budgets.{look_up_costs}
 use Rattle.vbr_list.specs.Sparing.{Calls, CallsAs, SparesLookUp}
 use Rattle.vbr_list.specs.Told.{given_in}
-use Rattle.vbr_list.specs.declared.refusal.Refusal.{Refusal}
+use Rattle.vbr_at_table.specs.declared.refusal.Refusal.{Refusal}
 use Rattle.vbr_list.proofs.Told.{calls_yes, look_up_yes, told_bare}
 use Rattle.vbr_list.proofs.looking_up.has.Goals as goal
 

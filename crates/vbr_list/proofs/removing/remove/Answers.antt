@@ -5,7 +5,7 @@ use Rattle.vbr_machine.specs.declared.history.Op.TheVariants.{Remove}
 use Rattle.vbr_list.specs.Leaving.{SparesRemove}
 use Rattle.vbr_list.specs.Sparing.{Calls, CallsAs}
 use Rattle.vbr_list.specs.Told.{given_in}
-use Rattle.vbr_list.specs.declared.refusal.Refusal.{Refusal}
+use Rattle.vbr_at_table.specs.declared.refusal.Refusal.{Refusal}
 use Rattle.vbr_list.proofs.Told.{calls_yes, given_bare, remove_yes}
 use Rattle.vbr_list.proofs.removing.remove.Goals as goal
 

@@ -12,8 +12,8 @@ on_ok : {A E P Q : Type 0} (x : Result A E) → (P → Q) → OnOk x P → IfOk 
 on_ok (Ok value) f p = f p
 on_ok (Err error) f p = tt
 
-pub confirm_absent_entry-requires-clause-gap : goal.confirm_absent_entry-requires-clause-gap
-confirm_absent_entry-requires-clause-gap g c =
+pub confirm_absent-requires-clause-gap : goal.confirm_absent-requires-clause-gap
+confirm_absent-requires-clause-gap g c =
     let f = c.args.found.now in
     record {
       held = search rules;
@@ -22,19 +22,19 @@ confirm_absent_entry-requires-clause-gap g c =
       unmarked = search rules;
     }
 
-pub confirm_absent_entry-requires-clause-op : goal.confirm_absent_entry-requires-clause-op
-confirm_absent_entry-requires-clause-op g c = record { other = λ e. absurd (cc); asked = λ get. absurd (cc) }
+pub confirm_absent-requires-clause-op : goal.confirm_absent-requires-clause-op
+confirm_absent-requires-clause-op g c = record { other = λ e. absurd (cc); asked = λ get. absurd (cc) }
 
 pub returns-clause-made : goal.returns-clause-made
-returns-clause-made g c = on_ok c.confirm_absent_entry.result (λ answers. answers.made) c.confirm_absent_entry.ensures.answers
+returns-clause-made g c = on_ok c.confirm_absent.result (λ answers. answers.made) c.confirm_absent.ensures.answers
 
 pub returns-clause-rolls : goal.returns-clause-rolls
 returns-clause-rolls g c =
     let p = c.args.self.now.at.stepper.now.trace in
-    let r = c.confirm_absent_entry.new.at.stepper.now.trace in
+    let r = c.confirm_absent.new.at.stepper.now.trace in
     let pred = c.args.found.now.pred in
-    each_error (FindsAnother p r pred) _ c.confirm_absent_entry.result
+    each_error (FindsAnother p r pred) _ c.confirm_absent.result
     (λ rollback lost. record {
       quiet = lost.quiet;
       loses = lost_place pred rollback lost.lost (unchanged_by_none c.law.ensures.start (run_at p r lost.quiet.same (lost.quiet.is_run c.law.ensures.is_run)) lost.quiet.same lost.quiet.seen lost.adds_none);
-    }) c.confirm_absent_entry.ensures.lost
+    }) c.confirm_absent.ensures.lost

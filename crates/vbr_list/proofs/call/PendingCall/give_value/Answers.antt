@@ -23,17 +23,17 @@ value_if_any-read-requires-clause-held g c = c.requires.sight.0
 pub value_if_any-read-requires-clause-slot : goal.value_if_any-read-requires-clause-slot
 value_if_any-read-requires-clause-slot g c = keyed_slot (knows c.args.self.now.at.stepper.now.trace) c.args.node.now.at c.args.self.now.key c.requires.sight.2
 
-pub confirm_present_entry-outcome-requires-clause-node : goal.confirm_present_entry-outcome-requires-clause-node
-confirm_present_entry-outcome-requires-clause-node g c =
+pub confirm_present-outcome-requires-clause-node : goal.confirm_present-outcome-requires-clause-node
+confirm_present-outcome-requires-clause-node g c =
     let s = c.requires.sight in
     let keeps = c.in_ok-value.ensures.value.keeps in
     record { held = held_kept c.args.node.now keeps s.0; key = (c.args.self.now.key, key_kept c.args.node.now.at c.args.self.now.key keeps s.2); unmarked = s.1 }
 
-pub confirm_present_entry-outcome-requires-clause-op : goal.confirm_present_entry-outcome-requires-clause-op
-confirm_present_entry-outcome-requires-clause-op g c = λ e. absurd (cc)
+pub confirm_present-outcome-requires-clause-op : goal.confirm_present-outcome-requires-clause-op
+confirm_present-outcome-requires-clause-op g c = λ e. absurd (cc)
 
-pub confirm_present_entry-outcome-requires-clause-asked : goal.confirm_present_entry-outcome-requires-clause-asked
-confirm_present_entry-outcome-requires-clause-asked g c = λ get.
+pub confirm_present-outcome-requires-clause-asked : goal.confirm_present-outcome-requires-clause-asked
+confirm_present-outcome-requires-clause-asked g c = λ get.
     let same = ap (λ (d : Start). d.shape.values) c.value_if_any-read.ensures.reads.quiet.same.start in
     (same ∙ c.requires.values, (c.in_ok-value.value, c.in_ok-value.ensures.value.value c.requires.values))
 
@@ -60,13 +60,13 @@ returns-in_err-value-clause-rolls g c =
 pub returns-in-Ok-clause-settles : goal.returns-in-Ok-clause-settles
 returns-in-Ok-clause-settles g c =
     let reads = c.value_if_any-read.ensures.reads in
-    let keeps = c.confirm_present_entry-outcome.ensures.keeps.keeps in
+    let keeps = c.confirm_present-outcome.ensures.keeps.keeps in
     settles_read (search rules) refl (steps_read c.steps_to_value_of.ensures c.value_if_any-read.new.at.own.1 reads.quiet.same.start) reads keeps.took keeps.own keeps.takes_no_slot
 
 pub returns-in-Err-clause-settles : goal.returns-in-Err-clause-settles
 returns-in-Err-clause-settles g c =
     let reads = c.value_if_any-read.ensures.reads in
-    let keeps = c.confirm_present_entry-outcome.ensures.keeps.keeps in
+    let keeps = c.confirm_present-outcome.ensures.keeps.keeps in
     settles_read (search rules) refl (steps_read c.steps_to_value_of.ensures c.value_if_any-read.new.at.own.1 reads.quiet.same.start) reads keeps.took keeps.own keeps.takes_no_slot
 
 pub returns-in-Ok-clause-few : goal.returns-in-Ok-clause-few
@@ -84,16 +84,16 @@ returns-in-Err-clause-few g c =
     omega (arith, steps, few)
 
 pub returns-in-Ok-clause-only_loads : goal.returns-in-Ok-clause-only_loads
-returns-in-Ok-clause-only_loads g c = loads_on c.value_if_any-read.ensures.reads.only_loads c.confirm_present_entry-outcome.ensures.keeps.only_loads
+returns-in-Ok-clause-only_loads g c = loads_on c.value_if_any-read.ensures.reads.only_loads c.confirm_present-outcome.ensures.keeps.only_loads
 
 pub returns-in-Err-clause-only_loads : goal.returns-in-Err-clause-only_loads
-returns-in-Err-clause-only_loads g c = loads_on c.value_if_any-read.ensures.reads.only_loads c.confirm_present_entry-outcome.ensures.keeps.only_loads
+returns-in-Err-clause-only_loads g c = loads_on c.value_if_any-read.ensures.reads.only_loads c.confirm_present-outcome.ensures.keeps.only_loads
 
 pub returns-in-Ok-clause-answers : goal.returns-in-Ok-clause-answers
 returns-in-Ok-clause-answers g c =
     let p = c.args.self.now.at.stepper.now.trace in
     let q = c.value_if_any-read.new.at.stepper.now.trace in
-    let r = c.confirm_present_entry-outcome.new.at.stepper.now.trace in
+    let r = c.confirm_present-outcome.new.at.stepper.now.trace in
     let reads = c.value_if_any-read.ensures.reads in
     let key = c.args.self.now.key in
     let value = c.in_ok-value.value in

@@ -36,16 +36,16 @@ value_if_any-read-requires-clause-slot g c =
     let f = c.args.found.now in
     slot_at (cur_is (knows c.args.self.now.at.stepper.now.trace) c.args.self.now.key f.pred c.in-Some.cur f.cur f.present c.requires.locates.end c.in-Some.is)
 
-pub mark_entry-outcome-requires-clause-node : goal.mark_entry-outcome-requires-clause-node
-mark_entry-outcome-requires-clause-node g c =
+pub mark-outcome-requires-clause-node : goal.mark-outcome-requires-clause-node
+mark-outcome-requires-clause-node g c =
     let f = c.args.found.now in
     let y = cur_is (knows c.args.self.now.at.stepper.now.trace) c.args.self.now.key f.pred c.in-Some.cur f.cur f.present c.requires.locates.end c.in-Some.is in
     let keeps = c.in_ok-value.ensures.value.keeps in
     let there = key_found_since c.args.self.now.key f.pred c.in-Some.cur f.cur f.present keeps c.requires.locates.end c.in-Some.is c.requires.present in
     record { held = held_kept c.in-Some.cur keeps y.held; key = (c.args.self.now.key, there); unmarked = y.unmarked }
 
-pub mark_entry-outcome-requires-clause-valued : goal.mark_entry-outcome-requires-clause-valued
-mark_entry-outcome-requires-clause-valued g c = λ has. (c.in_ok-value.value, valued_since c.value_if_any-read.ensures.reads.quiet.same c.in_ok-value.ensures.value.value has)
+pub mark-outcome-requires-clause-valued : goal.mark-outcome-requires-clause-valued
+mark-outcome-requires-clause-valued g c = λ has. (c.in_ok-value.value, valued_since c.value_if_any-read.ensures.reads.quiet.same c.in_ok-value.ensures.value.value has)
 
 pub unlink_marked-requires-clause-marked : goal.unlink_marked-requires-clause-marked
 unlink_marked-requires-clause-marked g c =
@@ -55,10 +55,10 @@ unlink_marked-requires-clause-marked g c =
     let there = key_found_since c.args.self.now.key f.pred c.in-Some.cur f.cur f.present keeps c.requires.locates.end c.in-Some.is c.requires.present in
     let same = c.value_if_any-read.ensures.reads.quiet.same in
     let made = c.in_ok-marked.ensures.removed.made c.args.self.now.key c.in_ok-value.value there (valued_since same c.in_ok-value.ensures.value.value) in
-    let mark = c.mark_entry-outcome.ensures.keeps in
+    let mark = c.mark-outcome.ensures.keeps in
     let removed = c.in_ok-marked.ensures.removed in
     let pred = pred_on c.args.self.now.key f.pred made.same mark.keeps (pred_on c.args.self.now.key f.pred same keeps c.requires.locates.pred) in
-    let P : At → Type 0 = λ at. KeyAt (knows c.mark_entry-outcome.new.at.stepper.now.trace) at c.args.self.now.key in
+    let P : At → Type 0 = λ at. KeyAt (knows c.mark-outcome.new.at.stepper.now.trace) at c.args.self.now.key in
     let Q : ℕ → Type 0 = Names f.pred in
     record {
       may = record { held = pred.held; unmarked = pred.unmarked; marked = removed.held; names = subst Q (slot_same c.in_ok-marked.marked.slot y.slot (removed.at ∙ y.at)) y.named };
@@ -91,7 +91,7 @@ returns-in_err-value-clause-rolls g c =
 pub returns-in_err-marked-clause-settles : goal.returns-in_err-marked-clause-settles
 returns-in_err-marked-clause-settles g c =
     let reads = c.value_if_any-read.ensures.reads in
-    let mark = c.mark_entry-outcome.ensures.keeps in
+    let mark = c.mark-outcome.ensures.keeps in
     settles_read (search rules) refl (steps_read c.steps_to_value_of.ensures c.value_if_any-read.new.at.own.1 reads.quiet.same.start) reads mark.took mark.own mark.takes_no_slot
 
 pub returns-in_err-marked-clause-rolls : goal.returns-in_err-marked-clause-rolls
@@ -99,7 +99,7 @@ returns-in_err-marked-clause-rolls g c =
     let reads = c.value_if_any-read.ensures.reads in
     let lost = c.in_err-marked.ensures.lost in
     let p = c.args.self.now.at.stepper.now.trace in
-    let r = c.mark_entry-outcome.new.at.stepper.now.trace in
+    let r = c.mark-outcome.new.at.stepper.now.trace in
     let Q : Option Held → Type 0 = LosesNext p r in
     let steps = steps_read c.steps_to_value_of.ensures c.value_if_any-read.new.at.own.1 reads.quiet.same.start in
     let two = few_to_value p.start in
@@ -112,7 +112,7 @@ returns-in_err-marked-clause-rolls g c =
 pub returns-then-affords-clause-settles : goal.returns-then-affords-clause-settles
 returns-then-affords-clause-settles g c =
     let reads = c.value_if_any-read.ensures.reads in
-    let mark = c.mark_entry-outcome.ensures.keeps in
+    let mark = c.mark-outcome.ensures.keeps in
     let then = read_then_step c.args.self.now.used c.steps_to_value_of.result (steps_read c.steps_to_value_of.ensures c.value_if_any-read.new.at.own.1 reads.quiet.same.start) reads mark.took mark.own mark.takes_no_slot in
     let more = c.unlink_marked.ensures.goes in
     record { call = search rules; counts = counts_on then.0 more.goes.counts; hand = hand_on then.1 more.goes.hand; more = let m = more.more in omega (arith, m) }
@@ -130,11 +130,11 @@ returns-then-affords-clause-answers g c =
     let then = c.unlink_marked.ensures.goes.goes.quiet in
     let p = c.args.self.now.at.stepper.now in
     let q = c.value_if_any-read.new.at.stepper.now in
-    let r = c.mark_entry-outcome.new.at.stepper.now in
+    let r = c.mark-outcome.new.at.stepper.now in
     let reads = c.value_if_any-read.ensures.reads in
     let steps = steps_read c.steps_to_value_of.ensures c.value_if_any-read.new.at.own.1 same.start in
     let first : Goes p q c.args.self.now.used (c.args.self.now.used + c.steps_to_value_of.result) = goes_counted c.args.self.now.used c.steps_to_value_of.result (steps_to_value_of p.trace.start) steps reads in
-    let mark = c.mark_entry-outcome.ensures.keeps in
+    let mark = c.mark-outcome.ensures.keeps in
     let pred = pred_on c.args.self.now.key f.pred made.same mark.keeps (pred_on c.args.self.now.key f.pred same keeps c.requires.locates.pred) in
     record {
       made = made_then told then;
@@ -155,7 +155,7 @@ returns-then-affords-clause-answers g c =
           let read = alone_first reads.quiet.seen made.seen one in
           let marks = c.in_ok-marked.ensures.removed.alone (alone_then same.who reads.quiet.seen made.seen one) in
           let other = named_elsewhere p c.law.ensures (bucket_of p.trace.start.shape c.args.self.now.key) f.pred (pred_inside c.requires.locates.pred) (inl c.requires.locates.pred.unmarked) stands y.slot y.named c.in-Some.cur.at y.at in
-          let kept = fresh_marked q.trace r.trace marks.epoch c.mark_entry-outcome.ensures.keeps.keeps (fresh_kept p.trace q.trace (reads.looks read) keeps fresh) in
+          let kept = fresh_marked q.trace r.trace marks.epoch c.mark-outcome.ensures.keeps.keeps (fresh_kept p.trace q.trace (reads.looks read) keeps fresh) in
           let there = marks.others f.pred.at other ∙ stands_on p.trace q.trace f.pred (read_leaves reads read) stands in
           let soon = c.unlink_marked.ensures.soon kept there (alone_then told.same.who told.seen then.seen alone) in
           let few = soon.few in
@@ -168,7 +168,7 @@ returns-then-affords-clause-answers g c =
 pub returns-else-affords-clause-settles : goal.returns-else-affords-clause-settles
 returns-else-affords-clause-settles g c =
     let reads = c.value_if_any-read.ensures.reads in
-    let won = c.mark_entry-outcome.ensures.keeps in
+    let won = c.mark-outcome.ensures.keeps in
     settles_read (search rules) refl (steps_read c.steps_to_value_of.ensures c.value_if_any-read.new.at.own.1 reads.quiet.same.start) reads won.took won.own won.takes_no_slot
 
 pub returns-else-affords-clause-answers : goal.returns-else-affords-clause-answers

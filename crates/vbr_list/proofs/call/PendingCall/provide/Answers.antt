@@ -2,7 +2,7 @@ use Rattle.std.proofs.Common.{rules, ◌-◌, ◌∙◌, Result, Err, ap, subst}
 use Rattle.std.specs.Prelude.{IfErr}
 use Rattle.vbr_at_table.specs.Hands.{HandView}
 use Rattle.vbr_at_table.specs.Refusals.{RefusesTake}
-use Rattle.vbr_at_table.specs.declared.refusal.TakeRefusal.{TakeRefusal}
+use Rattle.vbr_at_table.specs.declared.refusal.Refusal.{Refusal}
 use Rattle.vbr_at_table.proofs.Lemmas.{had_taken}
 use Rattle.vbr_list.proofs.Preparing.{spent_rest}
 use Rattle.vbr_list.proofs.call.PendingCall.provide.Goals as goal
@@ -22,7 +22,7 @@ returns-in-EpochSpent-clause-refused g c =
     let p = c.args.self.now.at.stepper.now in
     let q = c.take-outcome.new.at.stepper.now in
     let left = c.args.self.now.budget - c.args.self.now.used in
-    let P : Result HandView TakeRefusal → Type 0 = λ r. IfErr r (RefusesTake p q left) in
+    let P : Result HandView Refusal → Type 0 = λ r. IfErr r (RefusesTake p q left) in
     let why = (subst P (c.in-Err.is ∙ ap Err c.in-EpochSpent.is) c.take-outcome.ensures.refused).why in
     record {
       hand = search rules;

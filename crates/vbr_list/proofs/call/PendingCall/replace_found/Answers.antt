@@ -43,8 +43,8 @@ birth_after-named-requires g c =
     let y = cur_is (knows c.args.self.now.at.stepper.now.trace) c.args.self.now.key f.pred c.in-Some.cur f.cur f.present c.requires.finds.locates.end c.in-Some.is in
     record { held = held_kept c.in-Some.cur c.in-Ok.ensures.value.keeps y.held }
 
-pub replace_entry-requires-clause-node : goal.replace_entry-requires-clause-node
-replace_entry-requires-clause-node g c =
+pub replace-requires-clause-node : goal.replace-requires-clause-node
+replace-requires-clause-node g c =
     let f = c.args.found.now in
     let know = knows c.args.self.now.at.stepper.now.trace in
     let y = cur_is know c.args.self.now.key f.pred c.in-Some.cur f.cur f.present c.requires.finds.locates.end c.in-Some.is in
@@ -88,8 +88,8 @@ returns-in_default-named-clause-back g c =
     let both = goes_on one two in
     record { quiet = both.quiet; hand = hand_kept c.args.hand both.hand c.requires.has.hand; loses = inl (inl (moves_later one.quiet c.in-Ok.ensures.value.keeps.epoch (moves_on q r two.quiet.same two.quiet.seen (moves_epoch _ c.in_default-named.ensures.moved.rolls)))) }
 
-pub returns-in-Ok-replace_entry-clause-tries : goal.returns-in-Ok-replace_entry-clause-tries
-returns-in-Ok-replace_entry-clause-tries g c =
+pub returns-in-Ok-replace-clause-tries : goal.returns-in-Ok-replace-clause-tries
+returns-in-Ok-replace-clause-tries g c =
     let used = c.args.self.now.used in
     let n = c.steps_to_birth.result in
     let one = goes_read used c.value_of-read.ensures.reads in
@@ -101,9 +101,9 @@ returns-in-Ok-replace_entry-clause-tries g c =
     let four : 4 ≡ steps_to_update start = ap (λ (b : Bool). 1 + steps_to_value b + 1 + 1) (sym has) in
     record {
       call = search rules;
-      counts = counts_on both.counts (counts_step (used + 2 + n) 4 (took_same 4 (steps_to_update start) four c.replace_entry.ensures.stores.took));
+      counts = counts_on both.counts (counts_step (used + 2 + n) 4 (took_same 4 (steps_to_update start) four c.replace.ensures.stores.took));
       used = (omega arith, omega (arith, few));
-      takes_no_slot = none_on both.hand.takes_no_slot c.replace_entry.ensures.stores.takes_no_slot;
+      takes_no_slot = none_on both.hand.takes_no_slot c.replace.ensures.stores.takes_no_slot;
     }
 
 pub returns-in-Err-clause-tries : goal.returns-in-Err-clause-tries
@@ -119,22 +119,22 @@ returns-in-Err-clause-tries g c =
     let four : 4 ≡ steps_to_update start = ap (λ (b : Bool). 1 + steps_to_value b + 1 + 1) (sym has) in
     record {
       call = search rules;
-      counts = counts_on both.counts (counts_step (used + 2 + n) 4 (took_same 4 (steps_to_update start) four c.replace_entry.ensures.stores.took));
+      counts = counts_on both.counts (counts_step (used + 2 + n) 4 (took_same 4 (steps_to_update start) four c.replace.ensures.stores.took));
       used = (omega arith, omega (arith, few));
-      takes_no_slot = none_on both.hand.takes_no_slot c.replace_entry.ensures.stores.takes_no_slot;
+      takes_no_slot = none_on both.hand.takes_no_slot c.replace.ensures.stores.takes_no_slot;
     }
 
-pub returns-in-Ok-replace_entry-clause-replaced : goal.returns-in-Ok-replace_entry-clause-replaced
-returns-in-Ok-replace_entry-clause-replaced g c =
+pub returns-in-Ok-replace-clause-replaced : goal.returns-in-Ok-replace-clause-replaced
+returns-in-Ok-replace-clause-replaced g c =
     let p = c.args.self.now.at.stepper.now.trace in
     let q = c.birth_after-named.new.at.stepper.now.trace in
-    let r = c.replace_entry.new.at.stepper.now.trace in
+    let r = c.replace.new.at.stepper.now.trace in
     let f = c.args.found.now in
     let k = c.args.self.now.key in
     let first = c.value_of-read.ensures.reads in
     let then = c.birth_after-named.ensures.reads in
     let quiet = quiet_on first.quiet then.quiet in
-    let told = c.in-Ok-replace_entry.ensures.replaced in
+    let told = c.in-Ok-replace.ensures.replaced in
     let made_now = told.made c.in-Ok.old (value_on c.in-Some.cur.at c.in-Ok.old c.in-Ok-named.ensures.birth.keeps c.in-Ok.ensures.value.value) in
     let C : ℕ → Start → Type 0 = λ who start. MadeTwo (entry_call start who Remove k true c.in-Ok.old) (entry_call start who Insert k true c.args.value) p r in
     let all : C q.who q.start = two_on quiet made_now in
@@ -145,7 +145,7 @@ returns-in-Ok-replace_entry-clause-replaced g c =
     let there = key_found (knows p) k f.pred c.in-Some.cur f.cur f.present c.requires.finds.locates.end c.in-Some.is c.requires.finds.present in
     let one = c.in-Ok.ensures.value.keeps in
     let two = c.in-Ok-named.ensures.birth.keeps in
-    let three = c.replace_entry.ensures.stores.keeps in
+    let three = c.replace.ensures.stores.keeps in
     let keeps = keeps_on (keeps_on one two) three in
     let pred = pred_on k f.pred both.same keeps c.requires.finds.locates.pred in
     let K : At → Type 0 = λ at. KeyAt (knows r) at k in
@@ -153,11 +153,11 @@ returns-in-Ok-replace_entry-clause-replaced g c =
     let R : IsRun p.start p.passes r.seen = run_two p r both.same both.is_run in
     let steps = first.takes_no_slot.count in
     let steps_then = then.takes_no_slot.count in
-    let steps_last = c.replace_entry.ensures.stores.takes_no_slot.count in
+    let steps_last = c.replace.ensures.stores.takes_no_slot.count in
     record {
       both = record { made = both; spent = told.spent };
       old = record {
-        may = record { held = pred.held; unmarked = pred.unmarked; marked = told.held; names = subst N (slot_same c.in-Ok-replace_entry.marked.slot y.slot (told.at ∙ y.at)) y.named };
+        may = record { held = pred.held; unmarked = pred.unmarked; marked = told.held; names = subst N (slot_same c.in-Ok-replace.marked.slot y.slot (told.at ∙ y.at)) y.named };
         key = subst K (sym told.at) (key_kept c.in-Some.cur.at k keeps there);
         behind = pred.behind;
       };
@@ -167,22 +167,22 @@ returns-in-Ok-replace_entry-clause-replaced g c =
           keeps.epoch (steps_last ∙ steps_then ∙ steps) pred.held pred.unmarked pred.inside;
     }
 
-pub returns-in-Ok-replace_entry-clause-had : goal.returns-in-Ok-replace_entry-clause-had
-returns-in-Ok-replace_entry-clause-had g c =
+pub returns-in-Ok-replace-clause-had : goal.returns-in-Ok-replace-clause-had
+returns-in-Ok-replace-clause-had g c =
     let p = c.args.self.now.at.stepper.now in
     let q = c.birth_after-named.new.at.stepper.now in
     let one = c.value_of-read.ensures.reads.own in
     let two = c.birth_after-named.ensures.reads.own in
-    had_spent p c.replace_entry.new.at.stepper.now c.args.hand.slot c.requires.has.hand.is.slot (c.replace_entry.ensures.stores.pool ∙ two.pool ∙ one.pool)
+    had_spent p c.replace.new.at.stepper.now c.args.hand.slot c.requires.has.hand.is.slot (c.replace.ensures.stores.pool ∙ two.pool ∙ one.pool)
 
 pub returns-in-Err-clause-had : goal.returns-in-Err-clause-had
 returns-in-Err-clause-had g c =
     let p = c.args.self.now.at.stepper.now in
-    let r = c.replace_entry.new.at.stepper.now in
+    let r = c.replace.new.at.stepper.now in
     let one = c.value_of-read.ensures.reads.own in
     let two = c.birth_after-named.ensures.reads.own in
     let lost = c.in-Err.ensures.lost in
-    had_same p r (c.replace_entry.ensures.stores.pool ∙ two.pool ∙ one.pool) (lost.hand.slot ∙ ap (λ (h : HandView). Some h.slot) lost.same ∙ sym c.requires.has.hand.is.slot)
+    had_same p r (c.replace.ensures.stores.pool ∙ two.pool ∙ one.pool) (lost.hand.slot ∙ ap (λ (h : HandView). Some h.slot) lost.same ∙ sym c.requires.has.hand.is.slot)
 
 pub returns-in_default-read-clause-had : goal.returns-in_default-read-clause-had
 returns-in_default-read-clause-had g c = let one = c.value_of-read.ensures.reads.own in had_same c.args.self.now.at.stepper.now c.value_of-read.new.at.stepper.now one.pool one.hand
@@ -197,7 +197,7 @@ pub returns-in-Err-clause-back : goal.returns-in-Err-clause-back
 returns-in-Err-clause-back g c =
     let p = c.args.self.now.at.stepper.now.trace in
     let q = c.birth_after-named.new.at.stepper.now.trace in
-    let r = c.replace_entry.new.at.stepper.now.trace in
+    let r = c.replace.new.at.stepper.now.trace in
     let first = c.value_of-read.ensures.reads in
     let then = c.birth_after-named.ensures.reads in
     let one = goes_read 0 first in
@@ -210,6 +210,6 @@ returns-in-Err-clause-back g c =
     let none = unchanged_by_none c.law.ensures.start run_q read.same read.seen (adds_on first.adds_none then.adds_none) in
     record {
       quiet = quiet_on read lost.exchange.quiet;
-      hand = record { is = lost.hand; room = subst P (sym c.replace_entry.ensures.stores.pool) (two.hand.room (one.hand.room c.requires.has.hand.room)) };
+      hand = record { is = lost.hand; room = subst P (sym c.replace.ensures.stores.pool) (two.hand.room (one.hand.room c.requires.has.hand.room)) };
       loses = inr (subst Q (sym c.in-Some.is) (lost_place_later c.in-Some.cur _ read (keeps_on c.in-Ok.ensures.value.keeps c.in-Ok-named.ensures.birth.keeps) none lost.exchange.lost lost.exchange.unchanged));
     }

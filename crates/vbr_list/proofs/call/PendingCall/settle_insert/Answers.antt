@@ -25,7 +25,7 @@ returns-then-found-clause-publishes g c =
     }
 
 pub returns-in-Ok-clause-had : goal.returns-in-Ok-clause-had
-returns-in-Ok-clause-had g c = had_spent c.args.self.now.at.stepper.now c.update_entry.new.at.stepper.now c.args.hand.slot c.requires.hand.is.slot c.update_entry.ensures.stores.pool
+returns-in-Ok-clause-had g c = had_spent c.args.self.now.at.stepper.now c.update.new.at.stepper.now c.args.hand.slot c.requires.hand.is.slot c.update.ensures.stores.pool
 
 pub returns-then-found-clause-had : goal.returns-then-found-clause-had
 returns-then-found-clause-had g c =
@@ -36,12 +36,12 @@ returns-then-found-clause-had g c =
 
 pub returns-in-Ok-clause-publishes : goal.returns-in-Ok-clause-publishes
 returns-in-Ok-clause-publishes g c =
-    let stores = c.update_entry.ensures.stores in
+    let stores = c.update.ensures.stores in
     publishes_stored (search rules) refl (c.steps_to_update.ensures ∙ ap steps_to_update (sym c.args.self.now.at.own.1)) stores.took stores.takes_no_slot
 
 pub returns-in-Err-clause-publishes : goal.returns-in-Err-clause-publishes
 returns-in-Err-clause-publishes g c =
-    let stores = c.update_entry.ensures.stores in
+    let stores = c.update.ensures.stores in
     publishes_stored (search rules) refl (c.steps_to_update.ensures ∙ ap steps_to_update (sym c.args.self.now.at.own.1)) stores.took stores.takes_no_slot
 
 pub returns-in-Ok-clause-answers : goal.returns-in-Ok-clause-answers

@@ -10,8 +10,8 @@ use Rattle.vbr_list.proofs.Sufficing.{any_error}
 use Rattle.vbr_list.proofs.Told.{told_as, told_bare}
 use Rattle.vbr_list.proofs.call.PendingCall.settle_remove.Goals as goal
 
-pub confirm_absent_entry-outcome-requires-clause-gap : goal.confirm_absent_entry-outcome-requires-clause-gap
-confirm_absent_entry-outcome-requires-clause-gap g c =
+pub confirm_absent-outcome-requires-clause-gap : goal.confirm_absent-outcome-requires-clause-gap
+confirm_absent-outcome-requires-clause-gap g c =
     let f = c.args.found.now in
     record {
       held = search rules;
@@ -20,19 +20,19 @@ confirm_absent_entry-outcome-requires-clause-gap g c =
       unmarked = search rules;
     }
 
-pub confirm_absent_entry-outcome-requires-clause-op : goal.confirm_absent_entry-outcome-requires-clause-op
-confirm_absent_entry-outcome-requires-clause-op g c = record { other = λ e. absurd (cc); asked = λ get. absurd (cc) }
+pub confirm_absent-outcome-requires-clause-op : goal.confirm_absent-outcome-requires-clause-op
+confirm_absent-outcome-requires-clause-op g c = record { other = λ e. absurd (cc); asked = λ get. absurd (cc) }
 
 pub returns-clause-answers : goal.returns-clause-answers
 returns-clause-answers g c =
     let p = c.args.self.now.at.stepper.now.trace in
-    let made : Made (set_call p.who Remove c.args.self.now.key false) p c.confirm_absent_entry-outcome.new.at.stepper.now.trace = search rules in
+    let made : Made (set_call p.who Remove c.args.self.now.key false) p c.confirm_absent-outcome.new.at.stepper.now.trace = search rules in
     record { made = told_as (told_bare p.start p.who Remove c.args.self.now.key false) made; unlists = λ yes room. absurd (cc); paid = inl (omega arith); soon = λ fresh stands alone. record { few = omega arith; fewer = λ yes room. absurd (cc) } }
 
 pub returns-in_err-outcome-clause-rolls : goal.returns-in_err-outcome-clause-rolls
 returns-in_err-outcome-clause-rolls g c =
     let p = c.args.self.now.at.stepper.now.trace in
-    let r = c.confirm_absent_entry-outcome.new.at.stepper.now.trace in
+    let r = c.confirm_absent-outcome.new.at.stepper.now.trace in
     let lost = c.in_err-outcome.ensures.lost in
     any_error c.from_residual.result (λ rollback. record {
       quiet = lost.quiet;

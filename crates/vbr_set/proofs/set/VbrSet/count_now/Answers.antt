@@ -1,6 +1,6 @@
 use Rattle.std.proofs.Common.{◌≡◌, ℕ, ◌^◌, ◌<◌, [], Option, Some, None, Result, Ok, Err, refl, sym, ap, ◌∙◌, subst, arith}
 use Rattle.vbr_list.specs.declared.cursor.Cursor.{Cursor}
-use Rattle.vbr_list.specs.declared.refusal.Refusal.{Refusal}
+use Rattle.vbr_at_table.specs.declared.refusal.Refusal.{Refusal}
 use Rattle.vbr_set.specs.Iterating.{CallsNextWhere}
 use Rattle.vbr_set.specs.Members.{as_member}
 use Rattle.vbr_set.proofs.Listing.{Counts, counted_later, counted_on, gone_over, goes_over, later_bucket, has_counted, lists_none, nearer, nearer_later, stands_short, stood, stood_not}

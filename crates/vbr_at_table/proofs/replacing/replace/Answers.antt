@@ -15,7 +15,7 @@ use Rattle.vbr_at_table.proofs.WrittenLinks.{fits, birth_in_hand_low, birth_at_l
 use Rattle.vbr_at_table.proofs.Accepted.{accepted_checked, place_in}
 use Rattle.vbr_at_table.proofs.Filled.{hand_filled, hand_at}
 use Rattle.vbr_at_table.proofs.Replacements.{replace_accepted, replace_keeps, replace_lost, replace_lost_keeps, replace_none, replace_told, replace_writes, key_on, value_on}
-use Rattle.vbr_at_table.proofs.replacing.replace_entry.Goals as goal
+use Rattle.vbr_at_table.proofs.replacing.replace.Goals as goal
 
 pub marked_link_to-word-requires : goal.marked_link_to-word-requires
 marked_link_to-word-requires g c =

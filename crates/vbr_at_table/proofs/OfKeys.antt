@@ -1,0 +1,63 @@
+-- What a call tells at a table whose nodes have no values: an entry is a key there.
+use Rattle.std.proofs.Common.{◌≡◌, ◌≢◌, ℕ, ◌+◌, Bool, true, false, Option, Some, subst}
+use Rattle.std.specs.Prelude.{Result, Ok, Err, IfOk, OnOk}
+use Rattle.vbr_machine.specs.declared.history.Call.{Call}
+use Rattle.vbr_machine.specs.declared.history.Op.{Op}
+use Rattle.vbr_machine.specs.declared.history.Op.TheVariants.{Get, Insert, Remove}
+use Rattle.vbr_words.specs.declared.place.At.{At}
+use Rattle.vbr_slots.specs.Calls.{Made}
+use Rattle.vbr_slots.specs.Views.{PassView, Trace}
+use Rattle.vbr_at_table.specs.Answering.{AnswersPresent, IsAnswered}
+use Rattle.vbr_at_table.specs.Exchanges.{InsertsKey, RemovesKey, StoresIn}
+use Rattle.vbr_at_table.specs.Hands.{HandView}
+use Rattle.vbr_at_table.specs.Values.{AnswersEntry, InsertsEntry, IsAsked, IsValued, RemovesEntry, steps_to_update, steps_to_value}
+use Rattle.vbr_at_table.specs.declared.held.Held.{Held}
+use Rattle.vbr_at_table.specs.declared.held.Marked.{Marked}
+use Rattle.vbr_at_table.specs.declared.rollback.Rollback.{Rollback}
+use Rattle.vbr_at_table.proofs.MadeCalls.{of_set}
+use Rattle.vbr_at_table.proofs.NoValues.{none_kept, not_valued}
+
+-- ---- what they ask
+
+-- no value has to be known there
+pub key_valued : (p : Trace) (at : At) → p.start.shape.values ≡ false → IsValued p at
+key_valued p at bare has = not_valued bare has
+
+-- nor does an operation ask for one that is no get
+pub key_asked : (p : Trace) (op : Op) (at : At) → op ≢ Get → IsAsked p op at
+key_asked p op at other get = absurd (other get)
+
+-- ---- what they tell
+
+-- a mark removes the key
+pub key_removed : (p q : Trace) (node : Held) (result : Result Marked Rollback) → p.start.shape.values ≡ false → IfOk result (RemovesEntry p q node) → IfOk result (RemovesKey p q node)
+key_removed p q node (Ok now) bare removed = record {
+  made = (λ key k.
+      let P : Option ℕ → Type 0 = λ value. Made (record { who = p.who; op = Remove; key = key; reply = true; value = value }) p q in
+      subst P (none_kept p.start bare (Some 0)) (removed.made key 0 k (λ has. not_valued bare has)));
+  at = removed.at;
+  link = removed.link;
+  held = removed.held;
+  out = removed.out;
+  leaves = removed.leaves;
+  alone = removed.alone;
+}
+key_removed p q node (Err rollback) bare removed = tt
+
+-- an update inserts the key
+pub key_inserted : (p q : PassView) (key value : ℕ) (result : Result (Unit {0}) (HandView × Rollback)) → p.trace.start.shape.values ≡ false → IfOk result (λ done. InsertsEntry p q key value) → IfOk result (λ done. InsertsKey p q key)
+key_inserted p q key value (Ok done) bare inserted = record {
+  made = (let P : Option ℕ → Type 0 = λ v. Made (record { who = p.trace.who; op = Insert; key = key; reply = true; value = v }) p.trace q.trace in
+      subst P (none_kept p.trace.start bare (Some value)) inserted.made);
+  spent = inserted.spent;
+}
+key_inserted p q key value (Err back) bare inserted = tt
+
+-- in three steps
+pub key_stored : (p q : PassView) → p.trace.start.shape.values ≡ false → StoresIn p q (steps_to_update p.trace.start) → StoresIn p q 3
+key_stored p q bare stores = let P : Bool → Type 0 = λ values. StoresIn p q (1 + steps_to_value values + 1 + 1) in subst P bare stores
+
+-- and an answer by the presence of the entry is one by the presence of the key, of an operation that is no get
+pub key_present : (p q : Trace) (op : Op) (node : Held) (result : Result (Unit {0}) Rollback) → op ≢ Get → OnOk result (AnswersEntry p q op node) → OnOk result (AnswersPresent p q op node)
+key_present p q op node (Ok done) other told = λ key k. subst (λ (call : Call). IsAnswered p q call) (of_set p.who op key other) (told.answers key 0 k (λ get. absurd (other get)))
+key_present p q op node (Err rollback) other told = tt
