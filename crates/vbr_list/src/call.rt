@@ -2,7 +2,7 @@
 ghost use Rattle.std.specs.Prelude.{◌≡◌, ◌<◌, ◌≤◌};
 ghost use Rattle.vbr_words.specs.Buckets.{bucket_of};
 
-use vbr_slots::AtTable;
+use vbr_slots::{AtTable, Slots};
 use vbr_words::{Keys, Nodes};
 
 /// A call in progress: the pass at its table, for which key, in what bucket that is, and how many
@@ -19,3 +19,31 @@ pub(crate) struct PendingCall<'c, N: Nodes = Keys> {
     ghost in_shape: { bucket < at.slots.now.start.shape.buckets },
     ghost within: { used ≤ budget },
 }
+
+/// The bucket of a key at a table.
+#[inline(always)]
+pub(crate) fn bucket_at<N: Nodes>(slots: &Slots<N>, key: u64) -> u32
+    ensures of_key { result ≡ bucket_of slots.now.start.shape key }
+    ensures in_shape { result < slots.now.start.shape.buckets }
+{
+    slots.shape().bucket_of(key)
+}
+
+/// Begins a call for a key at a table, by what makes the steps of its pass, with a budget of which so many
+/// steps are used before. It is a macro since a function can't hand on in a call what it was lent.
+macro_rules! begin {
+    ($slots:expr, $stepper:expr, $key:expr, $budget:expr, $used:expr) => {
+        $crate::call::PendingCall {
+            at: vbr_slots::AtTable {
+                slots: $slots,
+                stepper: $stepper,
+            },
+            key: $key,
+            bucket: $crate::call::bucket_at($slots, $key),
+            budget: $budget,
+            used: $used,
+        }
+    };
+}
+
+pub(crate) use begin;

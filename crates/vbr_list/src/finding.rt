@@ -1,18 +1,18 @@
 //! Finding where a key stands.
 ghost use Rattle.std.specs.Prelude.{◌≡◌, None, IfOk, IfErr, IfSome, IfNone};
-ghost use Rattle.vbr_slots.specs.AtTables.{IsSameTable, pass_of, trace_of};
 ghost use Rattle.vbr_slots.specs.Calls.{Took};
 ghost use Rattle.vbr_slots.specs.Views.{IsOf};
 ghost use Rattle.vbr_at_table.specs.KeptSlots.{TakesNoSlot};
 ghost use Rattle.vbr_list.specs.Found.{FindsIn, GivesUp};
-ghost use Rattle.vbr_list.specs.Pieces.{GoesOn};
+ghost use Rattle.vbr_list.specs.Pieces.{GoesOn, HasRoom};
 ghost use Rattle.vbr_list.specs.Traversing.{Finds, SearchTires};
 
-use crate::call::PendingCall;
+use crate::call::{PendingCall, begin};
 use crate::found::Found;
 use crate::traversal::Stop;
 use vbr_at_table::Refusal;
-use vbr_slots::{AtTable, Pass, Slots};
+use vbr_at_table::budget::affords;
+use vbr_slots::{Pass, Slots, Stepper};
 use vbr_words::Nodes;
 
 impl<N: Nodes> PendingCall<'_, N> {
@@ -31,6 +31,21 @@ impl<N: Nodes> PendingCall<'_, N> {
                 Err(Stop::Tired) => return None,
             }
         }
+    }
+
+    /// As `search`, with room in the budget for one more piece then.
+    #[inline(always)]
+    pub(crate) fn reach(&mut self) -> Option<Found>
+        ensures goes { GoesOn self.old self.new }
+        ensures found { IfSome result (Finds self.old self.new) }
+        ensures room { IfSome result (λ _. HasRoom self.new) }
+        ensures tired { IfNone result (SearchTires self.old self.new) }
+    {
+        let found = self.search()?;
+        if !affords(self.budget, self.used) {
+            return None;
+        }
+        Some(found)
     }
 }
 
@@ -59,35 +74,27 @@ pub fn find<N: Nodes>(
         |stepper|
             requires own { IsOf stepper.old.trace slots.now }
             requires empty_hand { stepper.old.hand ≡ None }
-        { find_by(&mut AtTable { slots, stepper }, key, budget) },
+        { find_by(slots, stepper, key, budget) },
     )
 }
 
 // As `find`, where no step is counted; and how many steps were made.
 fn find_by<N: Nodes>(
-    at: &mut AtTable<'_, N>,
+    slots: &Slots<N>,
+    stepper: &mut Stepper,
     key: u64,
     budget: u32,
 ) -> (Result<Found, Refusal>, u32)
-    requires empty_hand { (pass_of at.old).hand ≡ None }
-    ensures table { IsSameTable at.old at.new }
-    ensures took { Took (trace_of at.old) (trace_of at.new) result.1 }
-    ensures hand { (pass_of at.new).hand ≡ None }
-    ensures takes_no_slot { TakesNoSlot (pass_of at.old) (pass_of at.new) }
-    ensures found { IfOk result.0 (FindsIn (pass_of at.old) (pass_of at.new) key budget) }
-    ensures tired { IfErr result.0 (GivesUp (pass_of at.old) (pass_of at.new) key budget) }
+    requires own { IsOf stepper.old.trace slots.now }
+    requires empty_hand { stepper.old.hand ≡ None }
+    ensures took { Took stepper.old.trace stepper.new.trace result.1 }
+    ensures hand { stepper.new.hand ≡ None }
+    ensures takes_no_slot { TakesNoSlot stepper.old stepper.new }
+    ensures found { IfOk result.0 (FindsIn stepper.old stepper.new key budget) }
+    ensures tired { IfErr result.0 (GivesUp stepper.old stepper.new key budget) }
 {
-    at.law();
-    let mut call = PendingCall {
-        at: AtTable {
-            slots: at.slots,
-            stepper: at.stepper,
-        },
-        key,
-        bucket: at.slots.shape().bucket_of(key),
-        budget,
-        used: 0,
-    };
+    let mut call = begin!(slots, stepper, key, budget, 0);
+    call.at.law();
     match call.search() {
         Some(found) => (Ok(found), call.used),
         None => (Err(Refusal::OutOfSteps { used: call.used }), call.used),

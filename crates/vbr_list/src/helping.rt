@@ -1,10 +1,11 @@
 //! Helping to unlink a marked node.
 ghost use Rattle.std.specs.Prelude.{◌≤◌, IfOk, IfErr};
 ghost use Rattle.vbr_slots.specs.AtTables.{IsSameTable, pass_of, trace_of};
+ghost use Rattle.vbr_slots.specs.Views.{IsOf};
 ghost use Rattle.vbr_list.specs.Helping.{GoesIn, Helps, HelpsNone, MayHelp, Retires};
 
 use vbr_at_table::{Held, Marked, Rollback, retire, steps_to_unlink, unlink};
-use vbr_slots::AtTable;
+use vbr_slots::{AtTable, Slots, Stepper};
 use vbr_words::Nodes;
 
 /// Unlinks a marked node behind a place and retires it: gives the place with its new link, and how
@@ -65,22 +66,23 @@ pub(crate) fn help<N: Nodes>(
 // As `help`, in a function of its own.
 #[inline(never)]
 fn help_apart<N: Nodes>(
-    at: &mut AtTable<'_, N>,
+    slots: &Slots<N>,
+    stepper: &mut Stepper,
     pred: Held,
     marked: Marked,
 ) -> (Result<Held, Rollback>, u32)
-    requires may { MayHelp (trace_of at.old) pred marked }
-    ensures table { IsSameTable at.old at.new }
-    ensures goes { GoesIn (pass_of at.old) (pass_of at.new) result.1 }
+    requires own { IsOf stepper.old.trace slots.now }
+    requires may { MayHelp stepper.old.trace pred marked }
+    ensures goes { GoesIn stepper.old stepper.new result.1 }
     ensures few { result.1 ≤ 6 }
-    ensures helps { IfOk result.0 (Helps (pass_of at.old) (pass_of at.new) pred marked) }
-    ensures lost { IfErr result.0 (HelpsNone (pass_of at.old) (pass_of at.new) pred) }
+    ensures helps { IfOk result.0 (Helps stepper.old stepper.new pred marked) }
+    ensures lost { IfErr result.0 (HelpsNone stepper.old stepper.new pred) }
 {
-    help(at, &pred, marked)
+    help(&mut AtTable { slots, stepper }, &pred, marked)
 }
 
-/// As [`help`], by a copy of what is lent, so that a traversal that meets no marked node has all of its
-/// own in registers.
+/// As [`help`], by what makes the steps, which is lent, so that a traversal that meets no marked node has
+/// all of its own in registers.
 #[inline(always)]
 pub(crate) fn help_by_copy<N: Nodes>(
     at: &mut AtTable<'_, N>,
@@ -95,9 +97,5 @@ pub(crate) fn help_by_copy<N: Nodes>(
     ensures lost { IfErr result.0 (HelpsNone (pass_of at.old) (pass_of at.new) pred) }
 {
     let slots = at.slots;
-    let mut copy = AtTable {
-        slots,
-        stepper: at.stepper,
-    };
-    help_apart(&mut copy, pred, marked)
+    help_apart(slots, at.stepper, pred, marked)
 }

@@ -2,7 +2,6 @@
 ghost use Rattle.std.specs.Prelude.{◌≡◌, ◌+◌, ◌≤◌, true, false, length, None, IfOk, IfErr};
 ghost use Rattle.vbr_machine.specs.declared.history.Op.TheVariants.{Insert};
 ghost use Rattle.vbr_at_table.specs.KeptSlots.{HasUnpublished};
-ghost use Rattle.vbr_slots.specs.AtTables.{IsSameTable, pass_of, trace_of};
 ghost use Rattle.vbr_slots.specs.Calls.{Quiet, Took};
 ghost use Rattle.vbr_slots.specs.Views.{IsOf};
 ghost use Rattle.vbr_at_table.specs.Answering.{KeepsIn};
@@ -12,13 +11,13 @@ ghost use Rattle.vbr_list.specs.Pieces.{HasRoom, IsSameCall, Replies, pass_in, t
 ghost use Rattle.vbr_list.specs.Told.{stored_in};
 ghost use Rattle.vbr_list.specs.Traversing.{LocatesFor};
 
-use crate::call::PendingCall;
+use crate::call::{PendingCall, begin};
 use crate::found::Found;
 use crate::valuing::steps_to_update;
 use vbr_at_table::budget::affords;
 use vbr_at_table::{Hand, Refusal, Rollback, confirm_present, give_back, take, update};
 use vbr_machine::Op;
-use vbr_slots::{AtTable, Pass, Slots};
+use vbr_slots::{Pass, Slots, Stepper};
 use vbr_words::{Entries, Nodes};
 
 impl<N: Nodes> PendingCall<'_, N> {
@@ -167,23 +166,13 @@ pub fn insert(slots: &Slots, pass: &mut Pass, key: u64, budget: u32) -> Result<b
     requires empty_hand { pass.old.hand ≡ None }
     ensures { Calls Insert pass.old pass.new key budget result }
 {
+    slots.kind();
     pass.during(
         |stepper|
             requires own { IsOf stepper.old.trace slots.now }
             requires empty_hand { stepper.old.hand ≡ None }
-        { insert_key(&mut AtTable { slots, stepper }, key, budget) },
+        { insert_by(slots, stepper, key, 0, budget) },
     )
-}
-
-// As `insert`, where no step is counted; and how many steps were made.
-fn insert_key(at: &mut AtTable<'_>, key: u64, budget: u32) -> (Result<bool, Refusal>, u32)
-    requires empty_hand { (pass_of at.old).hand ≡ None }
-    ensures table { IsSameTable at.old at.new }
-    ensures took { Took (trace_of at.old) (trace_of at.new) result.1 }
-    ensures calls { Calls Insert (pass_of at.old) (pass_of at.new) key budget result.0 }
-{
-    at.slots.kind();
-    insert_by(at, key, 0, budget)
 }
 
 /// As [`insert`], at a table whose nodes have values: puts an entry, a key with its value, into the
@@ -202,56 +191,33 @@ pub fn insert_entry(
     requires empty_hand { pass.old.hand ≡ None }
     ensures { CallsInsert pass.old pass.new key value budget result }
 {
+    pass.law();
+    slots.kind();
     pass.during(
         |stepper|
             requires own { IsOf stepper.old.trace slots.now }
             requires empty_hand { stepper.old.hand ≡ None }
-        { insert_value(&mut AtTable { slots, stepper }, key, value, budget) },
+        { insert_by(slots, stepper, key, value, budget) },
     )
-}
-
-// As `insert_entry`, where no step is counted; and how many steps were made.
-fn insert_value(
-    at: &mut AtTable<'_, Entries>,
-    key: u64,
-    value: u64,
-    budget: u32,
-) -> (Result<bool, Refusal>, u32)
-    requires empty_hand { (pass_of at.old).hand ≡ None }
-    ensures table { IsSameTable at.old at.new }
-    ensures took { Took (trace_of at.old) (trace_of at.new) result.1 }
-    ensures calls { CallsInsert (pass_of at.old) (pass_of at.new) key value budget result.0 }
-{
-    at.law();
-    at.slots.kind();
-    insert_by(at, key, value, budget)
 }
 
 // The insert of a key, with its value where nodes have values; and how many steps were made.
 fn insert_by<N: Nodes>(
-    at: &mut AtTable<'_, N>,
+    slots: &Slots<N>,
+    stepper: &mut Stepper,
     key: u64,
     value: u64,
     budget: u32,
 ) -> (Result<bool, Refusal>, u32)
-    requires empty_hand { (pass_of at.old).hand ≡ None }
-    ensures table { IsSameTable at.old at.new }
-    ensures took { Took (trace_of at.old) (trace_of at.new) result.1 }
-    ensures calls { CallsAs (stored_in (trace_of at.old) key value)
-        (SparesInsert (pass_of at.old) (pass_of at.new) key budget)
-        (pass_of at.old) (pass_of at.new) budget result.0 }
+    requires own { IsOf stepper.old.trace slots.now }
+    requires empty_hand { stepper.old.hand ≡ None }
+    ensures took { Took stepper.old.trace stepper.new.trace result.1 }
+    ensures calls { CallsAs (stored_in stepper.old.trace key value)
+        (SparesInsert stepper.old stepper.new key budget)
+        stepper.old stepper.new budget result.0 }
 {
-    at.law();
-    let mut call = PendingCall {
-        at: AtTable {
-            slots: at.slots,
-            stepper: at.stepper,
-        },
-        key,
-        bucket: at.slots.shape().bucket_of(key),
-        budget,
-        used: 0,
-    };
+    let mut call = begin!(slots, stepper, key, budget, 0);
+    call.at.law();
     match call.prepare() {
         Err(refusal) => (Err(refusal), call.used),
         Ok(None) => (Ok(false), call.used),

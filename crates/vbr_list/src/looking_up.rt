@@ -1,7 +1,6 @@
 //! Look-ups.
 ghost use Rattle.std.specs.Prelude.{◌≡◌, ◌+◌, ◌≤◌, true, false, None, IfOk, IfErr, is_some};
 ghost use Rattle.vbr_machine.specs.declared.history.Op.TheVariants.{Has};
-ghost use Rattle.vbr_slots.specs.AtTables.{IsSameTable, pass_of, trace_of};
 ghost use Rattle.vbr_slots.specs.Calls.{OnlyLoads, Took};
 ghost use Rattle.vbr_slots.specs.Views.{IsOf};
 ghost use Rattle.vbr_list.specs.Sparing.{Calls, CallsAs, CallsGet, SparesLookUp};
@@ -12,13 +11,13 @@ ghost use Rattle.vbr_list.specs.Pieces.{HasRoom, Settles, trace_in};
 ghost use Rattle.vbr_list.specs.Places.{sighted, is_present};
 ghost use Rattle.vbr_list.specs.Told.{given_in, look_up_op};
 
-use crate::call::PendingCall;
+use crate::call::{PendingCall, begin};
 use crate::looking::Sight;
 use crate::valuing::{is_yes, steps_to_value_of, value_if_any};
 use vbr_at_table::budget::affords;
 use vbr_at_table::{Held, Refusal, Rollback, confirm_absent, confirm_look_up, confirm_present};
 use vbr_machine::Op;
-use vbr_slots::{AtTable, Pass, Slots};
+use vbr_slots::{Pass, Slots, Stepper};
 use vbr_words::{Entries, Nodes};
 
 impl<N: Nodes> PendingCall<'_, N> {
@@ -148,27 +147,13 @@ pub fn has<N: Nodes>(
     requires empty_hand { pass.old.hand ≡ None }
     ensures { Calls Has pass.old pass.new key budget result }
 {
-    pass.during(
+    let answer = pass.during(
         |stepper|
             requires own { IsOf stepper.old.trace slots.now }
             requires empty_hand { stepper.old.hand ≡ None }
-        { look_up_key(&mut AtTable { slots, stepper }, key, budget) },
-    )
-}
-
-// As `has`, where no step is counted; and how many steps were made.
-fn look_up_key<N: Nodes>(
-    at: &mut AtTable<'_, N>,
-    key: u64,
-    budget: u32,
-) -> (Result<bool, Refusal>, u32)
-    requires empty_hand { (pass_of at.old).hand ≡ None }
-    ensures table { IsSameTable at.old at.new }
-    ensures took { Took (trace_of at.old) (trace_of at.new) result.1 }
-    ensures calls { Calls Has (pass_of at.old) (pass_of at.new) key budget result.0 }
-{
-    let (answer, used) = look_up(at, key, false, budget);
-    (is_yes(answer), used)
+        { look_up(slots, stepper, key, false, budget) },
+    );
+    is_yes(answer)
 }
 
 /// As [`has`], at a table whose nodes have values: gives the value that is stored with a key, if the
@@ -187,58 +172,37 @@ pub fn get(
     requires empty_hand { pass.old.hand ≡ None }
     ensures { CallsGet pass.old pass.new key budget result }
 {
+    pass.law();
+    slots.kind();
     pass.during(
         |stepper|
             requires own { IsOf stepper.old.trace slots.now }
             requires empty_hand { stepper.old.hand ≡ None }
-        { look_up_value(&mut AtTable { slots, stepper }, key, budget) },
+            requires values { slots.now.start.shape.values ≡ true }
+        { look_up(slots, stepper, key, true, budget) },
     )
-}
-
-// As `get`, where no step is counted; and how many steps were made.
-fn look_up_value(
-    at: &mut AtTable<'_, Entries>,
-    key: u64,
-    budget: u32,
-) -> (Result<Option<u64>, Refusal>, u32)
-    requires empty_hand { (pass_of at.old).hand ≡ None }
-    ensures table { IsSameTable at.old at.new }
-    ensures took { Took (trace_of at.old) (trace_of at.new) result.1 }
-    ensures calls { CallsGet (pass_of at.old) (pass_of at.new) key budget result.0 }
-{
-    at.law();
-    at.slots.kind();
-    look_up(at, key, true, budget)
 }
 
 // The look-up of a key, which gives its value if it is to; and how many steps were made.
 #[inline(always)]
 fn look_up<N: Nodes>(
-    at: &mut AtTable<'_, N>,
+    slots: &Slots<N>,
+    stepper: &mut Stepper,
     key: u64,
     gives: bool,
     budget: u32,
 ) -> (Result<Option<u64>, Refusal>, u32)
-    requires empty_hand { (pass_of at.old).hand ≡ None }
-    requires asked { gives ≡ true → (trace_of at.old).start.shape.values ≡ true }
-    ensures table { IsSameTable at.old at.new }
-    ensures took { Took (trace_of at.old) (trace_of at.new) result.1 }
-    ensures calls { CallsAs (given_in (trace_of at.old) (look_up_op gives) key)
-        (SparesLookUp (given_in (trace_of at.old) (look_up_op gives) key)
-        (answer_costs gives (trace_of at.old) key) (pass_of at.old) (pass_of at.new) key budget)
-        (pass_of at.old) (pass_of at.new) budget result.0 }
+    requires own { IsOf stepper.old.trace slots.now }
+    requires empty_hand { stepper.old.hand ≡ None }
+    requires asked { gives ≡ true → slots.now.start.shape.values ≡ true }
+    ensures took { Took stepper.old.trace stepper.new.trace result.1 }
+    ensures calls { CallsAs (given_in stepper.old.trace (look_up_op gives) key)
+        (SparesLookUp (given_in stepper.old.trace (look_up_op gives) key)
+        (answer_costs gives stepper.old.trace key) stepper.old stepper.new key budget)
+        stepper.old stepper.new budget result.0 }
 {
-    at.law();
-    let mut call = PendingCall {
-        at: AtTable {
-            slots: at.slots,
-            stepper: at.stepper,
-        },
-        key,
-        bucket: at.slots.shape().bucket_of(key),
-        budget,
-        used: 0,
-    };
+    let mut call = begin!(slots, stepper, key, budget, 0);
+    call.at.law();
     loop {
         let Some(sight) = call.look() else {
             return (Err(Refusal::OutOfSteps { used: call.used }), call.used);

@@ -13,14 +13,14 @@ ghost use Rattle.vbr_list.specs.Told.{given_in};
 ghost use Rattle.vbr_list.specs.Traversing.{LocatesFor};
 ghost use Rattle.vbr_list.specs.Walking.{WalksAgain};
 
-use crate::call::PendingCall;
+use crate::call::{PendingCall, begin};
 use crate::found::Found;
 use crate::helping::unlink_and_retire;
 use crate::valuing::{is_yes, steps_to_value_of, value_if_any};
 use vbr_at_table::budget::affords;
 use vbr_at_table::{Held, Marked, Refusal, Rollback, confirm_absent, mark};
 use vbr_machine::Op;
-use vbr_slots::{AtTable, Pass, Slots};
+use vbr_slots::{AtTable, Pass, Slots, Stepper};
 use vbr_words::{Entries, Nodes};
 
 // Walks to the key as `find` does, with what is left of a budget, and so helps to unlink each marked
@@ -29,39 +29,31 @@ use vbr_words::{Entries, Nodes};
 // Gives how many steps are used then. Few removes lose their unlinking, so it is done apart from them.
 #[cold]
 #[inline(never)]
-fn walk_apart<N: Nodes>(at: &mut AtTable<'_, N>, key: u64, budget: u32, used: u32) -> u32
-    requires within { used ≤ budget }
-    ensures table { IsSameTable at.old at.new }
-    ensures goes { Goes (pass_of at.old) (pass_of at.new) used result }
-    ensures within { (used ≤ result) × (result ≤ budget) }
-    ensures clear { result + PIECE ≤ budget → WasClear (trace_of at.old) (trace_of at.new) key }
-    ensures sweeps { result + PIECE ≤ budget → Sweeps (trace_of at.old) (trace_of at.new) key }
-    ensures walks { WalksAgain 9 (trace_of at.old) (trace_of at.new) key used result }
-{
-    at.law();
-    let mut call = PendingCall {
-        at: AtTable {
-            slots: at.slots,
-            stepper: at.stepper,
-        },
-        key,
-        bucket: at.slots.shape().bucket_of(key),
-        budget,
-        used,
-    };
-    let _ = call.search();
-    call.used
-}
-
-// As `walk_apart`, by a copy of what is lent, so that a remove that wins its unlinking has all of its
-// own in registers.
-#[inline(always)]
-pub(crate) fn walk_by_copy<N: Nodes>(
-    at: &mut AtTable<'_, N>,
+fn walk_apart<N: Nodes>(
+    slots: &Slots<N>,
+    stepper: &mut Stepper,
     key: u64,
     budget: u32,
     used: u32,
 ) -> u32
+    requires own { IsOf stepper.old.trace slots.now }
+    requires within { used ≤ budget }
+    ensures goes { Goes stepper.old stepper.new used result }
+    ensures within { (used ≤ result) × (result ≤ budget) }
+    ensures clear { result + PIECE ≤ budget → WasClear stepper.old.trace stepper.new.trace key }
+    ensures sweeps { result + PIECE ≤ budget → Sweeps stepper.old.trace stepper.new.trace key }
+    ensures walks { WalksAgain 9 stepper.old.trace stepper.new.trace key used result }
+{
+    let mut call = begin!(slots, stepper, key, budget, used);
+    call.at.law();
+    let _ = call.search();
+    call.used
+}
+
+// As `walk_apart`, at a table: what makes the steps is lent, so that a remove that wins its unlinking
+// has all of its own in registers.
+#[inline(always)]
+pub(crate) fn walk_on<N: Nodes>(at: &mut AtTable<'_, N>, key: u64, budget: u32, used: u32) -> u32
     requires within { used ≤ budget }
     ensures table { IsSameTable at.old at.new }
     ensures goes { Goes (pass_of at.old) (pass_of at.new) used result }
@@ -71,11 +63,7 @@ pub(crate) fn walk_by_copy<N: Nodes>(
     ensures walks { WalksAgain 9 (trace_of at.old) (trace_of at.new) key used result }
 {
     let slots = at.slots;
-    let mut copy = AtTable {
-        slots,
-        stepper: at.stepper,
-    };
-    walk_apart(&mut copy, key, budget, used)
+    walk_apart(slots, at.stepper, key, budget, used)
 }
 
 impl<N: Nodes> PendingCall<'_, N> {
@@ -92,7 +80,7 @@ impl<N: Nodes> PendingCall<'_, N> {
         let (outcome, made) = unlink_and_retire(&mut self.at, pred, marked);
         self.used += made;
         if outcome.is_err() {
-            self.used = walk_by_copy(&mut self.at, self.key, self.budget, self.used);
+            self.used = walk_on(&mut self.at, self.key, self.budget, self.used);
         }
     }
 
@@ -160,24 +148,14 @@ pub fn remove(slots: &Slots, pass: &mut Pass, key: u64, budget: u32) -> Result<b
     requires empty_hand { pass.old.hand ≡ None }
     ensures { Calls Remove pass.old pass.new key budget result }
 {
-    pass.during(
+    slots.kind();
+    let answer = pass.during(
         |stepper|
             requires own { IsOf stepper.old.trace slots.now }
             requires empty_hand { stepper.old.hand ≡ None }
-        { remove_key(&mut AtTable { slots, stepper }, key, budget) },
-    )
-}
-
-// As `remove`, where no step is counted; and how many steps were made.
-fn remove_key(at: &mut AtTable<'_>, key: u64, budget: u32) -> (Result<bool, Refusal>, u32)
-    requires empty_hand { (pass_of at.old).hand ≡ None }
-    ensures table { IsSameTable at.old at.new }
-    ensures took { Took (trace_of at.old) (trace_of at.new) result.1 }
-    ensures calls { Calls Remove (pass_of at.old) (pass_of at.new) key budget result.0 }
-{
-    at.slots.kind();
-    let (answer, used) = remove_by(at, key, budget);
-    (is_yes(answer), used)
+        { remove_by(slots, stepper, key, budget) },
+    );
+    is_yes(answer)
 }
 
 /// As [`remove`], at a table whose nodes have values: gives the value that was stored with the key,
@@ -195,61 +173,36 @@ pub fn remove_entry(
     requires empty_hand { pass.old.hand ≡ None }
     ensures { CallsRemove pass.old pass.new key budget result }
 {
+    pass.law();
+    slots.kind();
     pass.during(
         |stepper|
             requires own { IsOf stepper.old.trace slots.now }
             requires empty_hand { stepper.old.hand ≡ None }
-        { remove_value(&mut AtTable { slots, stepper }, key, budget) },
+        { remove_by(slots, stepper, key, budget) },
     )
-}
-
-// As `remove_entry`, where no step is counted; and how many steps were made.
-fn remove_value(
-    at: &mut AtTable<'_, Entries>,
-    key: u64,
-    budget: u32,
-) -> (Result<Option<u64>, Refusal>, u32)
-    requires empty_hand { (pass_of at.old).hand ≡ None }
-    ensures table { IsSameTable at.old at.new }
-    ensures took { Took (trace_of at.old) (trace_of at.new) result.1 }
-    ensures calls { CallsRemove (pass_of at.old) (pass_of at.new) key budget result.0 }
-{
-    at.law();
-    at.slots.kind();
-    remove_by(at, key, budget)
 }
 
 // The remove of a key, with its value where nodes have values; and how many steps were made.
 fn remove_by<N: Nodes>(
-    at: &mut AtTable<'_, N>,
+    slots: &Slots<N>,
+    stepper: &mut Stepper,
     key: u64,
     budget: u32,
 ) -> (Result<Option<u64>, Refusal>, u32)
-    requires empty_hand { (pass_of at.old).hand ≡ None }
-    ensures table { IsSameTable at.old at.new }
-    ensures took { Took (trace_of at.old) (trace_of at.new) result.1 }
-    ensures calls { CallsAs (given_in (trace_of at.old) Remove key)
-        (SparesRemove is_some (pass_of at.old) (pass_of at.new) key budget)
-        (pass_of at.old) (pass_of at.new) budget result.0 }
+    requires own { IsOf stepper.old.trace slots.now }
+    requires empty_hand { stepper.old.hand ≡ None }
+    ensures took { Took stepper.old.trace stepper.new.trace result.1 }
+    ensures calls { CallsAs (given_in stepper.old.trace Remove key)
+        (SparesRemove is_some stepper.old stepper.new key budget)
+        stepper.old stepper.new budget result.0 }
 {
-    at.law();
-    let mut call = PendingCall {
-        at: AtTable {
-            slots: at.slots,
-            stepper: at.stepper,
-        },
-        key,
-        bucket: at.slots.shape().bucket_of(key),
-        budget,
-        used: 0,
-    };
+    let mut call = begin!(slots, stepper, key, budget, 0);
+    call.at.law();
     loop {
-        let Some(found) = call.search() else {
+        let Some(found) = call.reach() else {
             return (Err(Refusal::OutOfSteps { used: call.used }), call.used);
         };
-        if !affords(call.budget, call.used) {
-            return (Err(Refusal::OutOfSteps { used: call.used }), call.used);
-        }
         if let Ok(answer) = call.settle_remove(&found) {
             return (Ok(answer), call.used);
         }

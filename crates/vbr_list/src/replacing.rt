@@ -1,7 +1,6 @@
 //! Replacing the value of a key.
 ghost use Rattle.std.specs.Prelude.{◌≡◌, ◌+◌, ◌≤◌, true, false, None, Some, IfOk, IfErr};
 ghost use Rattle.vbr_machine.specs.declared.history.Op.TheVariants.{Remove};
-ghost use Rattle.vbr_slots.specs.AtTables.{IsSameTable, pass_of, trace_of};
 ghost use Rattle.vbr_slots.specs.Calls.{Quiet, Took};
 ghost use Rattle.vbr_slots.specs.Views.{IsOf};
 ghost use Rattle.vbr_at_table.specs.Answering.{KeepsIn};
@@ -12,16 +11,16 @@ ghost use Rattle.vbr_list.specs.Pieces.{GoesOn, HasRoom, IsSameCall, Replies, pa
 ghost use Rattle.vbr_list.specs.Replacing.{AnswersPaid, CallsReplace, DeniesAbsent, FindsPresent, HasHandForValue, HasUnspent, HasUnused, IsOldNode, MayReplaceNode, MaySettleReplace, ReadiesHand, ReadiesNone, ReplaceAnswers, Replaces, ReplacesAndLeaves, ReplacesNone, SettlesNone, SettlesPaid, UnlinksReplaced};
 ghost use Rattle.vbr_list.specs.Traversing.{LocatesFor};
 
-use crate::call::PendingCall;
+use crate::call::{PendingCall, begin};
 use crate::found::Found;
 use crate::helping::unlink_and_retire;
-use crate::removing::walk_by_copy;
+use crate::removing::walk_on;
 use vbr_at_table::budget::affords;
 use vbr_at_table::{
     Hand, Held, Marked, Refusal, Rollback, birth_after, confirm_absent, give_back, value_of,
 };
 use vbr_machine::Op;
-use vbr_slots::{AtTable, Pass, Slots};
+use vbr_slots::{Pass, Slots, Stepper};
 use vbr_words::{Entries, Nodes, decode};
 
 // How many steps it takes to read the birth of what a link names, by the link's word.
@@ -133,7 +132,7 @@ impl<N: Nodes> PendingCall<'_, N> {
         let (outcome, made) = unlink_and_retire(&mut self.at, pred, marked);
         self.used += made;
         if outcome.is_err() {
-            self.used = walk_by_copy(&mut self.at, self.key, self.budget, self.used);
+            self.used = walk_on(&mut self.at, self.key, self.budget, self.used);
         }
     }
 
@@ -247,34 +246,26 @@ pub fn replace(
         |stepper|
             requires own { IsOf stepper.old.trace slots.now }
             requires empty_hand { stepper.old.hand ≡ None }
-        { replace_value(&mut AtTable { slots, stepper }, key, value, budget) },
+        { replace_by(slots, stepper, key, value, budget) },
     )
 }
 
 // As `replace`, where no step is counted; and how many steps were made.
-fn replace_value(
-    at: &mut AtTable<'_, Entries>,
+fn replace_by(
+    slots: &Slots<Entries>,
+    stepper: &mut Stepper,
     key: u64,
     value: u64,
     budget: u32,
 ) -> (Result<Option<u64>, Refusal>, u32)
-    requires empty_hand { (pass_of at.old).hand ≡ None }
-    ensures table { IsSameTable at.old at.new }
-    ensures took { Took (trace_of at.old) (trace_of at.new) result.1 }
-    ensures calls { CallsReplace (pass_of at.old) (pass_of at.new) key value budget result.0 }
+    requires own { IsOf stepper.old.trace slots.now }
+    requires empty_hand { stepper.old.hand ≡ None }
+    ensures took { Took stepper.old.trace stepper.new.trace result.1 }
+    ensures calls { CallsReplace stepper.old stepper.new key value budget result.0 }
 {
-    at.law();
-    at.slots.kind();
-    let mut call = PendingCall {
-        at: AtTable {
-            slots: at.slots,
-            stepper: at.stepper,
-        },
-        key,
-        bucket: at.slots.shape().bucket_of(key),
-        budget,
-        used: 0,
-    };
+    slots.kind();
+    let mut call = begin!(slots, stepper, key, budget, 0);
+    call.at.law();
     match call.ready() {
         Err(refusal) => (Err(refusal), call.used),
         Ok(None) => (Ok(None), call.used),

@@ -1,26 +1,17 @@
 use Rattle.std.proofs.Common.{rules, ◌≡◌, ◌<◌, ◌≤◌, ap, arith}
-use Rattle.vbr_words.specs.Dimensions.{Dimensions}
 use Rattle.vbr_at_table.proofs.Lemmas.{took_all}
 use Rattle.vbr_list.specs.Budgets.{listed_for}
 use Rattle.vbr_list.specs.Disturbed.{enough_to_search_among, find_costs_among}
 use Rattle.vbr_list.proofs.Clearing.{clear_found}
 use Rattle.vbr_list.proofs.Disturbing.{run_at, undisturbed}
-use Rattle.vbr_list.proofs.Going.{bucket_is}
 use Rattle.vbr_list.proofs.Moments.{was_so}
 use Rattle.vbr_list.proofs.Walking.{find_lacks, find_paid}
 use Rattle.vbr_list.proofs.finding.find_by.Goals as goal
 
-pub invariant_of-call-2 : goal.invariant_of-call-2
-invariant_of-call-2 g c = record {
-  of_key = bucket_is c.args.at.now.stepper.now.trace.start _ c.shape.result c.bucket_of.result c.args.key c.args.at.now.own.1 c.shape.ensures.shape c.bucket_of.ensures.bucket;
-  in_shape = let same = ap (λ (d : Dimensions). d.buckets) c.shape.ensures.shape in let low = c.bucket_of.ensures.in_shape in omega (arith, same, low);
-  within = omega arith;
-}
-
 pub returns-in-Some-clause-found : goal.returns-in-Some-clause-found
 returns-in-Some-clause-found g c =
-    let same : c.at-1.given.0 ≡ c.search.new.self.at.stepper.now = search rules in
-    let p = c.args.at.now.stepper.now.trace in
+    let same : c.stepper-1.given.0 ≡ c.search.new.self.at.stepper.now = search rules in
+    let p = c.args.stepper.now.trace in
     let r = c.search.new.self.at.stepper.now.trace in
     let quiet = c.search.ensures.goes.goes.quiet in
     let ok = run_at p r quiet.same (quiet.is_run c.law.ensures.is_run) in
@@ -29,8 +20,8 @@ returns-in-Some-clause-found g c =
 
 pub returns-in-None-clause-tired : goal.returns-in-None-clause-tired
 returns-in-None-clause-tired g c =
-    let same : c.at-in-None-1.given.0 ≡ c.search.new.self.at.stepper.now = search rules in
-    let p = c.args.at.now.stepper.now.trace in
+    let same : c.stepper-in-None-1.given.0 ≡ c.search.new.self.at.stepper.now = search rules in
+    let p = c.args.stepper.now.trace in
     let r = c.search.new.self.at.stepper.now.trace in
     let quiet = c.search.ensures.goes.goes.quiet in
     let ok = run_at p r quiet.same (quiet.is_run c.law.ensures.is_run) in
@@ -40,5 +31,5 @@ returns-in-None-clause-tired g c =
 
 pub returns-in-Some-clause-took : goal.returns-in-Some-clause-took
 returns-in-Some-clause-took g c =
-    let same : c.at-1.given.0 ≡ c.search.new.self.at.stepper.now = search rules in
+    let same : c.stepper-1.given.0 ≡ c.search.new.self.at.stepper.now = search rules in
     rw same (took_all c.search.ensures.goes.goes.counts)

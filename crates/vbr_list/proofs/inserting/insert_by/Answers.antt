@@ -1,6 +1,5 @@
 use Rattle.std.proofs.Common.{rules, ap, Bool, false, ℕ, Err, subst, ◌≡◌, ◌+◌, [], arith}
 use Rattle.std.specs.Prelude.{IfOk}
-use Rattle.vbr_words.specs.Dimensions.{Dimensions}
 use Rattle.vbr_machine.specs.declared.history.Op.TheVariants.{Insert}
 use Rattle.vbr_slots.specs.Alone.{IsAlone}
 use Rattle.vbr_slots.specs.Calls.{Made, Quiet}
@@ -15,7 +14,7 @@ use Rattle.vbr_list.specs.Refusals.{IsRefusedInsert}
 use Rattle.vbr_list.specs.Told.{stored_in}
 use Rattle.vbr_at_table.specs.declared.refusal.Refusal.TheVariants.{NoSlot}
 use Rattle.vbr_list.proofs.Disturbing.{run_at}
-use Rattle.vbr_list.proofs.Going.{bucket_is, ok_as}
+use Rattle.vbr_list.proofs.Going.{ok_as}
 use Rattle.vbr_list.proofs.LonePasses.{alone, each_alone}
 use Rattle.vbr_list.proofs.Preparing.{each_same, each_seen, each_since, refused_first, refused_second, within_all, within_most, within_on}
 use Rattle.vbr_list.proofs.Sufficing.{answered_or_spent, each_error, had_none, lacks, lone_costs, lone_lacks, never_refused, slot_later}
@@ -23,17 +22,10 @@ use Rattle.vbr_list.proofs.Told.{stored_same, told_as, told_bare}
 use Rattle.vbr_list.proofs.Walking.{insert_lacks, once_paid, twice_paid, vain_lacks}
 use Rattle.vbr_list.proofs.inserting.insert_by.Goals as goal
 
-pub invariant_of-call-2 : goal.invariant_of-call-2
-invariant_of-call-2 g c = record {
-  of_key = bucket_is c.args.at.now.stepper.now.trace.start _ c.shape.result c.bucket_of.result c.args.key c.args.at.now.own.1 c.shape.ensures.shape c.bucket_of.ensures.bucket;
-  in_shape = let same = ap (λ (d : Dimensions). d.buckets) c.shape.ensures.shape in let low = c.bucket_of.ensures.in_shape in omega (arith, same, low);
-  within = omega arith;
-}
-
 pub returns-in-Err-clause-calls : goal.returns-in-Err-clause-calls
 returns-in-Err-clause-calls g c =
-    let same : c.at-1.given.0 ≡ c.prepare.new.self.at.stepper.now = search rules in
-    let p = c.args.at.now.stepper.now in
+    let same : c.stepper-1.given.0 ≡ c.prepare.new.self.at.stepper.now = search rules in
+    let p = c.args.stepper.now in
     let q = c.prepare.new.self.at.stepper.now in
     let refused = c.in-Err.ensures.refused in
     let within = vain_lacks p.trace q.trace c.law.ensures.start (run_at p.trace q.trace refused.quiet.same (refused.quiet.is_run c.law.ensures.is_run)) c.args.key c.args.budget (steps_for_slot p q.trace) refused.quiet c.in-Err.refusal refused.searches in
@@ -61,8 +53,8 @@ returns-in-Err-clause-calls g c =
 
 pub returns-in-Ok-None-clause-calls : goal.returns-in-Ok-None-clause-calls
 returns-in-Ok-None-clause-calls g c =
-    let same : c.at-in-Ok-None-1.given.0 ≡ c.prepare.new.self.at.stepper.now = search rules in
-    let p = c.args.at.now.stepper.now in
+    let same : c.stepper-in-Ok-None-1.given.0 ≡ c.prepare.new.self.at.stepper.now = search rules in
+    let p = c.args.stepper.now in
     let q = c.prepare.new.self.at.stepper.now in
     let answers = (rw c.in-Ok-None.field-0-is at c.in-Ok-None.ensures.prepared.is).0 in
     let paid = once_paid p.trace q.trace c.law.ensures.start (run_at p.trace q.trace answers.same answers.is_run) c.args.key c.in-Ok-None.ensures.prepared.searched in
@@ -90,8 +82,8 @@ returns-in-Ok-None-clause-calls g c =
 
 pub returns-in-Ok-Some-clause-calls : goal.returns-in-Ok-Some-clause-calls
 returns-in-Ok-Some-clause-calls g c =
-    let same : c.at-in-Ok-Some-1.given.0 ≡ c.link.new.self.at.stepper.now = search rules in
-    let p = c.args.at.now.stepper.now in
+    let same : c.stepper-in-Ok-Some-1.given.0 ≡ c.link.new.self.at.stepper.now = search rules in
+    let p = c.args.stepper.now in
     let q = c.prepare.new.self.at.stepper.now in
     let r = c.link.new.self.at.stepper.now in
     let first = (rw c.in-Ok-Some.field-0-is at c.in-Ok-Some.ensures.prepared.is).0 in
@@ -153,5 +145,5 @@ returns-in-Ok-Some-clause-calls g c =
 
 pub returns-in-Ok-Some-clause-took : goal.returns-in-Ok-Some-clause-took
 returns-in-Ok-Some-clause-took g c =
-    let same : c.at-in-Ok-Some-1.given.0 ≡ c.link.new.self.at.stepper.now = search rules in
+    let same : c.stepper-in-Ok-Some-1.given.0 ≡ c.link.new.self.at.stepper.now = search rules in
     rw same (took_all (counts_on c.prepare.ensures.prepares.counts.counts c.link.ensures.links.counts.counts))

@@ -2,9 +2,8 @@ use Rattle.std.proofs.Common.{rules, ◌≡◌, ℕ, ◌+◌, ◌*◌, ◌≤◌
 use Rattle.vbr_machine.proofs.Lemmas.{begins_refl}
 use Rattle.vbr_slots.proofs.Lemmas.{adds_on, alone_first, answer_on, loads_on, quiet_on, same_on, same_refl}
 use Rattle.vbr_at_table.proofs.Lemmas.{counts_on, no_room, none_on, took_all}
-use Rattle.vbr_words.specs.Dimensions.{Dimensions}
 use Rattle.vbr_machine.specs.Start.{Start}
-use Rattle.vbr_list.proofs.Going.{bucket_is, call_on, call_refl, goes_on, within_call, within_of}
+use Rattle.vbr_list.proofs.Going.{call_on, call_refl, goes_on, within_call, within_of}
 use Rattle.vbr_list.proofs.Observing.{observed, observes_on}
 use Rattle.vbr_list.specs.Budgets.{answer_costs, listed_for}
 use Rattle.vbr_list.specs.Disturbed.{costs_among, disturbed}
@@ -22,7 +21,7 @@ use Rattle.vbr_list.proofs.Told.{given_same, told_since}
 use Rattle.vbr_list.proofs.looking_up.look_up.Goals as goal
 
 pub settle_look_up-requires-clause-asked : goal.settle_look_up-requires-clause-asked
-settle_look_up-requires-clause-asked g c = λ gives. ap (λ (d : Start). d.shape.values) (quiet_on c.loop-sight.invariant.3.tries.goes.quiet c.look.ensures.goes.goes.quiet).same.start ∙ c.requires.asked gives
+settle_look_up-requires-clause-asked g c = λ gives. ap (λ (d : Start). d.shape.values) ((quiet_on c.loop-sight.invariant.3.tries.goes.quiet c.look.ensures.goes.goes.quiet).same.start ∙ c.requires.own.1) ∙ c.requires.asked gives
 
 pub loop-sight-preserved : goal.loop-sight-preserved
 loop-sight-preserved g c =
@@ -35,7 +34,7 @@ loop-sight-preserved g c =
       c.loop-sight.invariant.1,
       c.loop-sight.invariant.2,
       peeks_on before (record { quiet = b; counts = s.counts; hand = s.hand }) (observed c.settle_look_up.ensures.only_loads c.in_default-settle_look_up.ensures.rolls.adds_none) (let low = s.more in omega (arith, low)) (rw c.loop-sight.invariant.2 at (within_call same)),
-      (let p = c.args.at.now.stepper.now.trace in
+      (let p = c.args.stepper.now.trace in
           let q = c.loop-sight.call.at.stepper.now.trace in
           let m = c.look.new.self.at.stepper.now.trace in
           let r = c.settle_look_up.new.self.at.stepper.now.trace in
@@ -49,33 +48,26 @@ loop-sight-preserved g c =
     )
 
 pub loop-sight-init : goal.loop-sight-init
-loop-sight-init g c = (call_refl _, refl, refl, peeks_refl c.args.at.now.stepper.now 0 c.args.budget (omega arith), repeated_none 5 c.args.at.now.stepper.now.trace c.args.key (3 + steps_to_answer c.args.gives) 0)
-
-pub invariant_of-call-2 : goal.invariant_of-call-2
-invariant_of-call-2 g c = record {
-  of_key = bucket_is c.args.at.now.stepper.now.trace.start _ c.shape.result c.bucket_of.result c.args.key c.args.at.now.own.1 c.shape.ensures.shape c.bucket_of.ensures.bucket;
-  in_shape = let same = ap (λ (d : Dimensions). d.buckets) c.shape.ensures.shape in let low = c.bucket_of.ensures.in_shape in omega (arith, same, low);
-  within = omega arith;
-}
+loop-sight-init g c = (call_refl _, refl, refl, peeks_refl c.args.stepper.now 0 c.args.budget (omega arith), repeated_none 5 c.args.stepper.now.trace c.args.key (3 + steps_to_answer c.args.gives) 0)
 
 pub returns-in_default-clause-took : goal.returns-in_default-clause-took
 returns-in_default-clause-took g c =
-    let same : c.at-1.given.0 ≡ c.look.new.self.at.stepper.now = search rules in
+    let same : c.stepper-1.given.0 ≡ c.look.new.self.at.stepper.now = search rules in
     rw same (took_all (goes_on c.loop-sight.invariant.3.tries.goes c.look.ensures.goes.goes).counts)
 
 pub returns-then-not-affords-clause-took : goal.returns-then-not-affords-clause-took
 returns-then-not-affords-clause-took g c =
-    let same : c.at-then-not-affords-1.given.0 ≡ c.look.new.self.at.stepper.now = search rules in
+    let same : c.stepper-then-not-affords-1.given.0 ≡ c.look.new.self.at.stepper.now = search rules in
     rw same (took_all (goes_on c.loop-sight.invariant.3.tries.goes c.look.ensures.goes.goes).counts)
 
 pub returns-in-Ok-clause-took : goal.returns-in-Ok-clause-took
 returns-in-Ok-clause-took g c =
-    let same : c.at-in-Ok-1.given.0 ≡ c.settle_look_up.new.self.at.stepper.now = search rules in
+    let same : c.stepper-in-Ok-1.given.0 ≡ c.settle_look_up.new.self.at.stepper.now = search rules in
     rw same (took_all (counts_on (goes_on c.loop-sight.invariant.3.tries.goes c.look.ensures.goes.goes).counts c.settle_look_up.ensures.settles.counts))
 
 pub returns-in_default-clause-calls : goal.returns-in_default-clause-calls
 returns-in_default-clause-calls g c =
-    let same : c.at-1.given.0 ≡ c.look.new.self.at.stepper.now = search rules in
+    let same : c.stepper-1.given.0 ≡ c.look.new.self.at.stepper.now = search rules in
     let r = c.look.new.self.at.stepper.now.trace.seen in
     let tired = c.in_default.ensures.tired in
     let looks = rw (c.loop-sight.invariant.0.key ∙ c.loop-sight.invariant.1) at tired.looks in
@@ -84,7 +76,7 @@ returns-in_default-clause-calls g c =
 
 pub returns-then-not-affords-clause-calls : goal.returns-then-not-affords-clause-calls
 returns-then-not-affords-clause-calls g c =
-    let same : c.at-then-not-affords-1.given.0 ≡ c.look.new.self.at.stepper.now = search rules in
+    let same : c.stepper-then-not-affords-1.given.0 ≡ c.look.new.self.at.stepper.now = search rules in
     let looks = rw (c.loop-sight.invariant.0.key ∙ c.loop-sight.invariant.1) at c.in-Some.ensures.sight.looks in
     let budget = c.look.ensures.goes.call.budget ∙ c.loop-sight.invariant.0.budget ∙ c.loop-sight.invariant.2 in
     let short = no_room c.look.new.self.used c.look.new.self.budget c.affords.result c.if-not-affords.true c.affords.ensures.1 in
@@ -93,8 +85,8 @@ returns-then-not-affords-clause-calls g c =
 
 pub returns-in-Ok-clause-calls : goal.returns-in-Ok-clause-calls
 returns-in-Ok-clause-calls g c =
-    let same : c.at-in-Ok-1.given.0 ≡ c.settle_look_up.new.self.at.stepper.now = search rules in
-    let p = c.args.at.now.stepper.now in
+    let same : c.stepper-in-Ok-1.given.0 ≡ c.settle_look_up.new.self.at.stepper.now = search rules in
+    let p = c.args.stepper.now in
     let q = c.look.new.self.at.stepper.now in
     let r = c.settle_look_up.new.self.at.stepper.now in
     let op = look_up_op c.args.gives in

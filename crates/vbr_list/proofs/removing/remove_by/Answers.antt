@@ -1,8 +1,7 @@
 use Rattle.std.proofs.Common.{rules, refl, ◌∙◌, arith, ap}
 use Rattle.vbr_slots.proofs.Lemmas.{quiet_on, same_on}
-use Rattle.vbr_at_table.proofs.Lemmas.{counts_on, no_room, none_on, took_all}
-use Rattle.vbr_words.specs.Dimensions.{Dimensions}
-use Rattle.vbr_list.proofs.Going.{bucket_is, call_on, goes_on, room_left, tries_on, within_call, within_of}
+use Rattle.vbr_at_table.proofs.Lemmas.{counts_on, none_on, took_all}
+use Rattle.vbr_list.proofs.Going.{call_on, goes_on, room_left, tries_on, within_call, within_of}
 use Rattle.vbr_list.proofs.Clearing.{leaves_since}
 use Rattle.vbr_list.proofs.Disturbing.{run_at, undisturbed}
 use Rattle.vbr_list.proofs.Walking.{search_round_on}
@@ -22,17 +21,17 @@ use Rattle.vbr_list.proofs.removing.remove_by.Goals as goal
 pub loop-found-preserved : goal.loop-found-preserved
 loop-found-preserved g c =
     let s = c.settle_remove.ensures.settles in
-    let found = tries_on c.loop-found.invariant.3 c.search.ensures.goes.goes c.search.ensures.goes.more (rw c.loop-found.invariant.2 at (within_call (call_on c.loop-found.invariant.0 c.search.ensures.goes.call))) in
-    let a = c.search.ensures.goes.goes.quiet in
+    let found = tries_on c.loop-found.invariant.3 c.reach.ensures.goes.goes c.reach.ensures.goes.more (rw c.loop-found.invariant.2 at (within_call (call_on c.loop-found.invariant.0 c.reach.ensures.goes.call))) in
+    let a = c.reach.ensures.goes.goes.quiet in
     let b = c.in_default-settle_remove.ensures.rolls.quiet in
-    let same = call_on (call_on c.loop-found.invariant.0 c.search.ensures.goes.call) c.settle_remove.ensures.settles.call in (
+    let same = call_on (call_on c.loop-found.invariant.0 c.reach.ensures.goes.call) c.settle_remove.ensures.settles.call in (
       same,
       c.loop-found.invariant.1,
       c.loop-found.invariant.2,
       tries_on found (record { quiet = c.in_default-settle_remove.ensures.rolls.quiet; counts = s.counts; hand = s.hand }) (let low = c.settle_remove.ensures.settles.more in omega (arith, low)) (rw c.loop-found.invariant.2 at (within_call same)),
-      let p = c.args.at.now.stepper.now.trace in
+      let p = c.args.stepper.now.trace in
           let q = c.loop-found.call.at.stepper.now.trace in
-          let m = c.search.new.self.at.stepper.now.trace in
+          let m = c.reach.new.self.at.stepper.now.trace in
           let r = c.settle_remove.new.self.at.stepper.now.trace in
           let first = c.loop-found.invariant.3.goes.quiet in
           let whole = quiet_on (quiet_on first a) b in
@@ -40,68 +39,47 @@ loop-found-preserved g c =
           search_round_on p q m r c.law.ensures.start (run_at p r whole.same (whole.is_run c.law.ensures.is_run)) c.args.key 3 first.same a.same whole.same first.seen a.seen b.seen s.hand.takes_no_slot.count c.loop-found.invariant.4 c.in-Some.found (rw key at c.in-Some.ensures.found.last) c.in_default-settle_remove.ensures.rolls.few c.in_default-settle_remove.ensures.rolls.loses,
     )
 
-pub invariant_of-call-2 : goal.invariant_of-call-2
-invariant_of-call-2 g c = record {
-  of_key = bucket_is c.args.at.now.stepper.now.trace.start _ c.shape.result c.bucket_of.result c.args.key c.args.at.now.own.1 c.shape.ensures.shape c.bucket_of.ensures.bucket;
-  in_shape = let same = ap (λ (d : Dimensions). d.buckets) c.shape.ensures.shape in let low = c.bucket_of.ensures.in_shape in omega (arith, same, low);
-  within = omega arith;
-}
-
 pub returns-in_default-clause-took : goal.returns-in_default-clause-took
 returns-in_default-clause-took g c =
-    let same : c.at-1.given.0 ≡ c.search.new.self.at.stepper.now = search rules in
-    rw same (took_all (goes_on c.loop-found.invariant.3.goes c.search.ensures.goes.goes).counts)
-
-pub returns-then-not-affords-clause-took : goal.returns-then-not-affords-clause-took
-returns-then-not-affords-clause-took g c =
-    let same : c.at-then-not-affords-1.given.0 ≡ c.search.new.self.at.stepper.now = search rules in
-    rw same (took_all (goes_on c.loop-found.invariant.3.goes c.search.ensures.goes.goes).counts)
+    let same : c.stepper-1.given.0 ≡ c.reach.new.self.at.stepper.now = search rules in
+    rw same (took_all (goes_on c.loop-found.invariant.3.goes c.reach.ensures.goes.goes).counts)
 
 pub returns-in-Ok-clause-took : goal.returns-in-Ok-clause-took
 returns-in-Ok-clause-took g c =
-    let same : c.at-in-Ok-1.given.0 ≡ c.settle_remove.new.self.at.stepper.now = search rules in
-    rw same (took_all (counts_on (goes_on c.loop-found.invariant.3.goes c.search.ensures.goes.goes).counts c.settle_remove.ensures.settles.counts))
+    let same : c.stepper-in-Ok-1.given.0 ≡ c.settle_remove.new.self.at.stepper.now = search rules in
+    rw same (took_all (counts_on (goes_on c.loop-found.invariant.3.goes c.reach.ensures.goes.goes).counts c.settle_remove.ensures.settles.counts))
 
 pub returns-in_default-clause-calls : goal.returns-in_default-clause-calls
 returns-in_default-clause-calls g c =
-    let same : c.at-1.given.0 ≡ c.search.new.self.at.stepper.now = search rules in
+    let same : c.stepper-1.given.0 ≡ c.reach.new.self.at.stepper.now = search rules in
     let key = c.loop-found.invariant.0.key ∙ c.loop-found.invariant.1 in
     let tired = c.in_default.ensures.tired in
-    let within = rw c.loop-found.invariant.2 at (within_call (call_on c.loop-found.invariant.0 c.search.ensures.goes.call)) in
-    rw same (remove_tires c.law.ensures c.args.key c.loop-found.invariant.3 c.search.ensures.goes.goes within (rw (c.loop-found.invariant.0.budget ∙ c.loop-found.invariant.2) at tired.tired) (search rules) c.loop-found.invariant.4 (rw key at tired.walks))
-
-pub returns-then-not-affords-clause-calls : goal.returns-then-not-affords-clause-calls
-returns-then-not-affords-clause-calls g c =
-    let same : c.at-then-not-affords-1.given.0 ≡ c.search.new.self.at.stepper.now = search rules in
-    let key = c.loop-found.invariant.0.key ∙ c.loop-found.invariant.1 in
-    let budget = c.search.ensures.goes.call.budget ∙ c.loop-found.invariant.0.budget ∙ c.loop-found.invariant.2 in
-    let short = no_room c.search.new.self.used c.search.new.self.budget c.affords.result c.if-not-affords.true c.affords.ensures.1 in
-    let within = rw c.loop-found.invariant.2 at (within_call (call_on c.loop-found.invariant.0 c.search.ensures.goes.call)) in
-    rw same (remove_tires c.law.ensures c.args.key c.loop-found.invariant.3 c.search.ensures.goes.goes within (rw budget at short) (search rules) c.loop-found.invariant.4 (rw key at c.in-Some.ensures.found.walks))
+    let within = rw c.loop-found.invariant.2 at (within_call (call_on c.loop-found.invariant.0 c.reach.ensures.goes.call)) in
+    rw same (remove_tires c.law.ensures c.args.key c.loop-found.invariant.3 c.reach.ensures.goes.goes within (rw (c.loop-found.invariant.0.budget ∙ c.loop-found.invariant.2) at tired.tired) (search rules) c.loop-found.invariant.4 (rw key at tired.walks))
 
 pub returns-in-Ok-clause-calls : goal.returns-in-Ok-clause-calls
 returns-in-Ok-clause-calls g c =
-    let same : c.at-in-Ok-1.given.0 ≡ c.settle_remove.new.self.at.stepper.now = search rules in
-    let p = c.args.at.now.stepper.now in
-    let q = c.search.new.self.at.stepper.now in
+    let same : c.stepper-in-Ok-1.given.0 ≡ c.settle_remove.new.self.at.stepper.now = search rules in
+    let p = c.args.stepper.now in
+    let q = c.reach.new.self.at.stepper.now in
     let r = c.settle_remove.new.self.at.stepper.now in
     let before = c.loop-found.invariant.3.goes.quiet in
-    let went = c.search.ensures.goes.goes.quiet in
+    let went = c.reach.ensures.goes.goes.quiet in
     let first = quiet_on before went in
-    let call = call_on (call_on c.loop-found.invariant.0 c.search.ensures.goes.call) c.settle_remove.ensures.settles.call in
-    let key = c.search.ensures.goes.call.key ∙ c.loop-found.invariant.0.key ∙ c.loop-found.invariant.1 in
-    let budget = c.search.ensures.goes.call.budget ∙ c.loop-found.invariant.0.budget ∙ c.loop-found.invariant.2 in
+    let call = call_on (call_on c.loop-found.invariant.0 c.reach.ensures.goes.call) c.settle_remove.ensures.settles.call in
+    let key = c.reach.ensures.goes.call.key ∙ c.loop-found.invariant.0.key ∙ c.loop-found.invariant.1 in
+    let budget = c.reach.ensures.goes.call.budget ∙ c.loop-found.invariant.0.budget ∙ c.loop-found.invariant.2 in
     let answered = rw key at c.in-Ok.ensures.answers.made in
     let made = told_since first (given_same first.same Remove c.args.key c.in-Ok.answer) answered in
-    let counts = counts_on (goes_on c.loop-found.invariant.3.goes c.search.ensures.goes.goes).counts c.settle_remove.ensures.settles.counts in
+    let counts = counts_on (goes_on c.loop-found.invariant.3.goes c.reach.ensures.goes.goes).counts c.settle_remove.ensures.settles.counts in
     let values = ap steps_to_value_of first.same.start in
     let walk = c.loop-found.call.at.stepper.now.trace in
     let there = c.loop-found.invariant.0.key ∙ c.loop-found.invariant.1 in
     let last = rw there at c.in-Some.ensures.found.last in
     let walks = rw there at c.in-Some.ensures.found.walks in
-    let E : ℕ → Type 0 = λ k. RemovesSoon c.search.new.self c.settle_remove.new.self c.in-Ok.answer ⊎ MarksAndSearches (steps_to_value_of q.trace.start + 1) q.trace r.trace k c.search.new.self.used c.settle_remove.new.self.used c.in-Some.found.pred in
+    let E : ℕ → Type 0 = λ k. RemovesSoon c.reach.new.self c.settle_remove.new.self c.in-Ok.answer ⊎ MarksAndSearches (steps_to_value_of q.trace.start + 1) q.trace r.trace k c.reach.new.self.used c.settle_remove.new.self.used c.in-Some.found.pred in
     let either = subst E key c.in-Ok.ensures.answers.paid in
-    let paid = remove_paid p.trace walk q.trace r.trace c.law.ensures.start c.args.key before.same went.same before.seen went.seen made refl answered.seen c.loop-found.invariant.4 c.in-Some.found last walks either (λ (soon : RemovesSoon c.search.new.self c.settle_remove.new.self c.in-Ok.answer). let few = soon.few in omega (arith, few, values)) in
+    let paid = remove_paid p.trace walk q.trace r.trace c.law.ensures.start c.args.key before.same went.same before.seen went.seen made refl answered.seen c.loop-found.invariant.4 c.in-Some.found last walks either (λ (soon : RemovesSoon c.reach.new.self c.settle_remove.new.self c.in-Ok.answer). let few = soon.few in omega (arith, few, values)) in
     rw same (record {
       same = same_on first.same answered.same;
       made = made;
@@ -110,7 +88,7 @@ returns-in-Ok-clause-calls g c =
       hand = search rules;
       steps = within_of c.settle_remove.new.self.used c.args.budget (rw c.loop-found.invariant.2 at (within_call call)) counts;
       spares = record {
-        takes_no_slot = none_on (goes_on c.loop-found.invariant.3.goes c.search.ensures.goes.goes).hand.takes_no_slot c.settle_remove.ensures.settles.hand.takes_no_slot;
+        takes_no_slot = none_on (goes_on c.loop-found.invariant.3.goes c.reach.ensures.goes.goes).hand.takes_no_slot c.settle_remove.ensures.settles.hand.takes_no_slot;
         unlists = λ yes left.
             let room = room_left c.settle_remove.new.self.used c.args.budget counts left in
             let most = call.budget ∙ c.loop-found.invariant.2 in

@@ -6,10 +6,10 @@ use Rattle.vbr_list.proofs.Preparing.{if_failed, if_went}
 use Rattle.vbr_list.proofs.call.PendingCall.unlink_marked.Goals as goal
 
 pub returns-then-is_err-clause-goes : goal.returns-then-is_err-clause-goes
-returns-then-is_err-clause-goes g c = record { call = search rules; goes = goes_on (c.unlink_and_retire-outcome.ensures.goes c.args.self.now.used) c.walk_by_copy-self.ensures.goes; more = omega (arith, c.walk_by_copy-self.ensures.within.1) }
+returns-then-is_err-clause-goes g c = record { call = search rules; goes = goes_on (c.unlink_and_retire-outcome.ensures.goes c.args.self.now.used) c.walk_on-self.ensures.goes; more = omega (arith, c.walk_on-self.ensures.within.1) }
 
 pub returns-then-is_err-clause-clear : goal.returns-then-is_err-clause-clear
-returns-then-is_err-clause-clear g c = λ room. clear_since (c.unlink_and_retire-outcome.ensures.goes 0).quiet (c.walk_by_copy-self.ensures.clear room)
+returns-then-is_err-clause-clear g c = λ room. clear_since (c.unlink_and_retire-outcome.ensures.goes 0).quiet (c.walk_on-self.ensures.clear room)
 
 pub returns-else-is_err-clause-goes : goal.returns-else-is_err-clause-goes
 returns-else-is_err-clause-goes g c = record { call = search rules; goes = c.unlink_and_retire-outcome.ensures.goes c.args.self.now.used; more = omega arith }
@@ -26,8 +26,8 @@ returns-then-is_err-clause-paid g c =
       loses = lost;
       used = c.args.self.now.used + tried.result.1;
       few = omega (arith, few);
-      then = c.walk_by_copy-self.ensures.goes.quiet;
-      walks = c.walk_by_copy-self.ensures.walks;
+      then = c.walk_on-self.ensures.goes.quiet;
+      walks = c.walk_on-self.ensures.walks;
     })
 
 pub returns-else-is_err-clause-paid : goal.returns-else-is_err-clause-paid

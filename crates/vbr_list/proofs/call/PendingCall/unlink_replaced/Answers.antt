@@ -7,7 +7,7 @@ use Rattle.vbr_list.proofs.Sweeping.{swept_at}
 use Rattle.vbr_list.proofs.call.PendingCall.unlink_replaced.Goals as goal
 
 pub returns-then-is_err-clause-goes : goal.returns-then-is_err-clause-goes
-returns-then-is_err-clause-goes g c = record { call = search rules; goes = goes_on (c.unlink_and_retire-outcome.ensures.goes c.args.self.now.used) c.walk_by_copy-self.ensures.goes; more = omega (arith, c.walk_by_copy-self.ensures.within.1) }
+returns-then-is_err-clause-goes g c = record { call = search rules; goes = goes_on (c.unlink_and_retire-outcome.ensures.goes c.args.self.now.used) c.walk_on-self.ensures.goes; more = omega (arith, c.walk_on-self.ensures.within.1) }
 
 pub returns-else-is_err-clause-goes : goal.returns-else-is_err-clause-goes
 returns-else-is_err-clause-goes g c = record { call = search rules; goes = c.unlink_and_retire-outcome.ensures.goes c.args.self.now.used; more = omega arith }
@@ -24,8 +24,8 @@ returns-then-is_err-clause-paid g c =
       loses = lost;
       used = c.args.self.now.used + tried.result.1;
       few = omega (arith, few);
-      then = c.walk_by_copy-self.ensures.goes.quiet;
-      walks = c.walk_by_copy-self.ensures.walks;
+      then = c.walk_on-self.ensures.goes.quiet;
+      walks = c.walk_on-self.ensures.walks;
     })
 
 pub returns-else-is_err-clause-paid : goal.returns-else-is_err-clause-paid
@@ -41,7 +41,7 @@ pub returns-then-is_err-clause-leaves : goal.returns-then-is_err-clause-leaves
 returns-then-is_err-clause-leaves g c = λ room.
     let p = c.args.self.now.at.stepper.now.trace in
     let q = c.unlink_and_retire-outcome.new.at.stepper.now.trace in
-    swept_at p q c.walk_by_copy-self.new.at.stepper.now.trace c.args.marked.slot c.args.self.now.key c.law.ensures.start c.law.ensures.is_run (c.unlink_and_retire-outcome.ensures.goes 0).quiet (c.walk_by_copy-self.ensures.sweeps room) c.requires.old.key
+    swept_at p q c.walk_on-self.new.at.stepper.now.trace c.args.marked.slot c.args.self.now.key c.law.ensures.start c.law.ensures.is_run (c.unlink_and_retire-outcome.ensures.goes 0).quiet (c.walk_on-self.ensures.sweeps room) c.requires.old.key
 
 pub returns-else-is_err-clause-leaves : goal.returns-else-is_err-clause-leaves
 returns-else-is_err-clause-leaves g c = λ room.

@@ -7,18 +7,18 @@ use Rattle.vbr_list.proofs.Preparing.{within_all, within_most, within_on}
 use Rattle.vbr_list.proofs.Replacements.{absent_paid, had_no_slot, replace_lone, replace_lone_costs, replace_refused_first, replace_vain}
 use Rattle.vbr_list.proofs.ReplacedValues.{calls_with}
 use Rattle.vbr_list.proofs.Sufficing.{answered_or_spent}
-use Rattle.vbr_list.proofs.replacing.replace_value.Goals as goal
+use Rattle.vbr_list.proofs.replacing.replace_by.Goals as goal
 
 pub returns-in-Ok-Some-clause-took : goal.returns-in-Ok-Some-clause-took
 returns-in-Ok-Some-clause-took c =
-    let same : c.at-in-Ok-Some-1.given.0 ≡ c.replace_with.new.self.at.stepper.now = search rules in
+    let same : c.stepper-in-Ok-Some-1.given.0 ≡ c.replace_with.new.self.at.stepper.now = search rules in
     let counts = rw c.ready.ensures.prepares.call.budget at c.replace_with.ensures.links.counts in
     rw same (took_all (within_on c.ready.ensures.prepares.counts counts.counts counts.within.0 counts.within.1).counts)
 
 pub returns-in-Err-clause-calls : goal.returns-in-Err-clause-calls
 returns-in-Err-clause-calls c =
-    let same : c.at-1.given.0 ≡ c.ready.new.self.at.stepper.now = search rules in
-    let p = c.args.at.now.stepper.now in
+    let same : c.stepper-1.given.0 ≡ c.ready.new.self.at.stepper.now = search rules in
+    let p = c.args.stepper.now in
     let q = c.ready.new.self.at.stepper.now in
     let prepares = c.ready.ensures.prepares in
     let none = c.in-Err.ensures.refused in
@@ -50,10 +50,10 @@ returns-in-Err-clause-calls c =
 
 pub returns-in-Ok-None-clause-calls : goal.returns-in-Ok-None-clause-calls
 returns-in-Ok-None-clause-calls c =
-    let same : c.at-in-Ok-None-1.given.0 ≡ c.ready.new.self.at.stepper.now = search rules in
+    let same : c.stepper-in-Ok-None-1.given.0 ≡ c.ready.new.self.at.stepper.now = search rules in
     let prepares = c.ready.ensures.prepares in
     let x = rw c.in-Ok-None.field-0-is at c.in-Ok-None.ensures.ready.is in
-    let p = c.args.at.now.stepper.now in
+    let p = c.args.stepper.now in
     let q = c.ready.new.self.at.stepper.now in
     let costs = within_most prepares.counts (absent_paid p.trace q.trace c.law.ensures.start (run_at p.trace q.trace x.made.same x.made.is_run) c.args.key (steps_for_slot p q.trace) c.in-Ok-None.ensures.ready.searched) in
     rw same (record {
@@ -68,8 +68,8 @@ returns-in-Ok-None-clause-calls c =
 
 pub returns-in-Ok-Some-clause-calls : goal.returns-in-Ok-Some-clause-calls
 returns-in-Ok-Some-clause-calls c =
-    let same : c.at-in-Ok-Some-1.given.0 ≡ c.replace_with.new.self.at.stepper.now = search rules in
+    let same : c.stepper-in-Ok-Some-1.given.0 ≡ c.replace_with.new.self.at.stepper.now = search rules in
     let prepares = c.ready.ensures.prepares in
     let first = (rw c.in-Ok-Some.field-0-is at c.in-Ok-Some.ensures.ready.is).0 in
-    rw same (calls_with c.args.at.now.stepper.now c.ready.new.self c.replace_with.new.self c.args.key c.args.value c.args.budget c.law.ensures.start c.law.ensures.is_run first prepares.advances prepares.kept prepares.had prepares.shared prepares.counts prepares.call.key prepares.call.budget
+    rw same (calls_with c.args.stepper.now c.ready.new.self c.replace_with.new.self c.args.key c.args.value c.args.budget c.law.ensures.start c.law.ensures.is_run first prepares.advances prepares.kept prepares.had prepares.shared prepares.counts prepares.call.key prepares.call.budget
     c.replace_with.ensures.links c.in-Ok-Some.ensures.ready.searched c.replace_with.result c.replace_with.ensures.had c.replace_with.ensures.answers c.replace_with.ensures.refused c.replace_with.ensures.paid)
