@@ -19,7 +19,7 @@ use Rattle.vbr_machine.specs.Agreement.{IsNotOf, IsStored, OwnFits, AllKnowRight
 use Rattle.vbr_machine.specs.declared.event.Step.{Step}
 use Rattle.vbr_machine.specs.declared.knowledge.Unpublished.{Unpublished}
 use Rattle.vbr_machine.specs.declared.knowledge.Holding.{Holding}
-use Rattle.vbr_machine.specs.declared.knowledge.Holding.TheVariants.{Free, Unlinked, InHand}
+use Rattle.vbr_machine.specs.declared.knowledge.Holding.TheVariants.{Unlinked, InHand}
 use Rattle.vbr_machine.specs.declared.knowledge.SlotPlace.{SlotPlace}
 use Rattle.vbr_machine.specs.declared.knowledge.SlotPlace.TheVariants.{Shared, Own, Hand, Listed}
 use Rattle.vbr_machine.proofs.Puts.{put_here, put_other}
