@@ -11,12 +11,12 @@ use Rattle.vbr_machine.specs.Links.{link_to}
 use Rattle.vbr_machine.specs.Opened.{payload_kept}
 use Rattle.vbr_machine.specs.Machine.{World, with_link_at}
 use Rattle.vbr_machine.specs.Machine as machine
-use Rattle.vbr_machine.specs.Knowledge.{birth_of}
+use Rattle.vbr_machine.specs.Knowledge.{Know, birth_of}
 use Rattle.vbr_machine.specs.Acceptance.{HasValue, MayPublish, IsBehind, IsBefore}
 use Rattle.vbr_machine.specs.Learning.{birth_in_hand, key_in_hand, value_in_hand, link_in_hand}
 use Rattle.vbr_machine.specs.Incarnations.{Linked, Incarnations, last_in, payload_of}
 use Rattle.vbr_machine.specs.Incarnations as state
-use Rattle.vbr_machine.specs.Images.{link_to_next, link_in_state, link_shown, link_shown_at, IsImage}
+use Rattle.vbr_machine.specs.Images.{birth_shown, key_shown, value_shown, link_to_next, link_in_state, link_shown, link_shown_at, IsImage}
 use Rattle.vbr_machine.specs.Chronicles.{Inserts, AtHead, AtNode, MayInsert, becomes}
 use Rattle.vbr_machine.specs.Sound.{Sound}
 use Rattle.vbr_machine.specs.Notes.{before_at, last_at}
@@ -25,10 +25,12 @@ use Rattle.vbr_machine.specs.declared.knowledge.Read.{Read}
 use Rattle.vbr_machine.specs.declared.knowledge.Holding.{Holding}
 use Rattle.vbr_machine.specs.declared.knowledge.Unpublished.{Unpublished}
 use Rattle.vbr_machine.specs.declared.knowledge.Holding.TheVariants.{InHand}
+use Rattle.vbr_machine.specs.declared.history.Call.{Call}
+use Rattle.vbr_machine.specs.declared.knowledge.SlotPlace.{SlotPlace}
 use Rattle.vbr_machine.specs.declared.knowledge.SlotPlace.TheVariants.{Hand}
 use Rattle.vbr_machine.proofs.Puts.{put_here, put_other}
 use Rattle.vbr_machine.proofs.OwnSlots.{lasts_differ}
-use Rattle.vbr_machine.proofs.Shown.{to_next_same, link_kept}
+use Rattle.vbr_machine.proofs.Shown.{to_next_same, link_kept, key_kept, value_kept, birth_kept}
 use Rattle.vbr_machine.proofs.ValueReads.{stored_is, stored_there, stored_kept}
 use Rattle.vbr_machine.proofs.StandingLinks.{node_at, birth_there}
 
@@ -46,6 +48,51 @@ exchanged w a b (Slot q) new i here there (Slot v) = go (cases_eq v q)
     go : (v ≡ q) ⊎ (v ≢ q) → put w.link q new v ≡ link_shown_at b (Slot v)
     go (inl e) = rw e (put_here w.link q new ∙ sym here)
     go (inr ne) = put_other w.link q new v ne ∙ i.link v ∙ sym (there (Slot v) (λ e. ne (cc)))
+
+-- a world with one link exchanged: but for that, only what passes know, the places and the calls are others
+pub record IsExchanged (w v : World) (pred : At) (new : Link) : Type 0 where
+  pub epoch : v.epoch ≡ w.epoch
+  pub link : (at : At) → machine.link_at v at ≡ machine.link_at (with_link_at w pred new) at
+  pub birth : v.birth ≡ w.birth
+  pub key : v.key ≡ w.key
+  pub value : v.value ≡ w.value
+  pub stamp : v.stamp ≡ w.stamp
+  pub births : v.births ≡ w.births
+
+pub is_exchanged : (w : World) (know : ℕ → Know) (place : ℕ → SlotPlace) (calls : List Call) (pred : At) (new : Link) → IsExchanged w (with_link_at (record w { know = know; place = place; calls = calls }) pred new) pred new
+is_exchanged w know place calls pred new = record { epoch = (same pred).0; link = link pred; birth = (same pred).1; key = (same pred).2; value = (same pred).3; stamp = (same pred).4; births = (same pred).5 }
+  where
+    v : At → World
+    v pred = with_link_at (record w { know = know; place = place; calls = calls }) pred new
+
+    link : (pred at : At) → machine.link_at (v pred) at ≡ machine.link_at (with_link_at w pred new) at
+    link (Head h) (Head b) = refl
+    link _ _ = refl
+
+    same : (pred : At) → ((v pred).epoch ≡ w.epoch) × ((v pred).birth ≡ w.birth) × ((v pred).key ≡ w.key) × ((v pred).value ≡ w.value) × ((v pred).stamp ≡ w.stamp) × ((v pred).births ≡ w.births)
+    same (Head h) = (refl, refl, refl, refl, refl, refl)
+    same _ = (refl, refl, refl, refl, refl, refl)
+
+-- a link that is written leaves what passes know, the places and the calls
+pub link_leaves : (w : World) (pred : At) (new : Link) → ((with_link_at w pred new).know ≡ w.know) × ((with_link_at w pred new).place ≡ w.place) × ((with_link_at w pred new).calls ≡ w.calls)
+link_leaves w (Head h) new = (refl, refl, refl)
+link_leaves w _ new = (refl, refl, refl)
+
+-- the image once a link was exchanged, where the incarnations show the new one at its place and the same ones elsewhere
+pub image_exchanged : (w v : World) (a b : Incarnations) (pred : At) (new : Link) → IsImage w a → IsExchanged w v pred new → link_shown_at b pred ≡ new → ((at : At) → at ≢ pred → link_shown_at b at ≡ link_shown_at a at) →
+    b.epoch ≡ a.epoch → b.birth ≡ a.birth → b.key ≡ a.key → b.value ≡ a.value → b.last ≡ a.last → b.stamp ≡ a.stamp → ((s : ℕ) → v.place s ≡ b.place s) → IsImage v b
+image_exchanged w v a b pred new i x here there ae abi ak av ala ats place =
+    let links = exchanged w a b pred new i here there in
+    record {
+      epoch = x.epoch ∙ i.epoch ∙ sym ae;
+      head = λ k. x.link (Head k) ∙ links (Head k);
+      link = λ k. x.link (Slot k) ∙ links (Slot k);
+      birth = λ s. ap (λ f. f s) x.birth ∙ i.birth s ∙ sym (ap (λ f. birth_shown b (f s)) ala ∙ birth_kept a b (a.last s) (λ c q. ap (λ f. f c) abi));
+      key = λ s. ap (λ f. f s) x.key ∙ i.key s ∙ sym (ap (λ f. key_shown b (f s)) ala ∙ key_kept a b (a.last s) (λ c q. ap (λ f. f c) ak));
+      value = λ s. ap (λ f. f s) x.value ∙ i.value s ∙ sym (ap (λ f. value_shown b (f s)) ala ∙ value_kept a b (a.last s) (λ c q. ap (λ f. f c) av));
+      stamp = λ s. ap (λ f. f s) x.stamp ∙ i.stamp s ∙ sym (ap (λ f. f s) ats);
+      place = place;
+    }
 
 -- a slot shows the link that it showed, where it does so by c as its last incarnation, and by each other one
 pub shown_as_before : (a b : Incarnations) (c v : ℕ) → ((d : ℕ) → a.last v ≡ Some d → d ≡ c → link_shown b (Some d) ≡ link_shown a (Some d)) → ((d : ℕ) → a.last v ≡ Some d → d ≢ c → link_shown b (Some d) ≡ link_shown a (Some d)) → link_shown b (a.last v) ≡ link_shown a (a.last v)

@@ -1,7 +1,6 @@
 -- The step that replaces a node, and the links of the image after it.
-use Rattle.std.proofs.Common.{◌≡◌, ◌≢◌, ℕ, ◌≤◌, max, true, false, Option, Some, None, refl, sym, subst, ap, ◌∙◌, inl, inr}
-use Rattle.std.specs.Prelude.{◌⊎◌, List, unwrap_or}
-use Rattle.std.proofs.lemmas.Bool.{cases_eq}
+use Rattle.std.proofs.Common.{◌≡◌, ◌≢◌, ℕ, max, true, Option, Some, refl, sym, ap, ◌∙◌}
+use Rattle.std.specs.Prelude.{List, unwrap_or}
 use Rattle.vbr_machine.specs.Start.{Start}
 use Rattle.vbr_words.specs.Words.{link_of}
 use Rattle.vbr_words.specs.declared.link.Link.{Link}
@@ -12,29 +11,27 @@ use Rattle.vbr_machine.specs.Links.{link_to, marked}
 use Rattle.vbr_machine.specs.Opened.{opening_keys, payload_kept}
 use Rattle.vbr_machine.specs.Knowledge.{key_in, value_in, birth_of}
 use Rattle.vbr_machine.specs.Acceptance.{MayReplace, Accepts}
-use Rattle.vbr_machine.specs.Learning.{link_written, birth_in_hand, key_in_hand, value_in_hand, link_in_hand}
+use Rattle.vbr_machine.specs.Learning.{link_written}
 use Rattle.vbr_machine.specs.Machine.{World}
 use Rattle.vbr_machine.specs.Incarnations.{Linked, Marked, Incarnations, last_in, payload_of}
-use Rattle.vbr_machine.specs.Incarnations as state
 use Rattle.vbr_machine.specs.Images.{link_to_next, link_in_state, link_shown, link_shown_at}
 use Rattle.vbr_machine.specs.Chronicles.{Replaces, MayTakePlace, becomes}
 use Rattle.vbr_machine.specs.Sound.{Sound, Grows}
 use Rattle.vbr_machine.specs.Notes.{Notes}
-use Rattle.vbr_machine.specs.Agreement.{IsHeldIncarnation, IsStored, OwnFits, Agrees}
+use Rattle.vbr_machine.specs.Agreement.{IsHeldIncarnation, OwnFits, Agrees}
 use Rattle.vbr_machine.specs.declared.event.Step.TheVariants.{Replace}
 use Rattle.vbr_machine.specs.declared.knowledge.Read.{Read}
 use Rattle.vbr_machine.specs.declared.knowledge.Holding.{Holding}
-use Rattle.vbr_machine.specs.declared.knowledge.Holding.TheVariants.{Free, Unlinked, InHand}
-use Rattle.vbr_machine.specs.declared.knowledge.SlotPlace.TheVariants.{Hand}
+use Rattle.vbr_machine.specs.declared.knowledge.Holding.TheVariants.{InHand}
 use Rattle.vbr_machine.proofs.Puts.{put_here, put_other}
 use Rattle.vbr_machine.proofs.Growth.{grows}
 use Rattle.vbr_machine.proofs.OwnSlots.{lasts_differ}
 use Rattle.vbr_machine.proofs.Exchanges.{FilledFacts, filled_facts, shown_as_before}
-use Rattle.vbr_machine.proofs.Searches.{birth_of_is, key_is, value_is}
+use Rattle.vbr_machine.proofs.Searches.{key_is, value_is}
 use Rattle.vbr_machine.proofs.Shown.{to_next_same, link_kept}
 use Rattle.vbr_machine.proofs.StandingLinks.{LinkStands}
 use Rattle.vbr_machine.proofs.PublishSteps.{aims_at}
-use Rattle.vbr_machine.proofs.ValueReads.{stored_is, stored_there, stored_kept, known_kept, has_value}
+use Rattle.vbr_machine.proofs.ValueReads.{known_kept, has_value}
 
 -- ---- the links after a replacement
 
