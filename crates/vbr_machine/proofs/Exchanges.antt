@@ -1,6 +1,6 @@
 -- The links of the image once an incarnation was inserted behind a place.
-use Rattle.std.proofs.Common.{◌≡◌, ◌≢◌, ℕ, ◌≤◌, true, Option, Some, None, refl, sym, ap, ◌∙◌, inl, inr, subst, ⊎_elim}
-use Rattle.std.specs.Prelude.{◌⊎◌, List, unwrap_or}
+use Rattle.std.proofs.Common.{◌≡◌, ◌≢◌, ℕ, ◌≤◌, Bool, true, Option, Some, None, refl, sym, ap, ◌∙◌, inl, inr, subst, ⊎_elim}
+use Rattle.std.specs.Prelude.{◌⊎◌, List, unwrap_or, if◌then◌else◌}
 use Rattle.std.proofs.lemmas.Bool.{cases_eq}
 use Rattle.vbr_machine.specs.Start.{Start}
 use Rattle.vbr_words.specs.declared.link.Link.{Link}
@@ -13,7 +13,7 @@ use Rattle.vbr_machine.specs.Machine.{World, with_link_at}
 use Rattle.vbr_machine.specs.Machine as machine
 use Rattle.vbr_machine.specs.Knowledge.{Know, birth_of}
 use Rattle.vbr_machine.specs.Acceptance.{HasValue, MayPublish, IsBehind, IsBefore}
-use Rattle.vbr_machine.specs.Learning.{birth_in_hand, key_in_hand, value_in_hand, link_in_hand}
+use Rattle.vbr_machine.specs.Learning.{with_own, with_checked, reads_won, link_written, birth_in_hand, key_in_hand, value_in_hand, link_in_hand}
 use Rattle.vbr_machine.specs.Incarnations.{Linked, Incarnations, last_in, payload_of}
 use Rattle.vbr_machine.specs.Incarnations as state
 use Rattle.vbr_machine.specs.Images.{birth_shown, key_shown, value_shown, link_to_next, link_in_state, link_shown, link_shown_at, IsImage}
@@ -26,6 +26,7 @@ use Rattle.vbr_machine.specs.declared.knowledge.Holding.{Holding}
 use Rattle.vbr_machine.specs.declared.knowledge.Unpublished.{Unpublished}
 use Rattle.vbr_machine.specs.declared.knowledge.Holding.TheVariants.{InHand}
 use Rattle.vbr_machine.specs.declared.history.Call.{Call}
+use Rattle.vbr_machine.specs.declared.event.Step.{Step}
 use Rattle.vbr_machine.specs.declared.knowledge.SlotPlace.{SlotPlace}
 use Rattle.vbr_machine.specs.declared.knowledge.SlotPlace.TheVariants.{Hand}
 use Rattle.vbr_machine.proofs.Puts.{put_here, put_other}
@@ -48,6 +49,14 @@ exchanged w a b (Slot q) new i here there (Slot v) = go (cases_eq v q)
     go : (v ≡ q) ⊎ (v ≢ q) → put w.link q new v ≡ link_shown_at b (Slot v)
     go (inl e) = rw e (put_here w.link q new ∙ sym here)
     go (inr ne) = put_other w.link q new v ne ∙ i.link v ∙ sym (there (Slot v) (λ e. ne (cc)))
+
+-- the world after an exchange of a link, by whether its pass learns: that it has checked what the step makes it check, and owns a slot so
+abbrev pub exchanged_world : World → ℕ → At → Step → ℕ → Option Holding → (ℕ → SlotPlace) → List Call → Bool → World
+exchanged_world w p pred step s holding place calls t = with_link_at (record w {
+  know = put w.know p (if t then with_own (with_checked (w.know p) (reads_won (w.know p) step)) s holding else w.know p);
+  place = place;
+  calls = calls;
+}) pred (link_written (w.know p) step)
 
 -- a world with one link exchanged: but for that, only what passes know, the places and the calls are others
 pub record IsExchanged (w v : World) (pred : At) (new : Link) : Type 0 where

@@ -1,6 +1,6 @@
 -- The step that inserts a node keeps the agreement.
 use Rattle.std.proofs.Common.{◌≡◌, ℕ, Bool, true, [], ◌∷◌, ◌++◌, None, refl, sym, ap, ◌∙◌}
-use Rattle.std.specs.Prelude.{◌==◌, if◌then◌else◌}
+use Rattle.std.specs.Prelude.{◌==◌}
 use Rattle.std.proofs.lemmas.Bool.{eqb-true}
 use Rattle.vbr_machine.specs.Start.{Start}
 use Rattle.vbr_words.specs.Words.{word_of}
@@ -25,7 +25,7 @@ use Rattle.vbr_machine.proofs.Puts.{put_here, put_other}
 use Rattle.vbr_machine.proofs.OwnSlots.{owns_changed, lasts_differ}
 use Rattle.vbr_machine.proofs.Shown.{fits_kept}
 use Rattle.vbr_machine.proofs.StandingLinks.{link_stands}
-use Rattle.vbr_machine.proofs.Exchanges.{is_exchanged, link_leaves, image_exchanged}
+use Rattle.vbr_machine.proofs.Exchanges.{exchanged_world, is_exchanged, link_leaves, image_exchanged}
 use Rattle.vbr_machine.proofs.PublishSteps.{ready, may_insert, slot_is, new_link, old_links}
 use Rattle.vbr_machine.proofs.PublishedNotes.{goods, shown}
 use Rattle.vbr_machine.proofs.Steps.{StepAgrees, agrees_won, leaves, puts_same, hand_not_of}
@@ -34,13 +34,9 @@ use Rattle.vbr_machine.proofs.Steps.{StepAgrees, agrees_won, leaves, puts_same, 
 abbrev call_in : Start → World → ℕ → ℕ → Call
 call_in start w p s = record { who = p; op = Insert; key = key_in_hand ((w.know p).own s); reply = true; value = payload_kept start (value_in_hand ((w.know p).own s)) }
 
--- the world after a publication, by whether its pass learns
+-- the world after a publication
 abbrev published_world : Start → World → ℕ → At → ℕ → ℕ → Bool → World
-published_world start w p pred expected s t = with_link_at (record w {
-  know = put w.know p (if t then with_own (with_checked (w.know p) (reads_won (w.know p) (Publish pred expected s))) s None else w.know p);
-  place = put w.place s (Listed (bucket_of start.shape (key_in_hand ((w.know p).own s))));
-  calls = w.calls ++ call_in start w p s ∷ [];
-}) pred (link_written (w.know p) (Publish pred expected s))
+published_world start w p pred expected s = exchanged_world w p pred (Publish pred expected s) s None (put w.place s (Listed (bucket_of start.shape (key_in_hand ((w.know p).own s))))) (w.calls ++ call_in start w p s ∷ [])
 
 made : (start : Start) (w : World) (a : Incarnations) (notes : ℕ → Notes) (p : ℕ) (pred : At) (expected s : ℕ) (g : Agrees start w a notes) (ok : Accepts start (w.know p) (Publish pred expected s)) → word_of (machine.link_at w pred) ≡ expected →
     Allowed start (opening_keys start) a p (Inserts (last_in a s) (before_at a pred)) × Agrees start (published_world start w p pred expected s true) (becomes start a p (Inserts (last_in a s) (before_at a pred))) (put notes p (with_won (becomes start a p (Inserts (last_in a s) (before_at a pred))) (notes p) (reads_won (w.know p) (Publish pred expected s))))

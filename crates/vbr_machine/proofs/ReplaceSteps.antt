@@ -104,15 +104,7 @@ module _ (start : Start) (w : World) (a : Incarnations) (notes : ℕ → Notes) 
 
   -- what the step adds to the chronicle is allowed
   pub may_take : MayTakePlace start a p (last_in a s) (last_in a t)
-  may_take = record {
-    in_hand = ready.state;
-    keyed = ready.keyed;
-    aimed = ready.aimed;
-    linked = m.is_open;
-    link = own_link;
-    same = ready.key_ready ∙ old_key;
-    valued = ready.valued;
-  }
+  may_take = record { in_hand = ready.state; keyed = ready.keyed; aimed = ready.aimed; linked = m.is_open; link = own_link; same = ready.key_ready ∙ old_key; valued = ready.valued }
 
   pub slot_is : a.slot (last_in a t) ≡ t
   slot_is = (g.sound.slots.last_born t (last_in a t) ready.last).1

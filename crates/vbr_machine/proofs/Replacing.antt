@@ -1,6 +1,6 @@
 -- The step that replaces a node keeps the agreement.
 use Rattle.std.proofs.Common.{◌≡◌, ◌≢◌, ℕ, Bool, true, [], ◌∷◌, ◌++◌, append_assoc, None, refl, arith, sym, ap, ◌∙◌, inl, inr}
-use Rattle.std.specs.Prelude.{◌⊎◌, ◌==◌, if◌then◌else◌, unwrap_or}
+use Rattle.std.specs.Prelude.{◌⊎◌, ◌==◌, unwrap_or}
 use Rattle.std.proofs.lemmas.Bool.{cases_eq, eqb-true}
 use Rattle.vbr_machine.specs.Start.{Start}
 use Rattle.vbr_words.specs.Words.{word_of}
@@ -11,7 +11,7 @@ use Rattle.vbr_machine.specs.Knowledge.{Know, key_in, value_in}
 use Rattle.vbr_machine.specs.Acceptance.{Accepts}
 use Rattle.vbr_machine.specs.Learning.{with_own, with_checked, reads_won, link_written, key_in_hand, value_in_hand}
 use Rattle.vbr_machine.specs.Opened.{opening_keys, payload_kept}
-use Rattle.vbr_machine.specs.Machine.{World, with_link_at}
+use Rattle.vbr_machine.specs.Machine.{World}
 use Rattle.vbr_machine.specs.Incarnations.{Linked, Marked, Incarnations, last_in}
 use Rattle.vbr_machine.specs.Chronicles.{Replaces, Allowed, becomes}
 use Rattle.vbr_machine.specs.Notes.{Notes, with_won}
@@ -24,7 +24,7 @@ use Rattle.vbr_machine.proofs.Puts.{put_here, put_other}
 use Rattle.vbr_machine.proofs.OwnSlots.{IsSlotKept, not_owned, owns_changed, slot_kept, lasts_differ}
 use Rattle.vbr_machine.proofs.Shown.{fits_kept}
 use Rattle.vbr_machine.proofs.StandingLinks.{link_stands}
-use Rattle.vbr_machine.proofs.Exchanges.{is_exchanged, image_exchanged}
+use Rattle.vbr_machine.proofs.Exchanges.{exchanged_world, is_exchanged, image_exchanged}
 use Rattle.vbr_machine.proofs.MarkSteps.{listed_not_of}
 use Rattle.vbr_machine.proofs.ReplaceSteps.{ready, may_take, slot_is, old_key, old_value, new_link, old_links}
 use Rattle.vbr_machine.proofs.ReplacedNotes.{goods, shown}
@@ -45,22 +45,18 @@ out start w p s = record { who = p; op = Remove; key = unwrap_or (key_in (w.know
 abbrev into : Start → World → ℕ → ℕ → Call
 into start w p t = record { who = p; op = Insert; key = key_in_hand ((w.know p).own t); reply = true; value = payload_kept start (value_in_hand ((w.know p).own t)) }
 
--- the world after a replacement, by whether its pass learns
+-- the world after a replacement
 abbrev replaced_world : Start → World → ℕ → ℕ → ℕ → ℕ → Bool → World
-replaced_world start w p s expected t won = with_link_at (record w {
-  know = put w.know p (if won then with_own (with_checked (w.know p) (reads_won (w.know p) (Replace s expected t))) t None else w.know p);
-  place = put w.place t (Listed (bucket_of start.shape (key_in_hand ((w.know p).own t))));
-  calls = (w.calls ++ out start w p s ∷ []) ++ into start w p t ∷ [];
-}) (Slot s) (link_written (w.know p) (Replace s expected t))
+replaced_world start w p s expected t = exchanged_world w p (Slot s) (Replace s expected t) t None (put w.place t (Listed (bucket_of start.shape (key_in_hand ((w.know p).own t))))) ((w.calls ++ out start w p s ∷ []) ++ into start w p t ∷ [])
 
 made : (start : Start) (w : World) (a : Incarnations) (notes : ℕ → Notes) (p s expected t : ℕ) (g : Agrees start w a notes) (ok : Accepts start (w.know p) (Replace s expected t)) → word_of (w.link s) ≡ expected →
     Allowed start (opening_keys start) a p (Replaces (last_in a s) (last_in a t)) × Agrees start (replaced_world start w p s expected t true) (becomes start a p (Replaces (last_in a s) (last_in a t))) (put notes p (with_won (becomes start a p (Replaces (last_in a s) (last_in a t))) (notes p) (reads_won (w.know p) (Replace s expected t))))
 made start w a notes p s expected t g ok stands =
-    let m = link_stands start w a notes p g (Slot s) expected ok.held.0 ok.in_range.0 stands in
     let old = last_in a s in
     let c = last_in a t in
     let one : Incarnations = record a { state = put a.state old Marked } in
     let b = becomes start a p (Replaces old c) in
+    let m = link_stands start w a notes p g (Slot s) expected ok.held.0 ok.in_range.0 stands in
     let r = ready start w a notes p s expected t g ok m in
     let al = may_take start w a notes p s expected t g ok m in
     let x = with_own (with_checked (w.know p) (reads_won (w.know p) (Replace s expected t))) t None in

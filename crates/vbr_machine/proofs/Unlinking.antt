@@ -1,6 +1,6 @@
 -- The step that unlinks a node keeps the agreement.
 use Rattle.std.proofs.Common.{◌≡◌, ℕ, Bool, true, false, Some, refl, arith, sym, ap, ◌∙◌}
-use Rattle.std.specs.Prelude.{◌==◌, if◌then◌else◌}
+use Rattle.std.specs.Prelude.{◌==◌}
 use Rattle.std.specs.List.{AllByRecursion}
 use Rattle.std.proofs.lemmas.Bool.{eqb-true}
 use Rattle.vbr_machine.specs.Start.{Start}
@@ -30,7 +30,7 @@ use Rattle.vbr_machine.proofs.OwnSlots.{owns_changed, lasts_differ}
 use Rattle.vbr_machine.proofs.Shown.{fits_kept}
 use Rattle.vbr_machine.proofs.StandingLinks.{LinkStands, link_stands, node_at}
 use Rattle.vbr_machine.proofs.MarkSteps.{listed_not_of}
-use Rattle.vbr_machine.proofs.Exchanges.{is_exchanged, link_leaves, image_exchanged}
+use Rattle.vbr_machine.proofs.Exchanges.{exchanged_world, is_exchanged, link_leaves, image_exchanged}
 use Rattle.vbr_machine.proofs.PublishSteps.{birth_there_low, next_low}
 use Rattle.vbr_machine.proofs.PublishedNotes.{pair_as}
 use Rattle.vbr_machine.proofs.UnlinkSteps.{last_behind, next_behind, facts, may_unlink, link_is, new_link, old_links, gr}
@@ -61,19 +61,16 @@ module _ (start : Start) (w : World) (a : Incarnations) (notes : ℕ → Notes) 
   shown : AllByRecursion (λ read. read ≡ shown_at (becomes start a p (Unlinks (last_in a s) (before_at a pred))) read) (reads_won (w.know p) (Unlink pred expected s))
   shown = (ap (LinkAt pred) (sym (new_link start w a notes p pred expected s g ok m)), tt)
 
--- the world after an unlinking, by whether its pass learns
+-- the world after an unlinking
 abbrev unlinked_world : Start → World → ℕ → At → ℕ → ℕ → Bool → World
-unlinked_world start w p pred expected s t = with_link_at (record w {
-  know = put w.know p (if t then with_own (with_checked (w.know p) (reads_won (w.know p) (Unlink pred expected s))) s (Some (Unlinked false)) else w.know p);
-  place = put w.place s (Own p);
-}) pred (link_written (w.know p) (Unlink pred expected s))
+unlinked_world start w p pred expected s = exchanged_world w p pred (Unlink pred expected s) s (Some (Unlinked false)) (put w.place s (Own p)) w.calls
 
 made : (start : Start) (w : World) (a : Incarnations) (notes : ℕ → Notes) (p : ℕ) (pred : At) (expected s : ℕ) (g : Agrees start w a notes) (ok : Accepts start (w.know p) (Unlink pred expected s)) → word_of (machine.link_at w pred) ≡ expected →
     Allowed start (opening_keys start) a p (Unlinks (last_in a s) (before_at a pred)) × Agrees start (unlinked_world start w p pred expected s true) (becomes start a p (Unlinks (last_in a s) (before_at a pred))) (put notes p (with_won (becomes start a p (Unlinks (last_in a s) (before_at a pred))) (notes p) (reads_won (w.know p) (Unlink pred expected s))))
 made start w a notes p pred expected s g ok stands =
-    let m = link_stands start w a notes p g pred expected ok.held.0 ok.in_range.0 stands in
     let c = last_in a s in
     let b = becomes start a p (Unlinks c (before_at a pred)) in
+    let m = link_stands start w a notes p g pred expected ok.held.0 ok.in_range.0 stands in
     let r = facts start w a notes p pred expected s g ok m in
     let al = may_unlink start w a notes p pred expected s g ok m in
     let x = with_own (with_checked (w.know p) (reads_won (w.know p) (Unlink pred expected s))) s (Some (Unlinked false)) in
