@@ -29,7 +29,7 @@ use Rattle.vbr_machine.proofs.Puts.{put_here, put_other}
 use Rattle.vbr_machine.proofs.OpeningKeys.{opens_with_one_or_none}
 use Rattle.vbr_machine.proofs.SoundAfter.{state_at_first, sound_at_first, sound_kept}
 use Rattle.vbr_machine.proofs.ToldCalls.{tells_at_first, tells_kept}
-use Rattle.vbr_machine.proofs.Noted.{knows_same, knows_on, knows_put, noted_beside, noted_checked}
+use Rattle.vbr_machine.proofs.Noted.{knows_same, knows_own, knows_on, knows_put, noted_beside, noted_checked}
 use Rattle.vbr_machine.proofs.Growth.{grows}
 
 -- what an accepted step adds to the chronicle is lawful, and the world, the incarnations and the notes agree after it
@@ -132,6 +132,15 @@ agrees_still start w a notes p g = record {
   calls = g.calls;
   births = g.births;
 }
+
+-- after an allowed event by which the pass owns a slot otherwise, and has checked nothing
+pub agrees_owned : (start : Start) (w v : World) (a : Incarnations) (notes : ℕ → Notes) (p : ℕ) (what : Happening) (s : ℕ) (h : Option Holding) → Agrees start w a notes → Allowed start (opening_keys start) a p what →
+    Fits start (becomes start a p what) → IsImage v (becomes start a p what) → v.know ≡ put w.know p (with_own (w.know p) s h) → Owns (becomes start a p what) (put w.know p (with_own (w.know p) s h)) →
+    v.calls ≡ (becomes start a p what).calls → v.births ≡ min (becomes start a p what).count (2 ^ 64 - 1) → Agrees start v (becomes start a p what) (put notes p (notes p))
+agrees_owned start w v a notes p what s h g al fits image vn owns calls births =
+    agrees_next start w v a notes (put notes p (notes p)) p what g al fits image
+    (rw vn (knows_own (becomes start a p what) w.know notes p s h (knows_on g.sound (grows start (opening_keys start) a p what g.sound al) w.know notes g.knows)))
+    (rw vn owns) calls births
 
 -- after an exchange that is allowed, by which the pass has checked reads, and owns a slot otherwise
 pub agrees_won : (start : Start) (w v : World) (a : Incarnations) (notes : ℕ → Notes) (p : ℕ) (what : Happening) (reads : List Read) (s : ℕ) (h : Option Holding) → Agrees start w a notes → Allowed start (opening_keys start) a p what →
