@@ -137,20 +137,23 @@ module _ {start : Start} {a b : Incarnations} {know : Know} {notes : Notes} (the
         go (Slot s) None h p k = absurd h
         go (Slot s) (Some c) h p k = let q = key_then s c key h k in rw (← q) (tells.there c (pair_open a (Slot s) (Some c) opened.0 p).0)
 
-    -- and its value was the one that is known there
-    pub value_was_there : (s key value : ℕ) → at ≡ Slot s → Knows know (KeyOf s key) → Knows know (ValueOf s value) → values_after (opening_payloads start) a.calls key ≡ payload_kept start (Some value)
-    value_was_there s key value e k m = go at of e held opened.1
+    -- where the place is a slot, its node was linked and is held there
+    node_there : (s : ℕ) → at ≡ Slot s → (i : ℕ) × IsHeldIncarnation a know.epoch s i × (a.state i ≡ Linked)
+    node_there s is = go at of is held opened.1
       where
-        go : (at : At) (of : Option ℕ) → at ≡ Slot s → IsHeldAt a know.epoch at of → IsPair a at of opened.0 → values_after (opening_payloads start) a.calls key ≡ payload_kept start (Some value)
+        go : (at : At) (of : Option ℕ) → at ≡ Slot s → IsHeldAt a know.epoch at of → IsPair a at of opened.0 → (i : ℕ) × IsHeldIncarnation a know.epoch s i × (a.state i ≡ Linked)
         go (Head b) of e h p = absurd (cc)
         go (Slot t) None e h p = absurd h
-        go (Slot t) (Some c) e h p =
+        go (Slot t) (Some i) e h p =
             let same : t ≡ s = cc in
-            let P : ℕ → Type 0 = λ t. IsHeldIncarnation a know.epoch t c in
-            let g = subst P same h in
-            let q = key_then s c key g k in
-            let v = value_then s c value g m in
-            ap (values_after (opening_payloads start) a.calls) (sym q) ∙ tells.stored c (pair_open a (Slot t) (Some c) opened.0 p).0 ∙ ap (λ x. payload_kept start (Some x)) v
+            let P : ℕ → Type 0 = λ t. IsHeldIncarnation a know.epoch t i in
+            (i, subst P same h, (pair_open a (Slot t) (Some i) opened.0 p).0)
+
+    -- and its value was the one that is known there
+    pub value_was_there : (s key value : ℕ) → at ≡ Slot s → Knows know (KeyOf s key) → Knows know (ValueOf s value) → values_after (opening_payloads start) a.calls key ≡ payload_kept start (Some value)
+    value_was_there s key value e k m =
+        let x = node_there s e in
+        ap (values_after (opening_payloads start) a.calls) (sym (key_then s x.0 key x.1 k)) ∙ tells.stored x.0 x.2 ∙ ap (λ x. payload_kept start (Some x)) (value_then s x.0 value x.1 m)
 
     -- no node of a key between the place and what the link names was in a list
     none_was_listed : (key : ℕ) → StandsBehind start know at key → BelongsBefore a key opened.0 → (d : ℕ) → IsListed (a.state d) → a.key d ≡ key → ⊥
@@ -247,22 +250,14 @@ module _ {start : Start} {a b : Incarnations} {know : Know} {notes : Notes} (the
 
     -- and where the place is a slot of the key, each marked node of the key stands ahead of the one there
     pub marked_ahead : (s key c : ℕ) → at ≡ Slot s → Knows know (KeyOf s key) → a.state c ≡ Marked → a.key c ≡ key → (i : ℕ) × IsHeldIncarnation b know.epoch s i × (b.rank c < b.rank i)
-    marked_ahead s key c is j m e = go at of is held opened.1
+    marked_ahead s key c is j m e =
+        let x = node_there s is in
+        let listed : IsListed (a.state c) = rw m tt in
+        (x.0, stays_held then grown know.epoch s x.0 low x.1, ahead x.0 x.2 (lower_rank then x.0 c x.2 listed (key_then s x.0 key x.1 j ∙ sym e)) (grown.rank x.0 (late_inserted (a.state x.0) know.epoch x.1.late)) (grown.rank c (late_inserted (a.state c) 0 (listed_late (a.state c) 0 listed))))
       where
         ahead : (i : ℕ) → a.state i ≡ Linked → (c ≡ i) ⊎ (a.rank c < a.rank i) → b.rank i ≡ a.rank i → b.rank c ≡ a.rank c → b.rank c < b.rank i
         ahead i l (inl same) x y = absurd (let z : Marked ≡ Linked = sym m ∙ ap a.state same ∙ l in cc)
         ahead i l (inr less) x y = omega (arith, less, x, y)
-
-        go : (at : At) (of : Option ℕ) → at ≡ Slot s → IsHeldAt a know.epoch at of → IsPair a at of opened.0 → (i : ℕ) × IsHeldIncarnation b know.epoch s i × (b.rank c < b.rank i)
-        go (Head b) of e h p = absurd (cc)
-        go (Slot t) None e h p = absurd h
-        go (Slot t) (Some i) q h p =
-            let same : t ≡ s = cc in
-            let P : ℕ → Type 0 = λ t. IsHeldIncarnation a know.epoch t i in
-            let here = subst P same h in
-            let linked : a.state i ≡ Linked = (pair_open a (Slot t) (Some i) opened.0 p).0 in
-            let listed : IsListed (a.state c) = rw m tt in
-            (i, stays_held then grown know.epoch s i low here, ahead i linked (lower_rank then i c linked listed (key_then s i key here j ∙ sym e)) (grown.rank i (late_inserted (a.state i) know.epoch here.late)) (grown.rank c (late_inserted (a.state c) 0 (listed_late (a.state c) 0 listed))))
 
 -- a held place has an incarnation that is held there, if it is a slot
 pub place_held : {a : Incarnations} {know : Know} {notes : Notes} → FitsNotes a know notes → (at : At) → IsHeldPlace know at → (of : Option ℕ) × IsHeldAt a know.epoch at of

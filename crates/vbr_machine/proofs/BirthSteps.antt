@@ -29,8 +29,8 @@ use Rattle.vbr_machine.proofs.ToldCalls.{tells_kept}
 use Rattle.vbr_machine.proofs.Growth.{grows}
 use Rattle.vbr_machine.proofs.Noted.{knows_on, knows_own}
 use Rattle.vbr_machine.proofs.OwnSlots.{slot_kept, not_owned, owns_moved, owns_changed, lasts_differ}
-use Rattle.vbr_machine.proofs.Shown.{fits_kept, to_next_same, in_state_same, link_kept, key_kept, value_kept, birth_kept, image_fits}
-use Rattle.vbr_machine.proofs.Steps.{StepAgrees, agrees_next, puts_same, at_put, hand_facts, unlinked_facts, own_not_of, hand_not_of}
+use Rattle.vbr_machine.proofs.Shown.{image_words, fits_kept, to_next_same, in_state_same, link_kept, key_kept, value_kept, birth_kept, image_fits}
+use Rattle.vbr_machine.proofs.Steps.{StepAgrees, agrees_owned, puts_same, at_put, hand_facts, unlinked_facts, own_not_of, hand_not_of}
 
 -- one state changes, and no link that is shown
 pub moved_link : (a b : Incarnations) (c s : ℕ) → b.slot ≡ a.slot → b.birth ≡ a.birth → b.link ≡ a.link → b.next ≡ a.next → b.last ≡ a.last → ((d : ℕ) → d ≢ c → b.state d ≡ a.state d) → a.last s ≡ Some c → ((v d : ℕ) → v ≢ s → a.last v ≡ Some d → d ≢ c) → link_in_state b c (b.state c) ≡ link_in_state b c (a.state c) → (v : ℕ) → link_shown_at a (Slot v) ≡ link_shown_at b (Slot v)
@@ -52,29 +52,18 @@ step_store_stamp start w a notes p s stamp g ok =
     let c = last_in a s in
     let b = becomes start a p (Stamps c stamp) in
     let v = after start w p (StoreStamp s stamp) in
-    let own = Some (Free stamp) in
-    let i = g.image in
     let slot : a.slot c ≡ s = (g.sound.slots.last_born s c x.last).1 in
     let al : Allowed start (opening_keys start) a p (Stamps c stamp) = rw x.state (refl, (let y = x.seen ok.in_range.0 in let z = ok.in_range.1 in omega arith), (let y = (g.knows p).epoch in let z = ok.in_range.1 in omega arith)) in (
       (al, tt),
-      agrees_next start w v a notes (put notes p (notes p)) p (Stamps c stamp) g al
-          (fits_kept a b refl refl refl refl g.fits)
-          (record {
-            epoch = i.epoch;
-            head = λ k. i.head k ∙ sym (to_next_same a b refl refl 0 (a.first k));
-            link = λ k. i.link k ∙ moved_link a b c s refl refl refl refl refl (λ d ne. put_other a.state c (Stamped (unlinked_at (a.state c)) stamp) d ne) x.last (λ y d ne e. lasts_differ g.sound.slots y s c d ne x.last e) (ap (link_in_state b c) (put_here a.state c (Stamped (unlinked_at (a.state c)) stamp)) ∙ ap (link_in_state b c) (sym x.state)) k;
-            birth = λ k. i.birth k ∙ sym (birth_kept a b (a.last k) (λ d _. refl));
-            key = λ k. i.key k ∙ sym (key_kept a b (a.last k) (λ d _. refl));
-            value = λ k. i.value k ∙ sym (value_kept a b (a.last k) (λ d _. refl));
-            stamp = λ k. rw slot (puts_same w.stamp a.stamp s stamp i.stamp k);
-            place = i.place;
-          })
-          (knows_own b w.know notes p s own (knows_on g.sound (grows start (opening_keys start) a p (Stamps c stamp) g.sound al) w.know notes g.knows))
-          (owns_changed a b w.know p s (with_own (w.know p) s own) refl (λ k ne. put_other (w.know p).own s own k ne)
-          (own_not_of p (a.place s) x.place)
-          (own_not_of p (a.place s) x.place)
+      agrees_owned start w v a notes p (Stamps c stamp) s (Some (Free stamp)) g al (fits_kept a b refl refl refl refl g.fits)
+          (image_words w v a b g.image refl refl refl refl refl refl refl refl refl refl
+          (λ k. g.image.link k ∙ moved_link a b c s refl refl refl refl refl (λ d ne. put_other a.state c (Stamped (unlinked_at (a.state c)) stamp) d ne) x.last (λ y d ne e. lasts_differ g.sound.slots y s c d ne x.last e) (ap (link_in_state b c) (put_here a.state c (Stamped (unlinked_at (a.state c)) stamp)) ∙ ap (link_in_state b c) (sym x.state)) k)
+          (λ k. g.image.key k ∙ sym (key_kept a b (a.last k) (λ d _. refl)))
+          (λ k. g.image.value k ∙ sym (value_kept a b (a.last k) (λ d _. refl)))
+          (λ k. rw slot (puts_same w.stamp a.stamp s stamp g.image.stamp k))) refl
+          (owns_changed a b w.know p s (with_own (w.know p) s (Some (Free stamp))) refl (λ k ne. put_other (w.know p).own s (Some (Free stamp)) k ne) (own_not_of p (a.place s) x.place) (own_not_of p (a.place s) x.place)
           (λ k ne. record { place = refl; last = refl; stamp = put_other a.stamp (a.slot c) stamp k (λ e. ne (e ∙ slot)); untouched = λ d e. let nd = lasts_differ g.sound.slots k s c d ne x.last e in record { state = put_other a.state c (Stamped (unlinked_at (a.state c)) stamp) d nd; birth = refl; key = refl; is_keyed = refl; value = refl; is_valued = refl; link = refl; is_aimed = refl } })
-          (rw (put_here (w.know p).own s own) (x.place, rw x.last (rw (put_here a.state c (Stamped (unlinked_at (a.state c)) stamp)) tt), rw slot (put_here a.stamp s stamp)))
+          (rw (put_here (w.know p).own s (Some (Free stamp))) (x.place, rw x.last (rw (put_here a.state c (Stamped (unlinked_at (a.state c)) stamp)) tt), rw slot (put_here a.stamp s stamp)))
           g.owns)
           g.calls g.births,
     )

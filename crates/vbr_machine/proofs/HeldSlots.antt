@@ -14,7 +14,7 @@ use Rattle.vbr_machine.specs.Knowledge.{Know, same_at, knows_link, names, holds,
 use Rattle.vbr_machine.specs.Acceptance.{Accepts}
 use Rattle.vbr_machine.specs.Learning.{read_epoch, with_pending, with_checked, reads_won, learn, value_in_hand}
 use Rattle.vbr_machine.specs.declared.event.Step.{Step}
-use Rattle.vbr_machine.specs.declared.event.Step.TheVariants.{ReadEpoch, Advance, LoadStamp, StoreStamp, Raise, TakeFlag, StoreBirth, StoreKey, StoreLink, LoadLink, LoadBirth, LoadKey, Publish, Mark, Replace, Unlink, ConfirmPresent, ConfirmAbsent, StoreValue, LoadValue}
+use Rattle.vbr_machine.specs.declared.event.Step.TheVariants.{ReadEpoch, TakeFlag, LoadLink, LoadBirth, LoadKey, Publish, Mark, Replace, Unlink, LoadValue}
 use Rattle.vbr_machine.specs.declared.knowledge.Read.{Read}
 use Rattle.vbr_machine.specs.declared.knowledge.Read.TheVariants.{LinkAt, BirthOf, KeyOf, ValueOf}
 use Rattle.vbr_machine.proofs.FoundReads.{same_at_true}
@@ -96,31 +96,21 @@ epoch_read know epoch r = elim (cases_Bool (epoch == know.epoch)) [
 -- where a link at a place is checked, the place is held
 pub link_held : (held reads : List Read) (at : At) (link : Link) → AllByRecursion (IsOfHeldPlace held) reads → knows_link reads at link ≡ true → holds_at held at ≡ true
 link_held held [] at link r h = absurd (cc)
-link_held held (BirthOf v b ∷ reads) at link r h = link_held held reads at link r.1 h
-link_held held (KeyOf v b ∷ reads) at link r h = link_held held reads at link r.1 h
-link_held held (ValueOf v b ∷ reads) at link r h = link_held held reads at link r.1 h
 link_held held (LinkAt here seen ∷ reads) at link r h = elim (cases_Bool (same_at here at && same_link seen link)) [
   | inl k ↦ let u = and_parts (same_at here at) (same_link seen link) k in rw (← same_at_true here at u.0) r.0
   | inr k ↦ link_held held reads at link r.1 (rw k at h)
 ]
+link_held held (_ ∷ reads) at link r h = link_held held reads at link r.1 h
 
 -- ---- steps
 
 -- what a pass learns by an accepted step leaves all of its reads of held places
 pub held_learned : (start : Start) (know : Know) (step : Step) (found stamp : ℕ) → ReadsHeldPlaces know → Accepts start know step → ReadsHeldPlaces (learn step found stamp know)
 held_learned start know ReadEpoch found stamp r ok = epoch_read know found r
-held_learned start know (Advance from) found stamp r ok = r
-held_learned start know (LoadStamp s) found stamp r ok = r
-held_learned start know (StoreStamp s new) found stamp r ok = record { checked = r.checked; pending = r.pending }
-held_learned start know (Raise s) found stamp r ok = record { checked = r.checked; pending = r.pending }
 held_learned start know (TakeFlag s) found stamp r ok = elim (cases_Bool (has_flag found s)) [
   | inl k ↦ rw k (record { checked = r.checked; pending = r.pending })
   | inr k ↦ rw k r
 ]
-held_learned start know (StoreBirth s birth) found stamp r ok = record { checked = r.checked; pending = r.pending }
-held_learned start know (StoreKey s key) found stamp r ok = record { checked = r.checked; pending = r.pending }
-held_learned start know (StoreValue s value) found stamp r ok = record { checked = r.checked; pending = r.pending }
-held_learned start know (StoreLink s next) found stamp r ok = record { checked = r.checked; pending = r.pending }
 held_learned start know (LoadLink at) found stamp r ok = pending_more know (LinkAt at (link_of found)) r ok.held
 held_learned start know (LoadBirth s) found stamp r ok = pending_more know (BirthOf s found) r ok.held
 held_learned start know (LoadKey s) found stamp r ok = pending_more know (KeyOf s found) r ok.held
@@ -154,5 +144,4 @@ held_learned start know (Unlink pred expected s) found stamp r ok = elim (cases_
       rw k (record { checked = more.checked; pending = more.pending })
   | inr k ↦ rw k r
 ]
-held_learned start know (ConfirmPresent op s expected) found stamp r ok = r
-held_learned start know (ConfirmAbsent op key at expected) found stamp r ok = r
+held_learned start know _ found stamp r ok = record { checked = r.checked; pending = r.pending }

@@ -17,7 +17,7 @@ use Rattle.vbr_machine.specs.Notes.{before_at}
 use Rattle.vbr_machine.specs.Membership.{Knows, LeadsTo, itself, onward, StandsBehind, StandsBefore}
 use Rattle.vbr_machine.specs.Moments.{WasShown, WasAbsent}
 use Rattle.vbr_machine.specs.Runs.{Begins, IsRun, world_after, know_after}
-use Rattle.vbr_machine.specs.Incarnations.{State, Unborn, InHand, GivenUp, Linked, Marked, Unlinked, Stamped, Incarnations, last_in}
+use Rattle.vbr_machine.specs.Incarnations.{State, InHand, Linked, Marked, Incarnations, last_in}
 use Rattle.vbr_machine.specs.Chronicles.{Happening, Advances, Gains, Probes, Raises, GivesUp, Bears, Keyed, Valued, Aims, Inserts, Removes, Replaces, Unlinks, Stamps, Confirms, Entry, Allowed, Before, AtHead, AtNode, IsOpen, BelongsBehind, BelongsBefore, becomes, incarnations_from, IsLawful, next_of}
 use Rattle.vbr_machine.specs.Sound.{IsApart, IsListed, IsRemoved, Sound, Grows}
 use Rattle.vbr_machine.specs.Accounts.{born_in, entry_of_call, happens, incarnations_after, just, notes_after}

@@ -147,6 +147,15 @@ count_fewer f g (suc m) (suc n) le e = go (cases_eq m n) (λ l h. count_fewer f 
     go (inl is) both one = step (f m) (g n) (count_below f m) (count_below g n) (λ h. ap g (sym is) ∙ e m (omega arith) h) (both (omega arith) (λ s l. e s (omega arith)))
     go (inr ne) both one = let x = one (omega arith) in let y = up (g n) (count_below g n) in omega (arith, x, y)
 
+-- a test but where another passes: it fails there, and is as it was elsewhere
+gone : (b : Bool) {t : Bool} → t ≡ true → (b && not t) ≡ false
+gone true {t} e = ap not e
+gone false {t} e = refl
+
+still : (b : Bool) {t : Bool} → t ≡ false → (b && not t) ≡ b
+still true {t} e = ap not e
+still false {t} e = refl
+
 -- one that passes at one more place passes at least once more
 count_less : (f g : ℕ → Bool) (n k : ℕ) → k < n → f k ≡ false → g k ≡ true → ((s : ℕ) → s < n → f s ≡ true → g s ≡ true) → count_below f n < count_below g n
 count_less f g n k low fails passes e =
@@ -157,14 +166,6 @@ count_less f g n k low fails passes e =
   where
     elsewhere : (s : ℕ) → f s ≡ true → not (s == k) ≡ true
     elsewhere s t = ap not (ne_eqb s k (λ q. (let z : true ≡ false = sym t ∙ ap f q ∙ fails in cc)))
-
-    gone : (b : Bool) {t : Bool} → t ≡ true → (b && not t) ≡ false
-    gone true {t} e = ap not e
-    gone false {t} e = refl
-
-    still : (b : Bool) {t : Bool} → t ≡ false → (b && not t) ≡ b
-    still true {t} e = ap not e
-    still false {t} e = refl
 
 -- a test that passes at one more place at the most passes no more than once more
 count_one_more : (f g : ℕ → Bool) (n k : ℕ) → ((s : ℕ) → s < n → s ≢ k → g s ≡ true → f s ≡ true) → count_below g n ≤ suc (count_below f n)
@@ -202,14 +203,6 @@ count_taken f g h (suc m) n into one = go (cases_Bool (f m)) (λ t i o. count_ta
 
     but : ℕ → Bool
     but s = g s && not (s == h m)
-
-    gone : (b : Bool) {t : Bool} → t ≡ true → (b && not t) ≡ false
-    gone true {t} e = ap not e
-    gone false {t} e = refl
-
-    still : (b : Bool) {t : Bool} → t ≡ false → (b && not t) ≡ b
-    still true {t} e = ap not e
-    still false {t} e = refl
 
     go : (f m ≡ true) ⊎ (f m ≡ false) → ((t : ℕ → Bool) → ((c : ℕ) → c < m → f c ≡ true → (h c < n) × (t (h c) ≡ true)) → ((c d : ℕ) → c < m → d < m → f c ≡ true → f d ≡ true → h c ≡ h d → c ≡ d) → count_below f m ≤ count_below t n) → count_below f (suc m) ≤ count_below g n
     go (inr fails) on = less (f m) (count_below f m) (count_below g n) fails (on g (λ c l. into c (omega arith)) (λ c d l k. one c d (omega arith) (omega arith)))

@@ -76,26 +76,16 @@ module _ (start : Start) where
 
   -- by a step that is no advance
   step_stays : (w : World) (a : Incarnations) (p : ℕ) (step : Step) → (IsAdvance step → ⊥) → Stays a (happens start w a p step)
-  step_stays w a p ReadEpoch none = refl
   step_stays w a p (Advance from) none = absurd (none tt)
-  step_stays w a p (LoadStamp s) none = refl
-  step_stays w a p (StoreStamp s stamp) none = refl
-  step_stays w a p (Raise s) none = refl
   step_stays w a p (TakeFlag s) none = either_stays a (has_flag (found start w (TakeFlag s)) s) _ _ refl refl
   step_stays w a p (StoreBirth s birth) none = born_stays a p s birth ((w.know p).own s)
-  step_stays w a p (StoreKey s key) none = refl
-  step_stays w a p (StoreValue s value) none = refl
-  step_stays w a p (StoreLink s next) none = refl
-  step_stays w a p (LoadLink at) none = refl
-  step_stays w a p (LoadBirth s) none = refl
-  step_stays w a p (LoadKey s) none = refl
-  step_stays w a p (LoadValue s) none = refl
   step_stays w a p (Publish pred expected s) none = either_stays a (found start w (Publish pred expected s) == expected) _ _ refl refl
   step_stays w a p (Mark s expected) none = either_stays a (found start w (Mark s expected) == expected) _ _ refl refl
   step_stays w a p (Replace s expected t) none = either_stays a (found start w (Replace s expected t) == expected) _ _ refl refl
   step_stays w a p (Unlink pred expected s) none = either_stays a (found start w (Unlink pred expected s) == expected) _ _ refl refl
   step_stays w a p (ConfirmPresent op s expected) none = either_stays a (found start w (ConfirmPresent op s expected) == expected) _ _ (answered_stays a p (call_of start p (w.know p) (ConfirmPresent op s expected))) refl
   step_stays w a p (ConfirmAbsent op key at expected) none = either_stays a (found start w (ConfirmAbsent op key at expected) == expected) _ _ (answered_stays a p (call_of start p (w.know p) (ConfirmAbsent op key at expected))) refl
+  step_stays w a p _ none = refl
 
   -- the epoch after a step and those behind it
   epoch_on : (w : World) (a : Incarnations) (event : Event) (events : List Event) → (incarnations_from start a (chronicle_from start w a (event ∷ events))).epoch ≡ (incarnations_from start (incarnations_with start w a event) (chronicle_from start (after start w event.pass event.step) (incarnations_with start w a event) events)).epoch

@@ -22,13 +22,11 @@ use Rattle.vbr_machine.specs.declared.knowledge.Holding.TheVariants.{Free, Unlin
 use Rattle.vbr_machine.specs.declared.knowledge.SlotPlace.{SlotPlace}
 use Rattle.vbr_machine.specs.declared.knowledge.SlotPlace.TheVariants.{Shared, Own, Hand, Listed}
 use Rattle.vbr_machine.proofs.Puts.{put_here, put_other}
-use Rattle.vbr_machine.proofs.Growth.{grows}
 use Rattle.vbr_machine.proofs.SlotFlags.{flag_told}
 use Rattle.vbr_machine.proofs.Searches.{birth_low}
-use Rattle.vbr_machine.proofs.Noted.{knows_on, knows_own}
 use Rattle.vbr_machine.proofs.OwnSlots.{IsSlotKept, owns_changed, lasts_differ}
-use Rattle.vbr_machine.proofs.Shown.{image_kept, fits_kept, to_next_same, link_kept, key_kept, value_kept, birth_kept}
-use Rattle.vbr_machine.proofs.Steps.{StepAgrees, agrees_next, agrees_still, puts_same, at_put, hand_facts, own_not_of, hand_not_of}
+use Rattle.vbr_machine.proofs.Shown.{image_kept, image_words, fits_kept, link_kept, key_kept, value_kept}
+use Rattle.vbr_machine.proofs.Steps.{StepAgrees, agrees_owned, agrees_still, puts_same, at_put, hand_facts, own_not_of, hand_not_of}
 
 -- another slot where only the place of one has changed
 moved_beside : (a : Incarnations) (s v : ℕ) (place : SlotPlace) → v ≢ s → IsSlotKept a (record a { place = put a.place s place }) v
@@ -47,16 +45,10 @@ step_raise start w a notes p s g ok =
     let v = after start w p (Raise s) in
     let al : (a.place s ≡ Own p) × IsRetired a (a.last s) = free_facts a p s (w.know p).epoch ((w.know p).own s) (g.owns p s) ok.owned in (
       (al, tt),
-      agrees_next start w v a notes (put notes p (notes p)) p (Raises s) g al
-          (fits_kept a b refl refl refl refl g.fits)
-          (image_kept v w a b g.image.epoch refl refl refl refl refl refl (puts_same w.place a.place s Shared g.image.place) refl refl refl refl refl refl refl refl refl refl g.image)
-          (knows_own b w.know notes p s None (knows_on g.sound (grows start (opening_keys start) a p (Raises s) g.sound al) w.know notes g.knows))
-          (owns_changed a b w.know p s (with_own (w.know p) s None) refl (λ i ne. put_other (w.know p).own s None i ne)
-          (own_not_of p (a.place s) al.0)
-          (λ q ne. rw (put_here a.place s Shared) tt)
-          (λ i ne. moved_beside a s i Shared ne)
-          (rw (put_here (w.know p).own s None, put_here a.place s Shared) tt)
-          g.owns)
+      agrees_owned start w v a notes p (Raises s) s None g al (fits_kept a b refl refl refl refl g.fits)
+          (image_kept v w a b g.image.epoch refl refl refl refl refl refl (puts_same w.place a.place s Shared g.image.place) refl refl refl refl refl refl refl refl refl refl g.image) refl
+          (owns_changed a b w.know p s (with_own (w.know p) s None) refl (λ i ne. put_other (w.know p).own s None i ne) (own_not_of p (a.place s) al.0) (λ q ne. rw (put_here a.place s Shared) tt)
+          (λ i ne. moved_beside a s i Shared ne) (rw (put_here (w.know p).own s None, put_here a.place s Shared) tt) g.owns)
           g.calls g.births,
     )
 
@@ -84,13 +76,9 @@ step_take_flag start w a notes p s g low = go (w.place s) refl
         let b = becomes start a p (Gains s) in
         let x = with_own (w.know p) s (Some (Free (w.stamp s))) in
         let v = record w { know = put w.know p x; place = put w.place s (Own p) } in
-        agrees_next start w v a notes (put notes p (notes p)) p (Gains s) g al
-        (fits_kept a b refl refl refl refl g.fits)
-        (image_kept v w a b g.image.epoch refl refl refl refl refl refl (puts_same w.place a.place s (Own p) g.image.place) refl refl refl refl refl refl refl refl refl refl g.image)
-        (knows_own b w.know notes p s (Some (Free (w.stamp s))) (knows_on g.sound (grows start (opening_keys start) a p (Gains s) g.sound al) w.know notes g.knows))
-        (owns_changed a b w.know p s x refl (λ i ne. put_other (w.know p).own s (Some (Free (w.stamp s))) i ne)
-        (λ q ne. rw al tt)
-        (own_not_of p (put a.place s (Own p) s) (put_here a.place s (Own p)))
+        agrees_owned start w v a notes p (Gains s) s (Some (Free (w.stamp s))) g al (fits_kept a b refl refl refl refl g.fits)
+        (image_kept v w a b g.image.epoch refl refl refl refl refl refl (puts_same w.place a.place s (Own p) g.image.place) refl refl refl refl refl refl refl refl refl refl g.image) refl
+        (owns_changed a b w.know p s x refl (λ i ne. put_other (w.know p).own s (Some (Free (w.stamp s))) i ne) (λ q ne. rw al tt) (own_not_of p (put a.place s (Own p) s) (put_here a.place s (Own p)))
         (λ i ne. moved_beside a s i (Own p) ne)
         (rw (put_here (w.know p).own s (Some (Free (w.stamp s)))) (put_here a.place s (Own p), retired_beside a s (Own p) (a.last s) (shared_retired g.sound.slots s al), sym (g.image.stamp s)))
         g.owns)
@@ -110,26 +98,15 @@ step_store_key start w a notes p s key g ok =
     let x = hand_facts a p s (w.know p).epoch ((w.know p).own s) (g.owns p s) ok.owned in
     let c = last_in a s in
     let b = becomes start a p (Keyed c key) in
-    let v = after start w p (StoreKey s key) in
     let own = with_key ((w.know p).own s) key in
-    let i = g.image in (
+    let v = after start w p (StoreKey s key) in (
       (x.state, tt),
-      agrees_next start w v a notes (put notes p (notes p)) p (Keyed c key) g x.state
-          (fits_kept a b refl refl refl refl g.fits)
-          (record {
-            epoch = i.epoch;
-            head = λ k. i.head k ∙ sym (to_next_same a b refl refl 0 (a.first k));
-            link = λ k. i.link k ∙ sym (link_kept a b refl refl (a.last k) (λ d _. (refl, refl, refl)));
-            birth = λ k. i.birth k ∙ sym (birth_kept a b (a.last k) (λ d _. refl));
-            key = at_put (λ k y. y ≡ key_shown b (a.last k)) w.key s key (rw x.last (sym (put_here a.key c key))) (λ k ne. i.key k ∙ sym (key_kept a b (a.last k) (λ d e. put_other a.key c key d (lasts_differ g.sound.slots k s c d ne x.last e))));
-            value = λ k. i.value k ∙ sym (value_kept a b (a.last k) (λ d _. refl));
-            stamp = i.stamp;
-            place = i.place;
-          })
-          (knows_own b w.know notes p s own (knows_on g.sound (grows start (opening_keys start) a p (Keyed c key) g.sound x.state) w.know notes g.knows))
-          (owns_changed a b w.know p s (with_own (w.know p) s own) refl (λ k ne. put_other (w.know p).own s own k ne)
-          (hand_not_of p (a.place s) x.place)
-          (hand_not_of p (a.place s) x.place)
+      agrees_owned start w v a notes p (Keyed c key) s own g x.state (fits_kept a b refl refl refl refl g.fits)
+          (image_words w v a b g.image refl refl refl refl refl refl refl refl refl refl
+          (λ k. g.image.link k ∙ sym (link_kept a b refl refl (a.last k) (λ d _. (refl, refl, refl))))
+          (at_put (λ k y. y ≡ key_shown b (a.last k)) w.key s key (rw x.last (sym (put_here a.key c key))) (λ k ne. g.image.key k ∙ sym (key_kept a b (a.last k) (λ d e. put_other a.key c key d (lasts_differ g.sound.slots k s c d ne x.last e)))))
+          (λ k. g.image.value k ∙ sym (value_kept a b (a.last k) (λ d _. refl))) g.image.stamp) refl
+          (owns_changed a b w.know p s (with_own (w.know p) s own) refl (λ k ne. put_other (w.know p).own s own k ne) (hand_not_of p (a.place s) x.place) (hand_not_of p (a.place s) x.place)
           (λ k ne. record { place = refl; last = refl; stamp = refl; untouched = λ d e. let nd = lasts_differ g.sound.slots k s c d ne x.last e in record { state = refl; birth = refl; key = put_other a.key c key d nd; is_keyed = put_other a.is_keyed c true d nd; value = refl; is_valued = refl; link = refl; is_aimed = refl } })
           (rw (put_here (w.know p).own s own, x.holding_is) (x.place, record { node = c; last_is = x.last; state = x.state; born = x.born; birth_is = x.birth_is; keyed = (put_here a.is_keyed c true, put_here a.key c key); valued = x.valued; aimed = x.aimed }, x.stamp_is))
           g.owns)
@@ -141,26 +118,15 @@ step_store_value start w a notes p s value g ok =
     let x = hand_facts a p s (w.know p).epoch ((w.know p).own s) (g.owns p s) ok.owned in
     let c = last_in a s in
     let b = becomes start a p (Valued c value) in
-    let v = after start w p (StoreValue s value) in
     let own = with_value ((w.know p).own s) value in
-    let i = g.image in (
+    let v = after start w p (StoreValue s value) in (
       ((x.state, ok.in_shape.1), tt),
-      agrees_next start w v a notes (put notes p (notes p)) p (Valued c value) g (x.state, ok.in_shape.1)
-          (fits_kept a b refl refl refl refl g.fits)
-          (record {
-            epoch = i.epoch;
-            head = λ k. i.head k ∙ sym (to_next_same a b refl refl 0 (a.first k));
-            link = λ k. i.link k ∙ sym (link_kept a b refl refl (a.last k) (λ d _. (refl, refl, refl)));
-            birth = λ k. i.birth k ∙ sym (birth_kept a b (a.last k) (λ d _. refl));
-            key = λ k. i.key k ∙ sym (key_kept a b (a.last k) (λ d _. refl));
-            value = at_put (λ k y. y ≡ value_shown b (a.last k)) w.value s value (rw x.last (sym (put_here a.value c value))) (λ k ne. i.value k ∙ sym (value_kept a b (a.last k) (λ d e. put_other a.value c value d (lasts_differ g.sound.slots k s c d ne x.last e))));
-            stamp = i.stamp;
-            place = i.place;
-          })
-          (knows_own b w.know notes p s own (knows_on g.sound (grows start (opening_keys start) a p (Valued c value) g.sound (x.state, ok.in_shape.1)) w.know notes g.knows))
-          (owns_changed a b w.know p s (with_own (w.know p) s own) refl (λ k ne. put_other (w.know p).own s own k ne)
-          (hand_not_of p (a.place s) x.place)
-          (hand_not_of p (a.place s) x.place)
+      agrees_owned start w v a notes p (Valued c value) s own g (x.state, ok.in_shape.1) (fits_kept a b refl refl refl refl g.fits)
+          (image_words w v a b g.image refl refl refl refl refl refl refl refl refl refl
+          (λ k. g.image.link k ∙ sym (link_kept a b refl refl (a.last k) (λ d _. (refl, refl, refl))))
+          (λ k. g.image.key k ∙ sym (key_kept a b (a.last k) (λ d _. refl)))
+          (at_put (λ k y. y ≡ value_shown b (a.last k)) w.value s value (rw x.last (sym (put_here a.value c value))) (λ k ne. g.image.value k ∙ sym (value_kept a b (a.last k) (λ d e. put_other a.value c value d (lasts_differ g.sound.slots k s c d ne x.last e))))) g.image.stamp) refl
+          (owns_changed a b w.know p s (with_own (w.know p) s own) refl (λ k ne. put_other (w.know p).own s own k ne) (hand_not_of p (a.place s) x.place) (hand_not_of p (a.place s) x.place)
           (λ k ne. record { place = refl; last = refl; stamp = refl; untouched = λ d e. let nd = lasts_differ g.sound.slots k s c d ne x.last e in record { state = refl; birth = refl; key = refl; is_keyed = refl; value = put_other a.value c value d nd; is_valued = put_other a.is_valued c true d nd; link = refl; is_aimed = refl } })
           (rw (put_here (w.know p).own s own, x.holding_is) (x.place, record { node = c; last_is = x.last; state = x.state; born = x.born; birth_is = x.birth_is; keyed = x.keyed; valued = (put_here a.is_valued c true, put_here a.value c value); aimed = x.aimed }, x.stamp_is))
           g.owns)
@@ -180,34 +146,23 @@ step_store_link start w a notes p s next g ok =
     let x = hand_facts a p s (w.know p).epoch ((w.know p).own s) (g.owns p s) ok.owned in
     let c = last_in a s in
     let link = link_written (w.know p) (StoreLink s next) in
-    let b = becomes start a p (Aims c link) in
-    let v = after start w p (StoreLink s next) in
-    let own = with_link ((w.know p).own s) link in
-    let i = g.image in
     let birth : birth_in_hand ((w.know p).own s) ≡ a.birth c = ap birth_in_hand x.holding_is ∙ sym x.birth_is in
-    let al : Allowed start (opening_keys start) a p (Aims c link) = (x.state, refl, (let z = birth in omega arith)) in (
+    let al : Allowed start (opening_keys start) a p (Aims c link) = (x.state, refl, (let z = birth in omega arith)) in
+    let b = becomes start a p (Aims c link) in
+    let own = with_link ((w.know p).own s) link in
+    let v = after start w p (StoreLink s next) in (
       (al, tt),
-      agrees_next start w v a notes (put notes p (notes p)) p (Aims c link) g al
-          (record {
-            is_start = g.fits.is_start;
-            epoch = g.fits.epoch;
-            slot = g.fits.slot;
-            link = at_put (λ d y. IsLink y) a.link c link (aimed_fits g.fits (w.know p) (notes p) next (birth_in_hand ((w.know p).own s)) (g.knows p) (let z = birth in let y = x.born in omega arith) ok.in_shape.1) (λ d ne. g.fits.link d);
-          })
-          (record {
-            epoch = i.epoch;
-            head = λ k. i.head k ∙ sym (to_next_same a b refl refl 0 (a.first k));
-            link = at_put (λ k y. y ≡ link_shown b (a.last k)) w.link s link (rw (x.last, x.state) (sym (put_here a.link c link))) (λ k ne. i.link k ∙ sym (link_kept a b refl refl (a.last k) (λ d e. (refl, put_other a.link c link d (lasts_differ g.sound.slots k s c d ne x.last e), refl))));
-            birth = λ k. i.birth k ∙ sym (birth_kept a b (a.last k) (λ d _. refl));
-            key = λ k. i.key k ∙ sym (key_kept a b (a.last k) (λ d _. refl));
-            value = λ k. i.value k ∙ sym (value_kept a b (a.last k) (λ d _. refl));
-            stamp = i.stamp;
-            place = i.place;
-          })
-          (knows_own b w.know notes p s own (knows_on g.sound (grows start (opening_keys start) a p (Aims c link) g.sound al) w.know notes g.knows))
-          (owns_changed a b w.know p s (with_own (w.know p) s own) refl (λ k ne. put_other (w.know p).own s own k ne)
-          (hand_not_of p (a.place s) x.place)
-          (hand_not_of p (a.place s) x.place)
+      agrees_owned start w v a notes p (Aims c link) s own g al (record {
+        is_start = g.fits.is_start;
+        epoch = g.fits.epoch;
+        slot = g.fits.slot;
+        link = at_put (λ d y. IsLink y) a.link c link (aimed_fits g.fits (w.know p) (notes p) next (birth_in_hand ((w.know p).own s)) (g.knows p) (let z = birth in let y = x.born in omega arith) ok.in_shape.1) (λ d ne. g.fits.link d);
+      })
+          (image_words w v a b g.image refl refl refl refl refl refl refl refl refl refl
+          (at_put (λ k y. y ≡ link_shown b (a.last k)) w.link s link (rw (x.last, x.state) (sym (put_here a.link c link))) (λ k ne. g.image.link k ∙ sym (link_kept a b refl refl (a.last k) (λ d e. (refl, put_other a.link c link d (lasts_differ g.sound.slots k s c d ne x.last e), refl)))))
+          (λ k. g.image.key k ∙ sym (key_kept a b (a.last k) (λ d _. refl)))
+          (λ k. g.image.value k ∙ sym (value_kept a b (a.last k) (λ d _. refl))) g.image.stamp) refl
+          (owns_changed a b w.know p s (with_own (w.know p) s own) refl (λ k ne. put_other (w.know p).own s own k ne) (hand_not_of p (a.place s) x.place) (hand_not_of p (a.place s) x.place)
           (λ k ne. record { place = refl; last = refl; stamp = refl; untouched = λ d e. let nd = lasts_differ g.sound.slots k s c d ne x.last e in record { state = refl; birth = refl; key = refl; is_keyed = refl; value = refl; is_valued = refl; link = put_other a.link c link d nd; is_aimed = put_other a.is_aimed c true d nd } })
           (rw (put_here (w.know p).own s own) (rw (ap (λ h. with_link h link) x.holding_is) (x.place, record { node = c; last_is = x.last; state = x.state; born = x.born; birth_is = x.birth_is; keyed = x.keyed; valued = x.valued; aimed = (put_here a.is_aimed c true, put_here a.link c link) }, x.stamp_is)))
           g.owns)

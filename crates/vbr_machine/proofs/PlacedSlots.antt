@@ -38,27 +38,11 @@ slot_of a (Some c) s e = (c, refl, cc)
 names_next : (a : Incarnations) (c : ℕ) (st : State) → IsListed st → (link_in_state a c st).slot ≡ slot_shown a (a.next c)
 names_next a c Linked l = refl
 names_next a c Marked l = refl
-names_next a c Unborn l = absurd l
-names_next a c (InHand q) l = absurd l
-names_next a c GivenUp l = absurd l
-names_next a c (Unlinked q u) l = absurd l
-names_next a c (Stamped u r) l = absurd l
+names_next a c _ l = absurd l
 
 -- the place of a slot whose last incarnation is linked or marked
 place_of_listed : (start : Start) (place : SlotPlace) (st : State) (key : ℕ) → IsListed st → PlaceFits start place st key → place ≡ Listed (bucket_of start.shape key)
-place_of_listed start Shared Linked key l f = absurd f
-place_of_listed start Shared Marked key l f = absurd f
-place_of_listed start (Own p) Linked key l f = absurd f
-place_of_listed start (Own p) Marked key l f = absurd f
-place_of_listed start (Hand p) Linked key l f = absurd f
-place_of_listed start (Hand p) Marked key l f = absurd f
-place_of_listed start (Listed b) Linked key l f = ap Listed (sym f)
-place_of_listed start (Listed b) Marked key l f = ap Listed (sym f)
-place_of_listed start place Unborn key l f = absurd l
-place_of_listed start place (InHand q) key l f = absurd l
-place_of_listed start place GivenUp key l f = absurd l
-place_of_listed start place (Unlinked q u) key l f = absurd l
-place_of_listed start place (Stamped u r) key l f = absurd l
+place_of_listed start place st key l f = grind arith
 
 module _ (start : Start) (w : World) (a : Incarnations) (snd : Sound start a) (fits : Fits start a) (i : IsImage w a) where
   -- the link of a slot whose last incarnation is listed names the slot of its successor

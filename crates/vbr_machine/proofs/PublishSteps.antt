@@ -1,6 +1,11 @@
 -- The step that inserts a node.
 use Rattle.std.proofs.Common.{◌≡◌, ◌≢◌, ℕ, ◌≤◌, max, false, Option, Some, None, refl, arith, sym, ap, ◌∙◌}
+use Rattle.std.specs.Prelude.{List, IsSome, unwrap_or}
+use Rattle.std.specs.List.{AllByRecursion}
 use Rattle.vbr_machine.specs.Start.{Start}
+use Rattle.vbr_machine.specs.Links.{link_to}
+use Rattle.vbr_machine.specs.Knowledge.{birth_of}
+use Rattle.vbr_machine.specs.declared.knowledge.Read.{Read}
 use Rattle.vbr_words.specs.Words.{link_of}
 use Rattle.vbr_words.specs.declared.place.At.{At}
 use Rattle.vbr_words.specs.declared.place.At.TheVariants.{Head, Slot}
@@ -11,10 +16,10 @@ use Rattle.vbr_machine.specs.Machine.{World}
 use Rattle.vbr_machine.specs.Incarnations.{Linked, Incarnations, last_in}
 use Rattle.vbr_machine.specs.Images.{birth_shown, slot_shown, link_to_next, link_shown_at}
 use Rattle.vbr_machine.specs.Chronicles.{Inserts, MayInsert, next_of, becomes}
-use Rattle.vbr_machine.specs.Sound.{Grows}
+use Rattle.vbr_machine.specs.Sound.{SlotsSound, Grows}
 use Rattle.vbr_machine.specs.Notes.{before_at}
-use Rattle.vbr_machine.specs.Agreement.{IsHeldIncarnation, IsHeldAt, IsHeldNext, Agrees}
-use Rattle.vbr_machine.specs.Notes.{Notes}
+use Rattle.vbr_machine.specs.Agreement.{IsHeldIncarnation, IsHeldAt, IsHeldNext, IsGood, reads_of, Agrees}
+use Rattle.vbr_machine.specs.Notes.{Note, Notes}
 use Rattle.vbr_machine.specs.declared.event.Step.TheVariants.{Publish}
 use Rattle.vbr_machine.proofs.Puts.{put_here}
 use Rattle.vbr_machine.proofs.Growth.{grows}
@@ -38,16 +43,20 @@ next_low a e None (Some n) h = absurd h
 next_low a e (Some v) None h = absurd h
 next_low a e (Some v) (Some n) h = h.birth
 
+-- a link that names a slot by its checked birth is the one to the incarnation that is held there
+pub aims_at : {start : Start} {a : Incarnations} → SlotsSound start a → (e : ℕ) (notes : List Note) (reads : List Read) (c : ℕ) (v n : Option ℕ) → reads ≡ reads_of notes → AllByRecursion (IsGood a e) notes → IsHeldNext a e v n → IsSome (birth_of reads v) → a.link c ≡ link_to v (a.birth c) (unwrap_or (birth_of reads v) 0) → a.link c ≡ link_to_next a (a.birth c) n
+aims_at {start} {a} snd e notes reads c v n q al h known is =
+    let sl = slot_of_is a e v n h in
+    let nb = birth_of_is snd e notes reads v n q al h known in
+    is ∙ (λ i. record { slot = sl i; mark = false; version = max (a.birth c) (nb i) })
+
 module _ (start : Start) (w : World) (a : Incarnations) (notes : ℕ → Notes) (p : ℕ) (pred : At) (expected s : ℕ) (g : Agrees start w a notes) (ok : Accepts start (w.know p) (Publish pred expected s)) (m : LinkStands start a (w.know p).epoch (w.know p).checked pred (link_of expected)) where
   pub ready : ReadyFacts start a p s (w.know p).epoch (w.know p).checked pred (link_of expected) ((w.know p).own s)
   ready = ready_facts start a p s (w.know p).epoch (w.know p).checked pred (link_of expected) ((w.know p).own s) (g.owns p s) ok.in_range.1
 
   -- the link in hand is the one that the incarnation must have
   pub own_link : a.link (last_in a s) ≡ link_to_next a (a.birth (last_in a s)) (next_of a (before_at a pred))
-  own_link =
-      let sl = slot_of_is a (w.know p).epoch (link_of expected).slot (next_of a (before_at a pred)) m.next in
-      let nb = birth_of_is g.sound.slots (w.know p).epoch (notes p).checked (w.know p).checked (link_of expected).slot (next_of a (before_at a pred)) (g.knows p).checked_reads (g.knows p).checked m.next ok.held.2.0 in
-      ready.link_ready ∙ (λ i. record { slot = sl i; mark = false; version = max (a.birth (last_in a s)) (nb i) })
+  own_link = aims_at g.sound.slots (w.know p).epoch (notes p).checked (w.know p).checked (last_in a s) (link_of expected).slot (next_of a (before_at a pred)) (g.knows p).checked_reads (g.knows p).checked m.next ok.held.2.0 ready.link_ready
 
   -- what the step adds to the chronicle is allowed
   pub may_insert : MayInsert start a p (last_in a s) (before_at a pred)

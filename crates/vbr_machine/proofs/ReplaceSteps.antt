@@ -1,7 +1,6 @@
 -- The step that replaces a node, and the links of the image after it.
-use Rattle.std.proofs.Common.{◌≡◌, ◌≢◌, ℕ, ◌≤◌, max, true, false, Option, Some, None, refl, sym, subst, ap, ◌∙◌, inl, inr}
-use Rattle.std.specs.Prelude.{◌⊎◌, List, unwrap_or}
-use Rattle.std.proofs.lemmas.Bool.{cases_eq}
+use Rattle.std.proofs.Common.{◌≡◌, ◌≢◌, ℕ, max, true, Option, Some, refl, sym, ap, ◌∙◌}
+use Rattle.std.specs.Prelude.{List, unwrap_or}
 use Rattle.vbr_machine.specs.Start.{Start}
 use Rattle.vbr_words.specs.Words.{link_of}
 use Rattle.vbr_words.specs.declared.link.Link.{Link}
@@ -12,28 +11,27 @@ use Rattle.vbr_machine.specs.Links.{link_to, marked}
 use Rattle.vbr_machine.specs.Opened.{opening_keys, payload_kept}
 use Rattle.vbr_machine.specs.Knowledge.{key_in, value_in, birth_of}
 use Rattle.vbr_machine.specs.Acceptance.{MayReplace, Accepts}
-use Rattle.vbr_machine.specs.Learning.{link_written, birth_in_hand, key_in_hand, value_in_hand, link_in_hand}
+use Rattle.vbr_machine.specs.Learning.{link_written}
 use Rattle.vbr_machine.specs.Machine.{World}
 use Rattle.vbr_machine.specs.Incarnations.{Linked, Marked, Incarnations, last_in, payload_of}
-use Rattle.vbr_machine.specs.Incarnations as state
 use Rattle.vbr_machine.specs.Images.{link_to_next, link_in_state, link_shown, link_shown_at}
 use Rattle.vbr_machine.specs.Chronicles.{Replaces, MayTakePlace, becomes}
 use Rattle.vbr_machine.specs.Sound.{Sound, Grows}
 use Rattle.vbr_machine.specs.Notes.{Notes}
-use Rattle.vbr_machine.specs.Agreement.{IsHeldIncarnation, IsStored, OwnFits, Agrees}
+use Rattle.vbr_machine.specs.Agreement.{IsHeldIncarnation, OwnFits, Agrees}
 use Rattle.vbr_machine.specs.declared.event.Step.TheVariants.{Replace}
 use Rattle.vbr_machine.specs.declared.knowledge.Read.{Read}
 use Rattle.vbr_machine.specs.declared.knowledge.Holding.{Holding}
-use Rattle.vbr_machine.specs.declared.knowledge.Holding.TheVariants.{Free, Unlinked, InHand}
-use Rattle.vbr_machine.specs.declared.knowledge.SlotPlace.TheVariants.{Hand}
+use Rattle.vbr_machine.specs.declared.knowledge.Holding.TheVariants.{InHand}
 use Rattle.vbr_machine.proofs.Puts.{put_here, put_other}
 use Rattle.vbr_machine.proofs.Growth.{grows}
 use Rattle.vbr_machine.proofs.OwnSlots.{lasts_differ}
-use Rattle.vbr_machine.proofs.Searches.{birth_of_is, key_is, value_is}
+use Rattle.vbr_machine.proofs.Exchanges.{FilledFacts, filled_facts, shown_as_before}
+use Rattle.vbr_machine.proofs.Searches.{key_is, value_is}
 use Rattle.vbr_machine.proofs.Shown.{to_next_same, link_kept}
 use Rattle.vbr_machine.proofs.StandingLinks.{LinkStands}
-use Rattle.vbr_machine.proofs.PublishSteps.{slot_of_is}
-use Rattle.vbr_machine.proofs.ValueReads.{stored_is, stored_there, stored_kept, known_kept, has_value}
+use Rattle.vbr_machine.proofs.PublishSteps.{aims_at}
+use Rattle.vbr_machine.proofs.ValueReads.{known_kept, has_value}
 
 -- ---- the links after a replacement
 
@@ -44,24 +42,15 @@ not_in_hand {start} {a} {p} {old} {c} m e = let x = m.in_hand in let y : a.state
 -- the links elsewhere once c stands in place of the last incarnation of a slot
 replaced_there : {start : Start} {a : Incarnations} → Sound start a → (p c s : ℕ) → a.last s ≡ Some (last_in a s) → MayTakePlace start a p (last_in a s) c → (at : At) → at ≢ Slot s → link_shown_at (becomes start a p (Replaces (last_in a s) c)) at ≡ link_shown_at a at
 replaced_there {start} {a} snd p c s lq m (Head v) ne = to_next_same a (becomes start a p (Replaces (last_in a s) c)) refl refl 0 (a.first v)
-replaced_there {start} {a} snd p c s lq m (Slot v) ne = go (a.last v) refl
+replaced_there {start} {a} snd p c s lq m (Slot v) ne = shown_as_before a (becomes start a p (Replaces (last_in a s) c)) c v (λ d _ r. here d r) kept
   where
-    old : ℕ
-    old = last_in a s
-
     here : (d : ℕ) → d ≡ c → link_in_state (becomes start a p (Replaces (last_in a s) c)) d (put (put a.state (last_in a s) Marked) c Linked d) ≡ link_in_state a d (a.state d)
     here d e = rw (e, put_here (put a.state (last_in a s) Marked) c Linked, m.in_hand) (rw m.link (to_next_same a (becomes start a p (Replaces (last_in a s) c)) refl refl (a.birth c) (put (put a.next c (a.next (last_in a s))) (last_in a s) (Some c) c) ∙ ap (link_to_next a (a.birth c)) (put_other (put a.next c (a.next (last_in a s))) (last_in a s) (Some c) c (λ z. not_in_hand m (sym z)) ∙ put_here a.next c (a.next (last_in a s)))))
 
-    go : (l : Option ℕ) → a.last v ≡ l → link_shown (becomes start a p (Replaces (last_in a s) c)) l ≡ link_shown a l
-    go None e = refl
-    go (Some d) e = go2 (cases_eq d c)
-      where
-        dk : d ≢ last_in a s
-        dk = lasts_differ snd.slots v s (last_in a s) d (λ z. ne (ap Slot z)) lq e
-
-        go2 : (d ≡ c) ⊎ (d ≢ c) → link_shown (becomes start a p (Replaces (last_in a s) c)) (Some d) ≡ link_shown a (Some d)
-        go2 (inl r) = here d r
-        go2 (inr r) = link_kept a (becomes start a p (Replaces (last_in a s) c)) refl refl (Some d) (λ i q. let z : i ≡ d = cc in (
+    kept : (d : ℕ) → a.last v ≡ Some d → d ≢ c → link_shown (becomes start a p (Replaces (last_in a s) c)) (Some d) ≡ link_shown a (Some d)
+    kept d e r =
+        let dk : d ≢ last_in a s = lasts_differ snd.slots v s (last_in a s) d (λ z. ne (ap Slot z)) lq e in
+        link_kept a (becomes start a p (Replaces (last_in a s) c)) refl refl (Some d) (λ i q. let z : i ≡ d = cc in (
           put_other (put a.state (last_in a s) Marked) c Linked i (λ y. r (sym z ∙ y)) ∙ put_other a.state (last_in a s) Marked i (λ y. dk (sym z ∙ y)),
           refl,
           put_other (put a.next c (a.next (last_in a s))) (last_in a s) (Some c) i (λ y. dk (sym z ∙ y)) ∙ put_other a.next c (a.next (last_in a s)) i (λ y. r (sym z ∙ y)),
@@ -87,49 +76,13 @@ replaced_here {start} {a} p c s lq m =
 
 -- ---- a slot in hand that is ready to take the place of a node
 
-pub record InPlaceFacts (start : Start) (a : Incarnations) (p t e : ℕ) (reads : List Read) (s : ℕ) (expected : Link) (holding : Option Holding) : Type 0 where
-  pub last : a.last t ≡ Some (last_in a t)
-  pub state : a.state (last_in a t) ≡ state.InHand p
-  pub place : a.place t ≡ Hand p
-  pub born : a.birth (last_in a t) ≤ e
-  pub keyed : a.is_keyed (last_in a t) ≡ true
-  pub aimed : a.is_aimed (last_in a t) ≡ true
-  pub birth_is : birth_in_hand holding ≡ a.birth (last_in a t)
-  pub key_is : key_in_hand holding ≡ a.key (last_in a t)
-  pub link_is : link_in_hand holding ≡ a.link (last_in a t)
-  pub link_ready : a.link (last_in a t) ≡ link_to expected.slot (a.birth (last_in a t)) (unwrap_or (birth_of reads expected.slot) 0)
-  pub same : a.key (last_in a t) ≡ unwrap_or (key_in reads s) 0
-  pub value_is : (x : ℕ) → value_in_hand holding ≡ Some x → a.value (last_in a t) ≡ x
-  pub valued : start.shape.values ≡ true → a.is_valued (last_in a t) ≡ true
-  pub payload : payload_kept start (value_in_hand holding) ≡ payload_of start a (last_in a t)
+-- it is filled with the key of the node
+abbrev InPlaceFacts : Start → Incarnations → ℕ → ℕ → ℕ → List Read → ℕ → Link → Option Holding → Type 0
+InPlaceFacts start a p t e reads s expected holding = FilledFacts start a p t e (unwrap_or (key_in reads s) 0) expected.slot (unwrap_or (birth_of reads expected.slot) 0) holding
 
 in_place_facts : (start : Start) (a : Incarnations) (p t e : ℕ) (reads : List Read) (s : ℕ) (expected : Link) (holding : Option Holding) → OwnFits a p e holding (a.place t) (a.last t) (a.stamp t) → MayReplace start reads s expected holding → InPlaceFacts start a p t e reads s expected holding
-in_place_facts start a p t e reads s expected None h r = absurd r
-in_place_facts start a p t e reads s expected (Some (Free known)) h r = absurd r
-in_place_facts start a p t e reads s expected (Some (Unlinked seen)) h r = absurd r
-in_place_facts start a p t e reads s expected (Some (InHand known)) h r =
-    let x = h.1 in
-    let keyed = subst (λ (o : Option ℕ). IsStored (a.is_keyed x.node) (a.key x.node) o) r.key_is x.keyed in
-    let aimed = subst (λ (o : Option Link). IsStored (a.is_aimed x.node) (a.link x.node) o) r.link_is x.aimed in
-    let l : last_in a t ≡ x.node = rw x.last_is refl in
-    let b : a.birth (last_in a t) ≡ known.birth = ap a.birth l ∙ x.birth_is in
-    let k : a.key (last_in a t) ≡ unwrap_or (key_in reads s) 0 = ap a.key l ∙ keyed.1 in
-    record {
-      last = x.last_is ∙ ap Some (sym l);
-      state = ap a.state l ∙ x.state;
-      place = h.0;
-      born = rw l x.born;
-      keyed = ap a.is_keyed l ∙ keyed.0;
-      aimed = ap a.is_aimed l ∙ aimed.0;
-      birth_is = sym b;
-      key_is = rw r.key_is (sym k);
-      link_is = rw r.link_is (sym (ap a.link l ∙ aimed.1));
-      link_ready = ap a.link l ∙ aimed.1 ∙ ap (λ i. link_to expected.slot i (unwrap_or (birth_of reads expected.slot) 0)) (sym b);
-      same = k;
-      value_is = λ y e. ap a.value l ∙ stored_is (a.is_valued x.node) (a.value x.node) known.value x.valued y e;
-      valued = λ e. ap a.is_valued l ∙ stored_there start.shape.values (a.is_valued x.node) (a.value x.node) known.value r.valued x.valued e;
-      payload = stored_kept start.shape.values (a.is_valued x.node) (a.value x.node) known.value r.valued x.valued ∙ ap (λ n. payload_kept start (Some (a.value n))) (sym l);
-    }
+in_place_facts start a p t e reads s expected (Some (InHand known)) h r = filled_facts start a p t e (unwrap_or (key_in reads s) 0) expected.slot (unwrap_or (birth_of reads expected.slot) 0) known h r.key_is r.link_is r.valued
+in_place_facts start a p t e reads s expected _ h r = absurd r
 
 -- ---- the step
 
@@ -147,22 +100,11 @@ module _ (start : Start) (w : World) (a : Incarnations) (notes : ℕ → Notes) 
 
   -- the link in hand is the one that the incarnation must have
   pub own_link : a.link (last_in a t) ≡ link_to_next a (a.birth (last_in a t)) (a.next (last_in a s))
-  own_link =
-      let sl = slot_of_is a (w.know p).epoch (link_of expected).slot (a.next (last_in a s)) m.next in
-      let nb = birth_of_is g.sound.slots (w.know p).epoch (notes p).checked (w.know p).checked (link_of expected).slot (a.next (last_in a s)) (g.knows p).checked_reads (g.knows p).checked m.next ok.held.2 in
-      ready.link_ready ∙ (λ i. record { slot = sl i; mark = false; version = max (a.birth (last_in a t)) (nb i) })
+  own_link = aims_at g.sound.slots (w.know p).epoch (notes p).checked (w.know p).checked (last_in a t) (link_of expected).slot (a.next (last_in a s)) (g.knows p).checked_reads (g.knows p).checked m.next ok.held.2 ready.link_ready
 
   -- what the step adds to the chronicle is allowed
   pub may_take : MayTakePlace start a p (last_in a s) (last_in a t)
-  may_take = record {
-    in_hand = ready.state;
-    keyed = ready.keyed;
-    aimed = ready.aimed;
-    linked = m.is_open;
-    link = own_link;
-    same = ready.same ∙ old_key;
-    valued = ready.valued;
-  }
+  may_take = record { in_hand = ready.state; keyed = ready.keyed; aimed = ready.aimed; linked = m.is_open; link = own_link; same = ready.key_ready ∙ old_key; valued = ready.valued }
 
   pub slot_is : a.slot (last_in a t) ≡ t
   slot_is = (g.sound.slots.last_born t (last_in a t) ready.last).1

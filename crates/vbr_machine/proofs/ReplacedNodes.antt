@@ -10,7 +10,7 @@ use Rattle.vbr_machine.specs.Acceptance.{Accepts}
 use Rattle.vbr_machine.specs.Accounts.{happens, incarnations_after, just, notes_after, own_entries}
 use Rattle.vbr_machine.specs.Agreement.{IsHeldIncarnation}
 use Rattle.vbr_machine.specs.Chronicles.{Entry, Replaces, becomes, entries_by, incarnations_from}
-use Rattle.vbr_machine.specs.Incarnations.{State, Unborn, InHand, GivenUp, Linked, Marked, Unlinked, Stamped, Incarnations, last_in}
+use Rattle.vbr_machine.specs.Incarnations.{State, InHand, Linked, Marked, Unlinked, Stamped, Incarnations, last_in}
 use Rattle.vbr_machine.specs.Machine.{found}
 use Rattle.vbr_machine.specs.Membership.{Knows, StandsBefore, StandsBehind}
 use Rattle.vbr_machine.specs.Moments.{WasShown}

@@ -63,6 +63,20 @@ image_kept v w a b e eh el eb ek ev et place asl abi ak av ali an ast af ala ats
   place = place;
 }
 
+-- the image where the epoch, the heads, the births and the places are as they were, and the other words each fit
+pub image_words : (w v : World) (a b : Incarnations) → IsImage w a → v.epoch ≡ w.epoch → v.head ≡ w.head → v.birth ≡ w.birth → v.place ≡ w.place → b.epoch ≡ a.epoch → b.slot ≡ a.slot → b.birth ≡ a.birth → b.first ≡ a.first → b.last ≡ a.last → b.place ≡ a.place →
+    ((s : ℕ) → v.link s ≡ link_shown b (b.last s)) → ((s : ℕ) → v.key s ≡ key_shown b (b.last s)) → ((s : ℕ) → v.value s ≡ value_shown b (b.last s)) → ((s : ℕ) → v.stamp s ≡ b.stamp s) → IsImage v b
+image_words w v a b i e eh eb ep ae asl abi af ala apl link key value stamp = record {
+  epoch = e ∙ i.epoch ∙ sym ae;
+  head = λ k. ap (λ f. f k) eh ∙ i.head k ∙ sym (ap (λ f. link_to_next b 0 (f k)) af ∙ to_next_same a b asl abi 0 (a.first k));
+  link = link;
+  birth = λ s. ap (λ f. f s) eb ∙ i.birth s ∙ sym (ap (λ f. birth_shown b (f s)) ala ∙ birth_kept a b (a.last s) (λ c q. ap (λ f. f c) abi));
+  key = key;
+  value = value;
+  stamp = stamp;
+  place = λ s. ap (λ f. f s) ep ∙ i.place s ∙ sym (ap (λ f. f s) apl);
+}
+
 -- the link that stands at a place is that of the image
 pub stands : (w : World) (a : Incarnations) (at : At) → IsImage w a → machine.link_at w at ≡ link_shown_at a at
 stands w a (Head b) i = i.head b

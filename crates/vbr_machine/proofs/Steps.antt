@@ -1,32 +1,36 @@
 -- What it is that a step keeps the agreement, and the agreement at opening.
-use Rattle.std.proofs.Common.{◌≡◌, ◌≢◌, ℕ, ◌-◌, ◌^◌, ◌<◌, ◌≤◌, min, Bool, true, false, Option, Some, None, refl, arith, sym, ap, ◌∙◌, inl, inr}
+use Rattle.std.proofs.Common.{◌≡◌, ◌≢◌, ℕ, ◌-◌, ◌^◌, ◌<◌, ◌≤◌, min, Bool, true, false, List, [], Option, Some, None, refl, arith, sym, ap, ◌∙◌, inl, inr}
 use Rattle.std.specs.Prelude.{◌⊎◌, if◌then◌else◌}
+use Rattle.std.specs.List.{AllByRecursion}
 use Rattle.std.proofs.lemmas.List.{get_or_past}
 use Rattle.std.proofs.lemmas.Bool.{cases_eq, cond-true, cond-false}
 use Rattle.vbr_machine.specs.Start.{Start, IsStart}
 use Rattle.vbr_machine.specs.Put.{put}
 use Rattle.vbr_machine.specs.Opened.{opening_keys, key_count, has_opening_key, key_number, value_number, opening_birth, first_key, key_behind, link_to_key, link_at_opening}
+use Rattle.vbr_machine.specs.Learning.{with_own, with_checked}
 use Rattle.vbr_machine.specs.Machine.{World, opening, after}
 use Rattle.vbr_machine.specs.Incarnations.{Incarnations, opening_last, at_opening, last_in}
 use Rattle.vbr_machine.specs.Incarnations as state
 use Rattle.vbr_machine.specs.Images.{birth_shown, key_shown, value_shown, link_to_next, link_in_state, link_shown, IsImage}
 use Rattle.vbr_machine.specs.Chronicles.{Happening, IsLawful, Allowed, becomes, incarnations_from}
-use Rattle.vbr_machine.specs.Notes.{Notes, no_notes, notes_with}
-use Rattle.vbr_machine.specs.Accounts.{happens}
+use Rattle.vbr_machine.specs.Notes.{Notes, no_notes, notes_with, shown_at, note_of, with_won}
+use Rattle.vbr_machine.specs.Accounts.{happens, just}
 use Rattle.vbr_words.specs.Buckets.{bucket_of}
 use Rattle.vbr_machine.specs.Acceptance.{IsInHand, IsUnlinked, IsReread}
-use Rattle.vbr_machine.specs.Agreement.{IsNotOf, IsStored, OwnFits, AllKnowRight, Owns, Fits, Agrees}
+use Rattle.vbr_machine.specs.Agreement.{IsGood, IsNotOf, IsStored, OwnFits, AllKnowRight, Owns, Fits, Agrees}
 use Rattle.vbr_machine.specs.declared.event.Step.{Step}
+use Rattle.vbr_machine.specs.declared.knowledge.Read.{Read}
 use Rattle.vbr_machine.specs.declared.knowledge.Unpublished.{Unpublished}
 use Rattle.vbr_machine.specs.declared.knowledge.Holding.{Holding}
-use Rattle.vbr_machine.specs.declared.knowledge.Holding.TheVariants.{Free, Unlinked, InHand}
+use Rattle.vbr_machine.specs.declared.knowledge.Holding.TheVariants.{Unlinked, InHand}
 use Rattle.vbr_machine.specs.declared.knowledge.SlotPlace.{SlotPlace}
 use Rattle.vbr_machine.specs.declared.knowledge.SlotPlace.TheVariants.{Shared, Own, Hand, Listed}
 use Rattle.vbr_machine.proofs.Puts.{put_here, put_other}
 use Rattle.vbr_machine.proofs.OpeningKeys.{opens_with_one_or_none}
 use Rattle.vbr_machine.proofs.SoundAfter.{state_at_first, sound_at_first, sound_kept}
 use Rattle.vbr_machine.proofs.ToldCalls.{tells_at_first, tells_kept}
-use Rattle.vbr_machine.proofs.Noted.{knows_same}
+use Rattle.vbr_machine.proofs.Noted.{knows_same, knows_own, knows_on, knows_put, noted_beside, noted_checked}
+use Rattle.vbr_machine.proofs.Growth.{grows}
 
 -- what an accepted step adds to the chronicle is lawful, and the world, the incarnations and the notes agree after it
 abbrev pub StepAgrees : Start → World → Incarnations → (ℕ → Notes) → ℕ → Step → Type 0
@@ -128,6 +132,41 @@ agrees_still start w a notes p g = record {
   calls = g.calls;
   births = g.births;
 }
+
+-- after an allowed event by which the pass owns a slot otherwise, and has checked nothing
+pub agrees_owned : (start : Start) (w v : World) (a : Incarnations) (notes : ℕ → Notes) (p : ℕ) (what : Happening) (s : ℕ) (h : Option Holding) → Agrees start w a notes → Allowed start (opening_keys start) a p what →
+    Fits start (becomes start a p what) → IsImage v (becomes start a p what) → v.know ≡ put w.know p (with_own (w.know p) s h) → Owns (becomes start a p what) (put w.know p (with_own (w.know p) s h)) →
+    v.calls ≡ (becomes start a p what).calls → v.births ≡ min (becomes start a p what).count (2 ^ 64 - 1) → Agrees start v (becomes start a p what) (put notes p (notes p))
+agrees_owned start w v a notes p what s h g al fits image vn owns calls births =
+    agrees_next start w v a notes (put notes p (notes p)) p what g al fits image
+    (rw vn (knows_own (becomes start a p what) w.know notes p s h (knows_on g.sound (grows start (opening_keys start) a p what g.sound al) w.know notes g.knows)))
+    (rw vn owns) calls births
+
+-- after an exchange that is allowed, by which the pass has checked reads, and owns a slot otherwise
+pub agrees_won : (start : Start) (w v : World) (a : Incarnations) (notes : ℕ → Notes) (p : ℕ) (what : Happening) (reads : List Read) (s : ℕ) (h : Option Holding) → Agrees start w a notes → Allowed start (opening_keys start) a p what →
+    Fits start (becomes start a p what) → IsImage v (becomes start a p what) → AllByRecursion (λ read. read ≡ shown_at (becomes start a p what) read) reads → AllByRecursion (λ read. IsGood (becomes start a p what) (w.know p).epoch (note_of (becomes start a p what) read)) reads →
+    v.know ≡ put w.know p (with_own (with_checked (w.know p) reads) s h) → Owns (becomes start a p what) (put w.know p (with_own (with_checked (w.know p) reads) s h)) →
+    v.calls ≡ (becomes start a p what).calls → v.births ≡ min (becomes start a p what).count (2 ^ 64 - 1) → Agrees start v (becomes start a p what) (put notes p (with_won (becomes start a p what) (notes p) reads))
+agrees_won start w v a notes p what reads s h g al fits image shown good vn owns calls births =
+    let b = becomes start a p what in
+    let known = with_checked (w.know p) reads in
+    let won = with_won b (notes p) reads in
+    let kn = knows_on g.sound (grows start (opening_keys start) a p what g.sound al) w.know notes g.knows in
+    agrees_next start w v a notes (put notes p won) p what g al fits image
+    (rw vn (knows_put b w.know notes p (with_own known s h) won kn (noted_beside b known (with_own known s h) won refl refl refl (noted_checked b (w.know p) (notes p) reads (kn p) shown good))))
+    (rw vn owns) calls births
+
+-- what an exchange leaves, by whether it wins
+abbrev pub Leaves : Start → World → (Bool → World) → Incarnations → (ℕ → Notes) → ℕ → Happening → List Read → Bool → Type 0
+Leaves start w v a notes p what reads t =
+    let adds = if t then just p what else [] in
+    IsLawful start (opening_keys start) a adds
+    × Agrees start (if t then v t else w) (incarnations_from start a adds) (put notes p (if t then with_won (incarnations_from start a adds) (notes p) reads else notes p))
+
+pub leaves : (start : Start) (w : World) (v : Bool → World) (a : Incarnations) (notes : ℕ → Notes) (p : ℕ) (what : Happening) (reads : List Read) (t : Bool) → Agrees start w a notes →
+    (t ≡ true → Allowed start (opening_keys start) a p what × Agrees start (v true) (becomes start a p what) (put notes p (with_won (becomes start a p what) (notes p) reads))) → Leaves start w v a notes p what reads t
+leaves start w v a notes p what reads false g won = (tt, agrees_still start w a notes p g)
+leaves start w v a notes p what reads true g won = let x = won refl in ((x.0, tt), x.1)
 
 -- ---- puts
 

@@ -1,8 +1,7 @@
 -- The marked node that an unlinking takes out, and the links of the image after it.
-use Rattle.std.proofs.Common.{◌≡◌, ◌≢◌, ℕ, max, false, List, Option, Some, None, refl, arith, sym, ap, ◌∙◌, inl, inr}
-use Rattle.std.specs.Prelude.{◌⊎◌, IsSome}
+use Rattle.std.proofs.Common.{◌≡◌, ◌≢◌, ℕ, max, false, List, Option, Some, None, refl, arith, sym, ap, ◌∙◌}
+use Rattle.std.specs.Prelude.{IsSome}
 use Rattle.std.specs.List.{AllByRecursion}
-use Rattle.std.proofs.lemmas.Bool.{cases_eq}
 use Rattle.vbr_machine.specs.Start.{Start}
 use Rattle.vbr_words.specs.Words.{link_of}
 use Rattle.vbr_words.specs.declared.link.Link.{Link}
@@ -27,6 +26,7 @@ use Rattle.vbr_machine.proofs.Puts.{put_here, put_other}
 use Rattle.vbr_machine.proofs.Slots.{one_late, listed_last}
 use Rattle.vbr_machine.proofs.Growth.{grows}
 use Rattle.vbr_machine.proofs.OwnSlots.{lasts_differ}
+use Rattle.vbr_machine.proofs.Exchanges.{shown_as_before}
 use Rattle.vbr_machine.proofs.Shown.{to_next_same, linked_same, link_kept}
 use Rattle.vbr_machine.proofs.Searches.{marked_found, birth_of_is}
 use Rattle.vbr_machine.proofs.StandingLinks.{LinkStands, node_at, birth_there}
@@ -38,27 +38,16 @@ use Rattle.vbr_machine.proofs.PublishSteps.{slot_of_is}
 unlinked_there : {start : Start} {a : Incarnations} → Sound start a → (p c : ℕ) (pred : At) → last_at a pred ≡ node_at a pred → a.state c ≡ Marked → (at : At) → at ≢ pred → link_shown_at (becomes start a p (Unlinks c (before_at a pred))) at ≡ link_shown_at a at
 unlinked_there {start} {a} snd p c (Head h) lq m (Head v) ne = to_next_same a (becomes start a p (Unlinks c (AtHead h))) refl refl 0 (put a.first h (a.next c) v) ∙ ap (link_to_next a 0) (put_other a.first h (a.next c) v (λ e. ne (ap Head e)))
 unlinked_there {start} {a} snd p c (Slot q) lq m (Head v) ne = to_next_same a (becomes start a p (Unlinks c (AtNode (last_in a q)))) refl refl 0 (a.first v)
-unlinked_there {start} {a} snd p c (Head h) lq m (Slot v) ne = go (a.last v)
-  where
-    go : (l : Option ℕ) → link_shown (becomes start a p (Unlinks c (AtHead h))) l ≡ link_shown a l
-    go None = refl
-    go (Some d) = go2 (cases_eq d c)
-      where
-        go2 : (d ≡ c) ⊎ (d ≢ c) → link_shown (becomes start a p (Unlinks c (AtHead h))) (Some d) ≡ link_shown a (Some d)
-        go2 (inl r) = rw (r, put_here a.state c (Unlinked p a.epoch), m) (ap marked (linked_same a (becomes start a p (Unlinks c (AtHead h))) refl refl c refl))
-        go2 (inr r) = link_kept a (becomes start a p (Unlinks c (AtHead h))) refl refl (Some d) (λ i s. let z : i ≡ d = cc in (put_other a.state c (Unlinked p a.epoch) i (λ y. r (sym z ∙ y)), refl, refl))
-unlinked_there {start} {a} snd p c (Slot q) lq m (Slot v) ne = go (a.last v) refl
-  where
-    go : (l : Option ℕ) → a.last v ≡ l → link_shown (becomes start a p (Unlinks c (AtNode (last_in a q)))) l ≡ link_shown a l
-    go None e = refl
-    go (Some d) e = go2 (cases_eq d c)
-      where
-        dk : d ≢ last_in a q
-        dk = lasts_differ snd.slots v q (last_in a q) d (λ z. ne (ap Slot z)) lq e
-
-        go2 : (d ≡ c) ⊎ (d ≢ c) → link_shown (becomes start a p (Unlinks c (AtNode (last_in a q)))) (Some d) ≡ link_shown a (Some d)
-        go2 (inl r) = rw (r, put_here a.state c (Unlinked p a.epoch), m) (ap marked (linked_same a (becomes start a p (Unlinks c (AtNode (last_in a q)))) refl refl c (put_other a.next (last_in a q) (a.next c) c (λ y. dk (r ∙ y)))))
-        go2 (inr r) = link_kept a (becomes start a p (Unlinks c (AtNode (last_in a q)))) refl refl (Some d) (λ i s. let z : i ≡ d = cc in (put_other a.state c (Unlinked p a.epoch) i (λ y. r (sym z ∙ y)), refl, put_other a.next (last_in a q) (a.next c) i (λ y. dk (sym z ∙ y))))
+unlinked_there {start} {a} snd p c (Head h) lq m (Slot v) ne =
+    let b = becomes start a p (Unlinks c (AtHead h)) in
+    shown_as_before a b c v (λ d _ r. rw (r, put_here a.state c (Unlinked p a.epoch), m) (ap marked (linked_same a b refl refl c refl)))
+    (λ d _ r. link_kept a b refl refl (Some d) (λ i s. let z : i ≡ d = cc in (put_other a.state c (Unlinked p a.epoch) i (λ y. r (sym z ∙ y)), refl, refl)))
+unlinked_there {start} {a} snd p c (Slot q) lq m (Slot v) ne =
+    let k = last_in a q in
+    let b = becomes start a p (Unlinks c (AtNode k)) in
+    let dk : (d : ℕ) → a.last v ≡ Some d → d ≢ k = λ d e. lasts_differ snd.slots v q k d (λ z. ne (ap Slot z)) lq e in
+    shown_as_before a b c v (λ d e r. rw (r, put_here a.state c (Unlinked p a.epoch), m) (ap marked (linked_same a b refl refl c (put_other a.next k (a.next c) c (λ y. dk d e (r ∙ y))))))
+    (λ d e r. link_kept a b refl refl (Some d) (λ i s. let z : i ≡ d = cc in (put_other a.state c (Unlinked p a.epoch) i (λ y. r (sym z ∙ y)), refl, put_other a.next k (a.next c) i (λ y. dk d e (sym z ∙ y)))))
 
 -- the link at the place itself
 unlinked_here : (start : Start) (a : Incarnations) (p c : ℕ) (pred : At) → last_at a pred ≡ node_at a pred → IsOpen a (before_at a pred) → a.state c ≡ Marked → link_shown_at (becomes start a p (Unlinks c (before_at a pred))) pred ≡ link_to_next a (birth_there a pred) (a.next c)

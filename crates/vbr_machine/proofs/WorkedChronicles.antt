@@ -39,14 +39,14 @@ HasChronicle start events entries numbers states =
 
 -- the chronicles
 pub worked_chronicles : HasChronicle shape_of_three reborn_slot
-        (entry 0 (Gains 0) ∷ entry 0 (Bears 0 1) ∷ entry 0 (Keyed 0 30) ∷ entry 0 (Aims 0 (record { slot = None; mark = false; version = 1 })) ∷ entry 0 (Inserts 0 (AtHead 0)) ∷ entry 0 (Gains 1) ∷ entry 0 (Bears 1 1) ∷ entry 0 (Keyed 1 20) ∷ entry 0 (Aims 1 (record { slot = Some 0; mark = false; version = 1 })) ∷ entry 0 (Inserts 1 (AtHead 0)) ∷ entry 1 (Gains 2) ∷ entry 1 (Bears 2 1) ∷ entry 1 (Keyed 2 25) ∷ entry 1 (Aims 2 (record { slot = Some 0; mark = false; version = 1 })) ∷ entry 0 (Removes 1) ∷ entry 0 (Unlinks 1 (AtHead 0)) ∷ entry 0 (Stamps 1 1) ∷ entry 0 Advances ∷ entry 0 (Bears 1 2) ∷ entry 0 (Keyed 3 10) ∷ entry 0 (Aims 3 (record { slot = Some 0; mark = false; version = 2 })) ∷ entry 0 (Inserts 3 (AtHead 0)) ∷ [])
-        (0 ∷ 1 ∷ 2 ∷ 3 ∷ []) (Linked ∷ (Stamped 1 1) ∷ (InHand 1) ∷ Linked ∷ [])
+    (entry 0 (Gains 0) ∷ entry 0 (Bears 0 1) ∷ entry 0 (Keyed 0 30) ∷ entry 0 (Aims 0 (record { slot = None; mark = false; version = 1 })) ∷ entry 0 (Inserts 0 (AtHead 0)) ∷ entry 0 (Gains 1) ∷ entry 0 (Bears 1 1) ∷ entry 0 (Keyed 1 20) ∷ entry 0 (Aims 1 (record { slot = Some 0; mark = false; version = 1 })) ∷ entry 0 (Inserts 1 (AtHead 0)) ∷ entry 1 (Gains 2) ∷ entry 1 (Bears 2 1) ∷ entry 1 (Keyed 2 25) ∷ entry 1 (Aims 2 (record { slot = Some 0; mark = false; version = 1 })) ∷ entry 0 (Removes 1) ∷ entry 0 (Unlinks 1 (AtHead 0)) ∷ entry 0 (Stamps 1 1) ∷ entry 0 Advances ∷ entry 0 (Bears 1 2) ∷ entry 0 (Keyed 3 10) ∷ entry 0 (Aims 3 (record { slot = Some 0; mark = false; version = 2 })) ∷ entry 0 (Inserts 3 (AtHead 0)) ∷ [])
+    (0 ∷ 1 ∷ 2 ∷ 3 ∷ []) (Linked ∷ (Stamped 1 1) ∷ (InHand 1) ∷ Linked ∷ [])
     × HasChronicle shape_of_three same_word
-        (entry 0 Advances ∷ entry 0 (Gains 0) ∷ entry 0 (Bears 0 2) ∷ entry 0 (Keyed 0 30) ∷ entry 0 (Aims 0 (record { slot = None; mark = false; version = 2 })) ∷ entry 0 (Inserts 0 (AtHead 0)) ∷ entry 1 (Gains 1) ∷ entry 1 (Bears 1 2) ∷ entry 1 (Keyed 1 20) ∷ entry 1 (Aims 1 (record { slot = Some 0; mark = false; version = 2 })) ∷ entry 0 Advances ∷ entry 0 Advances ∷ entry 0 Advances ∷ entry 0 (Gains 2) ∷ entry 0 (Bears 2 5) ∷ entry 0 (Keyed 2 10) ∷ entry 0 (Aims 2 (record { slot = Some 0; mark = false; version = 5 })) ∷ entry 0 (Inserts 2 (AtHead 0)) ∷ entry 0 (Removes 2) ∷ entry 0 (Unlinks 2 (AtHead 0)) ∷ entry 1 (Inserts 1 (AtHead 0)) ∷ [])
-        (0 ∷ 1 ∷ 2 ∷ []) (Linked ∷ Linked ∷ (Unlinked 0 5) ∷ [])
+    (entry 0 Advances ∷ entry 0 (Gains 0) ∷ entry 0 (Bears 0 2) ∷ entry 0 (Keyed 0 30) ∷ entry 0 (Aims 0 (record { slot = None; mark = false; version = 2 })) ∷ entry 0 (Inserts 0 (AtHead 0)) ∷ entry 1 (Gains 1) ∷ entry 1 (Bears 1 2) ∷ entry 1 (Keyed 1 20) ∷ entry 1 (Aims 1 (record { slot = Some 0; mark = false; version = 2 })) ∷ entry 0 Advances ∷ entry 0 Advances ∷ entry 0 Advances ∷ entry 0 (Gains 2) ∷ entry 0 (Bears 2 5) ∷ entry 0 (Keyed 2 10) ∷ entry 0 (Aims 2 (record { slot = Some 0; mark = false; version = 5 })) ∷ entry 0 (Inserts 2 (AtHead 0)) ∷ entry 0 (Removes 2) ∷ entry 0 (Unlinks 2 (AtHead 0)) ∷ entry 1 (Inserts 1 (AtHead 0)) ∷ [])
+    (0 ∷ 1 ∷ 2 ∷ []) (Linked ∷ Linked ∷ (Unlinked 0 5) ∷ [])
     × HasChronicle shape_of_one two_helpers
-        (entry 0 (Gains 0) ∷ entry 0 (Bears 0 1) ∷ entry 0 (Keyed 0 7) ∷ entry 0 (Aims 0 (record { slot = None; mark = false; version = 1 })) ∷ entry 0 (Inserts 0 (AtHead 0)) ∷ entry 0 (Removes 0) ∷ entry 1 (Unlinks 0 (AtHead 0)) ∷ [])
-        (0 ∷ []) ((Unlinked 1 1) ∷ [])
+    (entry 0 (Gains 0) ∷ entry 0 (Bears 0 1) ∷ entry 0 (Keyed 0 7) ∷ entry 0 (Aims 0 (record { slot = None; mark = false; version = 1 })) ∷ entry 0 (Inserts 0 (AtHead 0)) ∷ entry 0 (Removes 0) ∷ entry 1 (Unlinks 0 (AtHead 0)) ∷ [])
+    (0 ∷ []) ((Unlinked 1 1) ∷ [])
 unfolding bucket_of link_of word_of has_flag first_bits flag_word
 worked_chronicles = ((refl, search (rules, tests), refl), (refl, search (rules, tests), refl), (refl, search (rules, tests), refl))
 

@@ -60,14 +60,14 @@ two_helpers = by 0 ReadEpoch ∷ by 0 (TakeFlag 0) ∷ by 0 (StoreBirth 0 1) ∷
 
 -- each is a run, with its effects and its calls
 pub worked_plays : Plays shape_of_three 2 reborn_slot
-        ((Value 1) ∷ Won ∷ (Value 0) ∷ Done ∷ Done ∷ (Value 0) ∷ (Value 1) ∷ Done ∷ Won ∷ Won ∷ Done ∷ Done ∷ Done ∷ Won ∷ (Value 1) ∷ (Value 33554434) ∷ (Value 1) ∷ (Value 20) ∷ (Value 1) ∷ (Value 33554433) ∷ (Value 1) ∷ (Value 30) ∷ (Value 1) ∷ (Value 1) ∷ Won ∷ Done ∷ Done ∷ Done ∷ Won ∷ Won ∷ (Value 1) ∷ Done ∷ Won ∷ (Value 2) ∷ Done ∷ Done ∷ (Value 33554433) ∷ (Value 2) ∷ (Value 30) ∷ (Value 1) ∷ (Value 2) ∷ Done ∷ Won ∷ (Lost 67108865) ∷ [])
-        (record { who = 0; op = Insert; key = 30; reply = true; value = None } ∷ record { who = 0; op = Insert; key = 20; reply = true; value = None } ∷ record { who = 0; op = Remove; key = 20; reply = true; value = None } ∷ record { who = 0; op = Insert; key = 10; reply = true; value = None } ∷ [])
+    ((Value 1) ∷ Won ∷ (Value 0) ∷ Done ∷ Done ∷ (Value 0) ∷ (Value 1) ∷ Done ∷ Won ∷ Won ∷ Done ∷ Done ∷ Done ∷ Won ∷ (Value 1) ∷ (Value 33554434) ∷ (Value 1) ∷ (Value 20) ∷ (Value 1) ∷ (Value 33554433) ∷ (Value 1) ∷ (Value 30) ∷ (Value 1) ∷ (Value 1) ∷ Won ∷ Done ∷ Done ∷ Done ∷ Won ∷ Won ∷ (Value 1) ∷ Done ∷ Won ∷ (Value 2) ∷ Done ∷ Done ∷ (Value 33554433) ∷ (Value 2) ∷ (Value 30) ∷ (Value 1) ∷ (Value 2) ∷ Done ∷ Won ∷ (Lost 67108865) ∷ [])
+    (record { who = 0; op = Insert; key = 30; reply = true; value = None } ∷ record { who = 0; op = Insert; key = 20; reply = true; value = None } ∷ record { who = 0; op = Remove; key = 20; reply = true; value = None } ∷ record { who = 0; op = Insert; key = 10; reply = true; value = None } ∷ [])
     × Plays shape_of_three 2 same_word
-        ((Value 1) ∷ Won ∷ (Value 2) ∷ Won ∷ Done ∷ Done ∷ (Value 0) ∷ (Value 2) ∷ Done ∷ Won ∷ (Value 2) ∷ (Value 67108865) ∷ (Value 2) ∷ (Value 30) ∷ (Value 2) ∷ (Value 2) ∷ Won ∷ Done ∷ Done ∷ Done ∷ Won ∷ Won ∷ Won ∷ (Value 5) ∷ Won ∷ Done ∷ Done ∷ (Value 67108865) ∷ (Value 5) ∷ (Value 30) ∷ (Value 2) ∷ (Value 5) ∷ Done ∷ Won ∷ Won ∷ Won ∷ Won ∷ [])
-        (record { who = 0; op = Insert; key = 30; reply = true; value = None } ∷ record { who = 0; op = Insert; key = 10; reply = true; value = None } ∷ record { who = 0; op = Remove; key = 10; reply = true; value = None } ∷ record { who = 1; op = Insert; key = 20; reply = true; value = None } ∷ [])
+    ((Value 1) ∷ Won ∷ (Value 2) ∷ Won ∷ Done ∷ Done ∷ (Value 0) ∷ (Value 2) ∷ Done ∷ Won ∷ (Value 2) ∷ (Value 67108865) ∷ (Value 2) ∷ (Value 30) ∷ (Value 2) ∷ (Value 2) ∷ Won ∷ Done ∷ Done ∷ Done ∷ Won ∷ Won ∷ Won ∷ (Value 5) ∷ Won ∷ Done ∷ Done ∷ (Value 67108865) ∷ (Value 5) ∷ (Value 30) ∷ (Value 2) ∷ (Value 5) ∷ Done ∷ Won ∷ Won ∷ Won ∷ Won ∷ [])
+    (record { who = 0; op = Insert; key = 30; reply = true; value = None } ∷ record { who = 0; op = Insert; key = 10; reply = true; value = None } ∷ record { who = 0; op = Remove; key = 10; reply = true; value = None } ∷ record { who = 1; op = Insert; key = 20; reply = true; value = None } ∷ [])
     × Plays shape_of_one 2 two_helpers
-        ((Value 1) ∷ Won ∷ Done ∷ Done ∷ (Value 0) ∷ (Value 1) ∷ Done ∷ Won ∷ (Value 1) ∷ (Value 33554433) ∷ (Value 1) ∷ Won ∷ (Value 7) ∷ (Value 1) ∷ (Value 50331648) ∷ (Value 1) ∷ Won ∷ (Lost 0) ∷ [])
-        (record { who = 0; op = Insert; key = 7; reply = true; value = None } ∷ record { who = 0; op = Remove; key = 7; reply = true; value = None } ∷ [])
+    ((Value 1) ∷ Won ∷ Done ∷ Done ∷ (Value 0) ∷ (Value 1) ∷ Done ∷ Won ∷ (Value 1) ∷ (Value 33554433) ∷ (Value 1) ∷ Won ∷ (Value 7) ∷ (Value 1) ∷ (Value 50331648) ∷ (Value 1) ∷ Won ∷ (Lost 0) ∷ [])
+    (record { who = 0; op = Insert; key = 7; reply = true; value = None } ∷ record { who = 0; op = Remove; key = 7; reply = true; value = None } ∷ [])
 unfolding bucket_of link_of word_of has_flag first_bits flag_word
 worked_plays = ((search (rules, tests), refl, refl), (search (rules, tests), refl, refl), (search (rules, tests), refl, refl))
 
@@ -80,10 +80,10 @@ worked_ends = ((refl, refl, refl), (refl, refl, refl), (refl, refl, refl))
 
 -- and the words along it
 pub worked_words : (words_along shape_of_three reborn_slot ((9, place.Head 0) ∷ (14, place.Head 0) ∷ (29, place.LinkOf 1) ∷ (30, place.Head 0) ∷ (42, place.LinkOf 1) ∷ (43, place.Head 0) ∷ [])
-        ≡ 33554433 ∷ 33554434 ∷ 50331649 ∷ 33554433 ∷ 67108865 ∷ 67108866 ∷ [])
+    ≡ 33554433 ∷ 33554434 ∷ 50331649 ∷ 33554433 ∷ 67108865 ∷ 67108866 ∷ [])
     × (words_along shape_of_three same_word ((9, place.LinkOf 0) ∷ (33, place.LinkOf 2) ∷ (34, place.Head 0) ∷ (35, place.LinkOf 2) ∷ (36, place.Head 0) ∷ (37, place.Head 0) ∷ [])
-        ≡ 67108864 ∷ 167772161 ∷ 167772163 ∷ 184549377 ∷ 67108865 ∷ 67108866 ∷ [])
+    ≡ 67108864 ∷ 167772161 ∷ 167772163 ∷ 184549377 ∷ 67108865 ∷ 67108866 ∷ [])
     × (words_along shape_of_one two_helpers ((18, place.Head 0) ∷ [])
-        ≡ 0 ∷ [])
+    ≡ 0 ∷ [])
 unfolding bucket_of link_of word_of has_flag first_bits flag_word
 worked_words = (refl, refl, refl)

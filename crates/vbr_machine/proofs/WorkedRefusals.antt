@@ -14,29 +14,15 @@ use Rattle.vbr_machine.proofs.WorkedLists.{by, shape_of_three, reborn_slot, effe
 abbrev one_of_each : Start
 one_of_each = empty_start (record { slots = 1; buckets = 1; spread = false; last_epoch = 1; values = false })
 
-pub no_such_pass : Refuses one_of_each 1 (opening one_of_each) (by 1 ReadEpoch) NoSuchPass
+-- at the opening: to a pass that isn't there; of a key in a slot that isn't owned; of a key of a slot that isn't held; of a slot outside; of the epoch 0; and of the last epoch
+pub refused_at_opening : Refuses one_of_each 1 (opening one_of_each) (by 1 ReadEpoch) NoSuchPass
+    × Refuses one_of_each 1 (opening one_of_each) (by 0 (StoreKey 0 5)) NotOwned
+    × Refuses one_of_each 1 (opening one_of_each) (by 0 (LoadKey 0)) NotHeld
+    × Refuses one_of_each 1 (opening one_of_each) (by 0 (TakeFlag 1)) OutOfRange
+    × Refuses one_of_each 1 (opening one_of_each) (by 0 (Advance 0)) OutOfRange
+    × Refuses one_of_each 1 (opening one_of_each) (by 0 (Advance 1)) EpochLast
 unfolding bucket_of link_of word_of has_flag first_bits flag_word
-no_such_pass = search (rules, tests)
-
-pub key_of_a_slot_not_owned : Refuses one_of_each 1 (opening one_of_each) (by 0 (StoreKey 0 5)) NotOwned
-unfolding bucket_of link_of word_of has_flag first_bits flag_word
-key_of_a_slot_not_owned = search (rules, tests)
-
-pub key_of_a_slot_not_held : Refuses one_of_each 1 (opening one_of_each) (by 0 (LoadKey 0)) NotHeld
-unfolding bucket_of link_of word_of has_flag first_bits flag_word
-key_of_a_slot_not_held = search (rules, tests)
-
-pub slot_outside : Refuses one_of_each 1 (opening one_of_each) (by 0 (TakeFlag 1)) OutOfRange
-unfolding bucket_of link_of word_of has_flag first_bits flag_word
-slot_outside = search (rules, tests)
-
-pub epoch_zero : Refuses one_of_each 1 (opening one_of_each) (by 0 (Advance 0)) OutOfRange
-unfolding bucket_of link_of word_of has_flag first_bits flag_word
-epoch_zero = search (rules, tests)
-
-pub last_epoch : Refuses one_of_each 1 (opening one_of_each) (by 0 (Advance 1)) EpochLast
-unfolding bucket_of link_of word_of has_flag first_bits flag_word
-last_epoch = search (rules, tests)
+refused_at_opening = (search (rules, tests), search (rules, tests), search (rules, tests), search (rules, tests), search (rules, tests), search (rules, tests))
 
 pub birth_above_the_epoch : Refuses one_of_each 1 (world_after one_of_each (by 0 (TakeFlag 0) ∷ [])) (by 0 (StoreBirth 0 2)) OutOfRange
 unfolding bucket_of link_of word_of has_flag first_bits flag_word

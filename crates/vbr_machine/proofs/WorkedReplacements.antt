@@ -24,13 +24,10 @@ use Rattle.vbr_machine.proofs.WorkedLists.{by, effects_from, Plays}
 abbrev map_of_three : Start
 map_of_three = empty_start (record { slots = 3; buckets = 1; spread = false; last_epoch = 10; values = true })
 
--- after a run of so many passes these events are accepted, with these effects
-abbrev PlaysOn : ℕ → List Event → List Event → List Effect → Type 0
-PlaysOn passes before events effects = IsRun map_of_three passes (before ++ events) × (effects_from map_of_three (world_after map_of_three before) events ≡ effects)
-
--- and these are the calls of all of them
-abbrev CallsAfter : List Event → List Call → Type 0
-CallsAfter events calls = (world_after map_of_three events).calls ≡ calls
+-- after a run of so many passes these events are accepted, with these effects; and these are the calls of all
+abbrev PlaysOn : ℕ → List Event → List Event → List Effect → List Call → Type 0
+PlaysOn passes before events effects calls =
+    IsRun map_of_three passes (before ++ events) × (effects_from map_of_three (world_after map_of_three before) events ≡ effects) × ((world_after map_of_three (before ++ events)).calls ≡ calls)
 
 -- a pass inserts 7 with 107
 abbrev inserted : List Event
@@ -86,15 +83,12 @@ walked = by 2 ReadEpoch ∷ by 2 (LoadLink (Head 0)) ∷ by 2 ReadEpoch ∷ by 2
 abbrev looked_up : List Event
 looked_up = walked ++ by 2 (ConfirmPresent Has 1 33554432) ∷ by 2 (ConfirmPresent Get 1 33554432) ∷ by 2 (ConfirmAbsent Has 8 (Slot 1) 33554432) ∷ []
 
-pub looked_up_plays : PlaysOn 3 replaced looked_up ((Value 1) ∷ (Value 33554433) ∷ (Value 1) ∷ (Value 50331650) ∷ (Value 1) ∷ (Value 7) ∷ (Value 207) ∷ (Value 33554432) ∷ (Value 1) ∷ (Answered true) ∷ (Answered true) ∷ (Answered false) ∷ [])
-unfolding bucket_of link_of word_of has_flag first_bits flag_word
-looked_up_plays = (search (rules, tests), refl)
-
-pub looked_up_calls : CallsAfter (replaced ++ looked_up)
+pub looked_up_plays : PlaysOn 3 replaced looked_up
+    ((Value 1) ∷ (Value 33554433) ∷ (Value 1) ∷ (Value 50331650) ∷ (Value 1) ∷ (Value 7) ∷ (Value 207) ∷ (Value 33554432) ∷ (Value 1) ∷ (Answered true) ∷ (Answered true) ∷ (Answered false) ∷ [])
     (record { who = 0; op = Insert; key = 7; reply = true; value = Some 107 } ∷ record { who = 0; op = Remove; key = 7; reply = true; value = Some 107 } ∷ record { who = 0; op = Insert; key = 7; reply = true; value = Some 207 }
     ∷ record { who = 2; op = Has; key = 7; reply = true; value = None } ∷ record { who = 2; op = Get; key = 7; reply = true; value = Some 207 } ∷ record { who = 2; op = Has; key = 8; reply = false; value = None } ∷ [])
 unfolding bucket_of link_of word_of has_flag first_bits flag_word
-looked_up_calls = refl
+looked_up_plays = (search (rules, tests), refl, refl)
 
 -- all the while the old node is in the list, and marked
 pub looked_up_old : (incarnations_after map_of_three (replaced ++ looked_up)).state 0 ≡ Marked
@@ -111,17 +105,9 @@ ready = inserted ++ read_by_another ++ by 1 (LoadBirth 0) ∷ by 1 ReadEpoch ∷
 abbrev lost_to_a_mark : List Event
 lost_to_a_mark = by 0 (Mark 0 33554432) ∷ by 1 (Replace 0 33554432 1) ∷ []
 
-pub lost_to_a_mark_plays : PlaysOn 2 ready lost_to_a_mark (Won ∷ (Lost 50331648) ∷ [])
-unfolding bucket_of link_of word_of has_flag first_bits flag_word
-lost_to_a_mark_plays = (search (rules, tests), refl)
-
 -- to an insert of 9 behind the node
 abbrev lost_to_an_insert : List Event
 lost_to_an_insert = by 0 (TakeFlag 2) ∷ by 0 (StoreBirth 2 1) ∷ by 0 (StoreKey 2 9) ∷ by 0 (StoreValue 2 109) ∷ by 0 (StoreLink 2 None) ∷ by 0 (Publish (Slot 0) 33554432 2) ∷ by 1 (Replace 0 33554432 1) ∷ []
-
-pub lost_to_an_insert_plays : PlaysOn 2 ready lost_to_an_insert (Won ∷ Done ∷ Done ∷ Done ∷ Done ∷ Won ∷ (Lost 33554435) ∷ [])
-unfolding bucket_of link_of word_of has_flag first_bits flag_word
-lost_to_an_insert_plays = (search (rules, tests), refl)
 
 -- to another replacement
 abbrev replaced_before : List Event
@@ -130,47 +116,41 @@ replaced_before = by 0 (TakeFlag 2) ∷ by 0 (StoreBirth 2 1) ∷ by 0 (StoreKey
 abbrev lost_to_another : List Event
 lost_to_another = replaced_before ++ by 1 (Replace 0 33554432 1) ∷ []
 
-pub lost_to_another_plays : PlaysOn 2 ready lost_to_another (Won ∷ Done ∷ Done ∷ Done ∷ Done ∷ Won ∷ (Lost 50331651) ∷ [])
-unfolding bucket_of link_of word_of has_flag first_bits flag_word
-lost_to_another_plays = (search (rules, tests), refl)
+-- to a later node in the same slot, of the same key and with the same successor: its link has another version
+abbrev lost_to_a_later_node : List Event
+lost_to_a_later_node = by 0 (Mark 0 33554432) ∷ by 0 (Unlink (Head 0) 33554433 0) ∷ by 0 ReadEpoch ∷ by 0 (StoreStamp 0 1) ∷ by 0 (Advance 1) ∷ by 0 ReadEpoch ∷ by 0 (StoreBirth 0 2) ∷ by 0 (StoreKey 0 7) ∷ by 0 (StoreValue 0 307) ∷ by 0 (LoadLink (Head 0)) ∷ by 0 ReadEpoch ∷ by 0 (StoreLink 0 None) ∷ by 0 (Publish (Head 0) 0 0) ∷ by 1 (Replace 0 33554432 1) ∷ []
 
--- the two calls are those of the one that won
-pub lost_to_another_calls : CallsAfter (ready ++ lost_to_another)
+-- each is lost; the calls of the third are those of the one that won
+pub lost_plays : PlaysOn 2 ready lost_to_a_mark
+    (Won ∷ (Lost 50331648) ∷ [])
+    (record { who = 0; op = Insert; key = 7; reply = true; value = Some 107 } ∷ record { who = 0; op = Remove; key = 7; reply = true; value = Some 107 } ∷ [])
+    × PlaysOn 2 ready lost_to_an_insert
+    (Won ∷ Done ∷ Done ∷ Done ∷ Done ∷ Won ∷ (Lost 33554435) ∷ [])
+    (record { who = 0; op = Insert; key = 7; reply = true; value = Some 107 } ∷ record { who = 0; op = Insert; key = 9; reply = true; value = Some 109 } ∷ [])
+    × PlaysOn 2 ready lost_to_another
+    (Won ∷ Done ∷ Done ∷ Done ∷ Done ∷ Won ∷ (Lost 50331651) ∷ [])
+    (record { who = 0; op = Insert; key = 7; reply = true; value = Some 107 } ∷ record { who = 0; op = Remove; key = 7; reply = true; value = Some 107 } ∷ record { who = 0; op = Insert; key = 7; reply = true; value = Some 307 } ∷ [])
+    × PlaysOn 2 ready lost_to_a_later_node
+    (Won ∷ Won ∷ (Value 1) ∷ Done ∷ Won ∷ (Value 2) ∷ Done ∷ Done ∷ Done ∷ (Value 0) ∷ (Value 2) ∷ Done ∷ Won ∷ (Lost 67108864) ∷ [])
     (record { who = 0; op = Insert; key = 7; reply = true; value = Some 107 } ∷ record { who = 0; op = Remove; key = 7; reply = true; value = Some 107 } ∷ record { who = 0; op = Insert; key = 7; reply = true; value = Some 307 } ∷ [])
 unfolding bucket_of link_of word_of has_flag first_bits flag_word
-lost_to_another_calls = refl
+lost_plays = ((search (rules, tests), refl, refl), (search (rules, tests), refl, refl), (search (rules, tests), refl, refl), (search (rules, tests), refl, refl))
 
--- the other still has its node in hand, and then replaces the new one: two marked nodes stand before the linked one
+-- where it is lost to another, it still has its node in hand, and then replaces the new one: two marked nodes stand before the linked one
 abbrev replaced_next : List Event
 replaced_next = by 1 (LoadLink (Slot 0)) ∷ by 1 ReadEpoch ∷ by 1 (LoadBirth 2) ∷ by 1 (LoadKey 2) ∷ by 1 (LoadValue 2) ∷ by 1 (LoadLink (Slot 2)) ∷ by 1 ReadEpoch ∷ by 1 (Replace 2 33554432 1) ∷ []
 
-pub replaced_next_plays : PlaysOn 2 (ready ++ lost_to_another) replaced_next ((Value 50331651) ∷ (Value 1) ∷ (Value 1) ∷ (Value 7) ∷ (Value 307) ∷ (Value 33554432) ∷ (Value 1) ∷ Won ∷ [])
-unfolding bucket_of link_of word_of has_flag first_bits flag_word
-replaced_next_plays = (search (rules, tests), refl)
-
-pub replaced_next_calls : CallsAfter (ready ++ lost_to_another ++ replaced_next)
+pub replaced_next_plays : PlaysOn 2 (ready ++ lost_to_another) replaced_next
+    ((Value 50331651) ∷ (Value 1) ∷ (Value 1) ∷ (Value 7) ∷ (Value 307) ∷ (Value 33554432) ∷ (Value 1) ∷ Won ∷ [])
     (record { who = 0; op = Insert; key = 7; reply = true; value = Some 107 } ∷ record { who = 0; op = Remove; key = 7; reply = true; value = Some 107 } ∷ record { who = 0; op = Insert; key = 7; reply = true; value = Some 307 }
     ∷ record { who = 1; op = Remove; key = 7; reply = true; value = Some 307 } ∷ record { who = 1; op = Insert; key = 7; reply = true; value = Some 207 } ∷ [])
 unfolding bucket_of link_of word_of has_flag first_bits flag_word
-replaced_next_calls = refl
+replaced_next_plays = (search (rules, tests), refl, refl)
 
 -- the incarnation in hand was born before the one that it replaces, and stands behind it: by its rank, and not by its number
 pub replaced_next_place : let a = incarnations_after map_of_three (ready ++ lost_to_another ++ replaced_next) in (a.next 2 ≡ Some 1) × (a.rank 1 ≡ 2)
 unfolding bucket_of link_of word_of has_flag first_bits flag_word
 replaced_next_place = (refl, refl)
-
--- to a later node in the same slot, of the same key and with the same successor: its link has another version
-abbrev lost_to_a_later_node : List Event
-lost_to_a_later_node = by 0 (Mark 0 33554432) ∷ by 0 (Unlink (Head 0) 33554433 0) ∷ by 0 ReadEpoch ∷ by 0 (StoreStamp 0 1) ∷ by 0 (Advance 1) ∷ by 0 ReadEpoch ∷ by 0 (StoreBirth 0 2) ∷ by 0 (StoreKey 0 7) ∷ by 0 (StoreValue 0 307) ∷ by 0 (LoadLink (Head 0)) ∷ by 0 ReadEpoch ∷ by 0 (StoreLink 0 None) ∷ by 0 (Publish (Head 0) 0 0) ∷ by 1 (Replace 0 33554432 1) ∷ []
-
-pub lost_to_a_later_node_plays : PlaysOn 2 ready lost_to_a_later_node (Won ∷ Won ∷ (Value 1) ∷ Done ∷ Won ∷ (Value 2) ∷ Done ∷ Done ∷ Done ∷ (Value 0) ∷ (Value 2) ∷ Done ∷ Won ∷ (Lost 67108864) ∷ [])
-unfolding bucket_of link_of word_of has_flag first_bits flag_word
-lost_to_a_later_node_plays = (search (rules, tests), refl)
-
-pub lost_to_a_later_node_calls : CallsAfter (ready ++ lost_to_a_later_node)
-    (record { who = 0; op = Insert; key = 7; reply = true; value = Some 107 } ∷ record { who = 0; op = Remove; key = 7; reply = true; value = Some 107 } ∷ record { who = 0; op = Insert; key = 7; reply = true; value = Some 307 } ∷ [])
-unfolding bucket_of link_of word_of has_flag first_bits flag_word
-lost_to_a_later_node_calls = refl
 
 -- ---- what is refused
 
