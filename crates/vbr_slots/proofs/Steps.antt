@@ -126,8 +126,9 @@ module _ (p : RunnerInside) (w : Trace) (p_is : trace_of p ≡ w) (run : List Ev
   passes_is : q.opening.passes ≡ w.passes
   passes_is = ap (λ (o : Opening). o.passes) opening ∙ ap (λ (v : Trace). v.passes) p_is
 
-  know_is : knows (trace_of q) ≡ know_after w.start run w.who
-  know_is i = know_after (start_is i) (seen_now i) (who_is i)
+  -- what contracts see of it
+  trace_is : q.seat.table_id ≡ w.table → trace_of q ≡ record w { seen = run }
+  trace_is table i = record { table = table i; start = start_is i; passes = passes_is i; who = who_is i; seen = seen_now i }
 
   sound_in : IsSoundRunner p → IsRun w.start w.passes run → q.epoch ≡ (know_after w.start run w.who).epoch → IsSoundRunner q
   sound_in sound is_run epoch = record {
@@ -135,7 +136,7 @@ module _ (p : RunnerInside) (w : Trace) (p_is : trace_of p ≡ w) (run : List Ev
     low = subst (λ (x : ℕ × Opening). x.0 < x.1.passes) (λ i. (sym who i, sym opening i)) sound.low;
     start = subst IsStart (ap (λ (v : Trace). v.start) p_is ∙ sym start_is) sound.start;
     is_run = subst (λ (x : Start × ℕ × List Event). IsRun x.0 x.1 x.2) (λ i. (sym start_is i, sym passes_is i, sym seen_now i)) is_run;
-    epoch = epoch ∙ sym (ap (λ (k : Know). k.epoch) know_is);
+    epoch = epoch ∙ sym (λ i. (know_after (start_is i) (seen_now i) (who_is i)).epoch);
   }
 
 -- the runner after the step
@@ -147,19 +148,16 @@ module _ (p : RunnerInside) (w : Trace) (sound : IsSoundRunner p) (p_is : trace_
       (fields.2 ∙ ap (epoch_after step r) (sound.epoch ∙ ap (λ (v : Trace). (knows v).epoch) p_is) ∙ sym (epoch_learned step r _ (knows w)) ∙ sym (ap (λ (k : Know). k.epoch) end.know))
 
   pub did : q.seat.table_id ≡ p.seat.table_id → Did step w (trace_of q) r
-  did table =
-      let seen = seen_now p w p_is end.run q is fields.0 fields.1 in
-      let who = who_is p w p_is end.run q is fields.0 fields.1 in
-      record {
-        rest = end.rest;
-        none = end.none;
-        seen = seen ∙ end.run_is;
-        is_run = subst (IsRun w.start w.passes) (sym seen) end.is_run;
-        shows = end.shows;
-        know = know_is p w p_is end.run q is fields.0 fields.1 ∙ end.know;
-        same = (table ∙ ap (λ (v : Trace). v.table) p_is, start_is p w p_is end.run q is fields.0 fields.1, passes_is p w p_is end.run q is fields.0 fields.1, who);
-        steps = (λ i. steps_in (who i) ((seen ∙ end.run_is) i)) ∙ steps_next w.who w.seen end.rest step end.none;
-      }
+  did table = subst (λ (t : Trace). Did step w t r) (sym (trace_is p w p_is end.run q is fields.0 fields.1 (table ∙ ap (λ (v : Trace). v.table) p_is))) (record {
+    rest = end.rest;
+    none = end.none;
+    seen = end.run_is;
+    is_run = end.is_run;
+    shows = end.shows;
+    know = end.know;
+    same = (refl, refl, refl, refl);
+    steps = ap (steps_in w.who) end.run_is ∙ steps_next w.who w.seen end.rest step end.none;
+  })
 
 -- a runner that made a step alone in its seat
 pub record Stepped (w : Trace) (step : Step) (r : ℕ) (q : RunnerInside) : Type 0 where
@@ -188,7 +186,7 @@ pub same_again : (p : RunnerInside) (w : Trace) (sound : IsSoundRunner p) (p_is 
     → q.seat.table_id ≡ w.table → IsSoundRunner q × (trace_of q ≡ w)
 same_again p w sound p_is q is fields table = (
   sound_in p w p_is w.seen q is fields.0 fields.1 sound (subst (λ (v : Trace). IsRun v.start v.passes v.seen) p_is sound.is_run) (fields.2 ∙ sound.epoch ∙ ap (λ (v : Trace). (knows v).epoch) p_is),
-  (λ i. record { table = table i; start = start_is p w p_is w.seen q is fields.0 fields.1 i; passes = passes_is p w p_is w.seen q is fields.0 fields.1 i; who = who_is p w p_is w.seen q is fields.0 fields.1 i; seen = seen_now p w p_is w.seen q is fields.0 fields.1 i }),
+  trace_is p w p_is w.seen q is fields.0 fields.1 table,
 )
 
 pub wide : {N : Type 0} {values : Bool} (t : SlotsInside N) → IsBuilt values t → 0 < t.table.shared.table_id.words
@@ -258,15 +256,12 @@ module _ (p : RunnerInside) (w : Trace) (sound : IsSoundRunner p) (p_is : trace_
   caught_sound = sound_in p w p_is end.run q is fields.0 fields.1 sound end.is_run (fields.2 ∙ sound.epoch ∙ ap (λ (v : Trace). (knows v).epoch) p_is ∙ sym (ap (λ (k : Know). k.epoch) know_then))
 
   pub since : q.seat.table_id ≡ p.seat.table_id → Since w (trace_of q)
-  since table =
-      let seen = seen_now p w p_is end.run q is fields.0 fields.1 in
-      let who = who_is p w p_is end.run q is fields.0 fields.1 in
-      record {
-        rest = end.rest;
-        none = end.none;
-        seen = seen ∙ end.run_is;
-        is_run = subst (IsRun w.start w.passes) (sym seen) end.is_run;
-        know = know_is p w p_is end.run q is fields.0 fields.1 ∙ know_then;
-        same = (table ∙ ap (λ (v : Trace). v.table) p_is, start_is p w p_is end.run q is fields.0 fields.1, passes_is p w p_is end.run q is fields.0 fields.1, who);
-        steps = (λ i. steps_in (who i) ((seen ∙ end.run_is) i)) ∙ steps_left w.who w.seen end.rest end.none;
-      }
+  since table = subst (Since w) (sym (trace_is p w p_is end.run q is fields.0 fields.1 (table ∙ ap (λ (v : Trace). v.table) p_is))) (record {
+    rest = end.rest;
+    none = end.none;
+    seen = end.run_is;
+    is_run = end.is_run;
+    know = know_then;
+    same = (refl, refl, refl, refl);
+    steps = ap (steps_in w.who) end.run_is ∙ steps_left w.who w.seen end.rest end.none;
+  })
