@@ -7,9 +7,9 @@ use Rattle.std.specs.Prelude.{◌==◌}
 use Rattle.vbr_words.specs.Flags.{has_flag}
 use Rattle.vbr_machine.specs.Knowledge.{Know}
 use Rattle.vbr_machine.specs.Learning.{learn, read_epoch}
-use Rattle.vbr_machine.specs.Machine.{Access, Load, Store, Exchange, FetchOr, FetchAnd, access_of}
+use Rattle.vbr_machine.specs.Machine.{Access, Store, access_of}
 use Rattle.vbr_machine.specs.declared.event.Step.{Step}
-use Rattle.vbr_machine.specs.declared.event.Step.TheVariants.{ReadEpoch, Advance, LoadStamp, StoreStamp, Raise, TakeFlag, StoreBirth, StoreKey, StoreLink, LoadLink, LoadBirth, LoadKey, Publish, Mark, Replace, Unlink, ConfirmPresent, ConfirmAbsent, StoreValue, LoadValue}
+use Rattle.vbr_machine.specs.declared.event.Step.TheVariants.{ReadEpoch, StoreStamp, TakeFlag, StoreBirth, StoreKey, StoreValue, StoreLink, Publish, Mark, Replace, Unlink}
 use Rattle.vbr_slots.specs.Rule.{Shows}
 use Rattle.vbr_slots.specs.Views.{Did, Trace, epoch_after, knows}
 
@@ -23,36 +23,19 @@ shows_itself step n = record { answers = refl; teaches = λ stamp know. refl }
 
 -- whether an access is a store
 abbrev IsStore : Access → Type 0
-IsStore Load = ⊥
 IsStore (Store new) = Unit {0}
-IsStore (Exchange old new) = ⊥
-IsStore (FetchOr bits) = ⊥
-IsStore (FetchAnd bits) = ⊥
+IsStore _ = ⊥
 
 store_is : (access : Access) (new : ℕ) → access ≡ Store new → IsStore access
 store_is access new is = subst IsStore (sym is) tt
 
 blind_if : (know : Know) (step : Step) (r n : ℕ) → IsStore (access_of know step) → Shows step r n
-blind_if know ReadEpoch r n is = absurd is
-blind_if know (Advance from) r n is = absurd is
-blind_if know (LoadStamp s) r n is = absurd is
 blind_if know (StoreStamp s stamp) r n is = record { answers = refl; teaches = λ stamp know. refl }
-blind_if know (Raise s) r n is = absurd is
-blind_if know (TakeFlag s) r n is = absurd is
 blind_if know (StoreBirth s birth) r n is = record { answers = refl; teaches = λ stamp know. refl }
 blind_if know (StoreKey s key) r n is = record { answers = refl; teaches = λ stamp know. refl }
 blind_if know (StoreValue s value) r n is = record { answers = refl; teaches = λ stamp know. refl }
 blind_if know (StoreLink s next) r n is = record { answers = refl; teaches = λ stamp know. refl }
-blind_if know (LoadLink at) r n is = absurd is
-blind_if know (LoadBirth s) r n is = absurd is
-blind_if know (LoadKey s) r n is = absurd is
-blind_if know (LoadValue s) r n is = absurd is
-blind_if know (Publish pred expected s) r n is = absurd is
-blind_if know (Mark s expected) r n is = absurd is
-blind_if know (Replace s expected t) r n is = absurd is
-blind_if know (Unlink pred expected s) r n is = absurd is
-blind_if know (ConfirmPresent op s expected) r n is = absurd is
-blind_if know (ConfirmAbsent op key at expected) r n is = absurd is
+blind_if know _ r n is = absurd is
 
 -- a store answers and teaches the same, whatever it replaces
 pub blind : (know : Know) (step : Step) (new : ℕ) → access_of know step ≡ Store new → (r n : ℕ) → Shows step r n
@@ -68,25 +51,12 @@ epoch_read found know = ⊎_elim (λ (t : (found == know.epoch) ≡ true). rw t 
 -- the epoch that a pass knows after a step
 pub epoch_learned : (step : Step) (r stamp : ℕ) (know : Know) → (learn step r stamp know).epoch ≡ epoch_after step r know.epoch
 epoch_learned ReadEpoch r stamp know = epoch_read r know
-epoch_learned (Advance from) r stamp know = refl
-epoch_learned (LoadStamp s) r stamp know = refl
-epoch_learned (StoreStamp s new) r stamp know = refl
-epoch_learned (Raise s) r stamp know = refl
 epoch_learned (TakeFlag s) r stamp know = either_way (has_flag r s) (λ (k : Know). k.epoch) _ know know.epoch refl refl
-epoch_learned (StoreBirth s birth) r stamp know = refl
-epoch_learned (StoreKey s key) r stamp know = refl
-epoch_learned (StoreValue s value) r stamp know = refl
-epoch_learned (StoreLink s next) r stamp know = refl
-epoch_learned (LoadLink at) r stamp know = refl
-epoch_learned (LoadBirth s) r stamp know = refl
-epoch_learned (LoadKey s) r stamp know = refl
-epoch_learned (LoadValue s) r stamp know = refl
 epoch_learned (Publish pred expected s) r stamp know = either_way (r == expected) (λ (k : Know). k.epoch) _ know know.epoch refl refl
 epoch_learned (Mark s expected) r stamp know = either_way (r == expected) (λ (k : Know). k.epoch) _ know know.epoch refl refl
 epoch_learned (Replace s expected t) r stamp know = either_way (r == expected) (λ (k : Know). k.epoch) _ know know.epoch refl refl
 epoch_learned (Unlink pred expected s) r stamp know = either_way (r == expected) (λ (k : Know). k.epoch) _ know know.epoch refl refl
-epoch_learned (ConfirmPresent op s expected) r stamp know = refl
-epoch_learned (ConfirmAbsent op key at expected) r stamp know = refl
+epoch_learned _ r stamp know = refl
 
 -- after a step that is no read of the epoch, the pass knows the epoch that it knew
 pub epoch_stays : (step : Step) {p q : Trace} {found : ℕ} → Did step p q found → ((found epoch : ℕ) → epoch_after step found epoch ≡ epoch) → (knows q).epoch ≡ (knows p).epoch

@@ -14,7 +14,7 @@ use Rattle.vbr_words.specs.declared.link.TheConstants.{MARK, MAX_SLOTS, MAX_VERS
 use Rattle.vbr_words.specs.declared.link.Link.{Link}
 use Rattle.vbr_words.specs.declared.place.At.TheVariants as at
 use Rattle.vbr_words.specs.declared.place.Place.{Place}
-use Rattle.vbr_words.specs.declared.place.Place.TheVariants.{Epoch, ShapeWord, Head, LinkOf, Birth, Stamp, Key, Value, Flags}
+use Rattle.vbr_words.specs.declared.place.Place.TheVariants.{Epoch, ShapeWord, Head, LinkOf, Birth, Key, Value, Flags}
 use Rattle.vbr_words.proofs.Lemmas.{flag_word_same, index_of-lt, same_place}
 use Rattle.vbr_machine.specs.Put.{put}
 use Rattle.vbr_words.specs.Buckets.{bucket_of}
@@ -92,18 +92,13 @@ pub laid_all : (shape : Dimensions) (words : List ℕ) → AreLaid shape (laid s
 laid_all shape words are keys payloads = subst (λ (w : World). AreWordsOf (start_with shape keys payloads) w words) (sym (opening_none (start_with shape keys payloads))) (record { count = are.count; each = each })
   where
     each : (place : Place) → IsIn shape place → get_or words (index_of shape place) 0 ≡ machine.word_at (start_with shape keys payloads) bare place
-    each Epoch here = are.each Epoch here
-    each ShapeWord here = are.each ShapeWord here
     each (Head b) here = are.each (Head b) here ∙ sym blank_head
     each (LinkOf s) here = are.each (LinkOf s) here ∙ below s shape.slots MARK 0 here ∙ sym blank_link
-    each (Birth s) here = are.each (Birth s) here
-    each (Stamp s) here = are.each (Stamp s) here
-    each (Key s) here = are.each (Key s) here
-    each (Value s) here = are.each (Value s) here
     each (Flags number) here =
         are.each (Flags number) here
         ∙ below number (flag_words shape.slots) (flag_word (λ s. nat_lt s shape.slots) number) 0 here
         ∙ flag_word_same (λ s. nat_lt s shape.slots) (machine.is_flagged (start_with shape keys payloads) bare) number (λ s _. and_true (nat_lt s shape.slots))
+    each q here = are.each q here
 
 -- ---- one more key
 
@@ -119,57 +114,29 @@ module _ (start : Start) (w : World) (words : List ℕ) (are : AreWordsOf start 
   link_laid s i value link place low is = written_at start w (with_link_at w (at.Slot s) link) words (LinkOf s) i value place low (ap word_of (put_here w.link s link) ∙ sym is) others are
     where
       others : (q : Place) → q ≢ LinkOf s → machine.word_at start (with_link_at w (at.Slot s) link) q ≡ machine.word_at start w q
-      others Epoch ne = refl
-      others ShapeWord ne = refl
-      others (Head b) ne = refl
       others (LinkOf t) ne = ap word_of (put_other w.link s link t (λ e. ne (ap LinkOf e)))
-      others (Birth t) ne = refl
-      others (Stamp t) ne = refl
-      others (Key t) ne = refl
-      others (Value t) ne = refl
-      others (Flags number) ne = refl
+      others _ ne = refl
 
   head_laid : (b i value : ℕ) (link : Link) → i ≡ index_of start.shape (Head b) → b < start.shape.buckets → value ≡ word_of link → AreWordsOf start (with_link_at w (at.Head b) link) (set words i value)
   head_laid b i value link place low is = written_at start w (with_link_at w (at.Head b) link) words (Head b) i value place low (ap word_of (put_here w.head b link) ∙ sym is) others are
     where
       others : (q : Place) → q ≢ Head b → machine.word_at start (with_link_at w (at.Head b) link) q ≡ machine.word_at start w q
-      others Epoch ne = refl
-      others ShapeWord ne = refl
       others (Head c) ne = ap word_of (put_other w.head b link c (λ e. ne (ap Head e)))
-      others (LinkOf t) ne = refl
-      others (Birth t) ne = refl
-      others (Stamp t) ne = refl
-      others (Key t) ne = refl
-      others (Value t) ne = refl
-      others (Flags number) ne = refl
+      others _ ne = refl
 
   birth_laid : (s i : ℕ) → i ≡ index_of start.shape (Birth s) → s < start.shape.slots → AreWordsOf start (record w { birth = put w.birth s 1; births = counted w.births }) (set words i 1)
   birth_laid s i place low = written_at start w (record w { birth = put w.birth s 1; births = counted w.births }) words (Birth s) i 1 place low (put_here w.birth s 1) others are
     where
       others : (q : Place) → q ≢ Birth s → machine.word_at start (record w { birth = put w.birth s 1; births = counted w.births }) q ≡ machine.word_at start w q
-      others Epoch ne = refl
-      others ShapeWord ne = refl
-      others (Head b) ne = refl
-      others (LinkOf t) ne = refl
       others (Birth t) ne = put_other w.birth s 1 t (λ e. ne (ap Birth e))
-      others (Stamp t) ne = refl
-      others (Key t) ne = refl
-      others (Value t) ne = refl
-      others (Flags number) ne = refl
+      others _ ne = refl
 
   key_laid : (s i key : ℕ) → i ≡ index_of start.shape (Key s) → s < start.shape.slots → AreWordsOf start (record w { key = put w.key s key }) (set words i key)
   key_laid s i key place low = written_at start w (record w { key = put w.key s key }) words (Key s) i key place low (put_here w.key s key) others are
     where
       others : (q : Place) → q ≢ Key s → machine.word_at start (record w { key = put w.key s key }) q ≡ machine.word_at start w q
-      others Epoch ne = refl
-      others ShapeWord ne = refl
-      others (Head b) ne = refl
-      others (LinkOf t) ne = refl
-      others (Birth t) ne = refl
-      others (Stamp t) ne = refl
       others (Key t) ne = put_other w.key s key t (λ e. ne (ap Key e))
-      others (Value t) ne = refl
-      others (Flags number) ne = refl
+      others _ ne = refl
 
   -- a slot comes into a list, and its flag is cleared
   flag_laid : (s b i f bits : ℕ) → i ≡ index_of start.shape (Flags f) → f ≡ word_of_flag s → bits ≡ all_but s → s < start.shape.slots → AreWordsOf start (record w { place = put w.place s (Listed b) }) (set words i (bit_and (get_or words i 0) bits))
@@ -184,17 +151,10 @@ module _ (start : Start) (w : World) (words : List ℕ) (are : AreWordsOf start 
       found = ap (λ (j : ℕ). get_or words j 0) here ∙ are.each (Flags (word_of_flag s)) (flag_in start s low)
 
       others : (q : Place) → q ≢ Flags (word_of_flag s) → machine.word_at start (record w { place = put w.place s (Listed b) }) q ≡ machine.word_at start w q
-      others Epoch ne = refl
-      others ShapeWord ne = refl
-      others (Head c) ne = refl
-      others (LinkOf t) ne = refl
-      others (Birth t) ne = refl
-      others (Stamp t) ne = refl
-      others (Key t) ne = refl
-      others (Value t) ne = refl
       others (Flags number) ne =
           same_word start (record w { place = put w.place s (Listed b) }) w number
           (λ t is. ap machine.is_shared (put_other w.place s (Listed b) t (λ e. ne (ap Flags (sym is ∙ ap word_of_flag e)))))
+      others _ ne = refl
 
 -- where the words of the link of a slot, of the head, of the birth, of the key and of the flags stand
 pub record KeyIndices (start : Start) (number bucket link head birth key flags : ℕ) : Type 0 where
@@ -216,29 +176,15 @@ module _ (start : Start) (w : World) (words : List ℕ) (s value : ℕ) (are : A
   value_bare bare = record { count = are.count; each = each }
     where
       each : (place : Place) → IsIn start.shape place → get_or words (index_of start.shape place) 0 ≡ machine.word_at start (record w { value = put w.value s value }) place
-      each Epoch here = are.each Epoch here
-      each ShapeWord here = are.each ShapeWord here
-      each (Head b) here = are.each (Head b) here
-      each (LinkOf t) here = are.each (LinkOf t) here
-      each (Birth t) here = are.each (Birth t) here
-      each (Stamp t) here = are.each (Stamp t) here
-      each (Key t) here = are.each (Key t) here
       each (Value t) here = absurd (let has = here.1 in cc)
-      each (Flags number) here = are.each (Flags number) here
+      each q here = are.each q here
 
   value_laid : (i : ℕ) → i ≡ index_of start.shape (Value s) → s < start.shape.slots → start.shape.values ≡ true → AreWordsOf start (record w { value = put w.value s value }) (set words i value)
   value_laid i place low has = written_at start w (record w { value = put w.value s value }) words (Value s) i value place (low, has) (put_here w.value s value) others are
     where
       others : (q : Place) → q ≢ Value s → machine.word_at start (record w { value = put w.value s value }) q ≡ machine.word_at start w q
-      others Epoch ne = refl
-      others ShapeWord ne = refl
-      others (Head b) ne = refl
-      others (LinkOf t) ne = refl
-      others (Birth t) ne = refl
-      others (Stamp t) ne = refl
-      others (Key t) ne = refl
       others (Value t) ne = put_other w.value s value t (λ e. ne (ap Value e))
-      others (Flags number) ne = refl
+      others _ ne = refl
 
   value_written : (written : List ℕ) → s < start.shape.slots → IsValueWritten start s value words written → AreWordsOf start (record w { value = put w.value s value }) written
   value_written written low (inl none) = subst (AreWordsOf start (record w { value = put w.value s value })) (sym none.1) (value_bare none.0)

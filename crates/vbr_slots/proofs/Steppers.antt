@@ -8,13 +8,13 @@ use Rattle.vbr_words.specs.declared.place.At.TheVariants.{Head, Slot}
 use Rattle.vbr_machine.specs.Start.{Start, IsStart}
 use Rattle.vbr_machine.specs.Acceptance.{MayBear, IsInHand}
 use Rattle.vbr_machine.specs.Knowledge.{Know}
-use Rattle.vbr_machine.specs.Learning.{learn, reread, with_key, with_own, with_value, with_link}
+use Rattle.vbr_machine.specs.Learning.{learn, reread, with_key, with_value, with_link}
 use Rattle.vbr_machine.specs.Machine.{Load, access_of}
 use Rattle.vbr_machine.specs.Put.{put}
 use Rattle.vbr_machine.specs.declared.event.Step.{Step}
-use Rattle.vbr_machine.specs.declared.event.Step.TheVariants.{ReadEpoch, Advance, StoreStamp, Raise, TakeFlag, StoreBirth, Publish, Replace, Unlink, LoadStamp, StoreKey, StoreValue, StoreLink, LoadLink, LoadBirth, LoadKey, LoadValue, Mark, ConfirmPresent, ConfirmAbsent}
+use Rattle.vbr_machine.specs.declared.event.Step.TheVariants.{ReadEpoch, StoreStamp, Raise, TakeFlag, StoreBirth, StoreKey, StoreValue, StoreLink, Publish, Mark, Replace, Unlink}
 use Rattle.vbr_machine.specs.declared.knowledge.Holding.{Holding}
-use Rattle.vbr_machine.specs.declared.knowledge.Holding.TheVariants.{Free, Unlinked, InHand}
+use Rattle.vbr_machine.specs.declared.knowledge.Holding.TheVariants.{Unlinked, InHand}
 use Rattle.vbr_machine.proofs.Lemmas.{put_here, put_other}
 use Rattle.vbr_slots.specs.declared.stepper.Stepper.TheInside.{Inside}
 use Rattle.vbr_slots.specs.LookUps.{look_up}
@@ -25,22 +25,16 @@ use Rattle.vbr_slots.specs.Views.{Trace, Did, knows}
 use Rattle.vbr_slots.proofs.Passes.{pool_after}
 use Rattle.vbr_slots.proofs.Tried.{keeps_tried}
 
--- the step is of a kind that takes no slot from the own pool or the hand, and brings none there
+-- the step is of a kind that leaves what the pass may give birth in, and what it has in hand
 abbrev pub LeavesPools : Step → Type 0
-LeavesPools ReadEpoch = Unit {0}
-LeavesPools (Advance from) = Unit {0}
-LeavesPools (LoadStamp s) = Unit {0}
-LeavesPools (StoreKey s key) = Unit {0}
-LeavesPools (StoreValue s value) = Unit {0}
-LeavesPools (StoreLink s next) = Unit {0}
-LeavesPools (LoadLink at) = Unit {0}
-LeavesPools (LoadBirth s) = Unit {0}
-LeavesPools (LoadKey s) = Unit {0}
-LeavesPools (LoadValue s) = Unit {0}
-LeavesPools (Mark s expected) = Unit {0}
-LeavesPools (ConfirmPresent op s expected) = Unit {0}
-LeavesPools (ConfirmAbsent op key at expected) = Unit {0}
-LeavesPools _ = ⊥
+LeavesPools (StoreStamp s stamp) = ⊥
+LeavesPools (Raise s) = ⊥
+LeavesPools (TakeFlag s) = ⊥
+LeavesPools (StoreBirth s birth) = ⊥
+LeavesPools (Publish pred expected s) = ⊥
+LeavesPools (Replace s expected t) = ⊥
+LeavesPools (Unlink pred expected s) = ⊥
+LeavesPools _ = Unit {0}
 
 -- what may be born in, or is in hand, stays so
 record StaysOwn (was is : Option Holding) : Type 0 where
@@ -61,28 +55,20 @@ either_own true own k l a b = a
 either_own false own k l a b = b
 
 reread_own : (holding : Option Holding) → StaysOwn holding (reread holding)
-reread_own None = record { may = λ x. x; in_hand = λ x. x }
-reread_own (Some (Free stamp)) = record { may = λ x. x; in_hand = λ x. x }
 reread_own (Some (Unlinked seen)) = record { may = λ x. x; in_hand = λ x. x }
-reread_own (Some (InHand known)) = record { may = λ x. x; in_hand = λ x. x }
+reread_own _ = record { may = λ x. x; in_hand = λ x. x }
 
 key_own : (holding : Option Holding) (key : ℕ) → StaysOwn holding (with_key holding key)
-key_own None key = record { may = λ x. x; in_hand = λ x. x }
-key_own (Some (Free stamp)) key = record { may = λ x. x; in_hand = λ x. x }
-key_own (Some (Unlinked seen)) key = record { may = λ x. x; in_hand = λ x. x }
 key_own (Some (InHand known)) key = record { may = λ x. x; in_hand = λ x. x }
+key_own _ key = record { may = λ x. x; in_hand = λ x. x }
 
 value_own : (holding : Option Holding) (value : ℕ) → StaysOwn holding (with_value holding value)
-value_own None value = record { may = λ x. x; in_hand = λ x. x }
-value_own (Some (Free stamp)) value = record { may = λ x. x; in_hand = λ x. x }
-value_own (Some (Unlinked seen)) value = record { may = λ x. x; in_hand = λ x. x }
 value_own (Some (InHand known)) value = record { may = λ x. x; in_hand = λ x. x }
+value_own _ value = record { may = λ x. x; in_hand = λ x. x }
 
 link_own : (holding : Option Holding) (link : Link) → StaysOwn holding (with_link holding link)
-link_own None link = record { may = λ x. x; in_hand = λ x. x }
-link_own (Some (Free stamp)) link = record { may = λ x. x; in_hand = λ x. x }
-link_own (Some (Unlinked seen)) link = record { may = λ x. x; in_hand = λ x. x }
 link_own (Some (InHand known)) link = record { may = λ x. x; in_hand = λ x. x }
+link_own _ link = record { may = λ x. x; in_hand = λ x. x }
 
 put_own : (own : ℕ → Option Holding) (t : ℕ) (holding : Option Holding) → StaysOwn (own t) holding → AllStayOwn own (put own t holding)
 put_own own t holding stays s =

@@ -112,47 +112,52 @@ same_start p w p_is opening opening_is me v others is opened =
     (λ i. with_opened (opening_is i).shape ((ap (λ (m : Sat). first_opened m.0) is ∙ opened) i))
     ∙ (λ i. with_opened (ap (λ (v : Trace). v.start.shape) p_is i) (opened_of w.start))
 
--- the runner after the step, in a seat of its own
-module _ (p : RunnerInside) (w : Trace) (sound : IsSoundRunner p) (p_is : trace_of p ≡ w) (step : Step) (r : ℕ) (others : List Witness) (n : Sat) (end : Done w step r others n) (q : RunnerInside) (is : q.seat.me ≡ (witness (opened_of w.start) w.who end.run ∷ [], []))
-    (fields : (q.who ≡ p.who) × (q.opening ≡ p.opening) × (q.epoch ≡ epoch_after step r p.epoch)) where
-  seen_now : seen_of q ≡ end.run
+-- a runner that has a seat of its own, in which its pass has seen this run, and that kept its number and its opening
+module _ (p : RunnerInside) (w : Trace) (p_is : trace_of p ≡ w) (run : List Event) (q : RunnerInside) (is : q.seat.me ≡ (witness (opened_of w.start) w.who run ∷ [], [])) (who : q.who ≡ p.who) (opening : q.opening ≡ p.opening) where
+  seen_now : seen_of q ≡ run
   seen_now = seen_in q.seat.me _ [] is
 
   who_is : q.who ≡ w.who
-  who_is = fields.0 ∙ ap (λ (v : Trace). v.who) p_is
+  who_is = who ∙ ap (λ (v : Trace). v.who) p_is
 
   start_is : start_of q ≡ w.start
-  start_is = same_start p w p_is q.opening fields.1 q.seat.me _ [] is refl
+  start_is = same_start p w p_is q.opening opening q.seat.me _ [] is refl
 
   passes_is : q.opening.passes ≡ w.passes
-  passes_is = ap (λ (o : Opening). o.passes) fields.1 ∙ ap (λ (v : Trace). v.passes) p_is
+  passes_is = ap (λ (o : Opening). o.passes) opening ∙ ap (λ (v : Trace). v.passes) p_is
 
-  abbrev know : Know
-  know = learn step r (stamp_shown (world_after w.start (w.seen ++ end.rest)) step) (knows w)
+  -- what contracts see of it
+  trace_is : q.seat.table_id ≡ w.table → trace_of q ≡ record w { seen = run }
+  trace_is table i = record { table = table i; start = start_is i; passes = passes_is i; who = who_is i; seen = seen_now i }
 
-  know_is : know_after (start_of q) (seen_of q) q.who ≡ know
-  know_is = (λ i. know_after (start_is i) (seen_now i) (who_is i)) ∙ end.know
-
-  pub stays_sound : IsSoundRunner q
-  stays_sound = record {
+  sound_in : IsSoundRunner p → IsRun w.start w.passes run → q.epoch ≡ (know_after w.start run w.who).epoch → IsSoundRunner q
+  sound_in sound is_run epoch = record {
     alone = is ∙ (λ i. (witness (opened_of (sym start_is i)) (sym who_is i) (sym seen_now i) ∷ [], []));
-    low = subst (λ (x : ℕ × Opening). x.0 < x.1.passes) (λ i. (sym fields.0 i, sym fields.1 i)) sound.low;
+    low = subst (λ (x : ℕ × Opening). x.0 < x.1.passes) (λ i. (sym who i, sym opening i)) sound.low;
     start = subst IsStart (ap (λ (v : Trace). v.start) p_is ∙ sym start_is) sound.start;
-    is_run = subst (λ (x : Start × ℕ × List Event). IsRun x.0 x.1 x.2) (λ i. (sym start_is i, sym passes_is i, sym seen_now i)) end.is_run;
-    epoch = fields.2 ∙ ap (epoch_after step r) (sound.epoch ∙ ap (λ (v : Trace). (knows v).epoch) p_is) ∙ sym (epoch_learned step r _ (knows w)) ∙ sym (ap (λ (k : Know). k.epoch) know_is);
+    is_run = subst (λ (x : Start × ℕ × List Event). IsRun x.0 x.1 x.2) (λ i. (sym start_is i, sym passes_is i, sym seen_now i)) is_run;
+    epoch = epoch ∙ sym (λ i. (know_after (start_is i) (seen_now i) (who_is i)).epoch);
   }
+
+-- the runner after the step
+module _ (p : RunnerInside) (w : Trace) (sound : IsSoundRunner p) (p_is : trace_of p ≡ w) (step : Step) (r : ℕ) (others : List Witness) (n : Sat) (end : Done w step r others n) (q : RunnerInside) (is : q.seat.me ≡ (witness (opened_of w.start) w.who end.run ∷ [], []))
+    (fields : (q.who ≡ p.who) × (q.opening ≡ p.opening) × (q.epoch ≡ epoch_after step r p.epoch)) where
+  pub stays_sound : IsSoundRunner q
+  stays_sound =
+      sound_in p w p_is end.run q is fields.0 fields.1 sound end.is_run
+      (fields.2 ∙ ap (epoch_after step r) (sound.epoch ∙ ap (λ (v : Trace). (knows v).epoch) p_is) ∙ sym (epoch_learned step r _ (knows w)) ∙ sym (ap (λ (k : Know). k.epoch) end.know))
 
   pub did : q.seat.table_id ≡ p.seat.table_id → Did step w (trace_of q) r
-  did table = record {
+  did table = subst (λ (t : Trace). Did step w t r) (sym (trace_is p w p_is end.run q is fields.0 fields.1 (table ∙ ap (λ (v : Trace). v.table) p_is))) (record {
     rest = end.rest;
     none = end.none;
-    seen = seen_now ∙ end.run_is;
-    is_run = subst (IsRun w.start w.passes) (sym seen_now) end.is_run;
+    seen = end.run_is;
+    is_run = end.is_run;
     shows = end.shows;
-    know = know_is;
-    same = (table ∙ ap (λ (v : Trace). v.table) p_is, start_is, passes_is, who_is);
-    steps = (λ i. steps_in (who_is i) ((seen_now ∙ end.run_is) i)) ∙ steps_next w.who w.seen end.rest step end.none;
-  }
+    know = end.know;
+    same = (refl, refl, refl, refl);
+    steps = ap (steps_in w.who) end.run_is ∙ steps_next w.who w.seen end.rest step end.none;
+  })
 
 -- a runner that made a step alone in its seat
 pub record Stepped (w : Trace) (step : Step) (r : ℕ) (q : RunnerInside) : Type 0 where
@@ -179,22 +184,10 @@ right_rest m m' v vs is right = right ∙ ap (λ (x : Sat). (tail_of x.0, [])) i
 -- a runner that has its seat back is what it was
 pub same_again : (p : RunnerInside) (w : Trace) (sound : IsSoundRunner p) (p_is : trace_of p ≡ w) (q : RunnerInside) (is : q.seat.me ≡ (witness (opened_of w.start) w.who w.seen ∷ [], [])) → (q.who ≡ p.who) × (q.opening ≡ p.opening) × (q.epoch ≡ p.epoch)
     → q.seat.table_id ≡ w.table → IsSoundRunner q × (trace_of q ≡ w)
-same_again p w sound p_is q is fields table =
-    let seen : seen_of q ≡ w.seen = seen_in q.seat.me _ [] is in
-    let was : seen_of q ≡ seen_of p = seen ∙ sym (ap (λ (v : Trace). v.seen) p_is) in
-    let who : q.who ≡ w.who = fields.0 ∙ ap (λ (v : Trace). v.who) p_is in
-    let start : start_of q ≡ w.start = same_start p w p_is q.opening fields.1 q.seat.me _ [] is refl in
-    let shape_was : start_of q ≡ start_of p = start ∙ sym (ap (λ (v : Trace). v.start) p_is) in
-    let passes : q.opening.passes ≡ w.passes = ap (λ (o : Opening). o.passes) fields.1 ∙ ap (λ (v : Trace). v.passes) p_is in (
-      record {
-        alone = is ∙ (λ i. (witness (opened_of (sym start i)) (sym who i) (sym seen i) ∷ [], []));
-        low = subst (λ (x : ℕ × Opening). x.0 < x.1.passes) (λ i. (sym fields.0 i, sym fields.1 i)) sound.low;
-        start = subst IsStart (sym shape_was) sound.start;
-        is_run = subst (λ (x : Start × ℕ × List Event). IsRun x.0 x.1 x.2) (λ i. (sym shape_was i, (sym fields.1 i).passes, sym was i)) sound.is_run;
-        epoch = fields.2 ∙ sound.epoch ∙ sym (λ i. (know_after (shape_was i) (was i) (fields.0 i)).epoch);
-      },
-      (λ i. record { table = table i; start = start i; passes = passes i; who = who i; seen = seen i }),
-    )
+same_again p w sound p_is q is fields table = (
+  sound_in p w p_is w.seen q is fields.0 fields.1 sound (subst (λ (v : Trace). IsRun v.start v.passes v.seen) p_is sound.is_run) (fields.2 ∙ sound.epoch ∙ ap (λ (v : Trace). (knows v).epoch) p_is),
+  trace_is p w p_is w.seen q is fields.0 fields.1 table,
+)
 
 pub wide : {N : Type 0} {values : Bool} (t : SlotsInside N) → IsBuilt values t → 0 < t.table.shared.table_id.words
 wide t built = let w = built.words in omega arith
@@ -256,37 +249,19 @@ caught_up w table own me n others is e opening named caught =
 -- the runner that caught up
 module _ (p : RunnerInside) (w : Trace) (sound : IsSoundRunner p) (p_is : trace_of p ≡ w) (others : List Witness) (n : Sat) (end : CaughtUp w others n) (q : RunnerInside) (is : q.seat.me ≡ (witness (opened_of w.start) w.who end.run ∷ [], []))
     (fields : (q.who ≡ p.who) × (q.opening ≡ p.opening) × (q.epoch ≡ p.epoch)) where
-  seen_then : seen_of q ≡ end.run
-  seen_then = seen_in q.seat.me _ [] is
-
-  who_then : q.who ≡ w.who
-  who_then = fields.0 ∙ ap (λ (v : Trace). v.who) p_is
-
-  start_then : start_of q ≡ w.start
-  start_then = same_start p w p_is q.opening fields.1 q.seat.me _ [] is refl
-
-  passes_then : q.opening.passes ≡ w.passes
-  passes_then = ap (λ (o : Opening). o.passes) fields.1 ∙ ap (λ (v : Trace). v.passes) p_is
-
-  know_then : know_after (start_of q) (seen_of q) q.who ≡ knows w
-  know_then = (λ i. know_after (start_then i) ((seen_then ∙ end.run_is) i) (who_then i)) ∙ others_leave_know w.start w.seen end.rest w.who end.none
+  know_then : know_after w.start end.run w.who ≡ knows w
+  know_then = ap (λ (run : List Event). know_after w.start run w.who) end.run_is ∙ others_leave_know w.start w.seen end.rest w.who end.none
 
   pub caught_sound : IsSoundRunner q
-  caught_sound = record {
-    alone = is ∙ (λ i. (witness (opened_of (sym start_then i)) (sym who_then i) (sym seen_then i) ∷ [], []));
-    low = subst (λ (x : ℕ × Opening). x.0 < x.1.passes) (λ i. (sym fields.0 i, sym fields.1 i)) sound.low;
-    start = subst IsStart (ap (λ (v : Trace). v.start) p_is ∙ sym start_then) sound.start;
-    is_run = subst (λ (x : Start × ℕ × List Event). IsRun x.0 x.1 x.2) (λ i. (sym start_then i, sym passes_then i, sym seen_then i)) end.is_run;
-    epoch = fields.2 ∙ sound.epoch ∙ ap (λ (v : Trace). (knows v).epoch) p_is ∙ sym (ap (λ (k : Know). k.epoch) know_then);
-  }
+  caught_sound = sound_in p w p_is end.run q is fields.0 fields.1 sound end.is_run (fields.2 ∙ sound.epoch ∙ ap (λ (v : Trace). (knows v).epoch) p_is ∙ sym (ap (λ (k : Know). k.epoch) know_then))
 
   pub since : q.seat.table_id ≡ p.seat.table_id → Since w (trace_of q)
-  since table = record {
+  since table = subst (Since w) (sym (trace_is p w p_is end.run q is fields.0 fields.1 (table ∙ ap (λ (v : Trace). v.table) p_is))) (record {
     rest = end.rest;
     none = end.none;
-    seen = seen_then ∙ end.run_is;
-    is_run = subst (IsRun w.start w.passes) (sym seen_then) end.is_run;
+    seen = end.run_is;
+    is_run = end.is_run;
     know = know_then;
-    same = (table ∙ ap (λ (v : Trace). v.table) p_is, start_then, passes_then, who_then);
-    steps = (λ i. steps_in (who_then i) ((seen_then ∙ end.run_is) i)) ∙ steps_left w.who w.seen end.rest end.none;
-  }
+    same = (refl, refl, refl, refl);
+    steps = ap (steps_in w.who) end.run_is ∙ steps_left w.who w.seen end.rest end.none;
+  })

@@ -45,6 +45,16 @@ impl fmt::Display for OpenError {
 
 impl Error for OpenError {}
 
+impl From<AllocError> for OpenError {
+    ghost use Rattle.vbr_slots.specs.declared.opening.OpenError.TheVariants.{Memory};
+
+    ghost from_gives = { λ _ e. e ≡ Memory };
+
+    fn from(_error: AllocError) -> OpenError {
+        OpenError::Memory
+    }
+}
+
 impl Slots {
     /// Opens the table of a set in the state of a fresh world of the core, with so many passes, from 1
     /// to 64. They stand in the order of their numbers, which begin with 0. It is [`Slots::open_with`]
@@ -84,7 +94,7 @@ impl Slots {
             shape: shape.without_values(),
             passes,
         };
-        Slots::opened(alloc, opening, keys, &[])
+        Slots::build(alloc, opening, keys, &[])
     }
 }
 
@@ -116,16 +126,14 @@ impl Slots<Entries> {
             shape: shape.with_values(),
             passes,
         };
-        match keys_and_values(alloc, entries) {
-            Ok((keys, values)) => Slots::opened(alloc, opening, &keys, &values),
-            Err(_) => Err(OpenError::Memory),
-        }
+        let (keys, values) = keys_and_values(alloc, entries)?;
+        Slots::build(alloc, opening, &keys, &values)
     }
 }
 
 impl<N: Nodes> Slots<N> {
     // A table with these keys, and with a value for each where nodes have values.
-    fn opened(
+    fn build(
         alloc: Global,
         opening: Opening,
         keys: &[u64],
@@ -143,26 +151,6 @@ impl<N: Nodes> Slots<N> {
         if opening.passes == 0 || opening.passes > 64 {
             return Err(OpenError::Passes);
         }
-        match Slots::<N>::build(alloc, opening, keys, values) {
-            Ok(opened) => Ok(opened),
-            Err(_) => Err(OpenError::Memory),
-        }
-    }
-
-    fn build(
-        alloc: Global,
-        opening: Opening,
-        keys: &[u64],
-        values: &[u64],
-    ) -> Result<(Slots<N>, Vec<Pass>), AllocError>
-        requires ascending { IsStrictlyIncreasing keys.now }
-        requires few { length keys.now ≤ opening.shape.slots }
-        requires kind { opening.shape.values ≡ N.VALUES }
-        requires paired { ArePaired opening.shape keys.now values.now }
-        requires passes { (0 < opening.passes) × (opening.passes ≤ 64) }
-        ensures opened { IfOk result (λ r.
-            Opens (start_with opening.shape keys.now values.now) opening.passes r.0 r.1.items) }
-    {
         prove!(opening.shape.slots() > 0);
         let words = opening_words(alloc, &opening.shape, keys, values)?;
         let whole = OpeningWithEntries::new(alloc, opening, keys, values)?;
@@ -182,7 +170,9 @@ impl<N: Nodes> Slots<N> {
                 hand: None,
                 tried: 0,
             };
-            passes.push(Pass { stepper, steps: 0 })?;
+            let Ok(()) = passes.push(Pass { stepper, steps: 0 }) else {
+                return Err(OpenError::Memory);
+            };
             seat = next;
         }
         let slots = Slots {

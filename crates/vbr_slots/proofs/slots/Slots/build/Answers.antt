@@ -80,7 +80,7 @@ loop-who-preserved g c =
     let seen = first_empty (record { keys = c.args.keys.now; payloads = c.args.values.now }) c.loop-who.who c.args.opening.passes c.loop-who.seat.me c.split_seat-next.new.seat.me c.split_seat-next.result.me c.loop-who-test.true i.1 s.2 s.4 in (
       s.3 ∙ i.0,
       others_next (record { keys = c.args.keys.now; payloads = c.args.values.now }) c.loop-who.who c.args.opening.passes c.loop-who.seat.me c.split_seat-next.new.seat.me _ c.loop-who-test.true i.1 s.2 s.4,
-      c.in_ok-push.ensures.items
+      c.in-Ok.ensures.items
           ∙ (λ k. i.2 k ++ record { trace = record { table = (s.0 ∙ i.0) k; start = with_opened c.args.opening.shape (has k); passes = c.args.opening.passes; who = c.loop-who.who; seen = seen k }; pool = c.new-in-loop-who.ensures k; hand = None } ∷ [])
           ∙ sym (new_passes-next table c.loop-who.who),
     )

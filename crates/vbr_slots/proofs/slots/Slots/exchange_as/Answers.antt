@@ -1,4 +1,4 @@
-use Rattle.std.proofs.Common.{◌==◌, [], refl, sym, ap, ◌∙◌}
+use Rattle.std.proofs.Common.{◌==◌, refl, sym, ap, ◌∙◌}
 use prog.Atomic.{either}
 use Rattle.vbr_machine.specs.Machine.{word_made}
 use Rattle.vbr_slots.proofs.Learning.{shows_itself, by_either}
