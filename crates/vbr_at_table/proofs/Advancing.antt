@@ -14,8 +14,9 @@ use Rattle.vbr_machine.specs.Learning.{learn, reread, with_key, with_value, with
 use Rattle.vbr_machine.specs.Runs.{IsRun, NoneOf, know_after, Begins}
 use Rattle.vbr_machine.specs.declared.event.Event.{Event}
 use Rattle.vbr_machine.specs.declared.event.Step.{Step}
-use Rattle.vbr_machine.specs.declared.event.Step.TheVariants.{ReadEpoch, Advance, LoadStamp, StoreStamp, Raise, TakeFlag, StoreBirth, StoreKey, StoreLink, LoadLink, LoadBirth, LoadKey, Publish, Mark, Replace, Unlink, ConfirmPresent, ConfirmAbsent, StoreValue, LoadValue}
+use Rattle.vbr_machine.specs.declared.event.Step.TheVariants.{ReadEpoch, Advance, StoreStamp, Raise, TakeFlag, StoreBirth, StoreKey, StoreLink, Publish, Mark, Replace, Unlink, StoreValue}
 use Rattle.vbr_machine.specs.declared.knowledge.Holding.{Holding}
+use Rattle.vbr_machine.specs.declared.knowledge.Unpublished.{Unpublished}
 use Rattle.vbr_machine.specs.declared.knowledge.Holding.TheVariants.{Free, Unlinked, InHand}
 use Rattle.vbr_machine.proofs.Lemmas.{begins_trans, others_leave_know, put_here, put_other}
 use Rattle.vbr_slots.specs.Calls.{Quiet}
@@ -160,190 +161,80 @@ pub none_back : (p q : PassView) (slot : ℕ) → q.trace ≡ p.trace → q.pool
 none_back p q slot same pool kept = record { count = ap (λ (t : Trace). advances t) same; kept = kept; grows = (slot ∷ [], pool); shared = inl (ap (λ (t : Trace). flags_raised t) same) }
 
 no_advance : (step : Step) → advances_or_gives step ≡ false → is_advance step ≡ false
-no_advance ReadEpoch e = refl
 no_advance (Advance from) e = e
-no_advance (LoadStamp s) e = refl
-no_advance (StoreStamp s stamp) e = refl
-no_advance (Raise s) e = refl
-no_advance (TakeFlag s) e = refl
-no_advance (StoreBirth s birth) e = refl
-no_advance (StoreKey s key) e = refl
-no_advance (StoreValue s value) e = refl
-no_advance (StoreLink s next) e = refl
-no_advance (LoadLink at) e = refl
-no_advance (LoadBirth s) e = refl
-no_advance (LoadKey s) e = refl
-no_advance (LoadValue s) e = refl
-no_advance (Publish pred expected s) e = refl
-no_advance (Mark s expected) e = refl
-no_advance (Replace s expected t) e = refl
-no_advance (Unlink pred expected s) e = refl
-no_advance (ConfirmPresent op s expected) e = refl
-no_advance (ConfirmAbsent op key at expected) e = refl
+no_advance _ e = refl
 
 no_raise : (step : Step) → advances_or_gives step ≡ false → is_raise step ≡ false
-no_raise ReadEpoch e = refl
-no_raise (Advance from) e = refl
-no_raise (LoadStamp s) e = refl
-no_raise (StoreStamp s stamp) e = refl
 no_raise (Raise s) e = e
-no_raise (TakeFlag s) e = refl
-no_raise (StoreBirth s birth) e = refl
-no_raise (StoreKey s key) e = refl
-no_raise (StoreValue s value) e = refl
-no_raise (StoreLink s next) e = refl
-no_raise (LoadLink at) e = refl
-no_raise (LoadBirth s) e = refl
-no_raise (LoadKey s) e = refl
-no_raise (LoadValue s) e = refl
-no_raise (Publish pred expected s) e = refl
-no_raise (Mark s expected) e = refl
-no_raise (Replace s expected t) e = refl
-no_raise (Unlink pred expected s) e = refl
-no_raise (ConfirmPresent op s expected) e = refl
-no_raise (ConfirmAbsent op key at expected) e = refl
+no_raise _ e = refl
 
-may_reread : (holding : Option Holding) → MayBear (reread holding) → MayBear holding
-may_reread None m = m
-may_reread (Some (Free stamp)) m = m
-may_reread (Some (Unlinked seen)) m = m
-may_reread (Some (InHand known)) m = m
+-- ---- what is known of a slot once a step is made was known of it before
 
-may_keyed : (holding : Option Holding) (key : ℕ) → MayBear (with_key holding key) → MayBear holding
-may_keyed None key m = m
-may_keyed (Some (Free stamp)) key m = m
-may_keyed (Some (Unlinked seen)) key m = m
-may_keyed (Some (InHand known)) key m = m
+module _ (P : Option Holding → Type 0) where
+  -- the slot at which a function was changed, or another one
+  before_put : (own : ℕ → Option Holding) (slot : ℕ) (holding : Option Holding) (s : ℕ) → (P holding → P (own slot)) → P (put own slot holding s) → P (own s)
+  before_put own slot holding s here x = ⊎_elim (λ (is : s ≡ slot). go is) (λ (other : s ≢ slot). subst P (put_other own slot holding s other) x) (cases_eq s slot)
+    where
+      go : s ≡ slot → P (own s)
+      go is = subst (λ (t : ℕ). P (own t)) (sym is) (here (subst P (ap (put own slot holding) is ∙ put_here own slot holding) x))
 
-may_valued : (holding : Option Holding) (value : ℕ) → MayBear (with_value holding value) → MayBear holding
-may_valued None value m = m
-may_valued (Some (Free stamp)) value m = m
-may_valued (Some (Unlinked seen)) value m = m
-may_valued (Some (InHand known)) value m = m
+  before_either : (b : Bool) (x y know : Know) (s : ℕ) → (P (x.own s) → P (know.own s)) → (P (y.own s) → P (know.own s)) → P ((cond b x y).own s) → P (know.own s)
+  before_either true x y know s f g h = f h
+  before_either false x y know s f g h = g h
 
-may_linked : (holding : Option Holding) (link : Link) → MayBear (with_link holding link) → MayBear holding
-may_linked None link m = m
-may_linked (Some (Free stamp)) link m = m
-may_linked (Some (Unlinked seen)) link m = m
-may_linked (Some (InHand known)) link m = m
+-- of a predicate that asks whether a slot is in hand or unlinked, and of what is in hand, or of an unlinked slot, nothing more
+module _ (P : Option Holding → Type 0) (nothing : P None → ⊥) (in_hand : (a b : Unpublished) → P (Some (InHand a)) → P (Some (InHand b))) (unlinked : (a b : Bool) → P (Some (Unlinked a)) → P (Some (Unlinked b))) where
+  before_reread : (holding : Option Holding) → P (reread holding) → P holding
+  before_reread (Some (Unlinked seen)) x = unlinked true seen x
+  before_reread holding x = x
 
--- the slot at which a function was changed, or another one
-may_put : (own : ℕ → Option Holding) (slot : ℕ) (holding : Option Holding) (s : ℕ) → (MayBear holding → MayBear (own slot)) → MayBear (put own slot holding s) → MayBear (own s)
-may_put own slot holding s here m = ⊎_elim (λ (is : s ≡ slot). go is) (λ (other : s ≢ slot). subst MayBear (put_other own slot holding s other) m) (cases_eq s slot)
-  where
-    go : s ≡ slot → MayBear (own s)
-    go is = subst (λ (t : ℕ). MayBear (own t)) (sym is) (here (subst MayBear (ap (put own slot holding) is ∙ put_here own slot holding) m))
+  before_keyed : (holding : Option Holding) (key : ℕ) → P (with_key holding key) → P holding
+  before_keyed (Some (InHand known)) key x = in_hand _ known x
+  before_keyed holding key x = x
 
-either_know : (b : Bool) (x y know : Know) (s : ℕ) → (MayBear (x.own s) → MayBear (know.own s)) → (MayBear (y.own s) → MayBear (know.own s)) → MayBear ((cond b x y).own s) → MayBear (know.own s)
-either_know true x y know s f g m = f m
-either_know false x y know s f g m = g m
+  before_valued : (holding : Option Holding) (value : ℕ) → P (with_value holding value) → P holding
+  before_valued (Some (InHand known)) value x = in_hand _ known x
+  before_valued holding value x = x
+
+  before_linked : (holding : Option Holding) (link : Link) → P (with_link holding link) → P holding
+  before_linked (Some (InHand known)) link x = in_hand _ known x
+  before_linked holding link x = x
+
+  -- a step that gives the pass no slot
+  before_step : (step : Step) (found stamp : ℕ) (know : Know) (s : ℕ) → advances_or_gives step ≡ false → P ((learn step found stamp know).own s) → P (know.own s)
+  before_step ReadEpoch found stamp know s e x = before_either P (found == know.epoch) _ _ know s (before_reread (know.own s)) (before_reread (know.own s)) x
+  before_step (StoreStamp t new) found stamp know s e x = absurd (cc)
+  before_step (Raise t) found stamp know s e x = absurd (cc)
+  before_step (TakeFlag t) found stamp know s e x = absurd (cc)
+  before_step (StoreBirth t birth) found stamp know s e x = absurd (cc)
+  before_step (StoreKey t key) found stamp know s e x = before_put P know.own t (with_key (know.own t) key) s (before_keyed (know.own t) key) x
+  before_step (StoreValue t value) found stamp know s e x = before_put P know.own t (with_value (know.own t) value) s (before_valued (know.own t) value) x
+  before_step (StoreLink t next) found stamp know s e x = before_put P know.own t _ s (before_linked (know.own t) _) x
+  before_step (Publish pred expected t) found stamp know s e x = before_either P (found == expected) _ know know s (before_put P know.own t None s (λ n. absurd (nothing n))) (λ h. h) x
+  before_step (Mark t expected) found stamp know s e x = before_either P (found == expected) _ know know s (λ h. h) (λ h. h) x
+  before_step (Replace v expected t) found stamp know s e x = before_either P (found == expected) _ know know s (before_put P know.own t None s (λ n. absurd (nothing n))) (λ h. h) x
+  before_step (Unlink pred expected t) found stamp know s e x = absurd (cc)
+  before_step _ found stamp know s e x = x
 
 may_before : (step : Step) (found stamp : ℕ) (know : Know) (s : ℕ) → advances_or_gives step ≡ false → MayBear ((learn step found stamp know).own s) → MayBear (know.own s)
-may_before ReadEpoch found stamp know s e m = either_know (found == know.epoch) _ _ know s (may_reread (know.own s)) (may_reread (know.own s)) m
-may_before (Advance from) found stamp know s e m = m
-may_before (LoadStamp t) found stamp know s e m = m
-may_before (StoreStamp t new) found stamp know s e m = absurd (cc)
-may_before (Raise t) found stamp know s e m = absurd (cc)
-may_before (TakeFlag t) found stamp know s e m = absurd (cc)
-may_before (StoreBirth t birth) found stamp know s e m = absurd (cc)
-may_before (StoreKey t key) found stamp know s e m = may_put know.own t (with_key (know.own t) key) s (may_keyed (know.own t) key) m
-may_before (StoreValue t value) found stamp know s e m = may_put know.own t (with_value (know.own t) value) s (may_valued (know.own t) value) m
-may_before (StoreLink t next) found stamp know s e m = may_put know.own t _ s (may_linked (know.own t) _) m
-may_before (LoadLink at) found stamp know s e m = m
-may_before (LoadBirth t) found stamp know s e m = m
-may_before (LoadKey t) found stamp know s e m = m
-may_before (LoadValue t) found stamp know s e m = m
-may_before (Publish pred expected t) found stamp know s e m = either_know (found == expected) _ know know s (may_put know.own t None s (λ x. absurd x)) (λ x. x) m
-may_before (Mark t expected) found stamp know s e m = either_know (found == expected) _ know know s (λ x. x) (λ x. x) m
-may_before (Replace v expected t) found stamp know s e m = either_know (found == expected) _ know know s (may_put know.own t None s (λ x. absurd x)) (λ x. x) m
-may_before (Unlink pred expected t) found stamp know s e m = absurd (cc)
-may_before (ConfirmPresent op t expected) found stamp know s e m = m
-may_before (ConfirmAbsent op key at expected) found stamp know s e m = m
-
--- ---- what was unlinked
-
-unlinked_reread : (holding : Option Holding) → IsUnlinked (reread holding) → IsUnlinked holding
-unlinked_reread None u = u
-unlinked_reread (Some (Free stamp)) u = u
-unlinked_reread (Some (Unlinked seen)) u = tt
-unlinked_reread (Some (InHand known)) u = u
-
-unlinked_keyed : (holding : Option Holding) (key : ℕ) → IsUnlinked (with_key holding key) → IsUnlinked holding
-unlinked_keyed None key u = u
-unlinked_keyed (Some (Free stamp)) key u = u
-unlinked_keyed (Some (Unlinked seen)) key u = u
-unlinked_keyed (Some (InHand known)) key u = u
-
-unlinked_valued : (holding : Option Holding) (value : ℕ) → IsUnlinked (with_value holding value) → IsUnlinked holding
-unlinked_valued None value u = u
-unlinked_valued (Some (Free stamp)) value u = u
-unlinked_valued (Some (Unlinked seen)) value u = u
-unlinked_valued (Some (InHand known)) value u = u
-
-unlinked_linked : (holding : Option Holding) (link : Link) → IsUnlinked (with_link holding link) → IsUnlinked holding
-unlinked_linked None link u = u
-unlinked_linked (Some (Free stamp)) link u = u
-unlinked_linked (Some (Unlinked seen)) link u = u
-unlinked_linked (Some (InHand known)) link u = u
-
--- the slot at which a function was changed, or another one
-unlinked_put : (own : ℕ → Option Holding) (slot : ℕ) (holding : Option Holding) (s : ℕ) → (IsUnlinked holding → IsUnlinked (own slot)) → IsUnlinked (put own slot holding s) → IsUnlinked (own s)
-unlinked_put own slot holding s here u = ⊎_elim (λ (is : s ≡ slot). go is) (λ (other : s ≢ slot). subst IsUnlinked (put_other own slot holding s other) u) (cases_eq s slot)
-  where
-    go : s ≡ slot → IsUnlinked (own s)
-    go is = subst (λ (t : ℕ). IsUnlinked (own t)) (sym is) (here (subst IsUnlinked (ap (put own slot holding) is ∙ put_here own slot holding) u))
-
-either_unlinked : (b : Bool) (x y know : Know) (s : ℕ) → (IsUnlinked (x.own s) → IsUnlinked (know.own s)) → (IsUnlinked (y.own s) → IsUnlinked (know.own s)) → IsUnlinked ((cond b x y).own s) → IsUnlinked (know.own s)
-either_unlinked true x y know s f g u = f u
-either_unlinked false x y know s f g u = g u
+may_before = before_step MayBear (λ m. m) (λ a b m. m) (λ a b m. m)
 
 unlinked_before : (step : Step) (found stamp : ℕ) (know : Know) (s : ℕ) → is_unlink step ≡ false → IsUnlinked ((learn step found stamp know).own s) → IsUnlinked (know.own s)
-unlinked_before ReadEpoch found stamp know s e u = either_unlinked (found == know.epoch) _ _ know s (unlinked_reread (know.own s)) (unlinked_reread (know.own s)) u
 unlinked_before (Advance from) found stamp know s e u = u
-unlinked_before (LoadStamp t) found stamp know s e u = u
-unlinked_before (StoreStamp t new) found stamp know s e u = unlinked_put know.own t (Some (Free new)) s (λ x. absurd x) u
-unlinked_before (Raise t) found stamp know s e u = unlinked_put know.own t None s (λ x. absurd x) u
-unlinked_before (TakeFlag t) found stamp know s e u = either_unlinked (has_flag found t) _ know know s (unlinked_put know.own t (Some (Free stamp)) s (λ x. absurd x)) (λ x. x) u
-unlinked_before (StoreBirth t birth) found stamp know s e u = unlinked_put know.own t _ s (λ x. absurd x) u
-unlinked_before (StoreKey t key) found stamp know s e u = unlinked_put know.own t (with_key (know.own t) key) s (unlinked_keyed (know.own t) key) u
-unlinked_before (StoreValue t value) found stamp know s e u = unlinked_put know.own t (with_value (know.own t) value) s (unlinked_valued (know.own t) value) u
-unlinked_before (StoreLink t next) found stamp know s e u = unlinked_put know.own t _ s (unlinked_linked (know.own t) _) u
-unlinked_before (LoadLink at) found stamp know s e u = u
-unlinked_before (LoadBirth t) found stamp know s e u = u
-unlinked_before (LoadKey t) found stamp know s e u = u
-unlinked_before (LoadValue t) found stamp know s e u = u
-unlinked_before (Publish pred expected t) found stamp know s e u = either_unlinked (found == expected) _ know know s (unlinked_put know.own t None s (λ x. absurd x)) (λ x. x) u
-unlinked_before (Mark t expected) found stamp know s e u = either_unlinked (found == expected) _ know know s (λ x. x) (λ x. x) u
-unlinked_before (Replace v expected t) found stamp know s e u = either_unlinked (found == expected) _ know know s (unlinked_put know.own t None s (λ x. absurd x)) (λ x. x) u
+unlinked_before (StoreStamp t new) found stamp know s e u = before_put IsUnlinked know.own t (Some (Free new)) s (λ x. absurd x) u
+unlinked_before (Raise t) found stamp know s e u = before_put IsUnlinked know.own t None s (λ x. absurd x) u
+unlinked_before (TakeFlag t) found stamp know s e u = before_either IsUnlinked (has_flag found t) _ know know s (before_put IsUnlinked know.own t (Some (Free stamp)) s (λ x. absurd x)) (λ x. x) u
+unlinked_before (StoreBirth t birth) found stamp know s e u = before_put IsUnlinked know.own t _ s (λ x. absurd x) u
 unlinked_before (Unlink pred expected t) found stamp know s e u = absurd (cc)
-unlinked_before (ConfirmPresent op t expected) found stamp know s e u = u
-unlinked_before (ConfirmAbsent op key at expected) found stamp know s e u = u
+unlinked_before step found stamp know s e u = before_step IsUnlinked (λ m. m) (λ a b m. m) (λ a b m. m) step found stamp know s refl u
 
 -- no other step leaves a slot to be stamped
 pub did_stamps : {step : Step} {p q : Trace} {r : ℕ} → Did step p q r → is_unlink step ≡ false → StampsUnlinked p q
 did_stamps {step} {p} {q} {r} d e s u = unlinked_before step r _ (knows p) s e (subst (λ (k : Know). IsUnlinked (k.own s)) d.know u)
 
 no_unlink : (step : Step) → advances_or_gives step ≡ false → is_unlink step ≡ false
-no_unlink ReadEpoch e = refl
-no_unlink (Advance from) e = refl
-no_unlink (LoadStamp s) e = refl
-no_unlink (StoreStamp s stamp) e = refl
-no_unlink (Raise s) e = refl
-no_unlink (TakeFlag s) e = refl
-no_unlink (StoreBirth s birth) e = refl
-no_unlink (StoreKey s key) e = refl
-no_unlink (StoreValue s value) e = refl
-no_unlink (StoreLink s next) e = refl
-no_unlink (LoadLink at) e = refl
-no_unlink (LoadBirth s) e = refl
-no_unlink (LoadKey s) e = refl
-no_unlink (LoadValue s) e = refl
-no_unlink (Publish pred expected s) e = refl
-no_unlink (Mark s expected) e = refl
-no_unlink (Replace s expected t) e = refl
 no_unlink (Unlink pred expected s) e = e
-no_unlink (ConfirmPresent op s expected) e = refl
-no_unlink (ConfirmAbsent op key at expected) e = refl
+no_unlink _ e = refl
 
 -- one such step
 pub did_none : {step : Step} {p q : PassView} {r : ℕ} → Did step p.trace q.trace r → advances_or_gives step ≡ false → KeepsPool p q → TakesNoSlot p q

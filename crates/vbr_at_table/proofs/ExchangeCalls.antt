@@ -85,8 +85,8 @@ mark_told {p} {q} {s} {word} node start is_run held at d link =
 
 -- ---- a publication, after what filled the hand
 
-pub entry_told : {key value : ℕ} (p q r : PassView) → Quiet p.trace q.trace → Made (entry_call q.trace.start q.trace.who Insert key true value) q.trace r.trace → r.hand ≡ None → InsertsEntry p r key value
-entry_told {key} {value} p q r fill made spent = record {
+pub entry_told : (key value : ℕ) (p q r : PassView) → Quiet p.trace q.trace → Made (entry_call q.trace.start q.trace.who Insert key true value) q.trace r.trace → r.hand ≡ None → InsertsEntry p r key value
+entry_told key value p q r fill made spent = record {
   made = (let P : ℕ → Start → Type 0 = λ who start. Made (entry_call start who Insert key true value) p.trace r.trace in
       let one : P q.trace.who q.trace.start = made_on fill made in
       let Q : Start → Type 0 = P q.trace.who in

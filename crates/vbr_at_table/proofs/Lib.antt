@@ -34,6 +34,7 @@ mod Unlinks
 mod AloneExchanges
 mod NoValues
 mod NoneUnlinked
+mod AnsweringLoads
 mod LookUps
 mod Filled
 mod ExchangeCalls

@@ -1,6 +1,7 @@
 -- What a call tells at a table whose nodes have no values: an entry is a key there.
-use Rattle.std.proofs.Common.{◌≡◌, ◌≢◌, ℕ, ◌+◌, Bool, true, false, Option, Some, subst}
+use Rattle.std.proofs.Common.{◌≡◌, ◌≢◌, ℕ, ◌+◌, Bool, true, false, Option, Some, ap, subst}
 use Rattle.std.specs.Prelude.{Result, Ok, Err, IfOk, OnOk}
+use Rattle.vbr_machine.specs.History.{set_call}
 use Rattle.vbr_machine.specs.declared.history.Call.{Call}
 use Rattle.vbr_machine.specs.declared.history.Op.{Op}
 use Rattle.vbr_machine.specs.declared.history.Op.TheVariants.{Get, Insert, Remove}
@@ -8,9 +9,9 @@ use Rattle.vbr_words.specs.declared.place.At.{At}
 use Rattle.vbr_slots.specs.Calls.{Made}
 use Rattle.vbr_slots.specs.Views.{PassView, Trace}
 use Rattle.vbr_at_table.specs.Answering.{AnswersPresent, IsAnswered}
-use Rattle.vbr_at_table.specs.Exchanges.{InsertsKey, RemovesKey, StoresIn}
+use Rattle.vbr_at_table.specs.Exchanges.{InsertsNode, InsertsKey, RemovesKey, StoresIn}
 use Rattle.vbr_at_table.specs.Hands.{HandView}
-use Rattle.vbr_at_table.specs.Values.{AnswersEntry, InsertsEntry, IsAsked, IsValued, RemovesEntry, steps_to_update, steps_to_value}
+use Rattle.vbr_at_table.specs.Values.{AnswersEntry, InsertsEntry, entry_call, IsAsked, IsValued, RemovesEntry, steps_to_update, steps_to_value}
 use Rattle.vbr_at_table.specs.declared.held.Held.{Held}
 use Rattle.vbr_at_table.specs.declared.held.Marked.{Marked}
 use Rattle.vbr_at_table.specs.declared.rollback.Rollback.{Rollback}
@@ -29,12 +30,14 @@ key_asked p op at other get = absurd (other get)
 
 -- ---- what they tell
 
+-- the call has no value
+key_call : (p : Trace) (op : Op) (key value : ℕ) → p.start.shape.values ≡ false → entry_call p.start p.who op key true value ≡ set_call p.who op key true
+key_call p op key value bare = ap (λ (v : Option ℕ). record { who = p.who; op = op; key = key; reply = true; value = v }) (none_kept p.start bare (Some value))
+
 -- a mark removes the key
 pub key_removed : (p q : Trace) (node : Held) (result : Result Marked Rollback) → p.start.shape.values ≡ false → IfOk result (RemovesEntry p q node) → IfOk result (RemovesKey p q node)
 key_removed p q node (Ok now) bare removed = record {
-  made = (λ key k.
-      let P : Option ℕ → Type 0 = λ value. Made (record { who = p.who; op = Remove; key = key; reply = true; value = value }) p q in
-      subst P (none_kept p.start bare (Some 0)) (removed.made key 0 k (λ has. not_valued bare has)));
+  made = λ key k. subst (λ (call : Call). Made call p q) (key_call p Remove key 0 bare) (removed.made key 0 k (λ has. not_valued bare has));
   at = removed.at;
   link = removed.link;
   held = removed.held;
@@ -46,11 +49,7 @@ key_removed p q node (Err rollback) bare removed = tt
 
 -- an update inserts the key
 pub key_inserted : (p q : PassView) (key value : ℕ) (result : Result (Unit {0}) (HandView × Rollback)) → p.trace.start.shape.values ≡ false → IfOk result (λ done. InsertsEntry p q key value) → IfOk result (λ done. InsertsKey p q key)
-key_inserted p q key value (Ok done) bare inserted = record {
-  made = (let P : Option ℕ → Type 0 = λ v. Made (record { who = p.trace.who; op = Insert; key = key; reply = true; value = v }) p.trace q.trace in
-      subst P (none_kept p.trace.start bare (Some value)) inserted.made);
-  spent = inserted.spent;
-}
+key_inserted p q key value (Ok done) bare inserted = subst (λ (call : Call). InsertsNode call p q) (key_call p.trace Insert key value bare) inserted
 key_inserted p q key value (Err back) bare inserted = tt
 
 -- in three steps

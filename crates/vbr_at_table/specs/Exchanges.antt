@@ -7,6 +7,7 @@ use Rattle.vbr_machine.specs.Knowledge.{Know}
 use Rattle.vbr_machine.specs.Links.{link_to, marked}
 use Rattle.vbr_machine.specs.Membership.{KeyAt, StandsBefore, StandsBehind}
 use Rattle.vbr_machine.specs.Removals.{IsTakenOut}
+use Rattle.vbr_machine.specs.declared.history.Call.{Call}
 use Rattle.vbr_machine.specs.declared.history.Op.TheVariants.{Insert, Remove}
 use Rattle.vbr_slots.specs.Alone.{IsAlone, IsFresh, nodes}
 use Rattle.vbr_slots.specs.Calls.{AddsNone, Made, Quiet, Took}
@@ -40,15 +41,19 @@ pub record IsGap (p : Trace) (key : ℕ) (pred : Held) : Type 0 where
 
 -- ---- what they tell
 
--- the pass removed the key of the node that was held, whose link is marked now and which is taken out; the mark leaves all other links, and so does a pass that was alone
-pub record RemovesKey (p q : Trace) (node : Held) (now : Marked) : Type 0 where
-  pub made : (key : ℕ) → KeyAt (knows p) node.at key → Made (set_call p.who Remove key true) p q
+-- the pass made this removal of the node that was held, whose link is marked now and which is taken out; the mark leaves all other links, and so does a pass that was alone
+pub record RemovesNode (removal : Type 0) (p q : Trace) (node : Held) (now : Marked) : Type 0 where
+  pub made : removal
   pub at : (held_of now).at ≡ node.at
   pub link : link_of now.word ≡ marked (link_of node.word)
   pub held : HoldsMarked (knows q) now
   pub out : IsTakenOut (nodes q) (knows q).epoch now.slot
   pub leaves : LeavesOthers p q node
   pub alone : IsAlone p q → MarksAlone p q node
+
+-- it removed the key of the node
+abbrev pub RemovesKey : Trace → Trace → Held → Marked → Type 0
+RemovesKey p q node now = RemovesNode ((key : ℕ) → KeyAt (knows p) node.at key → Made (set_call p.who Remove key true) p q) p q node now
 
 -- another link stood where one was held: no call was made, and no list changed; for a pass that was alone, what is held hadn't stood
 pub record LosesExchange (p q : Trace) (held : Held) (rollback : Rollback) : Type 0 where
@@ -72,10 +77,14 @@ pub record FillsHand (p q : PassView) (pred : Held) (given : HandView) (key birt
   pub unchanged : ChangesNone p.trace q.trace
   pub stands : IsAlone p.trace q.trace → (link_of pred.word).mark ≡ false → StandsNow p.trace pred → StandsNow q.trace pred
 
--- the pass inserted the key, and its hand is empty
-pub record InsertsKey (p q : PassView) (key : ℕ) : Type 0 where
-  pub made : Made (set_call p.trace.who Insert key true) p.trace q.trace
+-- the pass made this call, an insert, and its hand is empty
+pub record InsertsNode (call : Call) (p q : PassView) : Type 0 where
+  pub made : Made call p.trace q.trace
   pub spent : q.hand ≡ None
+
+-- it inserted the key
+abbrev pub InsertsKey : PassView → PassView → ℕ → Type 0
+InsertsKey p q key = InsertsNode (set_call p.trace.who Insert key true) p q
 
 -- the exchange was lost, and what was in hand is given back
 pub record GivesBack (p q : PassView) (pred : Held) (given : HandView) (back : HandView × Rollback) : Type 0 where

@@ -2,9 +2,10 @@
 ghost use Rattle.std.specs.Prelude.{◌≡◌, ◌<◌, true, IfOk, IfErr};
 ghost use Rattle.vbr_slots.specs.AtTables.{IsSameTable, pass_of, trace_of};
 ghost use Rattle.vbr_slots.specs.Views.{knows};
+ghost use Rattle.vbr_at_table.specs.CallSteps.{steps_to_birth};
 ghost use Rattle.vbr_at_table.specs.Held.{IsSlot, IsHeld};
 ghost use Rattle.vbr_at_table.specs.Reading.{IsCheckpoint, IsHeadRead, IsKeyRead, IsNextRead};
-ghost use Rattle.vbr_at_table.specs.Reading.{ReadsIn, RollsBack, steps_to_next};
+ghost use Rattle.vbr_at_table.specs.Reading.{BirthMoved, IsBirthRead, ReadsIn, RollsBack, steps_to_next};
 ghost use Rattle.vbr_at_table.specs.Values.{IsValueRead};
 
 use crate::held::{Checkpoint, Held};
@@ -132,4 +133,26 @@ pub fn value_of<N: Nodes>(at: &mut AtTable<'_, N>, node: &Held) -> Result<u64, R
         return Err(Rollback::EpochMoved { now });
     }
     Ok(value)
+}
+
+/// The birth of the node that the link of what is held names, in two steps; 0 of none, without a
+/// step. EpochMoved says that the epoch is another one than the one under which it is held.
+#[inline]
+pub fn birth_after<N: Nodes>(at: &mut AtTable<'_, N>, held: &Held) -> Result<u64, Rollback>
+    requires held { IsHeld (knows (trace_of at.old)) held.now }
+    ensures table { IsSameTable at.old at.new }
+    ensures reads { ReadsIn (pass_of at.old) (pass_of at.new) (steps_to_birth held.now.word) }
+    ensures birth { IfOk result (IsBirthRead (pass_of at.old) (pass_of at.new) held.now.word) }
+    ensures moved { IfErr result (BirthMoved (pass_of at.old) (pass_of at.new) held.now.word) }
+{
+    at.law();
+    let Some(slot) = decode(held.word).slot else {
+        return Ok(0);
+    };
+    let birth = at.load_birth(slot);
+    let now = at.read_epoch();
+    if now != held.epoch {
+        return Err(Rollback::EpochMoved { now });
+    }
+    Ok(birth)
 }

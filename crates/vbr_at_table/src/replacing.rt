@@ -2,11 +2,8 @@
 ghost use Rattle.std.specs.Prelude.{IfOk, IfErr};
 ghost use Rattle.vbr_slots.specs.AtTables.{IsSameTable, trace_of, pass_of};
 ghost use Rattle.vbr_slots.specs.Views.{knows};
-ghost use Rattle.vbr_at_table.specs.CallSteps.{steps_to_birth};
 ghost use Rattle.vbr_at_table.specs.Exchanges.{StoresIn, GivesBack};
 ghost use Rattle.vbr_at_table.specs.Hands.{IsHandOf};
-ghost use Rattle.vbr_at_table.specs.Held.{IsHeld};
-ghost use Rattle.vbr_at_table.specs.Reading.{IsBirthRead, ReadsIn, BirthMoved};
 ghost use Rattle.vbr_at_table.specs.Replacing.{IsReplaceable, ReplacesEntry};
 ghost use Rattle.vbr_at_table.specs.Values.{steps_to_update};
 
@@ -16,29 +13,7 @@ use crate::links::marked_link_to;
 use crate::rollback::Rollback;
 use crate::updating::fill;
 use vbr_slots::AtTable;
-use vbr_words::{At, Nodes, decode};
-
-/// The birth of the node that the link of what is held names, in two steps; 0 of none, without a
-/// step. EpochMoved says that the epoch is another one than the one under which it is held.
-#[inline]
-pub fn birth_after<N: Nodes>(at: &mut AtTable<'_, N>, held: &Held) -> Result<u64, Rollback>
-    requires held { IsHeld (knows (trace_of at.old)) held.now }
-    ensures table { IsSameTable at.old at.new }
-    ensures reads { ReadsIn (pass_of at.old) (pass_of at.new) (steps_to_birth held.now.word) }
-    ensures birth { IfOk result (IsBirthRead (pass_of at.old) (pass_of at.new) held.now.word) }
-    ensures moved { IfErr result (BirthMoved (pass_of at.old) (pass_of at.new) held.now.word) }
-{
-    at.law();
-    let Some(slot) = decode(held.word).slot else {
-        return Ok(0);
-    };
-    let birth = at.load_birth(slot);
-    let now = at.read_epoch();
-    if now != held.epoch {
-        return Err(Rollback::EpochMoved { now });
-    }
-    Ok(birth)
-}
+use vbr_words::{At, Nodes};
 
 /// Replaces the node that is held by the slot in hand, with this value, in four steps: in the
 /// history the pass has removed the key with the value that was there, and inserted it with this

@@ -4,36 +4,15 @@ ghost use Rattle.vbr_slots.specs.AtTables.{IsSameTable, trace_of, pass_of};
 ghost use Rattle.vbr_slots.specs.Views.{knows};
 ghost use Rattle.vbr_at_table.specs.Exchanges.{StaysIn, UnlinksNode, UnlinksNone, IsUnmarked};
 ghost use Rattle.vbr_at_table.specs.Held.{HoldsMarked, Names};
-ghost use Rattle.vbr_at_table.specs.Reading.{IsBirthRead, ReadsIn, BirthMoved};
-ghost use Rattle.vbr_at_table.specs.CallSteps.{steps_to_birth, steps_to_unlink};
+ghost use Rattle.vbr_at_table.specs.CallSteps.{steps_to_unlink};
 
 use crate::held::{Held, Marked};
 use crate::links::link_to;
+use crate::reading::birth_after;
 use crate::rollback::Rollback;
 use crate::unlinked::Unlinked;
 use vbr_slots::AtTable;
-use vbr_words::{Nodes, decode};
-
-// The birth of what a marked link names, in two steps; 0 of none, without a step.
-#[inline]
-fn birth_behind<N: Nodes>(at: &mut AtTable<'_, N>, marked: &Marked) -> Result<u64, Rollback>
-    requires marked { HoldsMarked (knows (trace_of at.old)) marked.now }
-    ensures table { IsSameTable at.old at.new }
-    ensures reads { ReadsIn (pass_of at.old) (pass_of at.new) (steps_to_birth marked.now.word) }
-    ensures birth { IfOk result (IsBirthRead (pass_of at.old) (pass_of at.new) marked.now.word) }
-    ensures moved { IfErr result (BirthMoved (pass_of at.old) (pass_of at.new) marked.now.word) }
-{
-    at.law();
-    let Some(slot) = decode(marked.word).slot else {
-        return Ok(0);
-    };
-    let birth = at.load_birth(slot);
-    let now = at.read_epoch();
-    if now != marked.epoch {
-        return Err(Rollback::EpochMoved { now });
-    }
-    Ok(birth)
-}
+use vbr_words::{At, Nodes, decode};
 
 /// Unlinks a marked node behind `pred`, whose link names it: the slot is the pass's, to be retired,
 /// and `pred` comes back with its new link, which names what the marked link named. It does so only
@@ -57,14 +36,20 @@ pub fn unlink<N: Nodes>(
     ensures unlinked { IfOk result (UnlinksNode (pass_of at.old) (pass_of at.new) pred.now marked) }
     ensures failed { IfErr result (UnlinksNone (pass_of at.old) (pass_of at.new) pred.now) }
 {
-    let next_birth = birth_behind(at, &marked)?;
+    let node = Held {
+        at: At::Slot(marked.slot),
+        birth: marked.birth,
+        word: marked.word,
+        epoch: marked.epoch,
+    };
+    let next_birth = birth_after(at, &node)?;
     at.law();
     let new = link_to(decode(marked.word).slot, pred.birth, next_birth);
     match at.unlink(pred.at, pred.word, marked.slot, new) {
         Ok(()) => {
             at.law();
-            let node = Unlinked::by(at, marked.slot);
-            Ok((node, Held { word: new, ..*pred }))
+            let unlinked = Unlinked::by(at, marked.slot);
+            Ok((unlinked, Held { word: new, ..*pred }))
         }
         Err(found) => Err(Rollback::LostExchange { found }),
     }

@@ -1,9 +1,9 @@
-use Rattle.std.proofs.Common.{subst, rules}
+use Rattle.std.proofs.Common.{subst}
 use Rattle.vbr_machine.specs.Start.{Start}
 use Rattle.vbr_machine.specs.Acceptance.{Accepts}
 use Rattle.vbr_slots.specs.LookUps.{look_up}
 use Rattle.vbr_slots.specs.Views.{knows}
-use Rattle.vbr_at_table.proofs.LookUps.{look_up_accepted, look_up_adds, look_up_adds_none, look_up_confirmed, look_up_failed, look_up_keeps, look_up_loads, look_up_lost, look_up_made, look_up_takes_no_slot}
+use Rattle.vbr_at_table.proofs.LookUps.{look_up_accepted, look_up_answered, look_up_finds, look_up_keeps}
 use Rattle.vbr_at_table.proofs.confirming.confirm_look_up.Goals as goal
 
 pub confirm_look_up-requires : goal.confirm_look_up-requires
@@ -12,34 +12,13 @@ confirm_look_up-requires g c =
     record { accepted = subst P c.args.at.now.own.1 (look_up_accepted c.args.at.now.stepper.now c.law.ensures c.args.key c.args.held.now c.requires.held.held c.requires.held.unmarked c.args.present c.requires.decides) }
 
 pub returns-in-Ok-clause-keeps : goal.returns-in-Ok-clause-keeps
-returns-in-Ok-clause-keeps g c = record {
-  keeps = record {
-    took = search rules;
-    own = search rules;
-    takes_no_slot = look_up_takes_no_slot c.args.present c.args.key c.args.held.now.at c.args.held.now.word c.in-Ok.ensures.found.did c.in-Ok.ensures.found.keeps;
-    keeps = look_up_keeps c.args.present c.args.key c.args.held.now.at c.args.held.now.word c.in-Ok.ensures.found.did;
-  };
-  only_loads = look_up_loads c.args.present c.args.key c.args.held.now.at c.args.held.now.word c.in-Ok.ensures.found.did;
-}
+returns-in-Ok-clause-keeps g c = look_up_keeps c.args.present c.args.key c.args.held.now.at c.args.held.now.word c.in-Ok.ensures.found.did c.in-Ok.ensures.found.keeps
 
 pub returns-in-Err-clause-keeps : goal.returns-in-Err-clause-keeps
-returns-in-Err-clause-keeps g c = record {
-  keeps = record {
-    took = search rules;
-    own = search rules;
-    takes_no_slot = look_up_takes_no_slot c.args.present c.args.key c.args.held.now.at c.args.held.now.word c.in-Err.ensures.other.did c.in-Err.ensures.other.keeps;
-    keeps = look_up_keeps c.args.present c.args.key c.args.held.now.at c.args.held.now.word c.in-Err.ensures.other.did;
-  };
-  only_loads = look_up_loads c.args.present c.args.key c.args.held.now.at c.args.held.now.word c.in-Err.ensures.other.did;
-}
+returns-in-Err-clause-keeps g c = look_up_keeps c.args.present c.args.key c.args.held.now.at c.args.held.now.word c.in-Err.ensures.other.did c.in-Err.ensures.other.keeps
 
 pub returns-in-Ok-clause-answers : goal.returns-in-Ok-clause-answers
-returns-in-Ok-clause-answers g c = record { made = look_up_made c.args.at.now.stepper.now _ c.law.ensures c.args.key c.args.held.now c.args.present c.requires.decides c.in-Ok.ensures.found.did; adds = look_up_adds c.args.at.now.stepper.now _ c.law.ensures c.args.key c.args.held.now c.args.present c.requires.decides c.in-Ok.ensures.found.did }
+returns-in-Ok-clause-answers g c = look_up_answered c.args.at.now.stepper.now c.law.ensures c.args.key c.args.held.now c.confirm_look_up.new.self.stepper.now c.args.present c.requires.decides c.in-Ok.ensures.found.did
 
 pub returns-in-Err-clause-lost : goal.returns-in-Err-clause-lost
-returns-in-Err-clause-lost g c = record {
-  quiet = look_up_failed c.args.at.now.stepper.now _ c.law.ensures c.args.key c.args.held.now c.args.present _ c.in-Err.ensures.other.did c.in-Err.ensures.other.unexpected;
-  adds_none = look_up_adds_none c.args.at.now.stepper.now _ c.law.ensures c.args.key c.args.held.now c.args.present _ c.in-Err.ensures.other.did c.in-Err.ensures.other.unexpected;
-  lost = look_up_lost c.args.at.now.stepper.now _ c.law.ensures c.args.key c.args.held.now c.args.present _ c.in-Err.ensures.other.did c.in-Err.ensures.other.unexpected;
-  wins = λ alone stands. look_up_confirmed c.args.at.now.stepper.now _ c.law.ensures c.args.key c.args.held.now c.args.present _ alone c.in-Err.ensures.other.did c.in-Err.ensures.other.unexpected stands;
-}
+returns-in-Err-clause-lost g c = look_up_finds c.args.at.now.stepper.now c.law.ensures c.args.key c.args.held.now c.confirm_look_up.new.self.stepper.now c.args.present _ c.in-Err.ensures.other.did c.in-Err.ensures.other.unexpected

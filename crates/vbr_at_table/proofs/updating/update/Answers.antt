@@ -76,7 +76,7 @@ returns-in-Ok-clause-inserted g c =
     let p = c.fill.new.at.stepper.now in
     let Q : ℕ → Type 0 = λ s. IsFilled ((knows p.trace).own s) c.args.hand.birth c.args.key (link_to (link_of c.args.pred.now.word).slot c.args.hand.birth c.birth_named-birth.result) in
     let made = publish_made p c.law.ensures c.args.pred.now c.slot-slot.result c.args.key c.args.hand.birth c.birth_named-birth.result (held_kept c.args.pred.now c.fill.ensures.stores.keeps c.requires.gap.held) (subst Q (sym c.slot-slot.ensures) c.fill.ensures.fills.fills.filled) c.args.value (λ has. (let V : ℕ → Type 0 = λ s. value_in_hand ((knows c.fill.new.at.stepper.now.trace).own s) ≡ Some c.args.value in subst V (sym c.slot-slot.ensures) (c.fill.ensures.fills.valued (ap (λ (d : Start). d.shape.values) (sym c.fill.ensures.fills.fills.quiet.same.start) ∙ has)))) c.in-Ok.ensures.found.did in
-    entry_told c.args.at.now.stepper.now p c.publish.new.self.stepper.now c.fill.ensures.fills.fills.quiet made (search rules)
+    entry_told c.args.key c.args.value c.args.at.now.stepper.now p c.publish.new.self.stepper.now c.fill.ensures.fills.fills.quiet made (search rules)
 
 pub returns-in-Err-clause-lost : goal.returns-in-Err-clause-lost
 returns-in-Err-clause-lost g c = record { same = search rules; hand = search rules; exchange = publish_lost c.args.pred.now c.law.ensures.start c.fill.ensures.fills.fills.quiet c.fill.ensures.fills.fills.unchanged c.fill.ensures.stores.keeps (λ alone. c.fill.ensures.fills.fills.stands alone c.requires.gap.unmarked) c.in-Err.ensures.other.did c.in-Err.ensures.other.unexpected }

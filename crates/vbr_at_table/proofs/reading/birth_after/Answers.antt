@@ -11,7 +11,7 @@ use Rattle.vbr_at_table.proofs.Accepted.{named_slot, slot_in, slot_found}
 use Rattle.vbr_at_table.proofs.CheckedReads.{birth_keeps, birth_read}
 use Rattle.vbr_at_table.proofs.ReadCalls.{birth_in_one, epoch_in_one, fit, fit_on, reads_on, has_moved}
 use Rattle.vbr_at_table.proofs.ReadSteps.{birth_loaded_keeps}
-use Rattle.vbr_at_table.proofs.replacing.birth_after.Goals as goal
+use Rattle.vbr_at_table.proofs.reading.birth_after.Goals as goal
 
 pub load_birth-birth-requires-clause-slot : goal.load_birth-birth-requires-clause-slot
 load_birth-birth-requires-clause-slot g c =
