@@ -5,7 +5,7 @@ ghost use Rattle.vbr_slots.specs.AtTables.{IsSameTable, pass_of, trace_of};
 ghost use Rattle.vbr_slots.specs.Calls.{OnlyLoads, Took};
 ghost use Rattle.vbr_slots.specs.Views.{IsOf};
 ghost use Rattle.vbr_list.specs.Sparing.{Calls, CallsAs, CallsGet, SparesLookUp};
-ghost use Rattle.vbr_list.specs.Budgets.{answer_costs};
+ghost use Rattle.vbr_list.specs.Budgets.{steps_where};
 ghost use Rattle.vbr_list.specs.declared.looking.Sight.TheVariants.{Present, Absent};
 ghost use Rattle.vbr_list.specs.LookingUp.{IsAskedOf, IsSightFor, LookUpAnswers, LookUpRollsBack, steps_to_answer};
 ghost use Rattle.vbr_list.specs.Pieces.{HasRoom, Settles, trace_in};
@@ -226,7 +226,7 @@ fn look_up<N: Nodes>(
     ensures took { Took (trace_of at.old) (trace_of at.new) result.1 }
     ensures calls { CallsAs (given_in (trace_of at.old) (look_up_op gives) key)
         (SparesLookUp (given_in (trace_of at.old) (look_up_op gives) key)
-        (answer_costs gives (trace_of at.old) key) (pass_of at.old) (pass_of at.new) key budget)
+        (steps_where gives) (pass_of at.old) (pass_of at.new) key budget)
         (pass_of at.old) (pass_of at.new) budget result.0 }
 {
     at.law();
