@@ -1,18 +1,6 @@
 -- From cursor to cursor, and what an iteration has given.
-use Rattle.std.proofs.Common.{◌≡◌, ℕ, ◌+◌, ◌^◌, ◌<◌, ◌≤◌, Bool, true, false, List, [], ◌∷◌, ◌++◌, Option, Some, None, sym, ap, ◌∙◌, subst, arith, inl, inr, append-nil, option_to_list}
-use Rattle.std.specs.Prelude.{◌⊎◌, Contains, IfSome}
-use Rattle.std.specs.List.{AllByRecursion}
-use Rattle.std.proofs.lemmas.Bool.{cases_lt, cases_order}
-use Rattle.std.proofs.lemmas.List.Elements.{Contains-append_left, Contains-append_right, Contains-push, Contains-push_cases}
-use Rattle.vbr_machine.specs.Start.{Start}
-use Rattle.vbr_machine.specs.Opened.{opening_keys, opening_payloads}
-use Rattle.vbr_machine.specs.History.{set_after, values_after}
-use Rattle.vbr_machine.specs.Runs.{world_after}
-use Rattle.vbr_words.specs.Buckets.{bucket_of}
-use Rattle.vbr_machine.proofs.Lemmas.{begins_trans}
-use Rattle.vbr_slots.specs.Views.{Trace}
-use Rattle.vbr_slots.proofs.Lemmas.{same_on}
-use Rattle.vbr_at_table.specs.Moments.{WasEntry, WasSo}
+use Rattle.vbr_list.proofs.Names.{◌≡◌, ℕ, ◌+◌, ◌^◌, ◌<◌, ◌≤◌, Bool, true, false, List, [], ◌∷◌, ◌++◌, Option, Some, None, sym, ap, ◌∙◌, subst, arith, inl, inr, append-nil, option_to_list, ◌⊎◌, Contains, IfSome, AllByRecursion, cases_lt, cases_order, Contains-append_left, Contains-append_right, Contains-push, Contains-push_cases}
+use Rattle.vbr_list.proofs.Names.{begins_trans, bucket_of, opening_keys, opening_payloads, same_on, set_after, Start, Trace, values_after, WasEntry, WasSo, world_after}
 use Rattle.vbr_list.specs.Cursors.{AreInOrder, ComesFirst, HasGiven, HasGivenAll, IsToCome, IsAtEnd, IsBehindKey, IsPassed, PassesBy, SeesMore, first_cursor, next_bucket}
 use Rattle.vbr_list.specs.Next.{HasNoNext, IsNextKey}
 use Rattle.vbr_list.specs.declared.cursor.Cursor.{Cursor}

@@ -1,13 +1,6 @@
 -- A remove and a look-up that are refused for want of steps: the budget was below what is enough, alone and disturbed.
-use Rattle.std.proofs.Common.{◌≡◌, ℕ, ◌+◌, ◌<◌, ◌≤◌, Bool, List, None, Result, Err, arith}
-use Rattle.vbr_machine.specs.Runs.{Begins, IsRun}
-use Rattle.vbr_machine.specs.declared.event.Event.{Event}
-use Rattle.vbr_machine.specs.declared.history.Call.{Call}
-use Rattle.vbr_slots.specs.PassLaw.{PassLaw}
-use Rattle.vbr_slots.specs.Views.{PassView}
-use Rattle.vbr_slots.proofs.Lemmas.{same_refl}
-use Rattle.vbr_at_table.specs.declared.budget.TheConstants.{PIECE}
-use Rattle.vbr_at_table.proofs.Lemmas.{took_all}
+use Rattle.vbr_list.proofs.Names.{◌≡◌, ℕ, ◌+◌, ◌<◌, ◌≤◌, Bool, List, None, Result, Err, arith}
+use Rattle.vbr_list.proofs.Names.{Begins, Call, Event, IsRun, PassLaw, PassView, PIECE, same_refl, took_all}
 use Rattle.vbr_list.specs.Budgets.{listed_for}
 use Rattle.vbr_list.specs.Disturbed.{disturbed_after, enough_among, enough_to_search_among}
 use Rattle.vbr_list.specs.Leaving.{SparesRemove}

@@ -1,34 +1,10 @@
 -- A walk goes on from place to place, whatever others do meanwhile; and it begins again only where it was disturbed.
-use Rattle.std.proofs.Common.{◌≡◌, ℕ, suc, ◌+◌, ◌*◌, ◌<◌, ◌≤◌, true, false, List, Option, Some, None, refl, sym, ap, ◌∙◌, subst, arith}
-use Rattle.std.proofs.Common.{Bool}
-use Rattle.std.specs.Option.{is_some}
-use Rattle.std.proofs.lemmas.Nat.{mul-le}
-use Rattle.vbr_words.specs.Words.{link_of}
-use Rattle.vbr_words.specs.Buckets.{bucket_of}
-use Rattle.vbr_words.specs.declared.place.At.{At}
-use Rattle.vbr_words.specs.declared.place.At.TheVariants.{Head, Slot}
-use Rattle.vbr_machine.specs.Start.{Start, IsStart}
-use Rattle.vbr_machine.specs.Accounts.{incarnations_after, own_entries}
-use Rattle.vbr_machine.specs.Disturbances.{HasVisited, IsAhead, IsOpenIn, own_changes}
-use Rattle.vbr_machine.specs.Membership.{HeldIn}
-use Rattle.vbr_machine.specs.Images.{link_shown_at}
-use Rattle.vbr_machine.specs.Machine.{link_at}
-use Rattle.vbr_machine.specs.Runs.{Begins, IsRun, world_after}
-use Rattle.vbr_machine.specs.declared.event.Event.{Event}
-use Rattle.vbr_machine.proofs.Lemmas.{ahead_few, begins_refl, begins_run, begins_trans, disturbances_grow, head_visited, next_visited, own_between, shown_there, since, unmarked_open, visited_few, visited_on}
-use Rattle.vbr_slots.specs.Alone.{IsFresh}
-use Rattle.vbr_slots.specs.Calls.{IsSame, Quiet}
-use Rattle.vbr_slots.specs.Views.{Trace, knows}
-use Rattle.vbr_slots.proofs.Lemmas.{quiet_on, same_on}
-use Rattle.vbr_at_table.specs.Held.{held_of}
-use Rattle.vbr_at_table.specs.declared.held.Held.{Held}
-use Rattle.vbr_at_table.specs.declared.held.Marked.{Marked}
+use Rattle.vbr_list.proofs.Names.{◌≡◌, ℕ, suc, ◌+◌, ◌*◌, ◌<◌, ◌≤◌, true, false, List, Option, Some, None, refl, sym, ap, ◌∙◌, subst, arith, Bool, is_some, mul-le}
+use Rattle.vbr_list.proofs.Names.{advances, ahead_few, At, Begins, begins_refl, begins_run, begins_trans, bucket_of, disturbances_grow, Event, HasVisited, Head, head_visited, Held, held_of, HeldIn, incarnations_after, IsAhead, IsFresh, IsOpenIn, IsRun, IsSame, IsStart, knows, link_at, link_of, link_shown_at, Marked, next_visited, own_between, own_changes, own_entries, Quiet, quiet_on, same_on, shown_there, since, Slot, Start, steps_to_update, steps_to_value, Trace, unmarked_open, visited_few, visited_on, world_after}
 use Rattle.vbr_list.specs.Helping.{OpensPlace}
 use Rattle.vbr_list.specs.Budgets.{listed_for}
 use Rattle.vbr_list.specs.declared.found.Found.{Found}
-use Rattle.vbr_at_table.specs.Counts.{advances}
 use Rattle.vbr_list.specs.Disturbed.{changed_after, costs_among, disturbed_after, disturbed, enough_among, enough_to_search_among, find_costs_among}
-use Rattle.vbr_at_table.specs.Values.{steps_to_update, steps_to_value}
 use Rattle.vbr_list.specs.Budgets.{LacksSteps, enough_past}
 use Rattle.vbr_list.specs.Disturbed.{enough_to_insert_among, searches_more}
 use Rattle.vbr_list.specs.declared.refusal.Refusal.{Refusal}
