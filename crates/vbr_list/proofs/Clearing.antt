@@ -1,31 +1,7 @@
 -- A key is clear at a moment: no marked node of it is in a list. What a walk to the key shows of that, and what follows for a node that the pass has marked.
-use Rattle.std.proofs.Common.{◌≡◌, ℕ, ◌+◌, ◌≤◌, arith, Bool, true, false, List, [], ◌∷◌, ◌++◌, Option, Some, None, refl, sym, ap, ◌∙◌, subst}
-use Rattle.std.specs.Prelude.{IfSome, IfNone}
-use Rattle.vbr_words.specs.declared.nodes.Nodes.{Ghosts}
-use Rattle.vbr_machine.specs.Start.{Start, IsStart}
-use Rattle.vbr_words.specs.Words.{link_of}
-use Rattle.vbr_words.specs.declared.link.Link.{Link}
-use Rattle.vbr_words.specs.declared.place.At.TheVariants.{Slot}
-use Rattle.vbr_machine.specs.Accounts.{incarnations_after}
-use Rattle.vbr_machine.specs.Calls.{own_calls}
+use Rattle.vbr_list.proofs.Names.{◌≡◌, ℕ, ◌+◌, ◌≤◌, arith, Bool, true, false, List, [], ◌∷◌, ◌++◌, Option, Some, None, refl, sym, ap, ◌∙◌, subst, IfSome, IfNone}
+use Rattle.vbr_list.proofs.Names.{Event, Ghosts, Held, incarnations_after, IsHeldPlace, IsRead, IsRun, IsSame, IsStart, IsTakenOut, KeyAt, KeyOf, Know, know_after, Knows, knows, left_since, Link, link_at, link_of, LinkAt, Made, marked_left, MarkedLeft, moment_after, moment_before, nodes, none_marked_between, none_marked_here, none_marked_skipped, NoneMarked, out_on, own_calls, PIECE, Quiet, Remove, Slot, StandsBefore, StandsBehind, Start, Trace, WasShown, world_after}
 use Rattle.vbr_machine.specs.declared.history.Call.{Call as ListedCall}
-use Rattle.vbr_machine.specs.Knowledge.{Know}
-use Rattle.vbr_machine.specs.Machine.{link_at}
-use Rattle.vbr_machine.specs.Membership.{Knows, IsHeldPlace, KeyAt, StandsBehind, StandsBefore}
-use Rattle.vbr_machine.specs.Moments.{WasShown}
-use Rattle.vbr_machine.specs.Removals.{IsTakenOut, MarkedLeft, NoneMarked}
-use Rattle.vbr_machine.specs.Runs.{IsRun, know_after, world_after}
-use Rattle.vbr_machine.specs.declared.event.Event.{Event}
-use Rattle.vbr_machine.specs.declared.history.Op.TheVariants.{Remove}
-use Rattle.vbr_machine.specs.declared.knowledge.Read.TheVariants.{LinkAt, KeyOf}
-use Rattle.vbr_machine.proofs.Lemmas.{left_since, marked_left, none_marked_between, none_marked_here, none_marked_skipped, out_on}
-use Rattle.vbr_slots.specs.Alone.{nodes}
-use Rattle.vbr_slots.specs.Calls.{IsSame, Made, Quiet}
-use Rattle.vbr_slots.specs.Views.{Trace, knows}
-use Rattle.vbr_slots.proofs.Lemmas.{moment_after, moment_before}
-use Rattle.vbr_at_table.specs.declared.budget.TheConstants.{PIECE}
-use Rattle.vbr_at_table.specs.Moments.{IsRead}
-use Rattle.vbr_at_table.specs.declared.held.Held.{Held}
 use Rattle.vbr_list.specs.Found.{CurStood, IsFound}
 use Rattle.vbr_list.specs.Leaving.{Leaves, WasClear}
 use Rattle.vbr_list.specs.Places.{IsEnd}

@@ -1,14 +1,6 @@
 -- An iteration goes from bucket to bucket.
-use Rattle.std.proofs.Common.{◌≡◌, ℕ, suc, ◌+◌, ◌-◌, ◌<◌, ◌≤◌, Bool, true, false, Some, None, Ok, Err, refl, sym, ap, ◌∙◌, subst, arith, inl, inr}
-use Rattle.vbr_words.specs.Buckets.{bucket_of}
-use Rattle.vbr_machine.specs.Start.{Start}
-use Rattle.vbr_machine.specs.Runs.{IsRun}
-use Rattle.vbr_slots.specs.Alone.{IsAlone}
-use Rattle.vbr_slots.specs.Calls.{Quiet}
-use Rattle.vbr_slots.specs.PassLaw.{PassLaw}
-use Rattle.vbr_slots.specs.Views.{PassView, Trace}
-use Rattle.vbr_slots.proofs.Lemmas.{quiet_adds_none}
-use Rattle.vbr_at_table.proofs.Lemmas.{took_all}
+use Rattle.vbr_list.proofs.Names.{◌≡◌, ℕ, suc, ◌+◌, ◌-◌, ◌<◌, ◌≤◌, Bool, true, false, Some, None, Ok, Err, refl, sym, ap, ◌∙◌, subst, arith, inl, inr}
+use Rattle.vbr_list.proofs.Names.{bucket_of, IsAlone, IsRun, PassLaw, PassView, Quiet, quiet_adds_none, Start, took_all, Trace}
 use Rattle.vbr_list.specs.Budgets.{steps_to_value_of}
 use Rattle.vbr_list.specs.Cursors.{HasStayedOrMoved, IsBehindKey, IsPastKey, IteratesWhere, PassesBy, SeesMore, costs_over, entered_by, next_bucket}
 use Rattle.vbr_list.specs.Next.{HasNoNext, enough_to_seek, listed_in, seek_costs}

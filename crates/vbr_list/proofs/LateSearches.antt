@@ -1,18 +1,6 @@
 -- What a replacement costs: its searches, and those that follow where the place before the old node is lost.
-use Rattle.std.proofs.Common.{◌≡◌, ℕ, ◌+◌, ◌*◌, ◌<◌, ◌≤◌, sym, ap, ◌∙◌, subst, arith}
-use Rattle.std.proofs.lemmas.Nat.{mul-le}
-use Rattle.vbr_words.specs.Buckets.{bucket_of}
-use Rattle.vbr_machine.specs.Start.{IsStart}
-use Rattle.vbr_machine.specs.Calls.{own_calls}
-use Rattle.vbr_machine.specs.Runs.{Begins, IsRun}
-use Rattle.vbr_machine.specs.declared.history.Call.{Call}
-use Rattle.vbr_machine.specs.declared.history.Op.TheVariants.{Insert, Remove}
-use Rattle.vbr_machine.proofs.Lemmas.{begins_run, disturbances_grow, inserts_in, inserts_in-two, met_bound_made, since}
-use Rattle.vbr_slots.specs.Calls.{IsSame, Quiet}
-use Rattle.vbr_slots.specs.Views.{Trace}
-use Rattle.vbr_slots.proofs.Lemmas.{quiet_on, same_on}
-use Rattle.vbr_at_table.specs.Replacing.{MadeTwo}
-use Rattle.vbr_at_table.specs.declared.budget.TheConstants.{PIECE}
+use Rattle.vbr_list.proofs.Names.{◌≡◌, ℕ, ◌+◌, ◌*◌, ◌<◌, ◌≤◌, sym, ap, ◌∙◌, subst, arith, mul-le}
+use Rattle.vbr_list.proofs.Names.{Begins, begins_run, bucket_of, Call, disturbances_grow, Insert, inserts_in, inserts_in-two, IsRun, IsSame, IsStart, MadeTwo, met_bound_made, own_calls, PIECE, Quiet, quiet_on, Remove, same_on, since, Trace}
 use Rattle.vbr_list.specs.Budgets.{listed_for}
 use Rattle.vbr_list.specs.Disturbed.{disturbed, replace_costs_among}
 use Rattle.vbr_list.specs.Inserting.{SearchedFor}

@@ -1,31 +1,6 @@
 -- A remove after its mark: the place before the node stands as it stood, or the pass was disturbed; and what the answer costs.
-use Rattle.std.proofs.Common.{◌≡◌, ◌≢◌, ℕ, ◌+◌, ◌*◌, ◌<◌, ◌≤◌, false, Option, Some, None, refl, sym, ap, ◌∙◌, subst, inl, inr, arith}
-use Rattle.std.specs.Prelude.{◌⊎◌, IfNone, IfSome}
-use Rattle.std.proofs.lemmas.Bool.{cases_lt}
-use Rattle.std.proofs.lemmas.Nat.{mul-le}
-use Rattle.vbr_words.specs.Words.{link_of}
-use Rattle.vbr_words.specs.Buckets.{bucket_of}
-use Rattle.vbr_words.specs.declared.nodes.Nodes.{Ghosts}
-use Rattle.vbr_words.specs.declared.place.At.{At}
-use Rattle.vbr_words.specs.declared.place.At.TheVariants.{Head, Slot}
-use Rattle.vbr_machine.specs.Start.{Start, IsStart}
-use Rattle.vbr_machine.specs.Accounts.{incarnations_after}
-use Rattle.vbr_machine.specs.Calls.{own_calls}
-use Rattle.vbr_machine.specs.Disturbances.{IsOpenIn, own_changes}
-use Rattle.vbr_machine.specs.Images.{link_shown_at}
-use Rattle.vbr_machine.specs.Membership.{HeldIn, KeyAt, StandsBehind}
-use Rattle.vbr_machine.specs.Runs.{Begins, IsRun}
-use Rattle.vbr_machine.specs.declared.history.Call.{Call}
-use Rattle.vbr_machine.specs.declared.history.Op.TheVariants.{Remove}
-use Rattle.vbr_machine.proofs.Lemmas.{begins_refl, begins_run, begins_trans, disturbances_grow, inserts_in, inserts_in-remove, known_open, marked_fewer, met_bound_uninserted, one_key, since, undisturbed_shown}
-use Rattle.vbr_slots.specs.Alone.{IsAlone, ahead}
-use Rattle.vbr_slots.specs.Calls.{AddsNone, IsSame, Made, Quiet}
-use Rattle.vbr_slots.specs.Views.{Trace, knows}
-use Rattle.vbr_slots.proofs.Lemmas.{same_on}
-use Rattle.vbr_at_table.specs.Counts.{advances}
-use Rattle.vbr_at_table.specs.Held.{IsHeld}
-use Rattle.vbr_at_table.specs.Marks.{LeavesOthers}
-use Rattle.vbr_at_table.specs.declared.held.Held.{Held}
+use Rattle.vbr_list.proofs.Names.{◌≡◌, ◌≢◌, ℕ, ◌+◌, ◌*◌, ◌<◌, ◌≤◌, false, Option, Some, None, refl, sym, ap, ◌∙◌, subst, inl, inr, arith, ◌⊎◌, IfNone, IfSome, cases_lt, mul-le}
+use Rattle.vbr_list.proofs.Names.{AddsNone, advances, ahead, At, Begins, begins_refl, begins_run, begins_trans, bucket_of, Call, disturbances_grow, Ghosts, Head, Held, HeldIn, incarnations_after, inserts_in, inserts_in-remove, IsAlone, IsHeld, IsOpenIn, IsRun, IsSame, IsStart, KeyAt, known_open, knows, LeavesOthers, link_of, link_shown_at, Made, marked_fewer, met_bound_uninserted, one_key, own_calls, own_changes, Quiet, Remove, same_on, since, Slot, StandsBehind, Start, Trace, undisturbed_shown}
 use Rattle.vbr_list.specs.Budgets.{listed_for, steps_to_value_of}
 use Rattle.vbr_list.specs.Disturbed.{changed_after, disturbed, disturbed_after, remove_costs_among}
 use Rattle.vbr_list.specs.Leaving.{Leaves}

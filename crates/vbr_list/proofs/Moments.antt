@@ -1,18 +1,6 @@
 -- What was found was so at a moment.
-use Rattle.std.proofs.Common.{◌≡◌, ℕ, ◌<◌, Bool, true, false, Option, Some, None, refl, subst, arith}
-use Rattle.std.proofs.lemmas.Bool.Decides.{nat_tests}
-use Rattle.vbr_machine.specs.Start.{IsStart}
-use Rattle.vbr_words.specs.Words.{link_of}
-use Rattle.vbr_words.specs.declared.place.At.{At}
-use Rattle.vbr_machine.specs.Knowledge.{Know}
-use Rattle.vbr_machine.specs.Membership.{KeyAt, StandsBefore}
-use Rattle.vbr_slots.specs.Calls.{IsSame, Quiet}
-use Rattle.vbr_slots.specs.Views.{Trace, knows}
-use Rattle.vbr_slots.proofs.Lemmas.{moment_before}
-use Rattle.vbr_at_table.specs.Keeping.{Keeps}
-use Rattle.vbr_at_table.specs.Moments.{Stood, WasSo}
-use Rattle.vbr_at_table.specs.declared.held.Held.{Held}
-use Rattle.vbr_at_table.proofs.Lemmas.{stood_before, was_absent, was_present}
+use Rattle.vbr_list.proofs.Names.{◌≡◌, ℕ, ◌<◌, Bool, true, false, Option, Some, None, refl, subst, arith, nat_tests}
+use Rattle.vbr_list.proofs.Names.{At, Held, IsSame, IsStart, Keeps, KeyAt, Know, knows, link_of, moment_before, Quiet, StandsBefore, Stood, stood_before, Trace, was_absent, was_present, WasSo}
 use Rattle.vbr_list.specs.Found.{CurStood, IsFound}
 use Rattle.vbr_list.specs.Places.{IsCur, IsEnd}
 use Rattle.vbr_list.specs.Traversing.{HasComeTo}

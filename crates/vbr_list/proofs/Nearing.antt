@@ -1,20 +1,6 @@
 -- A pass that was alone comes nearer to the key, node by node.
-use Rattle.std.proofs.Common.{◌≡◌, ℕ, suc, true, sym, ap, ◌∙◌, subst, inr}
-use Rattle.std.specs.Prelude.{Result, Ok, Err, IfErr}
-use Rattle.vbr_words.specs.Words.{link_of}
-use Rattle.vbr_words.specs.declared.place.At.{At}
-use Rattle.vbr_words.specs.declared.place.At.TheVariants.{Slot}
-use Rattle.vbr_machine.specs.Nodes.{is_there}
-use Rattle.vbr_machine.proofs.Lemmas.{named_there, one_fewer_behind}
-use Rattle.vbr_slots.specs.Alone.{IsAlone, LeavesLists, ahead, nodes}
-use Rattle.vbr_slots.specs.Calls.{Quiet}
-use Rattle.vbr_slots.specs.Views.{Trace, PassView, knows}
-use Rattle.vbr_slots.proofs.Lemmas.{alone_first, alone_then, same_leaves}
-use Rattle.vbr_at_table.specs.Alone.{StandsNow}
-use Rattle.vbr_at_table.specs.Held.{Names}
-use Rattle.vbr_at_table.specs.Reading.{ReadsIn}
-use Rattle.vbr_slots.specs.PassLaw.{PassLaw}
-use Rattle.vbr_at_table.specs.declared.held.Held.{Held}
+use Rattle.vbr_list.proofs.Names.{◌≡◌, ℕ, suc, true, sym, ap, ◌∙◌, subst, inr, Result, Ok, Err, IfErr}
+use Rattle.vbr_list.proofs.Names.{ahead, alone_first, alone_then, At, Held, is_there, IsAlone, knows, LeavesLists, link_of, named_there, Names, nodes, one_fewer_behind, PassLaw, PassView, Quiet, ReadsIn, same_leaves, Slot, StandsNow, Trace}
 use Rattle.vbr_list.specs.Nearing.{StandsInList, StillAt}
 use Rattle.vbr_list.specs.Places.{IsPlaceIn}
 use Rattle.vbr_list.specs.Visiting.{ComesNearer}
@@ -56,4 +42,3 @@ comes_nearer p sound q bucket here node x there stands s names at quiet same sti
 pub either : {A E P : Type 0} (x : Result A E) → P → IfErr x (λ _. P)
 either (Ok a) p = tt
 either (Err e) p = p
-

@@ -1,21 +1,7 @@
 -- The steps of an insert, and what its refusals say.
-use Rattle.std.proofs.Common.{◌≡◌, ◌≢◌, ℕ, ◌+◌, ◌-◌, ◌<◌, ◌≤◌, Bool, true, false, List, [], ◌∷◌, length, Result, Ok, Err, inl, refl, sym, ◌∙◌, subst, arith}
-use Rattle.std.specs.Prelude.{IfOk, IfErr}
-use Rattle.std.specs.Result.{is_err, is_ok}
-use Rattle.vbr_words.specs.declared.nodes.Nodes.{Ghosts}
-use Rattle.vbr_machine.specs.Start.{Start}
-use Rattle.vbr_machine.specs.History.{set_call}
-use Rattle.vbr_machine.specs.Runs.{Begins, IsRun}
+use Rattle.vbr_list.proofs.Names.{◌≡◌, ◌≢◌, ℕ, ◌+◌, ◌-◌, ◌<◌, ◌≤◌, Bool, true, false, List, [], ◌∷◌, length, Result, Ok, Err, inl, refl, sym, ◌∙◌, subst, arith, IfOk, IfErr, is_err, is_ok}
+use Rattle.vbr_list.proofs.Names.{Begins, counts_on, CountsSteps, Ghosts, had_grown, had_on, IsRun, IsSame, IsSpent, LeavesRoom, Made, made_on, missed_after, needed_after, none_on, Op, PassView, Quiet, set_call, shared_taken, shares_more, slots_kept_on, Start, TakesNoSlot, Took, took_all, TookWithin, Trace, WasSo}
 use Rattle.vbr_machine.specs.declared.history.Call.{Call as ListedCall}
-use Rattle.vbr_machine.specs.declared.history.Op.{Op}
-use Rattle.vbr_slots.specs.Calls.{IsSame, Quiet, Made, Took}
-use Rattle.vbr_slots.specs.Views.{Trace, PassView}
-use Rattle.vbr_slots.proofs.Lemmas.{made_on}
-use Rattle.vbr_at_table.specs.Refusals.{IsSpent, LeavesRoom}
-use Rattle.vbr_at_table.specs.Steps.{CountsSteps, TookWithin}
-use Rattle.vbr_at_table.specs.KeptSlots.{TakesNoSlot}
-use Rattle.vbr_at_table.proofs.Lemmas.{counts_on, had_grown, had_on, none_on, slots_kept_on, missed_after, needed_after, shared_taken, shares_more, took_all}
-use Rattle.vbr_at_table.specs.Moments.{WasSo}
 use Rattle.vbr_list.specs.Inserting.{CountsWithin, InsertIsShort, InsertShowsSpent, Prepares, RefusesInsert, TakesNone}
 use Rattle.vbr_list.specs.Pieces.{GoesOn, HasRoom, IsSameCall, pass_in, trace_in}
 use Rattle.vbr_list.specs.Refusals.{IsRefusedInsert}

@@ -1,23 +1,6 @@
 -- The call that replaces a value, once it has a slot in hand: what it tells, answered or refused.
-use Rattle.std.proofs.Common.{◌≡◌, ℕ, ◌+◌, true, false, refl, inl, inr, ◌*◌, ◌≤◌, Option, Some, None, Result, Ok, Err, subst, arith}
-use Rattle.std.specs.Prelude.{IfErr, IfOk, ◌⊎◌, is_some}
-use Rattle.vbr_words.specs.declared.nodes.Nodes.{Ghosts}
-use Rattle.vbr_machine.specs.Start.{Start, IsStart}
-use Rattle.vbr_machine.specs.History.{set_call}
-use Rattle.vbr_machine.specs.Runs.{Begins, IsRun}
-use Rattle.vbr_machine.specs.declared.history.Call.{Call}
-use Rattle.vbr_machine.proofs.Lemmas.{begins_trans}
-use Rattle.vbr_slots.specs.Alone.{IsAlone}
-use Rattle.vbr_machine.specs.declared.history.Op.TheVariants.{Insert, Remove}
-use Rattle.vbr_slots.specs.Calls.{IsSame, Made, Quiet}
-use Rattle.vbr_slots.specs.Views.{PassView, Trace}
-use Rattle.vbr_slots.proofs.Lemmas.{quiet_on}
-use Rattle.vbr_at_table.specs.Advances.{AdvancesWhereNeeded}
-use Rattle.vbr_at_table.specs.KeptSlots.{HasStill, KeepsSlots, SharesWhereFull}
-use Rattle.vbr_at_table.specs.Replacing.{MadeTwo}
-use Rattle.vbr_at_table.specs.Steps.{TookWithin}
-use Rattle.vbr_at_table.specs.Values.{entry_call}
-use Rattle.vbr_at_table.proofs.Lemmas.{had_on, longer, needed_before, shared_on, shares_more, slots_kept_on, two_on}
+use Rattle.vbr_list.proofs.Names.{◌≡◌, ℕ, ◌+◌, true, false, refl, inl, inr, ◌*◌, ◌≤◌, Option, Some, None, Result, Ok, Err, subst, arith, IfErr, IfOk, ◌⊎◌, is_some}
+use Rattle.vbr_list.proofs.Names.{AdvancesWhereNeeded, Begins, begins_trans, Call, entry_call, Ghosts, had_on, HasStill, Insert, IsAlone, IsRun, IsSame, IsStart, KeepsSlots, longer, Made, MadeTwo, needed_before, PassView, Quiet, quiet_on, Remove, set_call, shared_on, shares_more, SharesWhereFull, slots_kept_on, Start, TookWithin, Trace, two_on}
 use Rattle.vbr_list.specs.Budgets.{enough_to_unlist, listed_for}
 use Rattle.vbr_list.specs.Disturbed.{disturbed, enough_to_replace_among, replace_costs_among, searches_more, steps_for_slot}
 use Rattle.vbr_list.specs.Inserting.{CountsWithin, InsertIsShort, Links, SearchedFor}

@@ -1,22 +1,9 @@
 -- The steps of a replacement, and what its refusals say.
-use Rattle.std.proofs.Common.{◌≡◌, ℕ, ◌+◌, ◌*◌, ◌≤◌, true, [], Option, Some, None, Result, Ok, Err, sym, ap, ◌∙◌, arith}
-use Rattle.std.proofs.lemmas.Nat.{mul-le}
-use Rattle.vbr_machine.specs.Start.{Start, IsStart}
-use Rattle.vbr_machine.specs.Accounts.{incarnations_after}
-use Rattle.vbr_machine.specs.Runs.{Begins, IsRun}
-use Rattle.vbr_machine.proofs.Lemmas.{begins_trans}
-use Rattle.vbr_slots.specs.Alone.{IsAlone}
-use Rattle.vbr_slots.specs.Calls.{IsSame, Quiet}
-use Rattle.vbr_slots.specs.Views.{PassView, Trace, knows}
-use Rattle.vbr_at_table.specs.KeptSlots.{HasAllButOne, HasStill}
-use Rattle.vbr_at_table.specs.Moments.{WasSo}
-use Rattle.vbr_at_table.proofs.Lemmas.{counts_on, grows_same, had_grown, took_all}
-use Rattle.vbr_at_table.specs.Steps.{TookWithin}
+use Rattle.vbr_list.proofs.Names.{◌≡◌, ℕ, ◌+◌, ◌*◌, ◌≤◌, true, [], Option, Some, None, Result, Ok, Err, sym, ap, ◌∙◌, arith, mul-le}
+use Rattle.vbr_list.proofs.Names.{Begins, begins_trans, birth_in_hand, counts_on, grows_same, had_grown, HandView, HasAllButOne, HasStill, incarnations_after, IsAlone, IsRun, IsSame, IsStart, knows, PassView, Quiet, Start, took_all, TookWithin, Trace, WasSo}
 use Rattle.vbr_list.specs.Budgets.{LacksSteps, enough_to_insert, listed_for, replace_costs}
 use Rattle.vbr_list.specs.Disturbed.{disturbed, enough_to_replace_among, replace_costs_among, steps_for_slot}
 use Rattle.vbr_list.specs.Inserting.{CountsWithin, HasHandAndRoom, InsertIsShort, SearchedFor, SearchesInVain, TakesNone}
-use Rattle.vbr_machine.specs.Learning.{birth_in_hand}
-use Rattle.vbr_at_table.specs.Hands.{HandView}
 use Rattle.vbr_list.specs.Pieces.{KeepsHand}
 use Rattle.vbr_list.specs.Replacing.{HasUnspent, IsRefusedReplace, SearchesWith, WasPresentFor}
 use Rattle.vbr_list.specs.Walking.{MovesOn, WalksAgain}

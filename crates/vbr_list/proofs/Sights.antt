@@ -1,15 +1,6 @@
 -- What a look-up came to, as what its answer asks.
-use Rattle.std.proofs.Common.{◌≡◌, ℕ, ◌+◌, ◌*◌, ◌≤◌, Bool, true, false, arith}
-use Rattle.vbr_machine.specs.Start.{Start}
-use Rattle.vbr_words.specs.Words.{link_of}
-use Rattle.vbr_words.specs.declared.place.At.{At}
-use Rattle.vbr_words.specs.declared.place.At.TheVariants.{Head, Slot}
-use Rattle.vbr_machine.specs.Knowledge.{Know}
-use Rattle.vbr_machine.specs.Membership.{KeyAt}
-use Rattle.vbr_slots.specs.Views.{Trace}
-use Rattle.vbr_at_table.specs.Held.{IsHeld, IsSlot}
-use Rattle.vbr_at_table.specs.LookUps.{DecidesKey}
-use Rattle.vbr_list.specs.Budgets.{answer_costs, listed_for}
+use Rattle.vbr_list.proofs.Names.{◌≡◌, ℕ, ◌≤◌, Bool, true, false, arith}
+use Rattle.vbr_list.proofs.Names.{At, DecidesKey, Head, IsHeld, IsSlot, KeyAt, Know, link_of, Slot, Start}
 use Rattle.vbr_list.specs.LookingUp.{steps_to_answer}
 use Rattle.vbr_list.specs.Places.{IsSight, sighted, is_present}
 use Rattle.vbr_list.specs.declared.looking.Sight.{Sight}
@@ -37,7 +28,3 @@ module _ (start : Start) (know : Know) (key : ℕ) where
 pub few_to_answer : (gives : Bool) → steps_to_answer gives ≤ 3
 few_to_answer true = omega arith
 few_to_answer false = omega arith
-
-pub costs_alone : (gives : Bool) (p : Trace) (key since : ℕ) → since ≤ (0 + 1) * (5 * (listed_for p key + 0) + (3 + steps_to_answer gives)) → since ≤ answer_costs gives p key
-costs_alone true p key since paid = omega (arith, paid)
-costs_alone false p key since paid = omega (arith, paid)

@@ -1,16 +1,6 @@
 -- The steps of an insert: of a slot, and of a pass that was alone.
-use Rattle.std.proofs.Common.{◌≡◌, ◌≢◌, ℕ, ◌+◌, ◌*◌, ◌<◌, ◌≤◌, List, [], ◌∷◌, Result, Ok, Err, refl, sym, subst, arith}
-use Rattle.std.specs.Prelude.{IfErr}
-use Rattle.vbr_machine.specs.Start.{Start}
-use Rattle.vbr_slots.specs.Alone.{IsAlone}
-use Rattle.vbr_slots.specs.Calls.{Quiet}
-use Rattle.vbr_slots.specs.Views.{Trace, PassView}
-use Rattle.vbr_machine.specs.Runs.{Begins}
-use Rattle.vbr_at_table.specs.Budgets.{most_to_take, most_to_take_among, steps_to_take_among}
-use Rattle.vbr_at_table.specs.Gained.{gained}
-use Rattle.vbr_at_table.proofs.Lemmas.{alone_gained, gained_on, gained_since, more_lost, none_lost}
-use Rattle.vbr_at_table.specs.Steps.{TookWithin}
-use Rattle.vbr_at_table.specs.Values.{steps_to_value}
+use Rattle.vbr_list.proofs.Names.{◌≡◌, ◌≢◌, ℕ, ◌+◌, ◌*◌, ◌<◌, ◌≤◌, List, [], ◌∷◌, Result, Ok, Err, refl, sym, subst, arith, IfErr}
+use Rattle.vbr_list.proofs.Names.{alone_gained, Begins, gained, gained_on, gained_since, IsAlone, more_lost, most_to_take, most_to_take_among, none_lost, PassView, Quiet, Start, steps_to_take_among, steps_to_value, TookWithin, Trace}
 use Rattle.vbr_list.specs.Budgets.{IsAnsweredOrSpent, LacksSteps, enough_to_insert, insert_costs, listed_for}
 use Rattle.vbr_list.specs.Disturbed.{disturbed, enough_to_insert_among, insert_costs_among, steps_for_slot}
 use Rattle.vbr_list.specs.Inserting.{InsertIsShort, RefusesInsert}

@@ -1,30 +1,6 @@
 -- What a walk to a key, and an unlinking, show of removed nodes: they have left their list.
-use Rattle.std.proofs.Common.{◌≡◌, ℕ, ◌+◌, ◌≤◌, Bool, true, false, Option, Some, None, refl, sym, subst, arith}
-use Rattle.std.specs.Prelude.{IfSome, IfNone}
-use Rattle.vbr_words.specs.declared.nodes.Nodes.{Ghosts}
-use Rattle.vbr_words.specs.Words.{link_of}
-use Rattle.vbr_words.specs.declared.place.At.{At}
-use Rattle.vbr_words.specs.declared.place.At.TheVariants.{Slot}
-use Rattle.vbr_machine.specs.Start.{Start, IsStart}
-use Rattle.vbr_machine.specs.Accounts.{incarnations_after}
-use Rattle.vbr_machine.specs.Agreement.{IsHeldIncarnation}
-use Rattle.vbr_machine.specs.Membership.{KeyAt, StandsBehind}
-use Rattle.vbr_machine.specs.Moments.{WasShown}
-use Rattle.vbr_machine.specs.Removals.{HasLeft, ReplacedAt, ReplacedLeft}
-use Rattle.vbr_machine.specs.Runs.{IsRun}
-use Rattle.vbr_machine.specs.Sound.{IsRemoved}
-use Rattle.vbr_machine.specs.declared.knowledge.Read.TheVariants.{KeyOf}
-use Rattle.vbr_machine.proofs.Lemmas.{begins_refl, found_left, has_key, held_key, held_on, left_on, passed_left, removed_on, replaced_earlier, replaced_later, skipped_left}
-use Rattle.vbr_slots.specs.Alone.{nodes}
-use Rattle.vbr_slots.specs.Calls.{IsSame, Quiet}
-use Rattle.vbr_slots.specs.Views.{Trace, knows}
-use Rattle.vbr_slots.proofs.Lemmas.{same_on}
-use Rattle.vbr_at_table.specs.Held.{HoldsMarked}
-use Rattle.vbr_at_table.specs.Keeping.{Keeps}
-use Rattle.vbr_at_table.specs.Moments.{IsRead}
-use Rattle.vbr_at_table.specs.declared.budget.TheConstants.{PIECE}
-use Rattle.vbr_at_table.specs.declared.held.Held.{Held}
-use Rattle.vbr_at_table.specs.declared.held.Marked.{Marked}
+use Rattle.vbr_list.proofs.Names.{◌≡◌, ℕ, ◌+◌, ◌≤◌, Bool, true, false, Option, Some, None, refl, sym, subst, arith, IfSome, IfNone}
+use Rattle.vbr_list.proofs.Names.{At, begins_refl, found_left, Ghosts, has_key, HasLeft, Held, held_key, held_on, HoldsMarked, incarnations_after, IsHeldIncarnation, IsRead, IsRemoved, IsRun, IsSame, IsStart, Keeps, KeyAt, KeyOf, knows, left_on, link_of, Marked, nodes, passed_left, PIECE, Quiet, removed_on, replaced_earlier, replaced_later, ReplacedAt, ReplacedLeft, same_on, skipped_left, Slot, StandsBehind, Start, Trace, WasShown}
 use Rattle.vbr_list.specs.Found.{CurStood, IsFound}
 use Rattle.vbr_list.specs.Leaving.{LeavesAt, LeavesReplaced, Sweeps}
 use Rattle.vbr_list.specs.Pieces.{trace_in}

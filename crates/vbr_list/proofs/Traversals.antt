@@ -1,15 +1,9 @@
 -- How far the loop of a traversal or of a look-up has come: what its pass did since it began, and where it stands.
-use Rattle.std.specs.Prelude.{ℕ, ◌<◌}
-use Rattle.vbr_machine.specs.Start.{Start}
-use Rattle.vbr_words.specs.Words.{link_of}
-use Rattle.vbr_machine.specs.Knowledge.{Know}
-use Rattle.vbr_machine.specs.Membership.{LeadsTo}
-use Rattle.vbr_at_table.specs.declared.held.Held.{Held}
+use Rattle.vbr_list.proofs.Names.{ℕ, ◌<◌}
+use Rattle.vbr_list.proofs.Names.{Held, IsFresh, Know, knows, LeadsTo, link_of, PassView, Start}
 use Rattle.vbr_list.specs.Pieces.{Peeks, Tries}
 use Rattle.vbr_list.specs.Places.{IsInside, IsPred}
 use Rattle.vbr_list.specs.Traversing.{HasComeTo}
-use Rattle.vbr_slots.specs.Alone.{IsFresh}
-use Rattle.vbr_slots.specs.Views.{PassView, knows}
 use Rattle.vbr_list.specs.Walking.{Walks}
 
 -- known marked links lead from a place before the key to another place of the list, or to itself

@@ -1,20 +1,6 @@
 -- Reading a value, and the steps that it takes.
-use Rattle.std.proofs.Common.{◌≡◌, ℕ, ◌+◌, ◌<◌, ◌≤◌, Bool, true, false, Option, Some, arith, refl, sym, ap, ◌∙◌, subst}
-use Rattle.vbr_words.specs.declared.nodes.Nodes.{Ghosts}
-use Rattle.vbr_machine.specs.Start.{Start}
-use Rattle.vbr_words.specs.declared.place.At.{At}
-use Rattle.vbr_machine.specs.Knowledge.{Know}
-use Rattle.vbr_slots.specs.Calls.{IsSame, Took}
-use Rattle.vbr_slots.specs.Views.{PassView, Trace}
-use Rattle.vbr_slots.proofs.Lemmas.{adds_refl, loads_refl, quiet_refl}
-use Rattle.vbr_at_table.proofs.Lemmas.{counts_none, counts_on, none_refl, took_all}
-use Rattle.vbr_at_table.specs.Held.{IsSlot}
-use Rattle.vbr_at_table.specs.Keeping.{KeepsOwn}
-use Rattle.vbr_at_table.specs.KeptSlots.{TakesNoSlot}
-use Rattle.vbr_at_table.specs.Steps.{CountsSteps}
-use Rattle.vbr_at_table.specs.Reading.{ReadsIn}
-use Rattle.vbr_at_table.specs.Values.{steps_to_update, steps_to_value}
-use Rattle.vbr_at_table.specs.declared.held.Held.{Held}
+use Rattle.vbr_list.proofs.Names.{◌≡◌, ℕ, ◌+◌, ◌<◌, ◌≤◌, Bool, true, false, Option, Some, arith, refl, sym, ap, ◌∙◌, subst}
+use Rattle.vbr_list.proofs.Names.{adds_refl, At, counts_none, counts_on, CountsSteps, Ghosts, Held, IsSame, IsSlot, KeepsOwn, Know, loads_refl, none_refl, PassView, quiet_refl, ReadsIn, Start, steps_to_update, steps_to_value, TakesNoSlot, Took, took_all, Trace}
 use Rattle.vbr_list.specs.Budgets.{steps_to_value_of, steps_where}
 use Rattle.vbr_list.specs.Inserting.{Publishes}
 use Rattle.vbr_list.specs.Pieces.{Goes, IsSameCall, KeepsHand, Settles, pass_in, trace_in}

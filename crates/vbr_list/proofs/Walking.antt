@@ -1,34 +1,10 @@
 -- A walk goes on from place to place, whatever others do meanwhile; and it begins again only where it was disturbed.
-use Rattle.std.proofs.Common.{◌≡◌, ℕ, suc, ◌+◌, ◌*◌, ◌<◌, ◌≤◌, true, false, List, Option, Some, None, refl, sym, ap, ◌∙◌, subst, arith}
-use Rattle.std.proofs.Common.{Bool}
-use Rattle.std.specs.Option.{is_some}
-use Rattle.std.proofs.lemmas.Nat.{mul-le}
-use Rattle.vbr_words.specs.Words.{link_of}
-use Rattle.vbr_words.specs.Buckets.{bucket_of}
-use Rattle.vbr_words.specs.declared.place.At.{At}
-use Rattle.vbr_words.specs.declared.place.At.TheVariants.{Head, Slot}
-use Rattle.vbr_machine.specs.Start.{Start, IsStart}
-use Rattle.vbr_machine.specs.Accounts.{incarnations_after, own_entries}
-use Rattle.vbr_machine.specs.Disturbances.{HasVisited, IsAhead, IsOpenIn, own_changes}
-use Rattle.vbr_machine.specs.Membership.{HeldIn}
-use Rattle.vbr_machine.specs.Images.{link_shown_at}
-use Rattle.vbr_machine.specs.Machine.{link_at}
-use Rattle.vbr_machine.specs.Runs.{Begins, IsRun, world_after}
-use Rattle.vbr_machine.specs.declared.event.Event.{Event}
-use Rattle.vbr_machine.proofs.Lemmas.{ahead_few, begins_refl, begins_run, begins_trans, disturbances_grow, head_visited, next_visited, own_between, shown_there, since, unmarked_open, visited_few, visited_on}
-use Rattle.vbr_slots.specs.Alone.{IsFresh}
-use Rattle.vbr_slots.specs.Calls.{IsSame, Quiet}
-use Rattle.vbr_slots.specs.Views.{Trace, knows}
-use Rattle.vbr_slots.proofs.Lemmas.{quiet_on, same_on}
-use Rattle.vbr_at_table.specs.Held.{held_of}
-use Rattle.vbr_at_table.specs.declared.held.Held.{Held}
-use Rattle.vbr_at_table.specs.declared.held.Marked.{Marked}
+use Rattle.vbr_list.proofs.Names.{◌≡◌, ℕ, suc, ◌+◌, ◌*◌, ◌<◌, ◌≤◌, true, false, List, Option, Some, None, refl, sym, ap, ◌∙◌, subst, arith, Bool, is_some, mul-le}
+use Rattle.vbr_list.proofs.Names.{advances, ahead_few, At, Begins, begins_refl, begins_run, begins_trans, bucket_of, disturbances_grow, Event, HasVisited, Head, head_visited, Held, held_of, HeldIn, incarnations_after, IsAhead, IsFresh, IsOpenIn, IsRun, IsSame, IsStart, knows, link_at, link_of, link_shown_at, Marked, next_visited, own_between, own_changes, own_entries, Quiet, quiet_on, same_on, shown_there, since, Slot, Start, steps_to_update, steps_to_value, Trace, unmarked_open, visited_few, visited_on, world_after}
 use Rattle.vbr_list.specs.Helping.{OpensPlace}
 use Rattle.vbr_list.specs.Budgets.{listed_for}
 use Rattle.vbr_list.specs.declared.found.Found.{Found}
-use Rattle.vbr_at_table.specs.Counts.{advances}
 use Rattle.vbr_list.specs.Disturbed.{changed_after, costs_among, disturbed_after, disturbed, enough_among, enough_to_search_among, find_costs_among}
-use Rattle.vbr_at_table.specs.Values.{steps_to_update, steps_to_value}
 use Rattle.vbr_list.specs.Budgets.{LacksSteps, enough_past}
 use Rattle.vbr_list.specs.Disturbed.{enough_to_insert_among, searches_more}
 use Rattle.vbr_at_table.specs.declared.refusal.Refusal.{Refusal}
@@ -338,27 +314,23 @@ module _ (p q r : Trace) (is : IsStart p.start) (ok : IsRun p.start p.passes r.s
   pub lacks_steps : (budget : ℕ) → each ≤ 3 → budget < mid + 8 → budget < enough_among (listed_for p key) (disturbed p r key)
   lacks_steps budget few short = enough_few each x.lost lost (met_since p q key) (met_since q r key) (listed_for p key + disturbed p r key) (disturbed p r key) used mid budget x.repeats.paid rep.paid met_low met_high rounds few short
 
--- what an answer cost, so many steps after a look
-pub paid_answer : (p q m r : Trace) → IsStart p.start → IsRun p.start p.passes r.seen → (key each : ℕ) → IsSame p q → Begins p.seen q.seen → Begins q.seen m.seen → Begins m.seen r.seen → own_entries p.start m.seen p.who ≡ own_entries p.start p.seen p.who →
-    {used mid now_used : ℕ} (x : HasRepeated 5 p q key (3 + each) 0 used) (lost : ℕ) (moment : List Event) → Begins moment m.seen → Repeats 5 q m key 3 used mid (lost + 1) (disturbed_after q key moment + 1) → now_used ≤ mid + each →
-    now_used ≤ (disturbed p m key + 1) * (5 * (listed_for p key + disturbed p m key) + (3 + each))
-paid_answer p q m r is ok key each sq a b c own {used} {mid} {now_used} x lost moment to rep few =
-    let ok_m = begins_run p.start p.passes m.seen r.seen c ok in
-    costs_few each x.lost lost (met_since p q key) (met_since q m key) (listed_for p key + disturbed p m key) (disturbed p m key) used mid now_used x.repeats.paid rep.paid few
-    (met_low p q m is ok_m key each sq a b own x lost moment to rep) (met_high p q m is ok_m key each sq a b own x lost moment to rep) (rounds p q m is ok_m key each sq a b own x lost moment to rep)
-
 -- a later end was disturbed no less
 pub disturbed_on : (p m r : Trace) → IsStart p.start → IsRun p.start p.passes r.seen → (key : ℕ) → Begins m.seen r.seen → disturbed p m key ≤ disturbed p r key
 disturbed_on p m r is ok key c = let x = grows_disturbed p r is ok key m.seen c in omega (arith, x)
 
--- so it costs no more
-more_disturbed : (each n t u now : ℕ) → t ≤ u → each ≤ 3 → now ≤ (t + 1) * (5 * (n + t) + (3 + each)) → now ≤ costs_among n u
-more_disturbed each n t u now l e x =
-    let y = mul-le (t + 1) (5 * (n + t) + (3 + each)) (u + 1) (5 * (n + u) + 6) (omega (arith, l)) (omega (arith, l, e)) in
-    omega (arith, x, y)
-
-pub costs_among_on : (p m r : Trace) → IsStart p.start → IsRun p.start p.passes r.seen → (key each now_used : ℕ) → each ≤ 3 → Begins m.seen r.seen → now_used ≤ (disturbed p m key + 1) * (5 * (listed_for p key + disturbed p m key) + (3 + each)) → now_used ≤ costs_among (listed_for p key) (disturbed p r key)
-costs_among_on p m r is ok key each now_used e c x = more_disturbed each (listed_for p key) (disturbed p m key) (disturbed p r key) now_used (disturbed_on p m r is ok key c) e x
+-- what an answer cost, so many steps after a look
+pub paid_answer : (p q m r : Trace) → IsStart p.start → IsRun p.start p.passes r.seen → (key reading : ℕ) → IsSame p q → Begins p.seen q.seen → Begins q.seen m.seen → Begins m.seen r.seen → own_entries p.start m.seen p.who ≡ own_entries p.start p.seen p.who →
+    {used mid now_used : ℕ} (x : HasRepeated 5 p q key (3 + (1 + reading)) 0 used) (lost : ℕ) (moment : List Event) → Begins moment m.seen → Repeats 5 q m key 3 used mid (lost + 1) (disturbed_after q key moment + 1) → now_used ≤ mid + (1 + reading) →
+    now_used ≤ costs_among (listed_for p key) (disturbed p r key) reading
+paid_answer p q m r is ok key reading sq a b c own {used} {mid} {now_used} x lost moment to rep few =
+    let ok_m = begins_run p.start p.passes m.seen r.seen c ok in
+    let n = listed_for p key in
+    let t = disturbed p m key in
+    let on = disturbed_on p m r is ok key c in
+    let paid = costs_few (1 + reading) x.lost lost (met_since p q key) (met_since q m key) (n + t) t used mid now_used x.repeats.paid rep.paid few
+    (met_low p q m is ok_m key (1 + reading) sq a b own x lost moment to rep) (met_high p q m is ok_m key (1 + reading) sq a b own x lost moment to rep) (rounds p q m is ok_m key (1 + reading) sq a b own x lost moment to rep) in
+    let more = mul-le (t + 1) (5 * (n + t) + (3 + (1 + reading))) (disturbed p r key + 1) (5 * (n + disturbed p r key) + 4 + reading) (omega (arith, on)) (omega (arith, on)) in
+    omega (arith, paid, more)
 
 -- ---- rounds of a search
 

@@ -28,9 +28,9 @@ most_disturbed p q = (incarnations_after p.start q.seen).epoch - (incarnations_a
 abbrev pub enough_among : ℕ → ℕ → ℕ
 enough_among nodes times = (times + 1) * (5 * (nodes + times) + 11)
 
--- the most that it costs where it is answered
-abbrev pub costs_among : ℕ → ℕ → ℕ
-costs_among nodes times = (times + 1) * (5 * (nodes + times) + 6)
+-- the most that it costs where it is answered, with so many steps to read a value
+abbrev pub costs_among : ℕ → ℕ → ℕ → ℕ
+costs_among nodes times reading = (times + 1) * (5 * (nodes + times) + 4 + reading)
 
 -- how often the pass had changed the list of a key's bucket itself, or moved the epoch
 abbrev pub changed_after : Trace → ℕ → List Event → ℕ

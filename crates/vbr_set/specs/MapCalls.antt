@@ -5,7 +5,6 @@ use Rattle.vbr_machine.specs.declared.history.Call.{Call}
 use Rattle.vbr_machine.specs.declared.history.Op.TheVariants.{Remove, Get}
 use Rattle.vbr_slots.specs.Views.{Trace}
 use Rattle.vbr_list.specs.Sparing.{GivesAlone, SparesInsert, SparesLookUp}
-use Rattle.vbr_list.specs.Budgets.{get_costs}
 use Rattle.vbr_list.specs.Leaving.{SparesRemove}
 use Rattle.vbr_list.specs.Told.{given_call, stored_call}
 use Rattle.vbr_at_table.specs.declared.refusal.Refusal.{Refusal}
@@ -29,4 +28,4 @@ RemovesEntry m n key budget answer = CalledBy MapAnswers (given_call m.pass.trac
 
 -- and of a get, which gives the value
 abbrev pub GetsEntry : MemberView → MemberView → ℕ → ℕ → Result (Option ℕ) Refusal → Type 0
-GetsEntry m n key budget answer = CalledBy MapAnswers (given_call m.pass.trace.who Get key) (SparesLookUp (given_call m.pass.trace.who Get key) (get_costs m.pass.trace key) m.pass n.pass key budget) m n budget answer
+GetsEntry m n key budget answer = CalledBy MapAnswers (given_call m.pass.trace.who Get key) (SparesLookUp (given_call m.pass.trace.who Get key) 2 m.pass n.pass key budget) m n budget answer

@@ -1,4 +1,4 @@
-use Rattle.std.proofs.Common.{refl, arith}
+use Rattle.vbr_list.proofs.Names.{refl, arith}
 use Rattle.vbr_list.proofs.ComingBy.{costs_no_more, enough_no_more}
 use Rattle.vbr_list.proofs.Going.{table_on}
 use Rattle.vbr_list.proofs.Nearing.{first_of, then_of}

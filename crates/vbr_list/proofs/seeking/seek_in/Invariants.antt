@@ -1,6 +1,5 @@
-use Rattle.std.proofs.Common.{◌≡◌, ◌-◌}
-use Rattle.vbr_slots.specs.Alone.{IsAlone}
-use Rattle.vbr_slots.specs.AtTables.{IsSameTable}
+use Rattle.vbr_list.proofs.Names.{◌≡◌, ◌-◌}
+use Rattle.vbr_list.proofs.Names.{IsAlone, IsSameTable}
 use Rattle.vbr_list.specs.Pieces.{Peeks}
 use Rattle.vbr_list.proofs.seeking.seek_in.Given as goal
 

@@ -1,8 +1,5 @@
-use Rattle.std.proofs.Common.{◌≡◌, refl, sym, ap, ◌∙◌, subst, arith, Bool, true, false, not, Option, ℕ, Some, None}
-use Rattle.std.specs.Option.{is_none, is_some}
-use Rattle.vbr_words.specs.declared.link.Link.{Link}
-use Rattle.vbr_slots.proofs.Lemmas.{quiet_on}
-use Rattle.vbr_at_table.specs.declared.held.Held.{Held}
+use Rattle.vbr_list.proofs.Names.{◌≡◌, refl, sym, ap, ◌∙◌, subst, arith, Bool, true, false, not, Option, ℕ, Some, None, is_none, is_some}
+use Rattle.vbr_list.proofs.Names.{Held, Link, quiet_on}
 use Rattle.vbr_list.proofs.Going.{table_on}
 use Rattle.vbr_list.proofs.Nearing.{first_of, then_of}
 use Rattle.vbr_list.proofs.Following.{Follows, follows_head, follows_marked, follows_node, next_paid, peeks_value, peeks_visit, tells_next, tells_none}
