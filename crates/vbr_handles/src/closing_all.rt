@@ -112,7 +112,7 @@ fn end_all<N: Kind, I: Listed<N>, H: HandleOf<N>>(
         (EndsAll H.member (ClosesBy N.kind) I.listing members.items [] room) }
     ensures not { IfErr result
         (λ e. IsUnended (ClosesBy N.kind) I.listing H.member
-            members.items [] [] room e.0 e.1.items) }
+        members.items [] [] room e.0 e.1.items) }
 {
     match Member::<N>::report_all(alloc, members) {
         Ok((report, members)) => {

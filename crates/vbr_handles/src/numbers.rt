@@ -22,8 +22,8 @@ use crate::opening::{OpenRefusal, ShapeNumbers};
 use crate::owner::Owner;
 use crate::report_numbers::ReportNumbers;
 use std::alloc::Global;
-use vbr_set::{Kind, Refusal};
 use vbr_set::member::Member;
+use vbr_set::{Kind, Refusal};
 use vbr_words::{Keys, Nodes};
 
 const NO: i32 = 0;

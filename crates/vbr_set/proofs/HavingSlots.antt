@@ -1,5 +1,5 @@
 -- A pass has all its slots, and has unlinked in turn, from call to call.
-use Rattle.std.proofs.Common.{ℕ, Bool, Result, List, [], ◌∷◌, subst, sym, refl}
+use Rattle.std.proofs.Common.{ℕ, List, [], ◌∷◌, subst, sym, refl, inl, inr}
 use Rattle.vbr_machine.specs.Start.{Start}
 use Rattle.vbr_machine.specs.Acceptance.{IsUnlinked, MayBear}
 use Rattle.vbr_machine.specs.Knowledge.{Know}
@@ -13,18 +13,33 @@ use Rattle.vbr_slots.specs.Views.{Did, KeepsPool, PassView, TableView, Trace, ne
 use Rattle.vbr_at_table.specs.KeptSlots.{HasSlot, KeepsSlots, UnlinkedInTurn}
 use Rattle.vbr_at_table.proofs.Lemmas.{did_none, did_stay_turn, turn_others}
 use Rattle.vbr_at_table.specs.declared.refusal.Refusal.{Refusal}
-use Rattle.vbr_set.specs.Members.{Called, MemberView}
+use Rattle.vbr_set.specs.Members.{MemberView}
+use Rattle.vbr_set.specs.MapCalls.{IsCall, IsMapCall, IsSetCall}
 use Rattle.vbr_set.specs.Room.{HasAllSlots}
 use Rattle.vbr_set.specs.Tokens.{CatchesUp}
 
 all_kept : (p q : PassView) → KeepsSlots p q → HasAllSlots p → HasAllSlots q
 all_kept p q kept all = record { free = λ slot m. kept.free slot (m, λ before. all.free slot before); stamped = λ slot u. all.stamped slot (kept.stamped slot u) }
 
-pub all_called : (op : Op) (m n : MemberView) (key budget : ℕ) (answer : Result Bool Refusal) → HasAllSlots m.pass → Called op m n key budget answer → HasAllSlots n.pass
-all_called Insert m n key budget answer all c = all_kept m.pass n.pass c.spares.kept all
-all_called Remove m n key budget answer all c = all_kept m.pass n.pass c.spares.takes_no_slot.kept all
-all_called Has m n key budget answer all c = all_kept m.pass n.pass c.spares.takes_no_slot.kept all
-all_called Get m n key budget answer all c = absurd c.spares
+-- what a call of a set keeps, or one of a map
+set_kept : (op : Op) (m n : MemberView) → IsSetCall op m n → KeepsSlots m.pass n.pass
+set_kept Insert m n (key, budget, answer, c) = c.spares.kept
+set_kept Remove m n (key, budget, answer, c) = c.spares.takes_no_slot.kept
+set_kept Has m n (key, budget, answer, c) = c.spares.takes_no_slot.kept
+set_kept Get m n (key, budget, answer, c) = absurd c.spares
+
+map_kept : (op : Op) (m n : MemberView) → IsMapCall op m n → KeepsSlots m.pass n.pass
+map_kept Insert m n (key, value, budget, answer, c) = c.spares.kept
+map_kept Remove m n (key, budget, answer, c) = c.spares.takes_no_slot.kept
+map_kept Has m n call = set_kept Has m n call
+map_kept Get m n (key, budget, answer, c) = c.spares.takes_no_slot.kept
+
+call_kept : (op : Op) (m n : MemberView) → IsCall op m n → KeepsSlots m.pass n.pass
+call_kept op m n (inl call) = set_kept op m n call
+call_kept op m n (inr call) = map_kept op m n call
+
+pub all_called : (op : Op) (m n : MemberView) → HasAllSlots m.pass → IsCall op m n → HasAllSlots n.pass
+all_called op m n all call = all_kept m.pass n.pass (call_kept op m n call) all
 
 pub all_met : (p q : PassView) (epoch : ℕ) → HasAllSlots p → Did ReadEpoch p.trace q.trace epoch → KeepsPool p q → HasAllSlots q
 all_met p q epoch all did pool = all_kept p q (did_none did refl pool).kept all
@@ -45,11 +60,8 @@ pub turn_opened : (set : TableView) (who : ℕ) → UnlinkedInTurn (new_trace se
 turn_opened set who [] later pred expected s e = absurd (cc)
 turn_opened set who (x ∷ before) later pred expected s e = absurd (cc)
 
-pub turn_called : (op : Op) (m n : MemberView) (key budget : ℕ) (answer : Result Bool Refusal) → HasAllSlots m.pass → UnlinkedInTurn m.pass.trace → Called op m n key budget answer → UnlinkedInTurn n.pass.trace
-turn_called Insert m n key budget answer all turn c = c.spares.kept.turn all.stamped turn
-turn_called Remove m n key budget answer all turn c = c.spares.takes_no_slot.kept.turn all.stamped turn
-turn_called Has m n key budget answer all turn c = c.spares.takes_no_slot.kept.turn all.stamped turn
-turn_called Get m n key budget answer all turn c = absurd c.spares
+pub turn_called : (op : Op) (m n : MemberView) → HasAllSlots m.pass → UnlinkedInTurn m.pass.trace → IsCall op m n → UnlinkedInTurn n.pass.trace
+turn_called op m n all turn call = (call_kept op m n call).turn all.stamped turn
 
 pub turn_met : (p q : Trace) (epoch : ℕ) → UnlinkedInTurn p → Did ReadEpoch p q epoch → UnlinkedInTurn q
 turn_met p q epoch turn did = did_stay_turn did refl turn

@@ -28,8 +28,9 @@ use Rattle.vbr_list.specs.Cursors.{SeesMore}
 use Rattle.vbr_list.specs.Disturbed.{disturbed, steps_for_slot}
 use Rattle.vbr_at_table.specs.declared.refusal.Refusal.{Refusal}
 use Rattle.vbr_list.proofs.Lemmas.{enough_among_more, enough_to_insert_more, enough_to_search_more, lacks_more, sees_on}
-use Rattle.vbr_set.specs.MapCalls.{MapAnswers}
-use Rattle.vbr_set.specs.Members.{Called, CalledBy, MemberView}
+use Rattle.vbr_set.specs.Answers.{Answers}
+use Rattle.vbr_set.specs.MapCalls.{IsCall, IsMapCall, IsSetCall, MapAnswers}
+use Rattle.vbr_set.specs.Members.{CalledBy, MemberView}
 use Rattle.vbr_set.specs.Stretches.{BeganIn, CameBy, PassesComeByCalls, Stretch, StretchesDisturb, StretchesMakeProgress, inserts_begun, most_disturbed_by}
 use Rattle.vbr_set.specs.Tokens.{CatchesUp}
 use Rattle.vbr_set.proofs.PassSums.{one_in_sum, sum_both, sum_no_more, sum_same}
@@ -140,19 +141,37 @@ one_for_an_insert p q (inr once) = let one = once.count in omega (arith, one)
 none_else : (p q : PassView) → advances q.trace ≡ advances p.trace → advances q.trace ≤ advances p.trace + 0
 none_else p q same = omega (arith, same)
 
-sees_called : (op : Op) (m n : MemberView) (key budget : ℕ) (answer : Result Bool Refusal) → PassLaw m.pass → Called op m n key budget answer → SeesMore m.pass.trace n.pass.trace
-sees_called op m n key budget (Ok reply) law c = record { same = c.same; begins = c.answers.begins; is_run = c.answers.is_run }
-sees_called op m n key budget (Err refusal) law c = record { same = c.same; begins = c.quiet.seen; is_run = c.quiet.is_run law.is_run }
+-- what an answered call has seen begins with what its pass had seen, and is a run
+record GoesOn (p q : Trace) : Type 0 where
+  begins : Begins p.seen q.seen
+  is_run : IsRun q.start q.passes q.seen
 
-sees_entry : {A : Type 0} (told : A → Call) (SparesSo : Result A Refusal → Type 0) (m n : MemberView) (budget : ℕ) (answer : Result A Refusal) → PassLaw m.pass → CalledBy MapAnswers told SparesSo m n budget answer → SeesMore m.pass.trace n.pass.trace
-sees_entry told SparesSo m n budget (Ok reply) law c = record { same = c.same; begins = c.answers.answers.begins; is_run = c.answers.answers.is_run }
-sees_entry told SparesSo m n budget (Err refusal) law c = record { same = c.same; begins = c.quiet.seen; is_run = c.quiet.is_run law.is_run }
+module _ {A : Type 0} (Leaves : Call → Trace → Trace → Type 0) (goes : (call : Call) (p q : Trace) → Leaves call p q → GoesOn p q) (told : A → Call) (SparesSo : Result A Refusal → Type 0) where
+  sees_called : (m n : MemberView) (budget : ℕ) (answer : Result A Refusal) → PassLaw m.pass → CalledBy Leaves told SparesSo m n budget answer → SeesMore m.pass.trace n.pass.trace
+  sees_called m n budget (Ok reply) law c = let on = goes (told reply) m.pass.trace n.pass.trace c.answers in record { same = c.same; begins = on.begins; is_run = on.is_run }
+  sees_called m n budget (Err refusal) law c = record { same = c.same; begins = c.quiet.seen; is_run = c.quiet.is_run law.is_run }
 
-came_called : (op : Op) (m n : MemberView) (key budget : ℕ) (answer : Result Bool Refusal) → PassLaw m.pass → Called op m n key budget answer → CameBy (inserts_begun op) m.pass n.pass
-came_called Insert m n key budget answer law c = record { sees = sees_called Insert m n key budget answer law c; advances = one_for_an_insert m.pass n.pass c.spares.advances }
-came_called Remove m n key budget answer law c = record { sees = sees_called Remove m n key budget answer law c; advances = none_else m.pass n.pass c.spares.takes_no_slot.count }
-came_called Has m n key budget answer law c = record { sees = sees_called Has m n key budget answer law c; advances = none_else m.pass n.pass c.spares.takes_no_slot.count }
-came_called Get m n key budget answer law c = absurd c.spares
+set_goes : (call : Call) (p q : Trace) → Answers call p q → GoesOn p q
+set_goes call p q a = record { begins = a.begins; is_run = a.is_run }
+
+map_goes : (call : Call) (p q : Trace) → MapAnswers call p q → GoesOn p q
+map_goes call p q a = set_goes call p q a.answers
+
+came_set : (op : Op) (m n : MemberView) → PassLaw m.pass → IsSetCall op m n → CameBy (inserts_begun op) m.pass n.pass
+came_set Insert m n law (key, budget, answer, c) = record { sees = sees_called Answers set_goes _ _ m n budget answer law c; advances = one_for_an_insert m.pass n.pass c.spares.advances }
+came_set Remove m n law (key, budget, answer, c) = record { sees = sees_called Answers set_goes _ _ m n budget answer law c; advances = none_else m.pass n.pass c.spares.takes_no_slot.count }
+came_set Has m n law (key, budget, answer, c) = record { sees = sees_called Answers set_goes _ _ m n budget answer law c; advances = none_else m.pass n.pass c.spares.takes_no_slot.count }
+came_set Get m n law (key, budget, answer, c) = absurd c.spares
+
+came_map : (op : Op) (m n : MemberView) → PassLaw m.pass → IsMapCall op m n → CameBy (inserts_begun op) m.pass n.pass
+came_map Insert m n law (key, value, budget, answer, c) = record { sees = sees_called MapAnswers map_goes _ _ m n budget answer law c; advances = one_for_an_insert m.pass n.pass c.spares.advances }
+came_map Remove m n law (key, budget, answer, c) = record { sees = sees_called MapAnswers map_goes _ _ m n budget answer law c; advances = none_else m.pass n.pass c.spares.takes_no_slot.count }
+came_map Has m n law call = came_set Has m n law call
+came_map Get m n law (key, budget, answer, c) = record { sees = sees_called MapAnswers map_goes _ _ m n budget answer law c; advances = none_else m.pass n.pass c.spares.takes_no_slot.count }
+
+came_called : (op : Op) (m n : MemberView) → PassLaw m.pass → IsCall op m n → CameBy (inserts_begun op) m.pass n.pass
+came_called op m n law (inl call) = came_set op m n law call
+came_called op m n law (inr call) = came_map op m n law call
 
 -- who met others read the epoch, and who caught up made no step
 sees_met : (p q : Trace) (epoch : ℕ) → Did ReadEpoch p q epoch → SeesMore p q
@@ -194,9 +213,6 @@ come_by_calls =
     record {
       stays = λ p law. record { sees = record { same = same_refl p.trace; begins = begins_refl p.trace.seen; is_run = law.is_run }; advances = omega arith };
       called = came_called;
-      inserted = λ m n key value budget answer law c. record { sees = sees_entry _ _ m n budget answer law c; advances = one_for_an_insert m.pass n.pass c.spares.advances };
-      removed = λ m n key budget answer law c. record { sees = sees_entry _ _ m n budget answer law c; advances = none_else m.pass n.pass c.spares.takes_no_slot.count };
-      got = λ m n key budget answer law c. record { sees = sees_entry _ _ m n budget answer law c; advances = none_else m.pass n.pass c.spares.takes_no_slot.count };
       went_over = λ p q sees none. record { sees = sees; advances = none_else p q none.count };
       met = λ p q epoch did pool. record { sees = sees_met p.trace q.trace epoch did; advances = none_else p q (did_none did refl pool).count };
       caught = came_caught;

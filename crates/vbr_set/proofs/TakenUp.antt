@@ -17,7 +17,9 @@ use Rattle.vbr_at_table.specs.Counts.{flags_raised}
 use Rattle.vbr_at_table.specs.KeptSlots.{SharesWhereFull}
 use Rattle.vbr_list.specs.Refusals.{FoundNoSlot}
 use Rattle.vbr_at_table.specs.declared.refusal.Refusal.TheVariants.{NoSlot}
+use Rattle.vbr_list.specs.declared.refusal.Refusal.{Refusal}
 use Rattle.vbr_set.specs.Histories.{calls_of}
+use Rattle.vbr_set.specs.MapCalls.{InsertRefused}
 use Rattle.vbr_set.specs.Members.{Called, MemberView}
 use Rattle.vbr_set.specs.Room.{AreTakenUp, HasAllSlots, OthersAreBetweenCalls}
 use Rattle.vbr_set.proofs.CountedKeys.{counted_keys}
@@ -30,12 +32,20 @@ none_raised : (p q : PassView) → q.pool ≡ [] → SharesWhereFull 2 p q → f
 none_raised p q empty (inl same) = same
 none_raised p q empty (inr full) = absurd (let none = ap (length {A = ℕ}) empty in omega arith)
 
-module _ (m n : MemberView) (key budget : ℕ) (law : PassLaw n.pass) (all : HasAllSlots m.pass) (c : Called Insert m n key budget (Err NoSlot)) (alone : IsAlone m.pass.trace n.pass.trace) where
+-- an insert that is refused in a map tells what one of a set does
+as_of_set : (m n : MemberView) (key budget : ℕ) (refusal : Refusal) → InsertRefused m n key budget refusal → Called Insert m n key budget (Err refusal)
+as_of_set m n key budget refusal (inl c) = c
+as_of_set m n key budget refusal (inr (value, c)) = record { set = c.set; same = c.same; answers = tt; alone = tt; quiet = c.quiet; safe = c.safe; hand = c.hand; steps = c.steps; spares = c.spares }
+
+module _ (m n : MemberView) (key budget : ℕ) (law : PassLaw n.pass) (all : HasAllSlots m.pass) (refused : InsertRefused m n key budget NoSlot) (alone : IsAlone m.pass.trace n.pass.trace) where
   abbrev p : PassView
   p = m.pass
 
   abbrev q : PassView
   q = n.pass
+
+  c : Called Insert m n key budget (Err NoSlot)
+  c = as_of_set m n key budget NoSlot refused
 
   found : FoundNoSlot p q key
   found = c.spares.refused
@@ -44,7 +54,7 @@ module _ (m n : MemberView) (key budget : ℕ) (law : PassLaw n.pass) (all : Has
   none_shared = ap (λ (start : Start). number_at start q.trace.seen InSharedPool) c.same.start ∙ none_in_shared_pool alone c.same.who (none_raised p q found.still c.spares.shared) found.outside
 
   none_own : number_had q.trace.start q.trace.seen q.trace.who ≡ 0
-  none_own = none_had q (all_called Insert m n key budget (Err NoSlot) all c) found.still c.hand
+  none_own = none_had q (all_called Insert m n all (inl (key, budget, Err NoSlot, c))) found.still c.hand
 
   in_set : (keys : List ℕ) → AreKeysOf keys (set_after (opening_keys q.trace.start) (calls_of q.trace.start q.trace.seen)) → length keys ≡ number_at q.trace.start q.trace.seen InSet
   in_set keys are =

@@ -1,5 +1,5 @@
 -- What the laws of a set say: those of tokens, and those of room.
-use Rattle.std.specs.Prelude.{ℕ, ◌+◌, ◌-◌, ◌*◌, ◌<◌, ◌≤◌, Bool, Err, List, Result, length}
+use Rattle.std.specs.Prelude.{ℕ, ◌+◌, ◌-◌, ◌*◌, ◌<◌, ◌≤◌, Err, List, length}
 use Rattle.vbr_machine.specs.History.{set_after}
 use Rattle.vbr_machine.specs.Keys.{AreKeysOf}
 use Rattle.vbr_machine.specs.Nodes.{marked_after}
@@ -25,7 +25,8 @@ use Rattle.vbr_at_table.specs.declared.refusal.Refusal.{Refusal}
 use Rattle.vbr_at_table.specs.declared.refusal.Refusal.TheVariants.{NoSlot}
 use Rattle.vbr_set.specs.Answers.{Answers}
 use Rattle.vbr_set.specs.Histories.{calls_of}
-use Rattle.vbr_set.specs.Members.{Called, MemberView}
+use Rattle.vbr_set.specs.MapCalls.{InsertRefused, IsCall}
+use Rattle.vbr_set.specs.Members.{MemberView}
 use Rattle.vbr_set.specs.Room.{AreTakenUp, HasAllSlots, OthersAreBetweenCalls}
 use Rattle.vbr_set.specs.Tokens.{CatchesUp, IsChain, IsTokenOf, Precedes, end_of}
 
@@ -61,17 +62,17 @@ CallsStayInOrder =
 
 -- ---- room
 
--- a pass has all its slots when it is opened, and behind each call, answered or refused, each meeting and each catching up
+-- a pass has all its slots when it is opened, and behind each call of a set or a map, answered or refused, each meeting and each catching up
 pub record PassesHaveAllTheirSlots : Type 0 where
   pub opened : (set : TableView) (who : ℕ) → HasAllSlots (new_pass set who)
-  pub called : (op : Op) (m n : MemberView) (key budget : ℕ) (answer : Result Bool Refusal) → HasAllSlots m.pass → Called op m n key budget answer → HasAllSlots n.pass
+  pub called : (op : Op) (m n : MemberView) → HasAllSlots m.pass → IsCall op m n → HasAllSlots n.pass
   pub met : (p q : PassView) (epoch : ℕ) → HasAllSlots p → Did ReadEpoch p.trace q.trace epoch → KeepsPool p q → HasAllSlots q
   pub caught : (set : TableView) (p q : PassView) (token : SeenView) → HasAllSlots p → CatchesUp set p token q → HasAllSlots q
 
--- a pass has unlinked in turn when it is opened, and behind each call, answered or refused, each meeting and each catching up
+-- a pass has unlinked in turn when it is opened, and behind each call of a set or a map, answered or refused, each meeting and each catching up
 pub record PassesUnlinkInTurn : Type 0 where
   pub opened : (set : TableView) (who : ℕ) → UnlinkedInTurn (new_trace set who)
-  pub called : (op : Op) (m n : MemberView) (key budget : ℕ) (answer : Result Bool Refusal) → HasAllSlots m.pass → UnlinkedInTurn m.pass.trace → Called op m n key budget answer → UnlinkedInTurn n.pass.trace
+  pub called : (op : Op) (m n : MemberView) → HasAllSlots m.pass → UnlinkedInTurn m.pass.trace → IsCall op m n → UnlinkedInTurn n.pass.trace
   pub met : (p q : Trace) (epoch : ℕ) → UnlinkedInTurn p → Did ReadEpoch p q epoch → UnlinkedInTurn q
   pub caught : (set : TableView) (p q : PassView) (token : SeenView) → UnlinkedInTurn p.trace → CatchesUp set p token q → UnlinkedInTurn q.trace
 
@@ -83,7 +84,7 @@ OneUnstampedAtEachMoment = (p : Trace) (moment : List Event) → UnlinkedInTurn 
 pub record FoundNoSlot (m n : MemberView) (key budget : ℕ) : Type 0 where
   pub law : PassLaw n.pass
   pub has_all : HasAllSlots m.pass
-  pub called : Called Insert m n key budget (Err NoSlot)
+  pub refused : InsertRefused m n key budget NoSlot
   pub alone : IsAlone m.pass.trace n.pass.trace
 
 -- an insert that is alone finds no slot only where all slots are taken up

@@ -1,5 +1,5 @@
 -- What the calls of all passes did in a stretch of a run, and how often it can have disturbed one of them.
-use Rattle.std.specs.Prelude.{◌≡◌, ℕ, ◌+◌, ◌-◌, ◌*◌, ◌<◌, ◌≤◌, Bool, Err, Option, Result}
+use Rattle.std.specs.Prelude.{◌≡◌, ℕ, ◌+◌, ◌-◌, ◌*◌, ◌<◌, ◌≤◌, Err}
 use Rattle.vbr_machine.specs.Accounts.{incarnations_after}
 use Rattle.vbr_machine.specs.Disturbances.{updates}
 use Rattle.vbr_machine.specs.Nodes.{marked_after}
@@ -18,8 +18,8 @@ use Rattle.vbr_list.specs.Cursors.{SeesMore}
 use Rattle.vbr_list.specs.Disturbed.{disturbed, enough_among, enough_to_insert_among, enough_to_search_among, steps_for_slot}
 use Rattle.vbr_list.specs.Sparing.{Calls}
 use Rattle.vbr_at_table.specs.declared.refusal.Refusal.{Refusal}
-use Rattle.vbr_set.specs.MapCalls.{GetsEntry, InsertsEntry, RemovesEntry}
-use Rattle.vbr_set.specs.Members.{Called, MemberView}
+use Rattle.vbr_set.specs.MapCalls.{IsCall}
+use Rattle.vbr_set.specs.Members.{MemberView}
 use Rattle.vbr_set.specs.Tokens.{CatchesUp}
 
 -- ---- what one pass did
@@ -37,10 +37,7 @@ pub record CameBy (inserts : ℕ) (p q : PassView) : Type 0 where
 -- so it came by each call of a set or a map, answered or refused, by what goes over keys, by each meeting and each catching up, and by one such way after another
 pub record PassesComeByCalls : Type 0 where
   pub stays : (p : PassView) → PassLaw p → CameBy 0 p p
-  pub called : (op : Op) (m n : MemberView) (key budget : ℕ) (answer : Result Bool Refusal) → PassLaw m.pass → Called op m n key budget answer → CameBy (inserts_begun op) m.pass n.pass
-  pub inserted : (m n : MemberView) (key value budget : ℕ) (answer : Result Bool Refusal) → PassLaw m.pass → InsertsEntry m n key value budget answer → CameBy 1 m.pass n.pass
-  pub removed : (m n : MemberView) (key budget : ℕ) (answer : Result (Option ℕ) Refusal) → PassLaw m.pass → RemovesEntry m n key budget answer → CameBy 0 m.pass n.pass
-  pub got : (m n : MemberView) (key budget : ℕ) (answer : Result (Option ℕ) Refusal) → PassLaw m.pass → GetsEntry m n key budget answer → CameBy 0 m.pass n.pass
+  pub called : (op : Op) (m n : MemberView) → PassLaw m.pass → IsCall op m n → CameBy (inserts_begun op) m.pass n.pass
   pub went_over : (p q : PassView) → SeesMore p.trace q.trace → TakesNoSlot p q → CameBy 0 p q
   pub met : (p q : PassView) (epoch : ℕ) → Did ReadEpoch p.trace q.trace epoch → KeepsPool p q → CameBy 0 p q
   pub caught : (set : TableView) (p q : PassView) (token : SeenView) → CatchesUp set p token q → CameBy 0 p q

@@ -3,14 +3,14 @@
 ghost use Rattle.vbr_set.specs.Laws.{NoSlotAlone, OneUnstampedAtEachMoment, PassesHaveAllTheirSlots, PassesUnlinkInTurn, SlotsThatSuffice};
 
 /// A law: a pass has all its slots in its own pool and its hand, and none unstamped, when it is opened,
-/// and behind each call, answered or refused, each meeting and each catching up.
+/// and behind each call of a set or a map, answered or refused, each meeting and each catching up.
 pub fn passes_have_all_their_slots()
     ensures { PassesHaveAllTheirSlots }
 {}
 
 /// A law: a pass has unlinked in turn, each slot only once it had stamped all that it had unlinked
-/// before, when it is opened, and behind each call, answered or refused, each meeting and each catching
-/// up.
+/// before, when it is opened, and behind each call of a set or a map, answered or refused, each meeting
+/// and each catching up.
 pub fn passes_unlink_in_turn()
     ensures { PassesUnlinkInTurn }
 {}
@@ -21,8 +21,8 @@ pub fn one_unstamped_at_each_moment()
     ensures { OneUnstampedAtEachMoment }
 {}
 
-/// A law: an insert that is alone is told NoSlot only where the keys of the set, the marked nodes and
-/// what the other passes have make up all slots.
+/// A law: an insert that is alone, in a set or in a map, is told NoSlot only where the keys of the set,
+/// the marked nodes and what the other passes have make up all slots.
 pub fn no_slot_alone()
     ensures { NoSlotAlone }
 {}

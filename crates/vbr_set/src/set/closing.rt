@@ -1,5 +1,5 @@
 //! Closing a set or a map.
-ghost use Rattle.std.specs.Prelude.{◌≡◌, ◌<◌, ◌≤◌, ◌↔◌, length, IfOk, IfErr, OnOk};
+ghost use Rattle.std.specs.Prelude.{◌<◌, ◌≤◌, ◌↔◌, length, IfOk, IfErr, OnOk};
 ghost use Rattle.vbr_slots.specs.Closing.{AllOf, HandsBack, IsMissing};
 ghost use Rattle.vbr_set.specs.Closing.{ClosesBy};
 ghost use Rattle.vbr_set.specs.Contents.{TellsEnd};
