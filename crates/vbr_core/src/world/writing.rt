@@ -65,22 +65,6 @@ impl Lists {
         self.places[slot as usize] = place;
     }
 
-    // Puts a slot into the shared pool.
-    fn raise(&mut self, slot: u32)
-        requires { slot < self.old.start.shape.slots }
-        ensures { Writes self.old self.new (with_place_of slot SlotPlace.Shared) }
-    {
-        self.put_slot(slot, SlotPlace::Shared);
-    }
-
-    // Takes a slot out of the shared pool.
-    fn take_flag(&mut self, pass: u32, slot: u32)
-        requires { slot < self.old.start.shape.slots }
-        ensures { Writes self.old self.new (with_place_of slot (SlotPlace.Own pass)) }
-    {
-        self.put_slot(slot, SlotPlace::Own(pass));
-    }
-
     // Stores the birth of a slot, and counts it.
     pub(super) fn store_birth(&mut self, slot: u32, birth: u64)
         requires slot { slot < self.old.start.shape.slots }
@@ -100,22 +84,6 @@ impl Lists {
     {
         self.store_birth(slot, birth);
         self.put_slot(slot, SlotPlace::Hand(pass));
-    }
-
-    // Stores the link of a slot in hand.
-    fn store_link(&mut self, slot: u32, link: u64)
-        requires { slot < self.old.start.shape.slots }
-        ensures { Writes self.old self.new (with_link_of (At.Slot slot) (link_of link)) }
-    {
-        self.put_link(At::Slot(slot), link);
-    }
-
-    // Marks a node.
-    fn mark(&mut self, slot: u32, link: u64)
-        requires { slot < self.old.start.shape.slots }
-        ensures { Writes self.old self.new (with_link_of (At.Slot slot) (link_of link)) }
-    {
-        self.put_link(At::Slot(slot), link);
     }
 
     // The bucket of a key.
@@ -159,14 +127,15 @@ impl Lists {
         match event.step {
             Step::Advance { .. } => self.advance(),
             Step::StoreStamp { slot, stamp } => self.store_stamp(slot, stamp),
-            Step::Raise { slot } => self.raise(slot),
-            Step::TakeFlag { slot } => self.take_flag(event.pass, slot),
+            Step::Raise { slot } => self.put_slot(slot, SlotPlace::Shared),
+            Step::TakeFlag { slot } => self.put_slot(slot, SlotPlace::Own(event.pass)),
             Step::StoreBirth { slot, birth } => self.bear(event.pass, slot, birth),
             Step::StoreKey { slot, key } => self.store_key(slot, key),
             Step::StoreValue { slot, value } => self.store_value(slot, value),
-            Step::StoreLink { slot, .. } => self.store_link(slot, link),
+            Step::StoreLink { slot, .. } | Step::Mark { slot, .. } => {
+                self.put_link(At::Slot(slot), link);
+            }
             Step::Publish { pred, slot, .. } => self.publish(pred, link, slot, key),
-            Step::Mark { slot, .. } => self.mark(slot, link),
             Step::Replace { slot, new, .. } => self.publish(At::Slot(slot), link, new, key),
             Step::Unlink { pred, slot, .. } => self.unlink(event.pass, pred, link, slot),
             Step::ReadEpoch | Step::LoadStamp { .. } | Step::LoadLink { .. } => {}

@@ -4,7 +4,7 @@ ghost use Rattle.std.specs.List.{AllByRecursion};
 ghost use Rattle.vbr_words.specs.Words.{IsLink, link_of};
 ghost use Rattle.vbr_words.specs.declared.shape.TheConstants.{MAX_EPOCH};
 ghost use Rattle.vbr_machine.specs.Acceptance.{Accepts, stamp_in, MayPublish, MayReplace};
-ghost use Rattle.vbr_machine.specs.Learning.{newborn, with_key, with_value, with_link, link_in_hand, learn, with_own, with_checked, with_pending, read_epoch};
+ghost use Rattle.vbr_machine.specs.Learning.{newborn, link_in_hand, learn, with_own, with_checked, with_pending, read_epoch};
 ghost use Rattle.vbr_core.specs.Growth.{ReadsMore};
 ghost use Rattle.vbr_core.specs.WorldInLists.{know_of, FitsRead, FitsHolding};
 ghost use Rattle.vbr_core.specs.KeptLearning.{HasRoom, Learns, with_all_checked, with_all_reread, with_epoch, with_linked};
@@ -91,69 +91,6 @@ impl PassState {
         Ok(())
     }
 
-    // A link was loaded.
-    fn load_link(&mut self, at: At, word: u64) -> Result<(), AllocError>
-        ensures learned { OnOk result (Learns self.old self.new
-            (λ know. with_pending know (Read.LinkAt at (link_of word)))) }
-        ensures refused { OnErr result (self.new ≡ self.old) }
-    {
-        self.add_pending(Read::LinkAt(at, decode(word)))
-    }
-
-    // The birth of a slot was loaded.
-    fn load_birth(&mut self, slot: u32, birth: u64) -> Result<(), AllocError>
-        requires { birth ≤ MAX_EPOCH }
-        ensures learned { OnOk result (Learns self.old self.new
-            (λ know. with_pending know (Read.BirthOf slot birth))) }
-        ensures refused { OnErr result (self.new ≡ self.old) }
-    {
-        self.add_pending(Read::BirthOf(slot, birth))
-    }
-
-    // The key of a slot was loaded.
-    fn load_key(&mut self, slot: u32, key: u64) -> Result<(), AllocError>
-        ensures learned { OnOk result (Learns self.old self.new
-            (λ know. with_pending know (Read.KeyOf slot key))) }
-        ensures refused { OnErr result (self.new ≡ self.old) }
-    {
-        self.add_pending(Read::KeyOf(slot, key))
-    }
-
-    // The value of a slot was loaded.
-    fn load_value(&mut self, slot: u32, value: u64) -> Result<(), AllocError>
-        ensures learned { OnOk result (Learns self.old self.new
-            (λ know. with_pending know (Read.ValueOf slot value))) }
-        ensures refused { OnErr result (self.new ≡ self.old) }
-    {
-        self.add_pending(Read::ValueOf(slot, value))
-    }
-
-    // The slot that the pass unlinked is stamped, and free.
-    fn store_stamp(&mut self, slot: u32, stamp: u64)
-        requires { slot < length self.old.own }
-        ensures { Learns self.old self.new
-            (λ know. with_own know slot (Some (Holding.Free stamp))) }
-    {
-        self.put(slot, Some(Holding::Free(stamp)));
-    }
-
-    // A slot is put back into the shared pool.
-    fn raise(&mut self, slot: u32)
-        requires { slot < length self.old.own }
-        ensures { Learns self.old self.new (λ know. with_own know slot None) }
-    {
-        self.put(slot, None);
-    }
-
-    // A slot was taken out of the shared pool, with its stamp.
-    fn take_flag(&mut self, slot: u32, stamp: u64)
-        requires { slot < length self.old.own }
-        ensures { Learns self.old self.new
-            (λ know. with_own know slot (Some (Holding.Free stamp))) }
-    {
-        self.put(slot, Some(Holding::Free(stamp)));
-    }
-
     // A new incarnation is born in a slot: it is in hand.
     fn bear(&mut self, slot: u32, birth: u64)
         requires slot { slot < length self.old.own }
@@ -163,36 +100,6 @@ impl PassState {
     {
         let stamp = holdings::stamp_in(self.own[slot as usize]);
         self.put(slot, Some(Holding::InHand(holdings::newborn(stamp, birth))));
-    }
-
-    // The key of a slot in hand is stored.
-    fn store_key(&mut self, slot: u32, key: u64)
-        requires slot { slot < length self.old.own }
-        ensures { Learns self.old self.new
-            (λ know. with_own know slot (with_key (know.own slot) key)) }
-    {
-        let holding = self.holding(slot);
-        self.put(slot, holdings::with_key(holding, key));
-    }
-
-    // The value of a slot in hand is stored.
-    fn store_value(&mut self, slot: u32, value: u64)
-        requires slot { slot < length self.old.own }
-        ensures { Learns self.old self.new
-            (λ know. with_own know slot (with_value (know.own slot) value)) }
-    {
-        let holding = self.holding(slot);
-        self.put(slot, holdings::with_value(holding, value));
-    }
-
-    // The link of a slot in hand is stored.
-    fn store_link(&mut self, slot: u32, link: Link)
-        requires slot { slot < length self.old.own }
-        ensures { Learns self.old self.new
-            (λ know. with_own know slot (with_link (know.own slot) link)) }
-    {
-        let holding = self.holding(slot);
-        self.put(slot, holdings::with_link(holding, link));
     }
 
     // The link of a slot in hand that is ready to be published.
@@ -364,19 +271,27 @@ impl PassState {
     {
         match step {
             Step::ReadEpoch => self.read_epoch(found)?,
-            Step::LoadLink { at } => self.load_link(at, found)?,
-            Step::LoadBirth { slot } => self.load_birth(slot, found)?,
-            Step::LoadKey { slot } => self.load_key(slot, found)?,
-            Step::LoadValue { slot } => self.load_value(slot, found)?,
-            Step::StoreStamp { slot, stamp } => self.store_stamp(slot, stamp),
-            Step::Raise { slot } => self.raise(slot),
-            Step::TakeFlag { slot } if has_flag(found, slot) => self.take_flag(slot, stamp),
+            Step::LoadLink { at } => self.add_pending(Read::LinkAt(at, decode(found)))?,
+            Step::LoadBirth { slot } => self.add_pending(Read::BirthOf(slot, found))?,
+            Step::LoadKey { slot } => self.add_pending(Read::KeyOf(slot, found))?,
+            Step::LoadValue { slot } => self.add_pending(Read::ValueOf(slot, found))?,
+            Step::StoreStamp { slot, stamp } => self.put(slot, Some(Holding::Free(stamp))),
+            Step::Raise { slot } => self.put(slot, None),
+            Step::TakeFlag { slot } if has_flag(found, slot) => {
+                self.put(slot, Some(Holding::Free(stamp)));
+            }
             Step::StoreBirth { slot, birth } => self.bear(slot, birth),
-            Step::StoreKey { slot, key } => self.store_key(slot, key),
-            Step::StoreValue { slot, value } => self.store_value(slot, value),
+            Step::StoreKey { slot, key } => {
+                let holding = self.holding(slot);
+                self.put(slot, holdings::with_key(holding, key));
+            }
+            Step::StoreValue { slot, value } => {
+                let holding = self.holding(slot);
+                self.put(slot, holdings::with_value(holding, value));
+            }
             Step::StoreLink { slot, .. } => {
-                let link = self.new_link(start, step);
-                self.store_link(slot, link);
+                let (holding, link) = (self.holding(slot), self.new_link(start, step));
+                self.put(slot, holdings::with_link(holding, link));
             }
             Step::Publish {
                 pred,
