@@ -10,9 +10,11 @@ use Rattle.vbr_machine.proofs.Slots.{late_inserted, inserted_late}
 use Rattle.vbr_machine.proofs.SoundAfter.{sound_kept}
 
 module _ (start : Start) (keys : Keys) (a : Incarnations) (pass : ℕ) where
+  -- the incarnations after an event
   abbrev after : Happening → Incarnations
   after what = becomes start a pass what
 
+  -- the event is allowed
   abbrev May : Happening → Type 0
   May what = Allowed start keys a pass what
 
@@ -75,6 +77,7 @@ grows start keys a pass what s h = record {
 pub inserted_stays : {a b : Incarnations} → Grows a b → (c : ℕ) → IsInserted (a.state c) → IsInserted (b.state c)
 inserted_stays {a} {b} g c l = late_inserted (b.state c) 0 (g.late c 0 (omega arith) (inserted_late (a.state c) l))
 
+-- what stays the same grows
 grows_same : (a : Incarnations) → Grows a a
 grows_same a = record {
   epoch = omega arith;

@@ -15,7 +15,7 @@ use Rattle.vbr_machine.specs.Images.{key_shown, value_shown, link_shown}
 use Rattle.vbr_machine.specs.Chronicles.{IsRetired, IsStamped, Allowed, Gains, Raises, Keyed, Valued, Aims, becomes}
 use Rattle.vbr_machine.specs.Sound.{PlaceFits, SlotsSound}
 use Rattle.vbr_machine.specs.Notes.{Notes}
-use Rattle.vbr_machine.specs.Agreement.{FitsNotes, OwnFits, Fits, Agrees}
+use Rattle.vbr_machine.specs.Agreement.{FitsNotes, OwnFits, Owns, Fits, Agrees}
 use Rattle.vbr_machine.specs.declared.event.Step.TheVariants.{Raise, TakeFlag, StoreKey, StoreValue, StoreLink}
 use Rattle.vbr_machine.specs.declared.knowledge.Holding.{Holding}
 use Rattle.vbr_machine.specs.declared.knowledge.Holding.TheVariants.{Free, Unlinked, InHand}
@@ -93,6 +93,11 @@ step_take_flag start w a notes p s g low = go (w.place s) refl
     go (Hand q) e = rw (flag_told start w s (Hand q) low e) ((λ z. let y = at (Hand q) e in cc, tt), agrees_still start w a notes p g)
     go (Listed q) e = rw (flag_told start w s (Listed q) low e) ((λ z. let y = at (Listed q) e in cc, tt), agrees_still start w a notes p g)
 
+-- a slot that stays in hand of its pass holds something else
+owns_in_hand : (a b : Incarnations) (know : ℕ → Know) (p s : ℕ) (own : Option Holding) → a.place s ≡ Hand p → b.place ≡ a.place → ((v : ℕ) → v ≢ s → IsSlotKept a b v) → OwnFits b p (know p).epoch (put (know p).own s own s) (b.place s) (b.last s) (b.stamp s) → Owns a know → Owns b (put know p (with_own (know p) s own))
+owns_in_hand a b know p s own place same kept fits o =
+    owns_changed a b know p s (with_own (know p) s own) refl (λ k ne. put_other (know p).own s own k ne) (hand_not_of p (a.place s) place) (hand_not_of p (b.place s) (ap (λ f. f s) same ∙ place)) kept fits o
+
 pub step_store_key : (start : Start) (w : World) (a : Incarnations) (notes : ℕ → Notes) (p s key : ℕ) → Agrees start w a notes → Accepts start (w.know p) (StoreKey s key) → StepAgrees start w a notes p (StoreKey s key)
 step_store_key start w a notes p s key g ok =
     let x = hand_facts a p s (w.know p).epoch ((w.know p).own s) (g.owns p s) ok.owned in
@@ -106,7 +111,7 @@ step_store_key start w a notes p s key g ok =
           (λ k. g.image.link k ∙ sym (link_kept a b refl refl (a.last k) (λ d _. (refl, refl, refl))))
           (at_put (λ k y. y ≡ key_shown b (a.last k)) w.key s key (rw x.last (sym (put_here a.key c key))) (λ k ne. g.image.key k ∙ sym (key_kept a b (a.last k) (λ d e. put_other a.key c key d (lasts_differ g.sound.slots k s c d ne x.last e)))))
           (λ k. g.image.value k ∙ sym (value_kept a b (a.last k) (λ d _. refl))) g.image.stamp) refl
-          (owns_changed a b w.know p s (with_own (w.know p) s own) refl (λ k ne. put_other (w.know p).own s own k ne) (hand_not_of p (a.place s) x.place) (hand_not_of p (a.place s) x.place)
+          (owns_in_hand a b w.know p s own x.place refl
           (λ k ne. record { place = refl; last = refl; stamp = refl; untouched = λ d e. let nd = lasts_differ g.sound.slots k s c d ne x.last e in record { state = refl; birth = refl; key = put_other a.key c key d nd; is_keyed = put_other a.is_keyed c true d nd; value = refl; is_valued = refl; link = refl; is_aimed = refl } })
           (rw (put_here (w.know p).own s own, x.holding_is) (x.place, record { node = c; last_is = x.last; state = x.state; born = x.born; birth_is = x.birth_is; keyed = (put_here a.is_keyed c true, put_here a.key c key); valued = x.valued; aimed = x.aimed }, x.stamp_is))
           g.owns)
@@ -115,10 +120,10 @@ step_store_key start w a notes p s key g ok =
 
 pub step_store_value : (start : Start) (w : World) (a : Incarnations) (notes : ℕ → Notes) (p s value : ℕ) → Agrees start w a notes → Accepts start (w.know p) (StoreValue s value) → StepAgrees start w a notes p (StoreValue s value)
 step_store_value start w a notes p s value g ok =
+    let own = with_value ((w.know p).own s) value in
     let x = hand_facts a p s (w.know p).epoch ((w.know p).own s) (g.owns p s) ok.owned in
     let c = last_in a s in
     let b = becomes start a p (Valued c value) in
-    let own = with_value ((w.know p).own s) value in
     let v = after start w p (StoreValue s value) in (
       ((x.state, ok.in_shape.1), tt),
       agrees_owned start w v a notes p (Valued c value) s own g (x.state, ok.in_shape.1) (fits_kept a b refl refl refl refl g.fits)
@@ -126,7 +131,7 @@ step_store_value start w a notes p s value g ok =
           (λ k. g.image.link k ∙ sym (link_kept a b refl refl (a.last k) (λ d _. (refl, refl, refl))))
           (λ k. g.image.key k ∙ sym (key_kept a b (a.last k) (λ d _. refl)))
           (at_put (λ k y. y ≡ value_shown b (a.last k)) w.value s value (rw x.last (sym (put_here a.value c value))) (λ k ne. g.image.value k ∙ sym (value_kept a b (a.last k) (λ d e. put_other a.value c value d (lasts_differ g.sound.slots k s c d ne x.last e))))) g.image.stamp) refl
-          (owns_changed a b w.know p s (with_own (w.know p) s own) refl (λ k ne. put_other (w.know p).own s own k ne) (hand_not_of p (a.place s) x.place) (hand_not_of p (a.place s) x.place)
+          (owns_in_hand a b w.know p s own x.place refl
           (λ k ne. record { place = refl; last = refl; stamp = refl; untouched = λ d e. let nd = lasts_differ g.sound.slots k s c d ne x.last e in record { state = refl; birth = refl; key = refl; is_keyed = refl; value = put_other a.value c value d nd; is_valued = put_other a.is_valued c true d nd; link = refl; is_aimed = refl } })
           (rw (put_here (w.know p).own s own, x.holding_is) (x.place, record { node = c; last_is = x.last; state = x.state; born = x.born; birth_is = x.birth_is; keyed = x.keyed; valued = (put_here a.is_valued c true, put_here a.value c value); aimed = x.aimed }, x.stamp_is))
           g.owns)
@@ -162,7 +167,7 @@ step_store_link start w a notes p s next g ok =
           (at_put (λ k y. y ≡ link_shown b (a.last k)) w.link s link (rw (x.last, x.state) (sym (put_here a.link c link))) (λ k ne. g.image.link k ∙ sym (link_kept a b refl refl (a.last k) (λ d e. (refl, put_other a.link c link d (lasts_differ g.sound.slots k s c d ne x.last e), refl)))))
           (λ k. g.image.key k ∙ sym (key_kept a b (a.last k) (λ d _. refl)))
           (λ k. g.image.value k ∙ sym (value_kept a b (a.last k) (λ d _. refl))) g.image.stamp) refl
-          (owns_changed a b w.know p s (with_own (w.know p) s own) refl (λ k ne. put_other (w.know p).own s own k ne) (hand_not_of p (a.place s) x.place) (hand_not_of p (a.place s) x.place)
+          (owns_in_hand a b w.know p s own x.place refl
           (λ k ne. record { place = refl; last = refl; stamp = refl; untouched = λ d e. let nd = lasts_differ g.sound.slots k s c d ne x.last e in record { state = refl; birth = refl; key = refl; is_keyed = refl; value = refl; is_valued = refl; link = put_other a.link c link d nd; is_aimed = put_other a.is_aimed c true d nd } })
           (rw (put_here (w.know p).own s own) (rw (ap (λ h. with_link h link) x.holding_is) (x.place, record { node = c; last_is = x.last; state = x.state; born = x.born; birth_is = x.birth_is; keyed = x.keyed; valued = x.valued; aimed = (put_here a.is_aimed c true, put_here a.link c link) }, x.stamp_is)))
           g.owns)

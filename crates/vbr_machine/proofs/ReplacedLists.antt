@@ -35,6 +35,7 @@ apart_put key rank c r i d n ni nd nm (inr (inl x)) = inr (inl (rw (put_other ra
 apart_put key rank c r i d n ni nd nm (inr (inr (m, e, x))) = inr (inr (m, e, rw (put_other rank c r m (nm m e), put_other rank c r d nd) x))
 
 module _ (start : Start) (a : Incarnations) (pass old c : ℕ) (s : Sound start a) (h : MayTakePlace start a pass old c) where
+  -- the ranks, the successors and the states after the replacement
   abbrev rank : ℕ → ℕ
   rank = (becomes start a pass (Replaces old c)).rank
 
@@ -44,6 +45,7 @@ module _ (start : Start) (a : Incarnations) (pass old c : ℕ) (s : Sound start 
   abbrev state : ℕ → State
   state = (becomes start a pass (Replaces old c)).state
 
+  -- the new one isn't the old one
   other : old ≢ c
   other e = let x = h.in_hand in let y = h.linked in let z : a.state old ≡ a.state c = ap a.state e in cc
 

@@ -71,9 +71,11 @@ passed_more start keys a pass v b s h i d lt bd q u = let w = all_passed start a
     plain slot birth state n i d lt bd q u w = grind (arith, nat_tests)
 
 module _ (start : Start) (keys : Keys) (a : Incarnations) (pass : ℕ) (s : SlotsSound start a) where
+  -- the incarnations after an event
   abbrev after : Happening → Incarnations
   after what = becomes start a pass what
 
+  -- the event is allowed
   abbrev May : Happening → Type 0
   May what = Allowed start keys a pass what
 

@@ -1,5 +1,5 @@
 -- A text that is read line by line: what was read so far, and what the lines that are left mean behind it.
-use Rattle.std.proofs.Common.{◌≡◌, ℕ, ◌+◌, ◌<◌, ◌≤◌, cond, List, [], ◌∷◌, ◌++◌, length, map, refl, append_assoc, length-append, arith}
+use Rattle.std.proofs.Common.{◌≡◌, ℕ, ◌+◌, ◌<◌, ◌≤◌, cond, List, [], ◌∷◌, ◌++◌, length, map, append_assoc, length-append, arith}
 use Rattle.std.specs.Prelude.{count_by}
 use Rattle.std.proofs.lemmas.Bool.Decides.{nat_tests}
 use Rattle.std.proofs.lemmas.List.Sums.{sum_by-cons}
@@ -7,7 +7,7 @@ use Rattle.vbr_machine.specs.declared.history.Op.{Op}
 use Rattle.vbr_script.specs.declared.script.Kind.{Kind}
 use Rattle.vbr_script.specs.declared.script.Line.{Line}
 use Rattle.vbr_script.specs.declared.script.Meaning.{Meaning}
-use Rattle.vbr_script.specs.declared.script.Meaning.TheVariants.{Blank, Sync, Renew, Asks, Faulty}
+use Rattle.vbr_script.specs.declared.script.Meaning.TheVariants.{Blank, Sync, Renew, Asks}
 use Rattle.vbr_script.specs.declared.script.TheConstants.{MAX_OPERATIONS, MAX_SYNCS}
 use Rattle.vbr_script.specs.Text.{lines_of, tokens_of}
 use Rattle.vbr_script.specs.Grammar.{meaning_of}
@@ -24,32 +24,16 @@ all_meanings kind workers lines = map (λ line. meaning_of kind workers (tokens_
 -- ---- one line in front of others
 
 blank : (operations syncs : ℕ) (line : Meaning) (lines : List Meaning) → limited operations syncs line ≡ Blank → all_limited operations syncs (line ∷ lines) ≡ Blank ∷ all_limited operations syncs lines
-blank operations syncs Blank lines is = refl
-blank operations syncs (Faulty kind) lines is = cc
-blank operations syncs Sync lines is = grind (arith, nat_tests)
-blank operations syncs Renew lines is = grind (arith, nat_tests)
-blank operations syncs (Asks worker op key value) lines is = grind (arith, nat_tests)
+blank operations syncs line lines is = grind (arith, nat_tests)
 
 sync : (operations syncs : ℕ) (line : Meaning) (lines : List Meaning) → limited operations syncs line ≡ Sync → (syncs < MAX_SYNCS) × (all_limited operations syncs (line ∷ lines) ≡ Sync ∷ all_limited operations (syncs + 1) lines)
-sync operations syncs Blank lines is = cc
-sync operations syncs (Faulty kind) lines is = cc
-sync operations syncs Sync lines is = grind (arith, nat_tests)
-sync operations syncs Renew lines is = grind (arith, nat_tests)
-sync operations syncs (Asks worker op key value) lines is = grind (arith, nat_tests)
+sync operations syncs line lines is = grind (arith, nat_tests)
 
 renew : (operations syncs : ℕ) (line : Meaning) (lines : List Meaning) → limited operations syncs line ≡ Renew → (syncs < MAX_SYNCS) × (all_limited operations syncs (line ∷ lines) ≡ Renew ∷ all_limited operations (syncs + 1) lines)
-renew operations syncs Blank lines is = cc
-renew operations syncs (Faulty kind) lines is = cc
-renew operations syncs Sync lines is = grind (arith, nat_tests)
-renew operations syncs Renew lines is = grind (arith, nat_tests)
-renew operations syncs (Asks worker op key value) lines is = grind (arith, nat_tests)
+renew operations syncs line lines is = grind (arith, nat_tests)
 
 asks : (operations syncs : ℕ) (line : Meaning) (lines : List Meaning) (worker : ℕ) (op : Op) (key value : ℕ) → limited operations syncs line ≡ Asks worker op key value → (operations < MAX_OPERATIONS) × (all_limited operations syncs (line ∷ lines) ≡ Asks worker op key value ∷ all_limited (operations + 1) syncs lines)
-asks operations syncs Blank lines worker op key value is = cc
-asks operations syncs (Faulty kind) lines worker op key value is = cc
-asks operations syncs Sync lines worker op key value is = grind (arith, nat_tests)
-asks operations syncs Renew lines worker op key value is = grind (arith, nat_tests)
-asks operations syncs (Asks w o k v) lines worker op key value is = grind (arith, nat_tests)
+asks operations syncs line lines worker op key value is = grind (arith, nat_tests)
 
 -- ---- what was read
 

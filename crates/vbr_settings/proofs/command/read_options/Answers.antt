@@ -20,21 +20,10 @@ simple = refl
 rows : (matches : ArgMatches) (app : App) (arguments : List Text) → app ≡ command_line → HasMatchesOf app arguments matches → rows_of (found_of matches) ≡ matches_of command_line arguments
 rows matches app arguments is has = ((subst (λ (a : App). HasMatchesOf a arguments matches) is has) simple).0
 
-settings : (found : List Row) (arguments : List Text) → found ≡ matches_of command_line arguments → settings_among found ≡ settings_of arguments
-unfolding settings_of
-settings found arguments is = ap settings_among is
-
-map : (found : List Row) (arguments : List Text) → found ≡ matches_of command_line arguments → asks_map_among found ≡ asks_map arguments
-unfolding asks_map
-map found arguments is = ap asks_map_among is
-
-file : (found : List Row) (arguments : List Text) → found ≡ matches_of command_line arguments → file_among found ≡ file_of arguments
-unfolding file_of
-file found arguments is = ap file_among is
-
-explained : (found : List Row) (arguments : List Text) → found ≡ matches_of command_line arguments → explained_among found ≡ explained_of arguments
-unfolding explained_of
-explained found arguments is = ap explained_among is
+-- so what is read of them is what the command line gives
+given : (found : List Row) (arguments : List Text) → found ≡ matches_of command_line arguments → (settings_among found ≡ settings_of arguments) × (asks_map_among found ≡ asks_map arguments) × (file_among found ≡ file_of arguments) × (explained_among found ≡ explained_of arguments)
+unfolding settings_of asks_map file_of explained_of
+given found arguments is = (ap settings_among is, ap asks_map_among is, ap file_among is, ap explained_among is)
 
 free : is_simple_and_free command_line ≡ true
 unfolding command_line
@@ -65,8 +54,8 @@ returns-clause-ok c =
     record {
       faultless = kinds (app_of c.in_ok-command.field-0) _ (Ok c.in_ok-matches.matches) c.in_ok-command.ensures.options c.in_ok-matches.ensures.kinds;
       complete = complete c.in_ok-command.field-0 c.in_ok-matches.matches c.in_ok-command.ensures.options c.in_ok-matches.ensures.parsed;
-      settings = settings _ _ found;
-      map = map _ _ found;
-      file = file _ _ found;
-      explained = explained _ _ found;
+      settings = (given _ _ found).0;
+      map = (given _ _ found).1;
+      file = (given _ _ found).2;
+      explained = (given _ _ found).3;
     }
