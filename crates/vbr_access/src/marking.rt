@@ -2,8 +2,8 @@
 ghost use Rattle.std.specs.Prelude.{IfOk, IfErr};
 ghost use Rattle.vbr_slots.specs.Views.{IsOf, knows};
 ghost use Rattle.vbr_at_table.specs.Answering.{KeepsIn, IsPresent};
-ghost use Rattle.vbr_at_table.specs.Exchanges.{RemovesKey, LosesExchange};
-ghost use Rattle.vbr_at_table.specs.Values.{IsValued, RemovesEntry};
+ghost use Rattle.vbr_at_table.specs.Exchanges.{LosesExchange};
+ghost use Rattle.vbr_at_table.specs.Values.{IsValued, RemovesEntry, RemovesKey};
 
 use vbr_at_table::{Held, Marked, Rollback};
 use vbr_slots::{AtTable, Pass, Slots};

@@ -7,11 +7,13 @@ use Rattle.vbr_words.specs.declared.place.At.TheVariants.{Slot}
 use Rattle.vbr_machine.specs.Images.{link_shown_at}
 use Rattle.vbr_machine.specs.Incarnations.{Incarnations}
 use Rattle.vbr_machine.specs.declared.event.Step.{Step}
-use Rattle.vbr_machine.specs.declared.event.Step.TheVariants.{ReadEpoch, LoadLink, LoadBirth, LoadKey, LoadValue}
+use Rattle.vbr_machine.specs.declared.event.Step.TheVariants.{ReadEpoch, LoadLink, LoadBirth}
+use Rattle.vbr_machine.specs.declared.knowledge.Read.{Read}
 use Rattle.vbr_slots.specs.Alone.{IsAlone, nodes, IsFresh}
 use Rattle.vbr_slots.specs.Views.{Trace, Did, knows}
 use Rattle.vbr_slots.proofs.Lemmas.{alone_three, alone_two, epoch_now, link_now, looks}
 use Rattle.vbr_at_table.specs.Keeping.{Keeps}
+use Rattle.vbr_at_table.proofs.ReadSteps.{Loads, loads_link}
 
 pub shape_on : {step : Step} {p q : Trace} {r : ℕ} → Did step p q r → IsStart p.start → IsStart q.start
 shape_on d is = let P : Start → Type 0 = IsStart in subst P (sym d.same.1) is
@@ -22,37 +24,23 @@ fresh_kept p q same keeps fresh = ap (λ (a : Incarnations). a.epoch) same ∙ f
 
 -- ---- a load and a read of the epoch
 
-module _ {step : Step} {p q r : Trace} {word epoch : ℕ} (load : Did step p q word) (read : Did ReadEpoch q r epoch) (alone : IsAlone p r) where
+module _ {step : Step} {found : ℕ} {read : Read} (loads : Loads step found read) {p q r : Trace} {epoch : ℕ} (load : Did step p q found) (check : Did ReadEpoch q r epoch) (alone : IsAlone p r) where
   parts : IsAlone p q × IsAlone q r
-  parts = alone_two load read alone
+  parts = alone_two load check alone
 
-module _ {p q r : Trace} {at : At} {word epoch : ℕ} (load : Did (LoadLink at) p q word) (read : Did ReadEpoch q r epoch) (alone : IsAlone p r) where
-  pub head_looks : nodes r ≡ nodes p
-  head_looks = looks read (parts load read alone).1 (λ w a. refl) ∙ looks load (parts load read alone).0 (λ w a. refl)
+  loaded_looks : nodes q ≡ nodes p
+  loaded_looks = looks load parts.0 (loads.no_entry p.start p.who)
 
-  pub head_stands : IsStart p.start → link_shown_at (nodes r) at ≡ link_of word
-  head_stands is = ap (λ a. link_shown_at a at) head_looks ∙ link_now is load (parts load read alone).0
+  pub checked_looks : nodes r ≡ nodes p
+  checked_looks = looks check parts.1 (λ w a. refl) ∙ loaded_looks
 
-  pub head_still : IsStart p.start → IsFresh p → epoch ≡ (knows p).epoch
-  head_still is fresh = epoch_now (shape_on load is) read (parts load read alone).1 ∙ ap (λ (a : Incarnations). a.epoch) (looks load (parts load read alone).0 (λ w a. refl)) ∙ fresh
+  pub checked_still : IsStart p.start → IsFresh p → epoch ≡ (knows p).epoch
+  checked_still is fresh = epoch_now (shape_on load is) check parts.1 ∙ ap (λ (a : Incarnations). a.epoch) loaded_looks ∙ fresh
 
-module _ {p q r : Trace} {s key epoch : ℕ} (load : Did (LoadKey s) p q key) (read : Did ReadEpoch q r epoch) (alone : IsAlone p r) where
-  pub key_looks : nodes r ≡ nodes p
-  key_looks = looks read (parts load read alone).1 (λ w a. refl) ∙ looks load (parts load read alone).0 (λ w a. refl)
-
-  pub key_still : IsStart p.start → IsFresh p → epoch ≡ (knows p).epoch
-  key_still is fresh = epoch_now (shape_on load is) read (parts load read alone).1 ∙ ap (λ (a : Incarnations). a.epoch) (looks load (parts load read alone).0 (λ w a. refl)) ∙ fresh
-
-module _ {p q r : Trace} {s value epoch : ℕ} (load : Did (LoadValue s) p q value) (read : Did ReadEpoch q r epoch) (alone : IsAlone p r) where
-  pub value_still : IsStart p.start → IsFresh p → epoch ≡ (knows p).epoch
-  value_still is fresh = epoch_now (shape_on load is) read (parts load read alone).1 ∙ ap (λ (a : Incarnations). a.epoch) (looks load (parts load read alone).0 (λ w a. refl)) ∙ fresh
-
-module _ {p q r : Trace} {s birth epoch : ℕ} (load : Did (LoadBirth s) p q birth) (read : Did ReadEpoch q r epoch) (alone : IsAlone p r) where
-  pub birth_looks : nodes r ≡ nodes p
-  birth_looks = looks read (parts load read alone).1 (λ w a. refl) ∙ looks load (parts load read alone).0 (λ w a. refl)
-
-  pub birth_still : IsStart p.start → IsFresh p → epoch ≡ (knows p).epoch
-  birth_still is fresh = epoch_now (shape_on load is) read (parts load read alone).1 ∙ ap (λ (a : Incarnations). a.epoch) (looks load (parts load read alone).0 (λ w a. refl)) ∙ fresh
+pub head_stands : {p q r : Trace} {at : At} {word epoch : ℕ} → Did (LoadLink at) p q word → Did ReadEpoch q r epoch → IsAlone p r → IsStart p.start → link_shown_at (nodes r) at ≡ link_of word
+head_stands {p} {q} {r} {at} {word} load check alone is =
+    let all = loads_link at word in
+    ap (λ a. link_shown_at a at) (checked_looks all load check alone) ∙ link_now is load (parts all load check alone).0
 
 -- ---- a node
 

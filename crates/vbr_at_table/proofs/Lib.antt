@@ -37,6 +37,7 @@ mod NoneUnlinked
 mod AnsweringLoads
 mod LookUps
 mod Filled
+mod Storing
 mod ExchangeCalls
 mod OfKeys
 mod Replacements

@@ -9,9 +9,9 @@ use Rattle.vbr_words.specs.declared.place.At.{At}
 use Rattle.vbr_slots.specs.Calls.{Made}
 use Rattle.vbr_slots.specs.Views.{PassView, Trace}
 use Rattle.vbr_at_table.specs.Answering.{AnswersPresent, IsAnswered}
-use Rattle.vbr_at_table.specs.Exchanges.{InsertsNode, InsertsKey, RemovesKey, StoresIn}
+use Rattle.vbr_at_table.specs.Exchanges.{InsertsNode, InsertsKey, StoresIn}
 use Rattle.vbr_at_table.specs.Hands.{HandView}
-use Rattle.vbr_at_table.specs.Values.{AnswersEntry, InsertsEntry, entry_call, IsAsked, IsValued, RemovesEntry, steps_to_update, steps_to_value}
+use Rattle.vbr_at_table.specs.Values.{AnswersEntry, InsertsEntry, entry_call, IsAsked, IsValued, RemovesEntry, RemovesKey, steps_to_update, steps_to_value}
 use Rattle.vbr_at_table.specs.declared.held.Held.{Held}
 use Rattle.vbr_at_table.specs.declared.held.Marked.{Marked}
 use Rattle.vbr_at_table.specs.declared.rollback.Rollback.{Rollback}

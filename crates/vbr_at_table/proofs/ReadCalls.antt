@@ -12,8 +12,9 @@ use Rattle.vbr_machine.specs.Learning.{call_of, read_epoch, reread}
 use Rattle.vbr_machine.specs.Loads.{IsLoad}
 use Rattle.vbr_machine.specs.Machine.{World}
 use Rattle.vbr_machine.specs.declared.event.Step.{Step}
-use Rattle.vbr_machine.specs.declared.event.Step.TheVariants.{ReadEpoch, LoadLink, LoadBirth, LoadKey, LoadValue}
+use Rattle.vbr_machine.specs.declared.event.Step.TheVariants.{ReadEpoch, LoadLink, LoadKey, LoadValue}
 use Rattle.vbr_machine.specs.declared.knowledge.Holding.{Holding}
+use Rattle.vbr_machine.specs.declared.knowledge.Read.{Read}
 use Rattle.vbr_machine.specs.declared.knowledge.Holding.TheVariants.{Free, InHand, Unlinked}
 use Rattle.vbr_slots.specs.PassLaw.{PassLaw}
 use Rattle.vbr_slots.specs.Pools.{HandFits}
@@ -31,10 +32,10 @@ use Rattle.vbr_at_table.specs.Values.{IsValueRead}
 use Rattle.vbr_at_table.specs.declared.held.Held.{Held}
 use Rattle.vbr_at_table.specs.declared.rollback.Rollback.TheVariants.{EpochMoved}
 use Rattle.vbr_at_table.proofs.Accepted.{named_slot}
-use Rattle.vbr_at_table.proofs.AloneReads.{head_stands, head_still, key_still, node_stands, node_still, shape_on, value_still}
-use Rattle.vbr_at_table.proofs.CheckedReads.{head_is_unmarked, head_keeps, head_read, key_keeps, key_of_bucket, key_read, node_keeps, node_read, value_keeps, value_read}
+use Rattle.vbr_at_table.proofs.AloneReads.{checked_still, head_stands, node_stands, node_still, shape_on}
+use Rattle.vbr_at_table.proofs.CheckedReads.{checked, checked_keeps, head_is_unmarked, head_keeps, head_read, key_of_bucket, node_keeps, node_read}
 use Rattle.vbr_at_table.proofs.Keeping.{keeps_on}
-use Rattle.vbr_at_table.proofs.ReadSteps.{birth_loaded_keeps, key_loaded_keeps, link_loaded_keeps, moved, value_loaded_keeps}
+use Rattle.vbr_at_table.proofs.ReadSteps.{Loads, learned, loaded_keeps, loads_birth, loads_key, loads_link, loads_value, moved}
 
 -- ---- what a read needs of its pass, which a read keeps
 
@@ -120,35 +121,20 @@ module _ {p q : PassView} {r : ℕ} where
   epoch_in_one f d pool = one f d pool (λ know. refl) (λ know. refl) (λ w a. refl) refl
       (λ s is. ap (λ (k : Know). k.own s) d.know ∙ read_own (knows p.trace) r s ∙ still_in_hand ((knows p.trace).own s) (f.hand s is))
 
-  pub link_in_one : {at : At} → IsFit p → Did (LoadLink at) p.trace q.trace r → KeepsPool p q → ReadsIn p q 1
-  link_in_one f d pool = one f d pool (λ know. refl) (λ know. refl) (λ w a. refl) refl (λ s is. ap (λ (k : Know). k.own s) d.know)
-
-  pub birth_in_one : {s : ℕ} → IsFit p → Did (LoadBirth s) p.trace q.trace r → KeepsPool p q → ReadsIn p q 1
-  birth_in_one f d pool = one f d pool (λ know. refl) (λ know. refl) (λ w a. refl) refl (λ s is. ap (λ (k : Know). k.own s) d.know)
-
-  pub value_in_one : {s : ℕ} → IsFit p → Did (LoadValue s) p.trace q.trace r → KeepsPool p q → ReadsIn p q 1
-  value_in_one f d pool = one f d pool (λ know. refl) (λ know. refl) (λ w a. refl) refl (λ s is. ap (λ (k : Know). k.own s) d.know)
-
-  pub key_in_one : {s : ℕ} → IsFit p → Did (LoadKey s) p.trace q.trace r → KeepsPool p q → ReadsIn p q 1
-  key_in_one f d pool = one f d pool (λ know. refl) (λ know. refl) (λ w a. refl) refl (λ s is. ap (λ (k : Know). k.own s) d.know)
+  pub load_in_one : {step : Step} {read : Read} → Loads step r read → IsFit p → Did step p.trace q.trace r → KeepsPool p q → ReadsIn p q 1
+  load_in_one loads f d pool = one f d pool loads.is_load (loads.no_call p.trace.start p.trace.who) (loads.no_entry p.trace.start p.trace.who) loads.no_gift (λ s is. ap (λ (k : Know). k.own s) (learned loads d))
 
 -- ---- loads and a read of the epoch
 
 module _ {p q : PassView} {word epoch : ℕ} (law : PassLaw p) where
-  pub link_in_two : {at : At} → Reads (LoadLink at) p q word epoch → ReadsIn p q 2
-  link_in_two x = let first = link_in_one (fit p law) x.loaded x.pool_loaded in reads_on first (epoch_in_one (fit_on (fit p law) first) x.read x.pool_read)
-
-  pub key_in_two : {s : ℕ} → Reads (LoadKey s) p q word epoch → ReadsIn p q 2
-  key_in_two x = let first = key_in_one (fit p law) x.loaded x.pool_loaded in reads_on first (epoch_in_one (fit_on (fit p law) first) x.read x.pool_read)
-
-  pub value_in_two : {s : ℕ} → Reads (LoadValue s) p q word epoch → ReadsIn p q 2
-  value_in_two x = let first = value_in_one (fit p law) x.loaded x.pool_loaded in reads_on first (epoch_in_one (fit_on (fit p law) first) x.read x.pool_read)
+  pub load_in_two : {step : Step} {read : Read} → Loads step word read → Reads step p q word epoch → ReadsIn p q 2
+  load_in_two loads x = let first = load_in_one loads (fit p law) x.loaded x.pool_loaded in reads_on first (epoch_in_one (fit_on (fit p law) first) x.read x.pool_read)
 
   pub node_in_three : {s birth : ℕ} → ReadsNode s p q birth word epoch → ReadsIn p q 3
-  node_in_three x =
-      let first = birth_in_one (fit p law) x.born x.pool_born in
+  node_in_three {s} {birth} x =
+      let first = load_in_one (loads_birth s birth) (fit p law) x.born x.pool_born in
       let fits = fit_on (fit p law) first in
-      let second = link_in_one fits x.reads.loaded x.reads.pool_loaded in
+      let second = load_in_one (loads_link (Slot s) word) fits x.reads.loaded x.reads.pool_loaded in
       reads_on first (reads_on second (epoch_in_one (fit_on fits second) x.reads.read x.reads.pool_read))
 
 -- ---- an epoch that hasn't moved confirms what was loaded
@@ -174,12 +160,13 @@ node_told {s = s} held law is names x same = record {
 pub key_told : {p q : PassView} {s key epoch : ℕ} (at : At) → PassLaw p → at ≡ Slot s → Reads (LoadKey s) p q key epoch → epoch ≡ (knows p.trace).epoch → IsKeyRead p q at key
 key_told {p} {q} {s} {key} at law is x same =
     let P : At → Type 0 = λ at. IsKeyRead p q at key in
-    subst P (sym is) (record { keeps = key_keeps x.loaded x.read same; key = key_read x.loaded x.read same; fresh = fresh_read (shape_on x.loaded law.start) x.read ((key_keeps x.loaded x.read same).epoch ∙ sym same); bucket = λ b h. key_of_bucket x.loaded x.read same law.start b h })
+    let keeps = checked_keeps (loads_key s key) x.loaded x.read same in
+    subst P (sym is) (record { keeps = keeps; key = checked (loads_key s key) x.loaded x.read same; fresh = fresh_read (shape_on x.loaded law.start) x.read (keeps.epoch ∙ sym same); bucket = λ b h. key_of_bucket x.loaded x.read same law.start b h })
 
 pub value_told : {p q : PassView} {s value epoch : ℕ} (at : At) → at ≡ Slot s → Reads (LoadValue s) p q value epoch → epoch ≡ (knows p.trace).epoch → IsValueRead p q at value
 value_told {p} {q} {s} {value} at is x same =
     let P : At → Type 0 = λ at. IsValueRead p q at value in
-    subst P (sym is) (record { keeps = value_keeps x.loaded x.read same; value = value_read x.loaded x.read same })
+    subst P (sym is) (record { keeps = checked_keeps (loads_value s value) x.loaded x.read same; value = checked (loads_value s value) x.loaded x.read same })
 
 -- ---- the epoch has moved
 
@@ -192,30 +179,16 @@ has_moved p {q} {r} {epoch} keeps d other =
     (other, ap (λ (k : Know). k.epoch) m, ap (λ (k : Know). k.pending) m, ap (λ (k : Know). k.checked) m)
 
 module _ {p q : PassView} {word epoch : ℕ} (law : PassLaw p) where
-  pub link_rolls : {at : At} → Reads (LoadLink at) p q word epoch → epoch ≢ (knows p.trace).epoch → RollsBack p q (EpochMoved epoch)
-  link_rolls x other = record {
-    moved = has_moved p.trace (link_loaded_keeps x.loaded) x.read other;
-    fresh = fresh_read (shape_on x.loaded law.start) x.read (has_moved p.trace (link_loaded_keeps x.loaded) x.read other).1;
-    still = λ fresh alone. other (head_still x.loaded x.read alone law.start fresh);
-  }
-
-  pub key_rolls : {s : ℕ} → Reads (LoadKey s) p q word epoch → epoch ≢ (knows p.trace).epoch → RollsBack p q (EpochMoved epoch)
-  key_rolls x other = record {
-    moved = has_moved p.trace (key_loaded_keeps x.loaded) x.read other;
-    fresh = fresh_read (shape_on x.loaded law.start) x.read (has_moved p.trace (key_loaded_keeps x.loaded) x.read other).1;
-    still = λ fresh alone. other (key_still x.loaded x.read alone law.start fresh);
-  }
-
-  pub value_rolls : {s : ℕ} → Reads (LoadValue s) p q word epoch → epoch ≢ (knows p.trace).epoch → RollsBack p q (EpochMoved epoch)
-  value_rolls x other = record {
-    moved = has_moved p.trace (value_loaded_keeps x.loaded) x.read other;
-    fresh = fresh_read (shape_on x.loaded law.start) x.read (has_moved p.trace (value_loaded_keeps x.loaded) x.read other).1;
-    still = λ fresh alone. other (value_still x.loaded x.read alone law.start fresh);
-  }
+  pub load_rolls : {step : Step} {read : Read} → Loads step word read → Reads step p q word epoch → epoch ≢ (knows p.trace).epoch → RollsBack p q (EpochMoved epoch)
+  load_rolls loads x other =
+      let moved = has_moved p.trace (loaded_keeps loads x.loaded) x.read other in
+      record { moved = moved; fresh = fresh_read (shape_on x.loaded law.start) x.read moved.1; still = λ fresh alone. other (checked_still loads x.loaded x.read alone law.start fresh) }
 
   pub node_rolls : {s birth : ℕ} → ReadsNode s p q birth word epoch → epoch ≢ (knows p.trace).epoch → RollsBack p q (EpochMoved epoch)
-  node_rolls x other = record {
-    moved = has_moved p.trace (keeps_on (birth_loaded_keeps x.born) (link_loaded_keeps x.reads.loaded)) x.reads.read other;
-    fresh = fresh_read (shape_on x.reads.loaded (shape_on x.born law.start)) x.reads.read (has_moved p.trace (keeps_on (birth_loaded_keeps x.born) (link_loaded_keeps x.reads.loaded)) x.reads.read other).1;
-    still = λ fresh alone. other (node_still x.born x.reads.loaded x.reads.read alone law.start fresh);
-  }
+  node_rolls {s} {birth} x other =
+      let moved = has_moved p.trace (keeps_on (loaded_keeps (loads_birth s birth) x.born) (loaded_keeps (loads_link (Slot s) word) x.reads.loaded)) x.reads.read other in
+      record {
+        moved = moved;
+        fresh = fresh_read (shape_on x.reads.loaded (shape_on x.born law.start)) x.reads.read moved.1;
+        still = λ fresh alone. other (node_still x.born x.reads.loaded x.reads.read alone law.start fresh);
+      }

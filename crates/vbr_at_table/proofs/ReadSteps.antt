@@ -1,18 +1,25 @@
 -- What the steps teach that read: loads are pending, and are checked where the epoch hasn't moved.
-use Rattle.std.proofs.Common.{◌≡◌, ◌≢◌, ℕ, true, false, [], ◌∷◌, ◌++◌, refl, ◌∙◌, eq-eqb, arith}
+use Rattle.std.proofs.Common.{◌≡◌, ◌≢◌, ℕ, true, false, [], ◌∷◌, ◌++◌, None, refl, ◌∙◌, eq-eqb, arith}
 use Rattle.std.specs.Prelude.{◌==◌}
 use Rattle.std.specs.List.{Contains}
 use Rattle.std.proofs.lemmas.Bool.{ne_eqb}
 use Rattle.std.proofs.lemmas.List.Elements.{Contains-append_left, Contains-append_right}
 use Rattle.vbr_words.specs.Words.{link_of}
 use Rattle.vbr_words.specs.declared.place.At.{At}
+use Rattle.vbr_machine.specs.Accounts.{happens}
+use Rattle.vbr_machine.specs.Incarnations.{Incarnations}
 use Rattle.vbr_machine.specs.Knowledge.{Know}
-use Rattle.vbr_machine.specs.Learning.{read_epoch, reread, with_pending}
+use Rattle.vbr_machine.specs.Learning.{call_of, learn, read_epoch, reread, with_pending}
+use Rattle.vbr_machine.specs.Loads.{IsLoad}
+use Rattle.vbr_machine.specs.Machine.{World}
 use Rattle.vbr_machine.specs.Membership.{Knows}
+use Rattle.vbr_machine.specs.Start.{Start}
+use Rattle.vbr_machine.specs.declared.event.Step.{Step}
 use Rattle.vbr_machine.specs.declared.event.Step.TheVariants.{ReadEpoch, LoadLink, LoadBirth, LoadKey, LoadValue}
 use Rattle.vbr_machine.specs.declared.knowledge.Read.{Read}
 use Rattle.vbr_machine.specs.declared.knowledge.Read.TheVariants.{LinkAt, BirthOf, KeyOf, ValueOf}
 use Rattle.vbr_slots.specs.Views.{Trace, Did, knows}
+use Rattle.vbr_at_table.specs.Counts.{advances_or_gives}
 use Rattle.vbr_at_table.specs.Keeping.{Keeps}
 
 pub only : {X : Type 0} (x : X) → Contains (x ∷ []) x
@@ -29,36 +36,40 @@ pending_new know later read is = rw is (Contains-append_right know.pending (read
 pending_stays : (know later : Know) (read : Read) → later ≡ with_pending know read → (r : Read) → Contains know.pending r → Contains later.pending r
 pending_stays know later read is r m = rw is (Contains-append_left know.pending (read ∷ []) r m)
 
-module _ {p q : Trace} {at : At} {word : ℕ} (d : Did (LoadLink at) p q word) where
-  pub link_loaded_keeps : Keeps (knows p) (knows q)
-  link_loaded_keeps = pending_keeps _ _ _ d.know
+-- ---- a load
 
-  pub link_loaded : Contains (knows q).pending (LinkAt at (link_of word))
-  link_loaded = pending_new _ _ _ d.know
+-- a step that found this word is a load, and teaches its pass this read, and does no more
+pub record Loads (step : Step) (found : ℕ) (read : Read) : Type 0 where
+  pub is_load : IsLoad step
+  pub no_call : (start : Start) (who : ℕ) (know : Know) → call_of start who know step ≡ None
+  pub no_entry : (start : Start) (who : ℕ) (w : World) (a : Incarnations) → happens start w a who step ≡ []
+  pub no_gift : advances_or_gives step ≡ false
+  pub teaches : (know : Know) (stamp : ℕ) → learn step found stamp know ≡ with_pending know read
 
-  pub link_loaded_stays : (r : Read) → Contains (knows p).pending r → Contains (knows q).pending r
-  link_loaded_stays = pending_stays _ _ _ d.know
+pub loads_link : (at : At) (word : ℕ) → Loads (LoadLink at) word (LinkAt at (link_of word))
+loads_link at word = record { is_load = λ know. refl; no_call = λ start who know. refl; no_entry = λ start who w a. refl; no_gift = refl; teaches = λ know stamp. refl }
 
-module _ {p q : Trace} {s birth : ℕ} (d : Did (LoadBirth s) p q birth) where
-  pub birth_loaded_keeps : Keeps (knows p) (knows q)
-  birth_loaded_keeps = pending_keeps _ _ _ d.know
+pub loads_birth : (s birth : ℕ) → Loads (LoadBirth s) birth (BirthOf s birth)
+loads_birth s birth = record { is_load = λ know. refl; no_call = λ start who know. refl; no_entry = λ start who w a. refl; no_gift = refl; teaches = λ know stamp. refl }
 
-  pub birth_loaded : Contains (knows q).pending (BirthOf s birth)
-  birth_loaded = pending_new _ _ _ d.know
+pub loads_key : (s key : ℕ) → Loads (LoadKey s) key (KeyOf s key)
+loads_key s key = record { is_load = λ know. refl; no_call = λ start who know. refl; no_entry = λ start who w a. refl; no_gift = refl; teaches = λ know stamp. refl }
 
-module _ {p q : Trace} {s key : ℕ} (d : Did (LoadKey s) p q key) where
-  pub key_loaded_keeps : Keeps (knows p) (knows q)
-  key_loaded_keeps = pending_keeps _ _ _ d.know
+pub loads_value : (s value : ℕ) → Loads (LoadValue s) value (ValueOf s value)
+loads_value s value = record { is_load = λ know. refl; no_call = λ start who know. refl; no_entry = λ start who w a. refl; no_gift = refl; teaches = λ know stamp. refl }
 
-  pub key_loaded : Contains (knows q).pending (KeyOf s key)
-  key_loaded = pending_new _ _ _ d.know
+module _ {step : Step} {found : ℕ} {read : Read} (loads : Loads step found read) {p q : Trace} (d : Did step p q found) where
+  pub learned : knows q ≡ with_pending (knows p) read
+  learned = d.know ∙ loads.teaches (knows p) _
 
-module _ {p q : Trace} {s value : ℕ} (d : Did (LoadValue s) p q value) where
-  pub value_loaded_keeps : Keeps (knows p) (knows q)
-  value_loaded_keeps = pending_keeps _ _ _ d.know
+  pub loaded_keeps : Keeps (knows p) (knows q)
+  loaded_keeps = pending_keeps _ _ _ learned
 
-  pub value_loaded : Contains (knows q).pending (ValueOf s value)
-  value_loaded = pending_new _ _ _ d.know
+  pub loaded : Contains (knows q).pending read
+  loaded = pending_new _ _ _ learned
+
+  pub loaded_stays : (r : Read) → Contains (knows p).pending r → Contains (knows q).pending r
+  loaded_stays = pending_stays _ _ _ learned
 
 -- ---- the epoch is read
 

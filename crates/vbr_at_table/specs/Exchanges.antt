@@ -1,24 +1,22 @@
--- What the calls that exchange a link word tell: marking, linking a new node, unlinking.
+-- What the calls that exchange a link word tell: linking a new node, unlinking, and a mark that is lost.
 use Rattle.std.specs.Prelude.{◌≡◌, ℕ, false, true, None}
 use Rattle.vbr_words.specs.Words.{link_of}
 use Rattle.vbr_machine.specs.Acceptance.{IsUnlinked}
 use Rattle.vbr_machine.specs.History.{set_call}
 use Rattle.vbr_machine.specs.Knowledge.{Know}
-use Rattle.vbr_machine.specs.Links.{link_to, marked}
-use Rattle.vbr_machine.specs.Membership.{KeyAt, StandsBefore, StandsBehind}
-use Rattle.vbr_machine.specs.Removals.{IsTakenOut}
+use Rattle.vbr_machine.specs.Links.{link_to}
+use Rattle.vbr_machine.specs.Membership.{StandsBefore, StandsBehind}
 use Rattle.vbr_machine.specs.declared.history.Call.{Call}
-use Rattle.vbr_machine.specs.declared.history.Op.TheVariants.{Insert, Remove}
-use Rattle.vbr_slots.specs.Alone.{IsAlone, IsFresh, nodes}
+use Rattle.vbr_machine.specs.declared.history.Op.TheVariants.{Insert}
+use Rattle.vbr_slots.specs.Alone.{IsAlone, IsFresh}
 use Rattle.vbr_slots.specs.Calls.{AddsNone, Made, Quiet, Took}
 use Rattle.vbr_slots.specs.Views.{PassView, Trace, knows}
 use Rattle.vbr_at_table.specs.Counts.{ChangesNone}
 use Rattle.vbr_at_table.specs.Hands.{HandView, IsHandOf, UnlinkedView}
 use Rattle.vbr_at_table.specs.KeptSlots.{TakesNoSlot}
-use Rattle.vbr_at_table.specs.Alone.{MarksAlone, StandsNow, UnlinksAlone}
-use Rattle.vbr_at_table.specs.Held.{IsFilled, IsHeld, HoldsMarked, held_of}
+use Rattle.vbr_at_table.specs.Alone.{StandsNow, UnlinksAlone}
+use Rattle.vbr_at_table.specs.Held.{IsFilled, IsHeld}
 use Rattle.vbr_at_table.specs.Keeping.{Keeps, KeepsOwn, KeepsUnlinked}
-use Rattle.vbr_at_table.specs.Marks.{LeavesOthers}
 use Rattle.vbr_at_table.specs.Moments.{IsRead}
 use Rattle.vbr_at_table.specs.Rollbacks.{FreshIfMoved, IsLost, IsMovedOrLost}
 use Rattle.vbr_at_table.specs.declared.held.Held.{Held}
@@ -40,20 +38,6 @@ pub record IsGap (p : Trace) (key : ℕ) (pred : Held) : Type 0 where
   pub before : StandsBefore (knows p) key (link_of pred.word).slot
 
 -- ---- what they tell
-
--- the pass made this removal of the node that was held, whose link is marked now and which is taken out; the mark leaves all other links, and so does a pass that was alone
-pub record RemovesNode (removal : Type 0) (p q : Trace) (node : Held) (now : Marked) : Type 0 where
-  pub made : removal
-  pub at : (held_of now).at ≡ node.at
-  pub link : link_of now.word ≡ marked (link_of node.word)
-  pub held : HoldsMarked (knows q) now
-  pub out : IsTakenOut (nodes q) (knows q).epoch now.slot
-  pub leaves : LeavesOthers p q node
-  pub alone : IsAlone p q → MarksAlone p q node
-
--- it removed the key of the node
-abbrev pub RemovesKey : Trace → Trace → Held → Marked → Type 0
-RemovesKey p q node now = RemovesNode ((key : ℕ) → KeyAt (knows p) node.at key → Made (set_call p.who Remove key true) p q) p q node now
 
 -- another link stood where one was held: no call was made, and no list changed; for a pass that was alone, what is held hadn't stood
 pub record LosesExchange (p q : Trace) (held : Held) (rollback : Rollback) : Type 0 where

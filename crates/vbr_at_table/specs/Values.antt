@@ -1,13 +1,17 @@
--- What is known of the values of nodes, and what an entry's call tells: its value, where nodes have values.
+-- What is known of the values of nodes, and what calls tell of a key and of an entry, which has a value where nodes have values.
 use Rattle.std.specs.Prelude.{◌≡◌, ◌≢◌, ℕ, ◌+◌, Bool, true, false, Option, Some}
 use Rattle.vbr_machine.specs.Start.{Start}
+use Rattle.vbr_words.specs.Words.{link_of}
 use Rattle.vbr_words.specs.declared.place.At.{At}
 use Rattle.vbr_words.specs.declared.place.At.TheVariants.{Head, Slot}
 use Rattle.vbr_machine.specs.Knowledge.{Know}
 use Rattle.vbr_machine.specs.Images.{link_shown_at}
+use Rattle.vbr_machine.specs.History.{set_call}
 use Rattle.vbr_machine.specs.Learning.{present_reply, present_value, value_in_hand, with_value}
+use Rattle.vbr_machine.specs.Links.{marked}
 use Rattle.vbr_machine.specs.Membership.{KeyAt, Knows}
 use Rattle.vbr_machine.specs.Opened.{payload_kept}
+use Rattle.vbr_machine.specs.Removals.{IsTakenOut}
 use Rattle.vbr_machine.specs.declared.history.Call.{Call}
 use Rattle.vbr_machine.specs.declared.history.Op.{Op}
 use Rattle.vbr_machine.specs.declared.history.Op.TheVariants.{Get, Insert, Remove}
@@ -16,11 +20,14 @@ use Rattle.vbr_machine.specs.declared.knowledge.Holding.{Holding}
 use Rattle.vbr_slots.specs.Alone.{IsAlone, nodes}
 use Rattle.vbr_slots.specs.Calls.{Made, Quiet}
 use Rattle.vbr_slots.specs.Views.{PassView, Trace, knows}
+use Rattle.vbr_at_table.specs.Alone.{MarksAlone}
 use Rattle.vbr_at_table.specs.Answering.{IsAnswered}
 use Rattle.vbr_at_table.specs.Counts.{ChangesNone}
 use Rattle.vbr_at_table.specs.Hands.{HandView}
-use Rattle.vbr_at_table.specs.Exchanges.{FillsHand, InsertsNode, RemovesNode}
+use Rattle.vbr_at_table.specs.Exchanges.{FillsHand, InsertsNode}
+use Rattle.vbr_at_table.specs.Held.{HoldsMarked, held_of}
 use Rattle.vbr_at_table.specs.Keeping.{Keeps}
+use Rattle.vbr_at_table.specs.Marks.{LeavesOthers}
 use Rattle.vbr_at_table.specs.declared.held.Held.{Held}
 use Rattle.vbr_at_table.specs.declared.held.Marked.{Marked}
 
@@ -61,9 +68,28 @@ pub record IsValueRead (p q : PassView) (at : At) (found : ℕ) : Type 0 where
   pub keeps : Keeps (knows p.trace) (knows q.trace)
   pub value : ValueAt (knows q.trace) at found
 
--- the pass removed the entry of the node that was held
+-- the call that removed a node is a set's, of its key, or one of its entry
+abbrev pub IsRemoval : Bool → Trace → Trace → At → Type 0
+IsRemoval false p q at = (key : ℕ) → KeyAt (knows p) at key → Made (set_call p.who Remove key true) p q
+IsRemoval true p q at = (key value : ℕ) → KeyAt (knows p) at key → (p.start.shape.values ≡ true → ValueAt (knows p) at value) → Made (entry_call p.start p.who Remove key true value) p q
+
+-- the pass made the call that removes the node that was held, of its entry or of its key, and the node's link is marked now, and it is taken out; the mark leaves all other links, and so does a pass that was alone
+pub record RemovesNode (entry : Bool) (p q : Trace) (node : Held) (now : Marked) : Type 0 where
+  pub made : IsRemoval entry p q node.at
+  pub at : (held_of now).at ≡ node.at
+  pub link : link_of now.word ≡ marked (link_of node.word)
+  pub held : HoldsMarked (knows q) now
+  pub out : IsTakenOut (nodes q) (knows q).epoch now.slot
+  pub leaves : LeavesOthers p q node
+  pub alone : IsAlone p q → MarksAlone p q node
+
+-- it removed its key
+abbrev pub RemovesKey : Trace → Trace → Held → Marked → Type 0
+RemovesKey = RemovesNode false
+
+-- it removed its entry
 abbrev pub RemovesEntry : Trace → Trace → Held → Marked → Type 0
-RemovesEntry p q node now = RemovesNode ((key value : ℕ) → KeyAt (knows p) node.at key → (p.start.shape.values ≡ true → ValueAt (knows p) node.at value) → Made (entry_call p.start p.who Remove key true value) p q) p q node now
+RemovesEntry = RemovesNode true
 
 -- it answered by the presence of the entry of a node
 pub record AnswersEntry (p q : Trace) (op : Op) (node : Held) : Type 0 where

@@ -5,7 +5,8 @@ use Rattle.vbr_machine.specs.Acceptance.{IsAtIn}
 use Rattle.vbr_machine.specs.Membership.{IsHeldPlace}
 use Rattle.vbr_slots.specs.Views.{knows}
 use Rattle.vbr_at_table.proofs.Accepted.{place_in, place_held, slot_found}
-use Rattle.vbr_at_table.proofs.ReadCalls.{apart, value_in_two, value_rolls, value_told}
+use Rattle.vbr_at_table.proofs.ReadCalls.{apart, value_told, load_in_two, load_rolls}
+use Rattle.vbr_at_table.proofs.ReadSteps.{loads_value}
 use Rattle.vbr_at_table.proofs.reading.value_of.Goals as goal
 
 pub read_value-value-requires-clause-slot : goal.read_value-value-requires-clause-slot
@@ -20,13 +21,13 @@ read_value-value-requires-clause-held g c =
     slot_found c.args.at.now.stepper.now c.law.ensures c.in-Slot.slot (subst Q c.in-Slot.is (place_held c.args.at.now.stepper.now c.law.ensures c.args.node.now c.requires.held))
 
 pub returns-then-now-before-clause-reads : goal.returns-then-now-before-clause-reads
-returns-then-now-before-clause-reads g c = value_in_two c.law.ensures c.read_value-value.ensures.reads
+returns-then-now-before-clause-reads g c = load_in_two c.law.ensures (loads_value _ _) c.read_value-value.ensures.reads
 
 pub returns-clause-reads : goal.returns-clause-reads
-returns-clause-reads g c = value_in_two c.law.ensures c.read_value-value.ensures.reads
+returns-clause-reads g c = load_in_two c.law.ensures (loads_value _ _) c.read_value-value.ensures.reads
 
 pub returns-then-now-before-clause-moved : goal.returns-then-now-before-clause-moved
-returns-then-now-before-clause-moved g c = value_rolls c.law.ensures c.read_value-value.ensures.reads (apart c.if-now-before.true c.epoch-before.ensures)
+returns-then-now-before-clause-moved g c = load_rolls c.law.ensures (loads_value _ _) c.read_value-value.ensures.reads (apart c.if-now-before.true c.epoch-before.ensures)
 
 pub returns-clause-value : goal.returns-clause-value
 returns-clause-value g c = value_told c.args.node.now.at c.in-Slot.is c.read_value-value.ensures.reads (c.if-now-before.false ∙ c.epoch-before.ensures)

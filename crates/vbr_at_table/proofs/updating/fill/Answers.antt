@@ -5,8 +5,8 @@ use Rattle.vbr_words.specs.declared.link.Link.{Link}
 use Rattle.vbr_machine.specs.Acceptance.{IsNextIn, IsNextHeld}
 use Rattle.vbr_machine.specs.Links.{link_to}
 use Rattle.vbr_slots.specs.Views.{knows}
-use Rattle.vbr_slots.proofs.Lemmas.{alone_first, alone_then, did_took, key_stored_leaves, link_stored_leaves, quiet_on, took_on}
-use Rattle.vbr_at_table.proofs.Advancing.{did_none, none_on}
+use Rattle.vbr_slots.proofs.Lemmas.{alone_first, alone_then, key_stored_leaves, link_stored_leaves, quiet_on}
+use Rattle.vbr_at_table.proofs.Advancing.{did_none}
 use Rattle.vbr_at_table.proofs.Unchanged.{did_unchanged, none_counted, unchanged_on}
 use Rattle.vbr_machine.specs.Learning.{value_in_hand}
 use Rattle.vbr_at_table.specs.Exchanges.{StoresIn}
@@ -15,6 +15,7 @@ use Rattle.vbr_at_table.specs.Values.{steps_to_value}
 use Rattle.vbr_at_table.proofs.Keeping.{held_kept, birth_named_kept, keeps_on}
 use Rattle.vbr_at_table.proofs.WrittenLinks.{fits, birth_in_hand_low, birth_named_low}
 use Rattle.vbr_at_table.proofs.Filled.{hand_at, keyed_hand, key_stored_keeps, key_stored_quiet, link_stored_quiet, link_accepted, link_now, filled, link_stored_keeps, valued_hand}
+use Rattle.vbr_at_table.proofs.Storing.{stores_on, stores_one}
 use Rattle.vbr_at_table.proofs.updating.fill.Goals as goal
 
 pub link_to-link-requires : goal.link_to-link-requires
@@ -78,12 +79,9 @@ returns-clause-stores g c =
     let P : Bool → Type 0 = λ b. StoresIn c.store_key.new.self.stepper.now c.put_value.new.at.stepper.now (steps_to_value b) in
     let stored = subst P values put.stores in
     let link = c.store_link.ensures.step in
-    record {
-      took = took_on (1 + steps_to_value p.trace.start.shape.values) 1 (took_on 1 (steps_to_value p.trace.start.shape.values) (did_took key) stored.took) (did_took link);
-      keeps = keeps_on (keeps_on (key_stored_keeps key) stored.keeps) (link_stored_keeps link);
-      pool = c.store_link.ensures.pool.0 ∙ stored.pool ∙ c.store_key.ensures.pool.0;
-      takes_no_slot = none_on (none_on (did_none key refl c.store_key.ensures.pool) stored.takes_no_slot) (did_none link refl c.store_link.ensures.pool);
-    }
+    let first = stores_one key (key_stored_keeps key) c.store_key.ensures.pool.0 (did_none key refl c.store_key.ensures.pool) in
+    let last = stores_one link (link_stored_keeps link) c.store_link.ensures.pool.0 (did_none link refl c.store_link.ensures.pool) in
+    stores_on (1 + steps_to_value p.trace.start.shape.values) 1 (stores_on 1 (steps_to_value p.trace.start.shape.values) first stored) last
 
 pub returns-clause-fills : goal.returns-clause-fills
 returns-clause-fills g c =

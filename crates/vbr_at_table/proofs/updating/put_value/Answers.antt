@@ -1,12 +1,13 @@
 use Rattle.std.proofs.Common.{◌≡◌, ◌==◌, Bool, true, refl, sym, ap, ◌∙◌, subst}
 use Rattle.vbr_machine.specs.Start.{Start}
 use Rattle.vbr_slots.specs.Views.{knows}
-use Rattle.vbr_slots.proofs.Lemmas.{did_took, value_stored_leaves}
+use Rattle.vbr_slots.proofs.Lemmas.{value_stored_leaves}
 use Rattle.vbr_at_table.proofs.Advancing.{did_none}
 use Rattle.vbr_at_table.proofs.Unchanged.{did_unchanged, none_counted}
 use Rattle.vbr_at_table.specs.Exchanges.{StoresIn}
 use Rattle.vbr_at_table.specs.Values.{steps_to_value, with_kept_value}
 use Rattle.vbr_at_table.proofs.Filled.{value_stored, value_stored_keeps, value_stored_quiet}
+use Rattle.vbr_at_table.proofs.Storing.{stores_one}
 use Rattle.vbr_at_table.proofs.updating.put_value.Goals as goal
 
 pub returns-then-VALUES-clause-stores : goal.returns-then-VALUES-clause-stores
@@ -16,7 +17,7 @@ returns-then-VALUES-clause-stores g c =
     let d = c.store_value.ensures.step in
     let has : p.trace.start.shape.values ≡ true = ap (λ (d : Start). d.shape.values) c.args.at.now.own.1 ∙ c.kind.ensures ∙ sym c.VALUES.ensures ∙ c.if-VALUES.true in
     let P : Bool → Type 0 = λ values. StoresIn p q (steps_to_value values) in
-    subst P (sym has) (record { took = did_took d; keeps = value_stored_keeps d; pool = c.store_value.ensures.pool.0; takes_no_slot = did_none d refl c.store_value.ensures.pool })
+    subst P (sym has) (stores_one d (value_stored_keeps d) c.store_value.ensures.pool.0 (did_none d refl c.store_value.ensures.pool))
 
 pub returns-then-VALUES-clause-puts : goal.returns-then-VALUES-clause-puts
 returns-then-VALUES-clause-puts g c =
