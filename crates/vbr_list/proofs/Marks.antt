@@ -1,5 +1,5 @@
 -- A remove after its mark: the place before the node stands as it stood, or the pass was disturbed; and what the answer costs.
-use Rattle.vbr_list.proofs.Names.{◌≡◌, ◌≢◌, ℕ, ◌+◌, ◌*◌, ◌<◌, ◌≤◌, false, Option, Some, None, refl, sym, ap, ◌∙◌, subst, inl, inr, arith, ◌⊎◌, IfNone, IfSome, cases_lt, mul-le}
+use Rattle.vbr_list.proofs.Names.{◌≡◌, ◌≢◌, ℕ, ◌+◌, ◌*◌, ◌<◌, ◌≤◌, false, Option, refl, sym, ap, ◌∙◌, subst, inl, inr, arith, ◌⊎◌, IfNone, IfSome, cases_lt, mul-le}
 use Rattle.vbr_list.proofs.Names.{AddsNone, advances, ahead, At, Begins, begins_refl, begins_run, begins_trans, bucket_of, Call, disturbances_grow, Ghosts, Head, Held, HeldIn, incarnations_after, inserts_in, inserts_in-remove, IsAlone, IsHeld, IsOpenIn, IsRun, IsSame, IsStart, KeyAt, known_open, knows, LeavesOthers, link_of, link_shown_at, Made, marked_fewer, met_bound_uninserted, one_key, own_calls, own_changes, Quiet, Remove, same_on, since, Slot, StandsBehind, Start, Trace, undisturbed_shown}
 use Rattle.vbr_list.specs.Budgets.{listed_for, steps_to_value_of}
 use Rattle.vbr_list.specs.Disturbed.{changed_after, disturbed, disturbed_after, remove_costs_among}
@@ -18,8 +18,7 @@ use Rattle.vbr_list.proofs.Walking.{HasRepeated}
 
 -- whatever it came to
 pub walked : {N : Type 0} {kind : Ghosts N} (c d : PendingCall N kind) (found : Option Found) → IfSome found (Finds c d) → IfNone found (SearchTires c d) → WalksAgain 9 (trace_in c) (trace_in d) c.key c.used d.used
-walked c d None x tired = tired.walks
-walked c d (Some found) x tired = x.walks
+walked c d found x tired = grind arith
 
 -- ---- a mark
 

@@ -35,8 +35,7 @@ before_cur know key pred cur y =
 
 -- an absent key stands before what the place names
 pub stands_before : (know : Know) (key : ℕ) (pred : Held) (cur : Option Held) → IsEnd know key pred cur false → StandsBefore know key (link_of pred.word).slot
-stands_before know key pred None y = rw y.0 tt
-stands_before know key pred (Some cur) y = before_cur know key pred cur y
+stands_before know key pred cur y = grind (arith, before_cur know key pred)
 
 -- a present key is known at the node
 pub key_known : (know : Know) (key : ℕ) (pred cur : Held) → IsCur know key pred cur true → KeyAt know cur.at key

@@ -4,7 +4,7 @@ pub use Rattle.std.specs.Option.{is_none, is_some}
 pub use Rattle.std.specs.Prelude.{Contains, count_by, IfErr, IfNone, IfOk, IfSome, if◌then◌else◌, IsSome, ◌&&◌, ◌==◌, ◌⊎◌}
 pub use Rattle.std.specs.Result.{is_err, is_ok}
 pub use Rattle.std.proofs.Common.{[], ap, append-nil, append_assoc, arith, Bool, cond, eq-eqb, Err, false, inl, inr, length, List, None, not, Ok, Option, option_to_list, refl, Result, Some, subst, suc, sym, true, ℕ, ◌*◌, ◌++◌, ◌+◌, ◌-◌, ◌<◌, ◌^◌, ◌∙◌, ◌∷◌, ◌≡◌, ◌≢◌, ◌≤◌}
-pub use Rattle.std.proofs.lemmas.Bool.{cases_Bool, cases_lt, cases_order}
+pub use Rattle.std.proofs.lemmas.Bool.{cases_Bool, cases_lt}
 pub use Rattle.std.proofs.lemmas.Bool.Decides.{nat_tests}
 pub use Rattle.std.proofs.lemmas.List.Elements.{Contains-append_left, Contains-append_right, Contains-push, Contains-push_cases}
 pub use Rattle.std.proofs.lemmas.List.Sums.{sum_by-append}

@@ -1,6 +1,6 @@
 -- A walk goes on from place to place, whatever others do meanwhile; and it begins again only where it was disturbed.
-use Rattle.vbr_list.proofs.Names.{◌≡◌, ℕ, suc, ◌+◌, ◌*◌, ◌<◌, ◌≤◌, true, false, List, Option, Some, None, refl, sym, ap, ◌∙◌, subst, arith, Bool, is_some, mul-le}
-use Rattle.vbr_list.proofs.Names.{advances, ahead_few, At, Begins, begins_refl, begins_run, begins_trans, bucket_of, disturbances_grow, Event, HasVisited, Head, head_visited, Held, held_of, HeldIn, incarnations_after, IsAhead, IsFresh, IsOpenIn, IsRun, IsSame, IsStart, knows, link_at, link_of, link_shown_at, Marked, next_visited, own_between, own_changes, own_entries, Quiet, quiet_on, same_on, shown_there, since, Slot, Start, steps_to_update, steps_to_value, Trace, unmarked_open, visited_few, visited_on, world_after}
+use Rattle.vbr_list.proofs.Names.{◌≡◌, ℕ, suc, ◌+◌, ◌*◌, ◌<◌, ◌≤◌, true, false, List, Option, Some, None, refl, sym, ap, ◌∙◌, subst, arith, is_some, mul-le}
+use Rattle.vbr_list.proofs.Names.{advances, ahead_few, At, Begins, begins_refl, begins_run, begins_trans, bucket_of, disturbances_grow, Event, HasVisited, Head, head_visited, Held, held_of, HeldIn, incarnations_after, IsAhead, IsFresh, IsOpenIn, IsRun, IsSame, IsStart, knows, link_at, link_of, link_shown_at, Marked, next_visited, own_between, own_changes, own_entries, Quiet, quiet_on, same_on, shown_there, since, Slot, Start, steps_to_update, Trace, unmarked_open, visited_few, visited_on, world_after}
 use Rattle.vbr_list.specs.Helping.{OpensPlace}
 use Rattle.vbr_list.specs.Budgets.{listed_for}
 use Rattle.vbr_list.specs.declared.found.Found.{Found}
@@ -413,11 +413,7 @@ remove_lacks p q m is ok key sq a b quiet {used} {mid} x w budget short =
 -- ---- searches of an insert
 
 pub few_to_update_most : (start : Start) → steps_to_update start ≤ 4
-few_to_update_most start = go start.shape.values
-  where
-    go : (values : Bool) → 1 + steps_to_value values + 1 + 1 ≤ 4
-    go true = omega arith
-    go false = omega arith
+few_to_update_most start = grind arith
 
 more_searched : (before e each tries lost m1 m2 m a b now more all : ℕ) → (e ≤ each) × (3 ≤ each) → a ≤ before + tries * (9 * m1 + e) → b ≤ a + (lost + 1) * (9 * m2 + 3) → now ≤ b + more → more + 3 ≤ all → m1 ≤ m → m2 ≤ m → now ≤ before + 9 * m + (tries + lost) * (9 * m + each) + all
 more_searched before e each tries lost m1 m2 m a b now more all f x y z w l k =
@@ -461,9 +457,7 @@ searches_later p m r is ok key a b {before_all} {since_then} {least} most le x =
 
 -- a refusal for want of steps
 pub in_vain : (p r : Trace) (key before_all mid budget steps all : ℕ) → ((since_then more : ℕ) → since_then ≤ mid + more → more + 3 ≤ all → SearchesFor p r key before_all since_then all) → (refusal : Refusal) → steps + 10 ≤ all → LacksSteps (mid + steps + 7) budget refusal → SearchesInVain p r key before_all budget all refusal
-in_vain p r key before_all mid budget steps all x (OutOfSteps used) le short = x (budget + 1) (steps + 7) (omega (arith, short)) (omega (arith, le))
-in_vain p r key before_all mid budget steps all x NoSlot le short = tt
-in_vain p r key before_all mid budget steps all x (EpochSpent epoch) le short = tt
+in_vain p r key before_all mid budget steps all x refusal le short = grind (arith, x (budget + 1) (steps + 7))
 
 -- one half of an insert
 one_half : (lost m n t now more : ℕ) → now ≤ 0 + 9 * m + lost * (9 * m + 7) + more → m ≤ n + t → lost ≤ t → now ≤ 9 * (n + t) + searches_more 7 n t + more
