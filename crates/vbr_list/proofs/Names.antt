@@ -43,7 +43,7 @@ pub use Rattle.vbr_machine.specs.declared.history.Call.{Call}
 pub use Rattle.vbr_machine.specs.declared.history.Op.{Op}
 pub use Rattle.vbr_machine.specs.declared.history.Op.TheVariants.{Insert, Remove}
 pub use Rattle.vbr_machine.specs.declared.knowledge.Holding.{Holding}
-pub use Rattle.vbr_machine.specs.declared.knowledge.Holding.TheVariants.{Free, InHand, Unlinked}
+pub use Rattle.vbr_machine.specs.declared.knowledge.Holding.TheVariants.{Free}
 pub use Rattle.vbr_machine.specs.declared.knowledge.Read.TheVariants.{KeyOf, LinkAt}
 pub use Rattle.vbr_machine.proofs.Lemmas.{added_own, AdvancesNone, ahead_few, begins_refl, begins_run, begins_trans, calls_after, calls_by-append, changed_disturbed, disturbances_grow, disturbances_paid, every_run, found_left, has_key, head_visited, held_key, held_on, inserts_in, inserts_in-remove, inserts_in-two, IsAdvance, known_open, left_on, left_since, link_loaded, marked_fewer, marked_left, met_bound, met_bound_made, met_bound_quiet, met_bound_uninserted, met_later, met_on, moved_by_others, moved_disturbed, named_there, next_visited, none_marked_between, none_marked_here, none_marked_skipped, one_fewer_behind, one_key, out_on, own_between, own_unchanged, passed_left, put_here, put_other, removed_on, replaced_earlier, replaced_later, run_agrees, shown_there, since, skipped_left, undisturbed_by_itself, undisturbed_shown, unmarked_open, visited_few, visited_on}
 pub use Rattle.vbr_slots.specs.Alone.{ahead, IsAlone, IsFresh, LeavesLists, nodes, OnlyEventsOf}
