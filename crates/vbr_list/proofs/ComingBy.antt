@@ -58,8 +58,7 @@ come_none p c budget = record {
 }
 
 forth : (c d : Cursor) → HasStayedOrMoved c d → c.bucket ≤ d.bucket
-forth c d (inl same) = let e = ap (λ (u : Cursor). u.bucket) same in omega (arith, e)
-forth c d (inr later) = let u = later.0 in omega (arith, u)
+forth c d moved = grind arith
 
 -- a quiet pass has seen more
 sees : {p q : Trace} → IsRun p.start p.passes p.seen → Quiet p q → SeesMore p q
@@ -121,12 +120,7 @@ module _ {p q : PassView} (r : PassView) (law : PassLaw p) (c d : Cursor) (used 
       }
     where
       is_past : (is_last : Bool) → (is_last ≡ true → e ≡ next_bucket d) → (is_last ≡ false → IsBehindKey d.bucket next.key e) → IsPastKey d.bucket next.key e
-      is_past true last more = let same = last refl in inr (ap (λ (u : Cursor). u.bucket) same, ap (λ (u : Cursor). u.from) same)
-      is_past false last more = go (more refl)
-        where
-          go : IsBehindKey d.bucket next.key e → IsPastKey d.bucket next.key e
-          go (inl b) = inl b
-          go (inr b) = inr (b.0, b.1)
+      is_past is_last last more = grind (arith, last, more)
 
       passes : (is_last : Bool) → (is_last ≡ true → e ≡ next_bucket d) → (is_last ≡ false → IsBehindKey d.bucket next.key e) → (is_last ≡ true → HasNoNext q.trace r.trace d.bucket (next.key + 1)) → PassesBy q.trace r.trace d e (Some next.key)
       passes true last more none = let P : Cursor → Type 0 = λ u. PassesBy q.trace r.trace d u (Some next.key) in subst P (sym (last refl)) (passes_last d next.key y.next.tells.0.0 (none refl))

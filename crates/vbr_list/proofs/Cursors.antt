@@ -1,5 +1,5 @@
 -- From cursor to cursor, and what an iteration has given.
-use Rattle.vbr_list.proofs.Names.{◌≡◌, ℕ, ◌+◌, ◌^◌, ◌<◌, ◌≤◌, Bool, true, false, List, [], ◌∷◌, ◌++◌, Option, Some, None, sym, ap, ◌∙◌, subst, arith, inl, inr, append-nil, option_to_list, ◌⊎◌, Contains, IfSome, AllByRecursion, cases_lt, cases_order, Contains-append_left, Contains-append_right, Contains-push, Contains-push_cases}
+use Rattle.vbr_list.proofs.Names.{◌≡◌, ℕ, ◌+◌, ◌^◌, ◌<◌, ◌≤◌, Bool, true, false, List, [], ◌∷◌, ◌++◌, Option, Some, None, sym, ap, ◌∙◌, subst, arith, inl, inr, append-nil, option_to_list, ◌⊎◌, Contains, IfSome, AllByRecursion, Contains-append_left, Contains-append_right, Contains-push, Contains-push_cases}
 use Rattle.vbr_list.proofs.Names.{begins_trans, bucket_of, opening_keys, opening_payloads, same_on, set_after, Start, Trace, values_after, WasEntry, WasSo, world_after}
 use Rattle.vbr_list.specs.Cursors.{AreInOrder, ComesFirst, HasGiven, HasGivenAll, IsToCome, IsAtEnd, IsBehindKey, IsPassed, PassesBy, SeesMore, first_cursor, next_bucket}
 use Rattle.vbr_list.specs.Next.{HasNoNext, IsNextKey}

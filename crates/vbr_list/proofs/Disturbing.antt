@@ -207,8 +207,7 @@ loses_place p q pred (LostExchange found) same m f adds b = inr (found, m, adds)
 
 -- a link that didn't stand
 pub lost_place : {p q : Trace} (held : Held) (rollback : Rollback) → IsLost p q held rollback → ChangesNone p q → LosesPlace p q held
-lost_place held (EpochMoved now) l adds = absurd l
-lost_place held (LostExchange word) l adds = inr (word, l, adds)
+lost_place held rollback l adds = grind (arith, l)
 
 -- after what only read
 pub lost_place_later : {p q r : Trace} (held : Held) (rollback : Rollback) → Quiet p q → Keeps (knows p) (knows q) → ChangesNone p q → IsLost q r held rollback → ChangesNone q r → LosesPlace p r held
@@ -247,9 +246,7 @@ none_counted who (event ∷ events) none =
     (λ mine advance. one (event.pass == who) (is_advance event.step) (eq-eqb event.pass who mine) (is_advance_from event.step advance) (omega (arith, none, sum)), none_counted who events (omega (arith, none, sum)))
   where
     one : (p q : Bool) → p ≡ true → q ≡ true → 0 + cond (p && q) 1 0 ≡ 0 → ⊥
-    one true true a b z = omega (arith, z)
-    one false q a b z = cc
-    one true false a b z = cc
+    one p q a b z = grind arith
 
 -- a pass that made no step that would advance the epoch made none since a moment of that
 pub advances_none : (p q : Trace) → IsSame p q → advances q ≡ advances p → (moment : List Event) → Begins p.seen moment → (b : Begins moment q.seen) → AdvancesNone p.who b.0

@@ -1,5 +1,5 @@
 -- A seek goes on from place to place, and what it tells of the keys that it has passed by.
-use Rattle.vbr_list.proofs.Names.{◌≡◌, ℕ, ◌+◌, ◌*◌, ◌<◌, ◌≤◌, Bool, true, false, Option, Some, None, refl, sym, ap, ◌∙◌, subst, arith, inl, is_none}
+use Rattle.vbr_list.proofs.Names.{◌≡◌, ℕ, ◌+◌, ◌*◌, ◌<◌, ◌≤◌, Bool, true, false, Option, Some, None, sym, ap, ◌∙◌, subst, arith, inl, is_none}
 use Rattle.vbr_list.proofs.Names.{ahead, At, begins_trans, behind_kept, bucket_of, Held, held_in_kept, held_in_next, held_kept, held_of, IsAlone, IsRead, IsSame, IsStart, itself, Keeps, keeps_on, KeyAt, knows, LeadsTo, link_of, Marked, onward, PassView, PIECE, Quiet, quiet_on, quiet_refl, ReadsIn, Slot, StandsBefore, StandsBehind, StandsNow, Start, stood_before, Trace, ValueAt, was_absent, was_absent_on, was_entry, was_present, WasSo}
 use Rattle.vbr_list.specs.Budgets.{steps_to_value_of}
 use Rattle.vbr_list.specs.Nearing.{StandsInList, StillAt}
@@ -123,8 +123,7 @@ passed_by {p} {q} r bucket from a b budget here start x quiet keeps other is hig
     was_absent_on x.pred start whole.same (record { known = place.held; stood = stood_before x.come.stood quiet }) place.unmarked other (link_of here.word) (leads_kept (link_of x.pred.word) (link_of here.word) keeps x.leads) (place.behind other now high) before
 
 no_slot : (o : Option ℕ) → is_none o ≡ true → o ≡ None
-no_slot None e = refl
-no_slot (Some s) e = absurd (cc)
+no_slot o e = grind arith
 
 -- there is no next key
 pub tells_none : {p q : PassView} (bucket from a b budget : ℕ) (here : Held) → IsStart p.trace.start → Follows p q bucket from a b budget here → (link_of here.word).slot ≡ None → HasNoNext p.trace q.trace bucket from

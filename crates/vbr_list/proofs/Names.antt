@@ -4,7 +4,7 @@ pub use Rattle.std.specs.Option.{is_none, is_some}
 pub use Rattle.std.specs.Prelude.{Contains, count_by, IfErr, IfNone, IfOk, IfSome, if◌then◌else◌, IsSome, ◌&&◌, ◌==◌, ◌⊎◌}
 pub use Rattle.std.specs.Result.{is_err, is_ok}
 pub use Rattle.std.proofs.Common.{[], ap, append-nil, append_assoc, arith, Bool, cond, eq-eqb, Err, false, inl, inr, length, List, None, not, Ok, Option, option_to_list, refl, Result, Some, subst, suc, sym, true, ℕ, ◌*◌, ◌++◌, ◌+◌, ◌-◌, ◌<◌, ◌^◌, ◌∙◌, ◌∷◌, ◌≡◌, ◌≢◌, ◌≤◌}
-pub use Rattle.std.proofs.lemmas.Bool.{cases_Bool, cases_lt, cases_order}
+pub use Rattle.std.proofs.lemmas.Bool.{cases_Bool, cases_lt}
 pub use Rattle.std.proofs.lemmas.Bool.Decides.{nat_tests}
 pub use Rattle.std.proofs.lemmas.List.Elements.{Contains-append_left, Contains-append_right, Contains-push, Contains-push_cases}
 pub use Rattle.std.proofs.lemmas.List.Sums.{sum_by-append}
@@ -43,7 +43,7 @@ pub use Rattle.vbr_machine.specs.declared.history.Call.{Call}
 pub use Rattle.vbr_machine.specs.declared.history.Op.{Op}
 pub use Rattle.vbr_machine.specs.declared.history.Op.TheVariants.{Insert, Remove}
 pub use Rattle.vbr_machine.specs.declared.knowledge.Holding.{Holding}
-pub use Rattle.vbr_machine.specs.declared.knowledge.Holding.TheVariants.{Free, InHand, Unlinked}
+pub use Rattle.vbr_machine.specs.declared.knowledge.Holding.TheVariants.{Free}
 pub use Rattle.vbr_machine.specs.declared.knowledge.Read.TheVariants.{KeyOf, LinkAt}
 pub use Rattle.vbr_machine.proofs.Lemmas.{added_own, AdvancesNone, ahead_few, begins_refl, begins_run, begins_trans, calls_after, calls_by-append, changed_disturbed, disturbances_grow, disturbances_paid, every_run, found_left, has_key, head_visited, held_key, held_on, inserts_in, inserts_in-remove, inserts_in-two, IsAdvance, known_open, left_on, left_since, link_loaded, marked_fewer, marked_left, met_bound, met_bound_made, met_bound_quiet, met_bound_uninserted, met_later, met_on, moved_by_others, moved_disturbed, named_there, next_visited, none_marked_between, none_marked_here, none_marked_skipped, one_fewer_behind, one_key, out_on, own_between, own_unchanged, passed_left, put_here, put_other, removed_on, replaced_earlier, replaced_later, run_agrees, shown_there, since, skipped_left, undisturbed_by_itself, undisturbed_shown, unmarked_open, visited_few, visited_on}
 pub use Rattle.vbr_slots.specs.Alone.{ahead, IsAlone, IsFresh, LeavesLists, nodes, OnlyEventsOf}

@@ -1,5 +1,5 @@
 -- A pass that was alone comes nearer to the key, node by node.
-use Rattle.vbr_list.proofs.Names.{◌≡◌, ℕ, suc, true, sym, ap, ◌∙◌, subst, inr, Result, Ok, Err, IfErr}
+use Rattle.vbr_list.proofs.Names.{◌≡◌, ℕ, suc, true, sym, ap, ◌∙◌, subst, inr, Result, IfErr, arith}
 use Rattle.vbr_list.proofs.Names.{ahead, alone_first, alone_then, At, Held, is_there, IsAlone, knows, LeavesLists, link_of, named_there, Names, nodes, one_fewer_behind, PassLaw, PassView, Quiet, ReadsIn, same_leaves, Slot, StandsNow, Trace}
 use Rattle.vbr_list.specs.Nearing.{StandsInList, StillAt}
 use Rattle.vbr_list.specs.Places.{IsPlaceIn}
@@ -40,5 +40,4 @@ comes_nearer p sound q bucket here node x there stands s names at quiet same sti
 -- ---- errors that are handed on
 
 pub either : {A E P : Type 0} (x : Result A E) → P → IfErr x (λ _. P)
-either (Ok a) p = tt
-either (Err e) p = p
+either x p = grind arith

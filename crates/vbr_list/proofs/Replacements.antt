@@ -46,9 +46,7 @@ had_since p q r (Err error) first then = λ slot has. then slot (first slot has)
 -- ---- refusals
 
 pub present_for : {p q : Trace} {key : ℕ} → WasSo p q key true → (refusal : Refusal) → WasPresentFor p q key refusal
-present_for so (OutOfSteps used) = tt
-present_for so NoSlot = so
-present_for so (EpochSpent epoch) = so
+present_for so refusal = grind (arith, so)
 
 -- a refusal before a slot was in hand is one of the whole call
 pub replace_refused_first : (p q : PassView) (key budget : ℕ) (refusal : Refusal) → TakesNone p q 0 budget refusal → WasPresentFor p.trace q.trace key refusal → IsRefusedReplace p q key budget refusal
@@ -95,6 +93,4 @@ absent_paid p q is ok key taking {used} x =
 
 -- only an empty own pool has no slot
 pub had_no_slot : (p q : PassView) (before budget : ℕ) (refusal : Refusal) → TakesNone p q before budget refusal → refusal ≡ NoSlot → p.pool ≡ []
-had_no_slot p q before budget (OutOfSteps used) x e = absurd (cc)
-had_no_slot p q before budget NoSlot x e = x.empty
-had_no_slot p q before budget (EpochSpent epoch) x e = absurd (cc)
+had_no_slot p q before budget refusal x e = grind arith

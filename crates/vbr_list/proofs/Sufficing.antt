@@ -1,5 +1,5 @@
 -- The steps of an insert: of a slot, and of a pass that was alone.
-use Rattle.vbr_list.proofs.Names.{◌≡◌, ◌≢◌, ℕ, ◌+◌, ◌*◌, ◌<◌, ◌≤◌, List, [], ◌∷◌, Result, Ok, Err, refl, sym, subst, arith, IfErr}
+use Rattle.vbr_list.proofs.Names.{◌≡◌, ◌≢◌, ℕ, ◌+◌, ◌*◌, ◌<◌, ◌≤◌, List, [], Result, sym, subst, arith, IfErr}
 use Rattle.vbr_list.proofs.Names.{alone_gained, Begins, gained, gained_on, gained_since, IsAlone, more_lost, most_to_take, most_to_take_among, none_lost, PassView, Quiet, Start, steps_to_take_among, steps_to_value, TookWithin, Trace}
 use Rattle.vbr_list.specs.Budgets.{IsAnsweredOrSpent, LacksSteps, enough_to_insert, insert_costs, listed_for}
 use Rattle.vbr_list.specs.Disturbed.{disturbed, enough_to_insert_among, insert_costs_among, steps_for_slot}
@@ -10,10 +10,7 @@ use Rattle.vbr_at_table.specs.declared.refusal.Refusal.TheVariants.{OutOfSteps, 
 
 -- where an own pool with slots keeps some, a slot is taken in no more steps than were allowed for before
 take_later : (start : Start) (before now : List ℕ) (less more : ℕ) → less ≤ more → (before ≢ [] → now ≢ []) → steps_to_take_among start now less ≤ most_to_take_among start before more
-take_later start [] [] less more le some = omega (arith, le)
-take_later start [] (s ∷ now) less more le some = omega arith
-take_later start (s ∷ before) [] less more le some = absurd (some (λ e. absurd (cc)) refl)
-take_later start (s ∷ before) (t ∷ now) less more le some = omega arith
+take_later start before now less more le some = grind arith
 
 pub take_after : (p q : PassView) (r : Trace) → Quiet p.trace q.trace → (p.pool ≢ [] → q.pool ≢ []) → steps_to_take_among q.trace.start q.pool (gained q.trace r) ≤ steps_for_slot p r
 take_after p q r quiet some =
@@ -29,33 +26,21 @@ pub slot_alone : (p : PassView) (q : Trace) → IsAlone p.trace q → steps_for_
 slot_alone p q alone = let none = none_lost p.pool (gained p.trace q) (alone_gained p.trace q alone) in omega (arith, none)
 
 pub take_least : (p : PassView) (q : Trace) → 68 ≤ steps_for_slot p q
-take_least p q = go p.trace.start p.pool (gained p.trace q)
-  where
-    go : (start : Start) (pool : List ℕ) (gains : ℕ) → 68 ≤ most_to_take_among start pool gains
-    go start [] gains = omega arith
-    go start (s ∷ pool) gains = omega arith
+take_least p q = grind arith
 
 -- a budget that is short of so many steps is short of more
 pub lacks_more : (m n budget : ℕ) (refusal : Refusal) → m ≤ n → LacksSteps m budget refusal → LacksSteps n budget refusal
-lacks_more m n budget (OutOfSteps used) le short = omega (arith, le, short)
-lacks_more m n budget NoSlot le short = tt
-lacks_more m n budget (EpochSpent epoch) le short = tt
+lacks_more m n budget refusal le short = grind arith
 
 pub lacks : (n budget : ℕ) (refusal : Refusal) → budget < n → LacksSteps n budget refusal
-lacks n budget (OutOfSteps used) short = short
-lacks n budget NoSlot short = tt
-lacks n budget (EpochSpent epoch) short = tt
+lacks n budget refusal short = grind arith
 
 pub never_refused : (pool : List ℕ) (p q : PassView) (before budget : ℕ) (refusal : Refusal) → InsertIsShort p q before budget refusal → refusal ≡ NoSlot → pool ≡ []
-never_refused pool p q before budget (OutOfSteps used) x e = absurd (cc)
-never_refused pool p q before budget NoSlot x e = absurd x
-never_refused pool p q before budget (EpochSpent epoch) x e = absurd x
+never_refused pool p q before budget refusal x e = grind arith
 
 -- only an empty own pool has no slot
 pub had_none : (p q : PassView) (key before budget : ℕ) (refusal : Refusal) → RefusesInsert p q key before budget refusal → refusal ≡ NoSlot → p.pool ≡ []
-had_none p q key before budget (OutOfSteps used) x e = absurd (cc)
-had_none p q key before budget NoSlot x e = x.empty
-had_none p q key before budget (EpochSpent epoch) x e = absurd (cc)
+had_none p q key before budget refusal x e = grind arith
 
 -- what is so of a pass that was disturbed so often, and takes a slot in so many steps, is so of one that was alone
 pub lone : (P : ℕ → ℕ → Type 0) (p : PassView) (q : Trace) (key : ℕ) → P (disturbed p.trace q key) (steps_for_slot p q) → IsAlone p.trace q → P 0 (most_to_take p.trace.start p.pool)
@@ -72,21 +57,12 @@ lone_costs p q key x alone = took_more (lone (λ t taking. TookWithin p.trace q 
 
 -- with slots in the own pool an insert that has steps enough is answered, or the epoch is spent
 pub answered_or_spent : {A : Type 0} (p q : PassView) (budget n : ℕ) (answer : Result A Refusal) → p.pool ≢ [] → IsAlone p.trace q.trace → 18 * n + 82 ≤ budget → IfErr answer (λ refusal. refusal ≡ NoSlot → p.pool ≡ []) → IfErr answer (λ refusal. IsAlone p.trace q.trace → LacksSteps (18 * n + most_to_take p.trace.start p.pool + 14) budget refusal) → IsAnsweredOrSpent answer
-answered_or_spent p q budget n (Ok reply) some alone enough none lacks = tt
-answered_or_spent p q budget n (Err (OutOfSteps used)) some alone enough none lacks = short p.pool some (lacks alone)
-  where
-    short : (pool : List ℕ) → pool ≢ [] → budget < 18 * n + most_to_take p.trace.start pool + 14 → ⊥
-    short [] some lacks = some refl
-    short (s ∷ pool) some lacks = omega (arith, enough, lacks)
-answered_or_spent p q budget n (Err NoSlot) some alone enough none lacks = some (none refl)
-answered_or_spent p q budget n (Err (EpochSpent epoch)) some alone enough none lacks = tt
+answered_or_spent p q budget n answer some alone enough none few = grind arith
 
 -- what is so of each error of an answer
 pub each_error : {A E : Type 0} (P Q : E → Type 0) (x : Result A E) → ((e : E) → P e → Q e) → IfErr x P → IfErr x Q
-each_error P Q (Ok a) f h = tt
-each_error P Q (Err e) f h = f e h
+each_error P Q x f h = grind (arith, f)
 
 -- what is so of any error is so of an answer's
 pub any_error : {A E : Type 0} {P : E → Type 0} (x : Result A E) → ((e : E) → P e) → IfErr x P
-any_error (Ok a) f = tt
-any_error (Err e) f = f e
+any_error x f = grind (arith, f)

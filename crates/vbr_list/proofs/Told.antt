@@ -1,5 +1,5 @@
 -- The calls that answers tell, at tables of both kinds, and the same record of a call with another answer.
-use Rattle.vbr_list.proofs.Names.{◌≡◌, ℕ, Bool, true, false, Option, Some, None, Result, Ok, Err, refl, sym, ap, subst, is_some, if◌then◌else◌}
+use Rattle.vbr_list.proofs.Names.{◌≡◌, ℕ, Bool, true, false, Option, Some, None, Result, Ok, Err, refl, sym, ap, subst, is_some, if◌then◌else◌, arith}
 use Rattle.vbr_list.proofs.Names.{AddsAnswer, Call, Insert, IsSame, Made, made_on, Op, PassLaw, PassView, payload_kept, Quiet, set_call, Start, Trace}
 use Rattle.vbr_list.specs.Alone.{AnswersAlone}
 use Rattle.vbr_list.specs.Sparing.{CallsAs, CallsEntry, SparesLookUp}
@@ -11,8 +11,7 @@ use Rattle.vbr_list.proofs.LonePasses.{gives_alone}
 -- ---- what is kept
 
 none_kept : (values : Bool) (value : Option ℕ) → value ≡ None → (if values then value else None) ≡ None
-none_kept true value none = none
-none_kept false value none = refl
+none_kept values value none = grind arith
 
 pub kept_none : (start : Start) → payload_kept start None ≡ None
 kept_none start = none_kept start.shape.values None refl

@@ -1,6 +1,6 @@
 -- A walk goes on from place to place, whatever others do meanwhile; and it begins again only where it was disturbed.
-use Rattle.vbr_list.proofs.Names.{◌≡◌, ℕ, suc, ◌+◌, ◌*◌, ◌<◌, ◌≤◌, true, false, List, Option, Some, None, refl, sym, ap, ◌∙◌, subst, arith, Bool, is_some, mul-le}
-use Rattle.vbr_list.proofs.Names.{advances, ahead_few, At, Begins, begins_refl, begins_run, begins_trans, bucket_of, disturbances_grow, Event, HasVisited, Head, head_visited, Held, held_of, HeldIn, incarnations_after, IsAhead, IsFresh, IsOpenIn, IsRun, IsSame, IsStart, knows, link_at, link_of, link_shown_at, Marked, next_visited, own_between, own_changes, own_entries, Quiet, quiet_on, same_on, shown_there, since, Slot, Start, steps_to_update, steps_to_value, Trace, unmarked_open, visited_few, visited_on, world_after}
+use Rattle.vbr_list.proofs.Names.{◌≡◌, ℕ, suc, ◌+◌, ◌*◌, ◌<◌, ◌≤◌, true, false, List, Option, Some, None, refl, sym, ap, ◌∙◌, subst, arith, is_some, mul-le}
+use Rattle.vbr_list.proofs.Names.{advances, ahead_few, At, Begins, begins_refl, begins_run, begins_trans, bucket_of, disturbances_grow, Event, HasVisited, Head, head_visited, Held, held_of, HeldIn, incarnations_after, IsAhead, IsFresh, IsOpenIn, IsRun, IsSame, IsStart, knows, link_at, link_of, link_shown_at, Marked, next_visited, own_between, own_changes, own_entries, Quiet, quiet_on, same_on, same_refl, shown_there, since, Slot, Start, steps_to_update, Trace, unmarked_open, visited_few, visited_on, world_after}
 use Rattle.vbr_list.specs.Helping.{OpensPlace}
 use Rattle.vbr_list.specs.Budgets.{listed_for}
 use Rattle.vbr_list.specs.declared.found.Found.{Found}
@@ -202,10 +202,12 @@ more_tries per tries m1 m2 m before a b x y l k =
     let z = mul-le tries (per * m1 + 3) tries (per * m + 3) (omega arith) (omega (arith, u)) in
     omega (arith, x, y, z, v)
 
-more_rounds : (each tries lost m1 m2 m a b c : ℕ) → a ≤ 0 + tries * (5 * m1 + (3 + each)) → b ≤ a + (lost + 1) * (5 * m2 + 3) → c ≤ b + each → m1 ≤ m → m2 ≤ m → c ≤ 0 + (tries + lost + 1) * (5 * m + (3 + each))
-more_rounds each tries lost m1 m2 m a b c x y z l k =
-    let u = mul-le tries (5 * m1 + (3 + each)) tries (5 * m + (3 + each)) (omega arith) (omega (arith, l)) in
-    let v = mul-le (lost + 1) (5 * m2 + 3) (lost + 1) (5 * m + 3) (omega arith) (omega (arith, k)) in
+more_rounds : (per before each tries lost m1 m2 m a b c : ℕ) → a ≤ before + tries * (per * m1 + (3 + each)) → b ≤ a + (lost + 1) * (per * m2 + 3) → c ≤ b + each → m1 ≤ m → m2 ≤ m → c ≤ before + (tries + lost + 1) * (per * m + (3 + each))
+more_rounds per before each tries lost m1 m2 m a b c x y z l k =
+    let low = mul-le per m1 per m (omega arith) l in
+    let high = mul-le per m2 per m (omega arith) k in
+    let u = mul-le tries (per * m1 + (3 + each)) tries (per * m + (3 + each)) (omega arith) (omega (arith, low)) in
+    let v = mul-le (lost + 1) (per * m2 + 3) (lost + 1) (per * m + 3) (omega arith) (omega (arith, high)) in
     let w = mul-le 0 0 lost each (omega arith) (omega arith) in
     omega (arith, x, y, z, u, v, w)
 
@@ -273,20 +275,22 @@ round_on p q m r is ok key each sq sm sr a b c own {used} {mid} {now_used} held 
       lost = x.lost + lost + 1;
       repeats = record {
         few = omega (arith, before, since_q, less, here, there);
-        paid = more_rounds each x.lost lost (met_since p q key) (met_since q m key) (met_since p r key) used mid now_used x.repeats.paid rep.paid few low (omega (arith, mid_met, high));
+        paid = more_rounds 5 0 each x.lost lost (met_since p q key) (met_since q m key) (met_since p r key) used mid now_used x.repeats.paid rep.paid few low (omega (arith, mid_met, high));
       };
     }
 
-enough_few : (each lost t m1 m2 n times used now budget : ℕ) → used ≤ 0 + lost * (5 * m1 + (3 + each)) → now ≤ used + (t + 1) * (5 * m2 + 3) → m1 ≤ n → m2 ≤ n → lost + t ≤ times → each ≤ 3 → budget < now + 8 → budget < (times + 1) * (5 * n + 11)
-enough_few each lost t m1 m2 n times used now budget x y l k f e z =
-    let u = mul-le lost (5 * m1 + (3 + each)) lost (5 * n + 11) (omega arith) (omega (arith, l, e)) in
-    let v = mul-le (t + 1) (5 * m2 + 11) (t + 1) (5 * n + 11) (omega arith) (omega (arith, k)) in
-    let w = mul-le (lost + t + 1) (5 * n + 11) (times + 1) (5 * n + 11) (omega (arith, f)) (omega arith) in
+enough_few : (per each lost t m1 m2 n times used now budget : ℕ) → used ≤ 0 + lost * (per * m1 + (3 + each)) → now ≤ used + (t + 1) * (per * m2 + 3) → m1 ≤ n → m2 ≤ n → lost + t ≤ times → each ≤ 3 → budget < now + 8 → budget < (times + 1) * (per * n + 11)
+enough_few per each lost t m1 m2 n times used now budget x y l k f e z =
+    let low = mul-le per m1 per n (omega arith) l in
+    let high = mul-le per m2 per n (omega arith) k in
+    let u = mul-le lost (per * m1 + (3 + each)) lost (per * n + 11) (omega arith) (omega (arith, low, e)) in
+    let v = mul-le (t + 1) (per * m2 + 11) (t + 1) (per * n + 11) (omega arith) (omega (arith, high)) in
+    let w = mul-le (lost + t + 1) (per * n + 11) (times + 1) (per * n + 11) (omega (arith, f)) (omega arith) in
     omega (arith, x, y, z, u, v, w)
 
 costs_few : (each lost t m1 m2 n times used mid now : ℕ) → used ≤ 0 + lost * (5 * m1 + (3 + each)) → mid ≤ used + (t + 1) * (5 * m2 + 3) → now ≤ mid + each → m1 ≤ n → m2 ≤ n → lost + t ≤ times → now ≤ (times + 1) * (5 * n + (3 + each))
 costs_few each lost t m1 m2 n times used mid now x y z l k f =
-    let r = more_rounds each lost t m1 m2 n used mid now x y z l k in
+    let r = more_rounds 5 0 each lost t m1 m2 n used mid now x y z l k in
     let w = mul-le (lost + t + 1) (5 * n + (3 + each)) (times + 1) (5 * n + (3 + each)) (omega (arith, f)) (omega arith) in
     omega (arith, r, w)
 
@@ -312,7 +316,7 @@ module _ (p q r : Trace) (is : IsStart p.start) (ok : IsRun p.start p.passes r.s
 
   -- a budget that has no room for one more piece was below what is enough
   pub lacks_steps : (budget : ℕ) → each ≤ 3 → budget < mid + 8 → budget < enough_among (listed_for p key) (disturbed p r key)
-  lacks_steps budget few short = enough_few each x.lost lost (met_since p q key) (met_since q r key) (listed_for p key + disturbed p r key) (disturbed p r key) used mid budget x.repeats.paid rep.paid met_low met_high rounds few short
+  lacks_steps budget few short = enough_few 5 each x.lost lost (met_since p q key) (met_since q r key) (listed_for p key + disturbed p r key) (disturbed p r key) used mid budget x.repeats.paid rep.paid met_low met_high rounds few short
 
 -- a later end was disturbed no less
 pub disturbed_on : (p m r : Trace) → IsStart p.start → IsRun p.start p.passes r.seen → (key : ℕ) → Begins m.seen r.seen → disturbed p m key ≤ disturbed p r key
@@ -339,11 +343,6 @@ search_few lost m n times used x l f =
     let u = mul-le (lost + 1) (9 * m + 3) (times + 1) (9 * n + 3) (omega (arith, f)) (omega (arith, l)) in
     omega (arith, x, u)
 
-search_lacks : (lost m n times used budget : ℕ) → used ≤ 0 + (lost + 1) * (9 * m + 3) → m ≤ n → lost ≤ times → budget < used + 8 → budget < (times + 1) * (9 * n + 11)
-search_lacks lost m n times used budget x l f z =
-    let u = mul-le (lost + 1) (9 * m + 11) (times + 1) (9 * n + 11) (omega (arith, f)) (omega (arith, l)) in
-    omega (arith, x, u, z)
-
 module _ (p r : Trace) (is : IsStart p.start) (ok : IsRun p.start p.passes r.seen) (key : ℕ) (quiet : Quiet p r) {used : ℕ} (x : WalksAgain 9 p r key 0 used) where
   search_rounds : x.lost ≤ disturbed p r key
   search_rounds = let few = x.repeats.few in omega (arith, few)
@@ -351,17 +350,7 @@ module _ (p r : Trace) (is : IsStart p.start) (ok : IsRun p.start p.passes r.see
   pub find_paid : used ≤ find_costs_among (listed_for p key) (disturbed p r key)
   find_paid = search_few x.lost (met_since p r key) (listed_for p key + disturbed p r key) (disturbed p r key) used x.repeats.paid (met_quiet p r is ok key quiet) search_rounds
 
-  pub find_lacks : (budget : ℕ) → budget < used + 8 → budget < enough_to_search_among (listed_for p key) (disturbed p r key)
-  find_lacks budget short = search_lacks x.lost (met_since p r key) (listed_for p key + disturbed p r key) (disturbed p r key) used budget x.repeats.paid (met_quiet p r is ok key quiet) search_rounds short
-
 -- ---- rounds of a remove
-
-more_searches : (before each tries lost m1 m2 m a b c : ℕ) → a ≤ before + tries * (9 * m1 + (3 + each)) → b ≤ a + (lost + 1) * (9 * m2 + 3) → c ≤ b + each → m1 ≤ m → m2 ≤ m → c ≤ before + (tries + lost + 1) * (9 * m + (3 + each))
-more_searches before each tries lost m1 m2 m a b c x y z l k =
-    let u = mul-le tries (9 * m1 + (3 + each)) tries (9 * m + (3 + each)) (omega arith) (omega (arith, l)) in
-    let v = mul-le (lost + 1) (9 * m2 + 3) (lost + 1) (9 * m + 3) (omega arith) (omega (arith, k)) in
-    let w = mul-le 0 0 lost each (omega arith) (omega arith) in
-    omega (arith, x, y, z, u, v, w)
 
 -- a search, from a later moment on, and an answer that was lost, which was disturbed since
 pub search_round_on : (p q m r : Trace) → IsStart p.start → IsRun p.start p.passes r.seen → (key each : ℕ) → IsSame p q → IsSame q m → IsSame p r → Begins p.seen q.seen → Begins q.seen m.seen → Begins m.seen r.seen → advances r ≡ advances m →
@@ -387,16 +376,9 @@ search_round_on p q m r is ok key each sq qm sr a b c count {before_all} {used} 
       lost = x.lost + last.lost + 1;
       repeats = record {
         few = omega (arith, before, since_q, less, here, mid_there, there, end);
-        paid = more_searches before_all each x.lost last.lost (met_since p q key) (met_since q m key) (met_since p r key) used mid now_used x.repeats.paid last.repeats.paid few low (omega (arith, mid_met, high));
+        paid = more_rounds 9 before_all each x.lost last.lost (met_since p q key) (met_since q m key) (met_since p r key) used mid now_used x.repeats.paid last.repeats.paid few low (omega (arith, mid_met, high));
       };
     }
-
-searches_lack : (lost t m1 m2 n times used now budget : ℕ) → used ≤ 0 + lost * (9 * m1 + 6) → now ≤ used + (t + 1) * (9 * m2 + 3) → m1 ≤ n → m2 ≤ n → lost + t ≤ times → budget < now + 8 → budget < (times + 1) * (9 * n + 11)
-searches_lack lost t m1 m2 n times used now budget x y l k f z =
-    let u = mul-le lost (9 * m1 + 6) lost (9 * n + 11) (omega arith) (omega (arith, l)) in
-    let v = mul-le (t + 1) (9 * m2 + 11) (t + 1) (9 * n + 11) (omega arith) (omega (arith, k)) in
-    let w = mul-le (lost + t + 1) (9 * n + 11) (times + 1) (9 * n + 11) (omega (arith, f)) (omega arith) in
-    omega (arith, x, y, z, u, v, w)
 
 -- a budget that has no room for one more piece was below what is enough
 pub remove_lacks : (p q m : Trace) → IsStart p.start → IsRun p.start p.passes m.seen → (key : ℕ) → IsSame p q → Begins p.seen q.seen → Begins q.seen m.seen → Quiet p m → {used mid : ℕ} → HasRepeated 9 p q key 6 0 used → WalksAgain 9 q m key used mid → (budget : ℕ) → budget < mid + 8 → budget < enough_to_search_among (listed_for p key) (disturbed p m key)
@@ -408,16 +390,16 @@ remove_lacks p q m is ok key sq a b quiet {used} {mid} x w budget short =
     let few = met_quiet p m is ok key quiet in
     let low = met_before p m is ok key q a b in
     let high = met_less p m is ok key q sq a b in
-    searches_lack x.lost w.lost (met_since p q key) (met_since q m key) (listed_for p key + disturbed p m key) (disturbed p m key) used mid budget x.repeats.paid w.repeats.paid (omega (arith, few, low)) (omega (arith, few, high)) (omega (arith, before, since_q, here, there)) short
+    enough_few 9 3 x.lost w.lost (met_since p q key) (met_since q m key) (listed_for p key + disturbed p m key) (disturbed p m key) used mid budget x.repeats.paid w.repeats.paid (omega (arith, few, low)) (omega (arith, few, high)) (omega (arith, before, since_q, here, there)) (omega arith) short
+
+-- and so it is of the first search
+pub find_lacks : (p r : Trace) → IsStart p.start → IsRun p.start p.passes r.seen → (key : ℕ) → Quiet p r → {used : ℕ} → WalksAgain 9 p r key 0 used → (budget : ℕ) → budget < used + 8 → budget < enough_to_search_among (listed_for p key) (disturbed p r key)
+find_lacks p r is ok key quiet x budget short = remove_lacks p p r is ok key (same_refl p) (begins_refl p.seen) quiet.seen quiet (repeated_none 9 p key 6 0) x budget short
 
 -- ---- searches of an insert
 
 pub few_to_update_most : (start : Start) → steps_to_update start ≤ 4
-few_to_update_most start = go start.shape.values
-  where
-    go : (values : Bool) → 1 + steps_to_value values + 1 + 1 ≤ 4
-    go true = omega arith
-    go false = omega arith
+few_to_update_most start = grind arith
 
 more_searched : (before e each tries lost m1 m2 m a b now more all : ℕ) → (e ≤ each) × (3 ≤ each) → a ≤ before + tries * (9 * m1 + e) → b ≤ a + (lost + 1) * (9 * m2 + 3) → now ≤ b + more → more + 3 ≤ all → m1 ≤ m → m2 ≤ m → now ≤ before + 9 * m + (tries + lost) * (9 * m + each) + all
 more_searched before e each tries lost m1 m2 m a b now more all f x y z w l k =
@@ -461,9 +443,7 @@ searches_later p m r is ok key a b {before_all} {since_then} {least} most le x =
 
 -- a refusal for want of steps
 pub in_vain : (p r : Trace) (key before_all mid budget steps all : ℕ) → ((since_then more : ℕ) → since_then ≤ mid + more → more + 3 ≤ all → SearchesFor p r key before_all since_then all) → (refusal : Refusal) → steps + 10 ≤ all → LacksSteps (mid + steps + 7) budget refusal → SearchesInVain p r key before_all budget all refusal
-in_vain p r key before_all mid budget steps all x (OutOfSteps used) le short = x (budget + 1) (steps + 7) (omega (arith, short)) (omega (arith, le))
-in_vain p r key before_all mid budget steps all x NoSlot le short = tt
-in_vain p r key before_all mid budget steps all x (EpochSpent epoch) le short = tt
+in_vain p r key before_all mid budget steps all x refusal le short = grind (arith, x (budget + 1) (steps + 7))
 
 -- one half of an insert
 one_half : (lost m n t now more : ℕ) → now ≤ 0 + 9 * m + lost * (9 * m + 7) + more → m ≤ n + t → lost ≤ t → now ≤ 9 * (n + t) + searches_more 7 n t + more

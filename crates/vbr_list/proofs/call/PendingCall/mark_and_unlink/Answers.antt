@@ -1,4 +1,5 @@
 use Rattle.std.proofs.Common.{refl, ◌≡◌, ◌+◌, ℕ, true, false, Option, Some, rules, arith, sym, ap, ◌∙◌, subst, inl, inr}
+use Rattle.std.specs.Prelude.{◌⊎◌}
 use Rattle.vbr_words.specs.declared.place.At.{At}
 use Rattle.vbr_machine.specs.Membership.{KeyAt}
 use Rattle.vbr_machine.specs.declared.history.Op.TheVariants.{Remove}
@@ -8,6 +9,7 @@ use Rattle.vbr_at_table.proofs.Lemmas.{counts_on, no_room, held_kept, unchanged_
 use Rattle.vbr_at_table.specs.Held.{Names}
 use Rattle.vbr_at_table.specs.declared.held.Held.{Held}
 use Rattle.vbr_list.specs.Pieces.{Goes}
+use Rattle.vbr_list.specs.Removing.{MarksAndSearches, RemovesSoon}
 use Rattle.vbr_list.specs.Walking.{LosesNext}
 use Rattle.vbr_list.specs.Budgets.{steps_to_value_of, steps_where}
 use Rattle.vbr_list.proofs.Clearing.{leaves_clear}
@@ -132,9 +134,10 @@ returns-then-affords-clause-answers g c =
     let first : Goes p q c.args.self.now.used (c.args.self.now.used + c.steps_to_value_of.result) = goes_counted c.args.self.now.used c.steps_to_value_of.result (steps_to_value_of p.trace.start) steps reads in
     let mark = c.mark-outcome.ensures.keeps in
     let pred = pred_on c.args.self.now.key f.pred made.same mark.keeps (pred_on c.args.self.now.key f.pred same keeps c.requires.locates.pred) in
+    let E : Type 0 = RemovesSoon c.args.self.now c.unlink_marked.new.self (Some c.in_ok-value.value) ⊎ MarksAndSearches (steps_to_value_of p.trace.start + 1) p.trace c.unlink_marked.new.self.at.stepper.now.trace c.args.self.now.key c.args.self.now.used c.unlink_marked.new.self.used f.pred in
     record {
       made = made_then told then;
-      paid = by_either c.unlink_marked.ensures.paid (λ soon. inl (record { few = let few = soon.few in omega (arith, few, steps); leaves = λ yes room. leaves_clear c.law.ensures.start told then.same soon.clear }))
+      paid = by_either {C = E} c.unlink_marked.ensures.paid (λ soon. inl (record { few = let few = soon.few in omega (arith, few, steps); leaves = λ yes room. leaves_clear c.law.ensures.start told then.same soon.clear }))
           (λ on. inr (record {
             marked = r.trace;
             marks = marks_behind p.trace q.trace r.trace c.args.self.now.key f.pred c.in-Some.cur c.law.ensures.start (run_at p.trace r.trace told.same told.is_run) reads.quiet reads.adds_none made.same c.in_ok-marked.ensures.removed.leaves
