@@ -1,5 +1,5 @@
 -- Going over all keys, call by call.
-use Rattle.std.proofs.Common.{◌≡◌, ℕ, suc, ◌+◌, ◌-◌, ◌*◌, ◌^◌, ◌<◌, ◌≤◌, true, false, List, [], ◌∷◌, ◌++◌, Option, Some, None, Result, Ok, Err, length, map, min, refl, sym, ap, ◌∙◌, subst, arith, inl, inr, append-nil, length-append, mul-le-mul_left, mul-suc}
+use Rattle.std.proofs.Common.{◌≡◌, ℕ, suc, ◌+◌, ◌-◌, ◌*◌, ◌^◌, ◌<◌, ◌≤◌, true, false, List, [], ◌∷◌, ◌++◌, Option, Some, None, Result, Ok, Err, length, map, refl, sym, ap, ◌∙◌, subst, arith, inl, inr, append-nil, length-append, mul-le-mul_left, mul-suc}
 use Rattle.std.specs.Prelude.{◌==◌, ◌&&◌, IfErr, IfOk}
 use Rattle.std.specs.List.{AllByRecursion}
 use Rattle.std.proofs.lemmas.List.{length-map, map-append, map-id}
@@ -21,7 +21,7 @@ use Rattle.vbr_list.specs.Next.{enough_to_seek, listed_in}
 use Rattle.vbr_list.specs.declared.cursor.Cursor.{Cursor}
 use Rattle.vbr_at_table.specs.declared.refusal.Refusal.{Refusal}
 use Rattle.vbr_list.proofs.Lemmas.{entry_more, entry_since, given_all, given_none, given_on, sees_on}
-use Rattle.vbr_set.specs.Iterating.{CallsNextWhere, GoesOnSafe, GoesOver, HasCounted, HasGoneOverEntries, HasGoneOverWhere, HasListed, StandsShort}
+use Rattle.vbr_set.specs.Iterating.{AreItemsOf, CallsNextWhere, GoesOnSafe, GoesOver, HasGathered, HasGoneOverEntries, HasGoneOverWhere, StandsShort}
 use Rattle.vbr_set.specs.Members.{MemberView, as_member}
 
 -- ---- entries and steps
@@ -211,42 +211,18 @@ module _ {m n : MemberView} (o : MemberView) {c d : Cursor} {entries : List (ℕ
 
 -- ---- what is made of them
 
--- what is listed of the entries so far
-pub record ListsAs {I : Type 0} (item : ℕ → ℕ → I) (m n : MemberView) (c : Cursor) (budget : ℕ) (items : List I) : Type 0 where
+-- what is gathered of the entries so far
+pub record GathersAs {A : Type 0} (of : List (ℕ × ℕ) → A → Type 0) (m n : MemberView) (c : Cursor) (budget : ℕ) (gathered : A) : Type 0 where
   pub entries : List (ℕ × ℕ)
   pub lists : Lists m n c budget entries
-  pub are : items ≡ map (λ (entry : ℕ × ℕ). item entry.0 entry.1) entries
+  pub are : of entries gathered
 
-pub listed_on : {I : Type 0} {item : ℕ → ℕ → I} {m n : MemberView} (o : MemberView) {c d : Cursor} (budget : ℕ) {items : List I} (x : ListsAs item m n c budget items) (key value : ℕ) (more : List I) → CallsNextWhere n o c d budget (Ok (Some (key, value))) → more ≡ items ++ item key value ∷ [] → ListsAs item m o d budget more
-listed_on {item = item} o budget x key value more y is = record {
-  entries = x.entries ++ (key, value) ∷ [];
-  lists = lists_on o budget x.lists key value y;
-  are = is ∙ ap (λ l. l ++ item key value ∷ []) x.are ∙ sym (map-append (λ (entry : ℕ × ℕ). item entry.0 entry.1) x.entries ((key, value) ∷ []));
-}
+module _ {A : Type 0} {of : List (ℕ × ℕ) → A → Type 0} {m n : MemberView} (o : MemberView) {c d : Cursor} (budget : ℕ) {gathered : A} (x : GathersAs of m n c budget gathered) where
+  pub gathered_on : (key value : ℕ) {more : A} → CallsNextWhere n o c d budget (Ok (Some (key, value))) → of (x.entries ++ (key, value) ∷ []) more → GathersAs of m o d budget more
+  gathered_on key value y are = record { entries = x.entries ++ (key, value) ∷ []; lists = lists_on o budget x.lists key value y; are = are }
 
-pub listed_later : {I : Type 0} {item : ℕ → ℕ → I} {m n : MemberView} (o : MemberView) {c d : Cursor} (budget : ℕ) {items : List I} (x : ListsAs item m n c budget items) (refusal : Refusal) → CallsNextWhere n o c d budget (Err refusal) → c.bucket < d.bucket → ListsAs item m o d budget items
-listed_later o budget x refusal y later = record { entries = x.entries; lists = lists_later o budget x.lists refusal y later; are = x.are }
-
--- how many there are so far, as far as a count goes
-pub record Counts (m n : MemberView) (c : Cursor) (budget count : ℕ) : Type 0 where
-  pub entries : List (ℕ × ℕ)
-  pub lists : Lists m n c budget entries
-  pub is : count ≡ min (length entries) (2 ^ 64 - 1)
-
-pub counted_on : {m n : MemberView} (o : MemberView) {c d : Cursor} (budget count : ℕ) (x : Counts m n c budget count) (key value more : ℕ) → CallsNextWhere n o c d budget (Ok (Some (key, value))) → more ≡ min (count + 1) (2 ^ 64 - 1) → Counts m o d budget more
-counted_on o budget count x key value more y is =
-    let e : length (x.entries ++ (key, value) ∷ []) ≡ length x.entries + 1 = length-append x.entries ((key, value) ∷ []) in
-    let f = x.is in
-    record { entries = x.entries ++ (key, value) ∷ []; lists = lists_on o budget x.lists key value y; is = omega (arith, e, f, is) }
-
-pub counted_later : {m n : MemberView} (o : MemberView) {c d : Cursor} (budget count : ℕ) (x : Counts m n c budget count) (refusal : Refusal) → CallsNextWhere n o c d budget (Err refusal) → c.bucket < d.bucket → Counts m o d budget count
-counted_later o budget count x refusal y later = record { entries = x.entries; lists = lists_later o budget x.lists refusal y later; is = x.is }
-
-pub has_counted : {m n o : MemberView} {c : Cursor} (budget count : ℕ) (x : Counts m n c budget count) → HasGoneOverWhere m o budget x.entries → HasCounted m o budget count
-has_counted budget count x over =
-    let e : length (keys_of x.entries) ≡ length x.entries = length-map x.entries (λ (entry : ℕ × ℕ). entry.0) in
-    let f = x.is in
-    record { keys = keys_of x.entries; over = over.keys; is = omega (arith, e, f) }
+  pub gathered_later : (refusal : Refusal) → CallsNextWhere n o c d budget (Err refusal) → c.bucket < d.bucket → GathersAs of m o d budget gathered
+  gathered_later refusal y later = record { entries = x.entries; lists = lists_later o budget x.lists refusal y later; are = x.are }
 
 -- whether a cursor stands where it stood
 pub stood : (c d : Cursor) → ((d.bucket == c.bucket) && (d.from == c.from)) ≡ true → d ≡ c
@@ -270,12 +246,12 @@ ok_as (Ok told) f x = f told x
 ok_as (Err error) f x = tt
 
 -- what is listed is entries, where nodes have values
-entries_listed : {m n : MemberView} {budget : ℕ} {items : List (ℕ × ℕ)} → m.pass.trace.start.shape.values ≡ true → HasListed (λ key value. (key, value)) m n budget items → HasGoneOverEntries m n budget items
+entries_listed : {m n : MemberView} {budget : ℕ} {items : List (ℕ × ℕ)} → m.pass.trace.start.shape.values ≡ true → HasGathered (λ entries. AreItemsOf (λ key value. (key, value)) entries items) m n budget → HasGoneOverEntries m n budget items
 entries_listed {m} {n} {budget} {items} values x =
     let P : List (ℕ × ℕ) → Type 0 = HasGoneOverEntries m n budget in
     subst P (sym (x.are ∙ map-id x.entries)) (record { keys = x.over.keys; values = x.over.values values })
 
-pub lists_entries : {A E : Type 0} {Stops : E → Type 0} (items : A → List (ℕ × ℕ)) (m n : MemberView) (budget : ℕ) (answer : Result A E) → m.pass.trace.start.shape.values ≡ true → GoesOver (λ told. HasListed (λ key value. (key, value)) m n budget (items told)) Stops m n answer → GoesOver (λ told. HasGoneOverEntries m n budget (items told)) Stops m n answer
+pub lists_entries : {A E : Type 0} {Stops : E → Type 0} (items : A → List (ℕ × ℕ)) (m n : MemberView) (budget : ℕ) (answer : Result A E) → m.pass.trace.start.shape.values ≡ true → GoesOver (λ told. HasGathered (λ entries. AreItemsOf (λ key value. (key, value)) entries (items told)) m n budget) Stops m n answer → GoesOver (λ told. HasGoneOverEntries m n budget (items told)) Stops m n answer
 lists_entries items m n budget answer values x = record {
   goes = x.goes;
   tells = ok_as answer (λ told listed. entries_listed values listed) x.tells;

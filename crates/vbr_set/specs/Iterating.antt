@@ -68,10 +68,14 @@ pub record StandsShort (m n : MemberView) (budget : ℕ) (refusal : Refusal) : T
   pub stops : StopsShort before.pass n.pass cursor cursor budget refusal
   pub short : IsAlone m.pass.trace n.pass.trace → budget < enough_to_seek m.pass.trace cursor.bucket
 
--- why there is no list: it stopped so, or there was no memory
+-- why nothing was gathered of all keys: it stopped so, or there was no memory, where that may be
+abbrev pub GathersNone : Type 0 → MemberView → MemberView → ℕ → ListError → Type 0
+GathersNone MayLack m n budget (Refused refusal) = StandsShort m n budget refusal
+GathersNone MayLack m n budget Memory = MayLack
+
+-- why there is no list
 abbrev pub ListsNone : MemberView → MemberView → ℕ → ListError → Type 0
-ListsNone m n budget (Refused refusal) = StandsShort m n budget refusal
-ListsNone m n budget Memory = Unit {0}
+ListsNone = GathersNone (Unit {0})
 
 -- going over all keys, to the end or until it stops: it made no call, and loads alone, added nothing to the chronicle, and the pass has what slots it had
 pub record GoesOver {A E : Type 0} (Tells : A → Type 0) (Stops : E → Type 0) (m n : MemberView) (answer : Result A E) : Type 0 where
@@ -100,11 +104,19 @@ pub record HasGoneOverWhere (m n : MemberView) (budget : ℕ) (entries : List (�
   pub keys : HasGoneOver m n budget (map (λ (entry : ℕ × ℕ). entry.0) entries)
   pub values : m.pass.trace.start.shape.values ≡ true → AllByRecursion (λ (entry : ℕ × ℕ). WasEntry m.pass.trace n.pass.trace entry.0 entry.1) entries
 
--- what is listed of all entries
-pub record HasListed {I : Type 0} (item : ℕ → ℕ → I) (m n : MemberView) (budget : ℕ) (items : List I) : Type 0 where
+-- what is gathered of all entries, which says of them what it does of each list
+pub record HasGathered (Of : List (ℕ × ℕ) → Type 0) (m n : MemberView) (budget : ℕ) : Type 0 where
   pub entries : List (ℕ × ℕ)
   pub over : HasGoneOverWhere m n budget entries
-  pub are : items ≡ map (λ (entry : ℕ × ℕ). item entry.0 entry.1) entries
+  pub are : Of entries
 
-abbrev pub ListsItems : {A I : Type 0} → (ℕ → ℕ → I) → (A → List I) → MemberView → MemberView → ℕ → Result A ListError → Type 0
-ListsItems item items m n budget answer = GoesOver (λ told. HasListed item m n budget (items told)) (ListsNone m n budget) m n answer
+abbrev pub Gathers : {A : Type 0} → (List (ℕ × ℕ) → A → Type 0) → Type 0 → MemberView → MemberView → ℕ → Result A ListError → Type 0
+Gathers of MayLack m n budget answer = GoesOver (λ told. HasGathered (λ entries. of entries told) m n budget) (GathersNone MayLack m n budget) m n answer
+
+-- a list has an item of each entry
+abbrev pub AreItemsOf : {I : Type 0} → (ℕ → ℕ → I) → List (ℕ × ℕ) → List I → Type 0
+AreItemsOf item entries items = items ≡ map (λ (entry : ℕ × ℕ). item entry.0 entry.1) entries
+
+-- a count is how many entries there are, as far as a count goes
+abbrev pub IsCountOf : List (ℕ × ℕ) → ℕ → Type 0
+IsCountOf entries count = count ≡ min (length entries) (2 ^ 64 - 1)

@@ -1,7 +1,7 @@
 //! Going over the keys of a set, or the entries of a map, while other callers make calls.
-ghost use Rattle.std.specs.Prelude.{◌≡◌, ℕ, None};
+ghost use Rattle.std.specs.Prelude.{◌≡◌, ℕ, ◌++◌, List, [], ◌∷◌, None, true, false};
 ghost use Rattle.vbr_slots.specs.Views.{IsOf};
-ghost use Rattle.vbr_set.specs.Iterating.{CallsNext, CallsNextEntry, CallsNextWhere, CountsKeys, ListsEntries, ListsItems, ListsKeys};
+ghost use Rattle.vbr_set.specs.Iterating.{AreItemsOf, CallsNext, CallsNextEntry, CallsNextWhere, CountsKeys, Gathers, IsCountOf, ListsEntries, ListsKeys};
 ghost use Rattle.vbr_set.specs.Members.{as_member};
 
 use crate::list_error::ListError;
@@ -35,6 +35,42 @@ impl Item for (u64, u64) {
     #[inline(always)]
     fn of(key: u64, value: u64) -> (u64, u64) {
         (key, value)
+    }
+}
+
+// What going over all keys gathers of them: a list of items, or how many they are.
+pub(crate) trait Gathered: Drop {
+    ghost of: { List (ℕ × ℕ) → Self → Type 0 };
+
+    ghost MayLack: { Type 0 };
+
+    // Takes in one more, and says whether there was memory for it.
+    fn add(&mut self, key: u64, value: u64) -> bool
+        ensures added { (entries : List (ℕ × ℕ)) → of entries self.old → result ≡ true →
+            of (entries ++ (key, value) ∷ []) self.new }
+        ensures lacks { result ≡ false → MayLack };
+}
+
+impl<I: Item> Gathered for Vec<I> {
+    ghost of = { λ entries items. AreItemsOf I.item entries items.items };
+
+    ghost MayLack = { Unit {0} };
+
+    #[inline(always)]
+    fn add(&mut self, key: u64, value: u64) -> bool {
+        self.push(I::of(key, value)).is_ok()
+    }
+}
+
+impl Gathered for u64 {
+    ghost of = { IsCountOf };
+
+    ghost MayLack = { ⊥ };
+
+    #[inline(always)]
+    fn add(&mut self, _key: u64, _value: u64) -> bool {
+        *self = self.saturating_add(1);
+        true
     }
 }
 
@@ -115,7 +151,7 @@ impl<N: Nodes> VbrSet<N> {
         ensures { ListsKeys (λ keys. keys.items)
             (as_member self.now pass.old) (as_member self.now pass.new) budget result }
     {
-        self.items_now(alloc, pass, budget)
+        self.go_over(pass, budget, Vec::new(alloc))
     }
 
     /// How many keys [`VbrSet::keys_now`] would have listed in its place. It takes no memory. The count is of
@@ -130,51 +166,40 @@ impl<N: Nodes> VbrSet<N> {
         ensures { CountsKeys
             (as_member self.now pass.old) (as_member self.now pass.new) budget result }
     {
-        pass.law();
-        let mut cursor = Cursor::first();
-        let mut count: u64 = 0;
-        loop {
-            let before = cursor;
-            let next = self.next_where(pass, &mut cursor, budget);
-            cursor.law();
-            match next {
-                Ok(Some(_)) => count = count.saturating_add(1),
-                Ok(None) => return Ok(count),
-                Err(refusal) => {
-                    if cursor == before {
-                        return Err(refusal);
-                    }
-                }
-            }
+        match self.go_over(pass, budget, 0u64) {
+            Ok(count) => Ok(count),
+            Err(ListError::Refused(refusal)) => Err(refusal),
+            Err(ListError::Memory) => unreachable!(),
         }
     }
 
-    // What is listed of all keys, call by call, for as long as a call brings the cursor further.
-    fn items_now<I: Item>(
+    // Goes over all keys, call by call, for as long as a call brings the cursor further.
+    fn go_over<G: Gathered>(
         &self,
-        alloc: Global,
         pass: &mut Pass,
         budget: u32,
-    ) -> Result<Vec<I>, ListError>
+        gathered: G,
+    ) -> Result<G, ListError>
         requires own { IsOf pass.old.trace self.now }
         requires empty_hand { pass.old.hand ≡ None }
-        ensures { ListsItems I.item (λ items. items.items)
+        requires none { G.of [] gathered }
+        ensures { Gathers G.of G.MayLack
             (as_member self.now pass.old) (as_member self.now pass.new) budget result }
     {
         pass.law();
         let mut cursor = Cursor::first();
-        let mut items = Vec::new(alloc);
+        let mut gathered = gathered;
         loop {
             let from = cursor;
             let next = self.next_where(pass, &mut cursor, budget);
             cursor.law();
             match next {
                 Ok(Some((key, value))) => {
-                    if items.push(I::of(key, value)).is_err() {
+                    if !gathered.add(key, value) {
                         return Err(ListError::Memory);
                     }
                 }
-                Ok(None) => return Ok(items),
+                Ok(None) => return Ok(gathered),
                 Err(refusal) => {
                     if cursor == from {
                         return Err(ListError::Refused(refusal));
@@ -220,6 +245,6 @@ impl VbrSet<Entries> {
             (as_member self.now pass.old) (as_member self.now pass.new) budget result }
     {
         self.slots.kind();
-        self.items_now(alloc, pass, budget)
+        self.go_over(pass, budget, Vec::new(alloc))
     }
 }
