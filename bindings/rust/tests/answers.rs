@@ -2,10 +2,8 @@
 mod both;
 
 use both::Both;
-use vbr::{
-    ample_budget, CloseError, Entries, HandleOf, Keys, OpenError, Refusal, Report, Shape, ShapeError, Table, Unclosed,
-};
-use vbr::{MAX_BUCKETS, MAX_EPOCH, MAX_SLOTS};
+use vbr::{ample_budget, CloseError, Entries, Handle, HandleOf, Iter, Keys, Lent, Map, MapHandle, MapReport, OpenError};
+use vbr::{Refusal, Report, Set, Shape, ShapeError, Table, Unclosed, MAX_BUCKETS, MAX_EPOCH, MAX_SLOTS};
 
 const BUDGET: u32 = 100_000;
 
@@ -248,4 +246,22 @@ fn names() {
     }
     assert_eq!(names::<Keys>(), "Set { .. } Handle { .. }");
     assert_eq!(names::<Entries>(), "Map { .. } MapHandle { .. }");
+}
+
+/// The names of sets and of maps serve as types without a parameter, and as paths to calls.
+#[test]
+fn names_as_paths() {
+    type Lenders<'s> = (Option<Lent<'s>>, Option<Lent<'s, MapHandle>>, Option<Iter<'s>>, Option<Iter<'s, MapHandle>>);
+    type Closed = (Result<Option<Report>, CloseError>, Result<Option<MapReport>, CloseError<MapHandle>>);
+    let none: Lenders = (None, None, None, None);
+    assert!(none.0.is_none() && none.1.is_none() && none.2.is_none() && none.3.is_none());
+    let shape = Shape::for_keys(8, 1);
+    let mut handles = (Set::open(shape, 1).expect("a set").remove(0), Map::open(shape, 1).expect("a map").remove(0));
+    let (insert, insert_entry) = (Handle::insert, MapHandle::insert);
+    assert_eq!(insert(&mut handles.0, 5, BUDGET), Ok(true));
+    assert_eq!(insert_entry(&mut handles.1, 5, 70, BUDGET), Ok(true));
+    assert_eq!(MapHandle::get(&handles.1, 5, BUDGET), Ok(Some(70)));
+    let closed: Closed = (Handle::close(handles.0), MapHandle::close(handles.1));
+    assert_eq!(closed.0.expect("a report").expect("the only handle").keys, [5]);
+    assert_eq!(closed.1.expect("a report").expect("the only handle").entries, [(5, 70).into()]);
 }
