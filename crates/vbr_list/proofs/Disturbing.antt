@@ -18,12 +18,12 @@ use Rattle.vbr_machine.specs.Runs.{Begins, IsRun, world_after}
 use Rattle.vbr_machine.specs.declared.event.Event.{Event}
 use Rattle.vbr_machine.specs.declared.event.Step.{Step}
 use Rattle.vbr_machine.specs.declared.event.Step.TheVariants.{LoadLink}
-use Rattle.vbr_machine.proofs.Lemmas.{AdvancesNone, IsAdvance, begins_refl, begins_run, begins_trans, changed_disturbed, disturbances_grow, disturbances_paid, known_open, link_loaded, met_bound, met_bound_quiet, met_later, met_on, moved_by_others, moved_disturbed, own_between, own_unchanged, run_agrees, shown_there, since, undisturbed_by_itself, undisturbed_shown}
+use Rattle.vbr_machine.proofs.Lemmas.{AdvancesNone, IsAdvance, begins_refl, begins_run, begins_trans, changed_disturbed, disturbances_grow, disturbances_paid, known_open, link_loaded, met_bound, met_bound_quiet, met_later, met_on, moved_by_others, moved_disturbed, own_between, own_unchanged, run_agrees, shown_there, since, undisturbed_by_itself}
 use Rattle.vbr_slots.specs.Alone.{IsAlone, IsFresh, OnlyEventsOf}
 use Rattle.vbr_slots.specs.Calls.{AddsNone, IsSame, Quiet}
 use Rattle.vbr_slots.specs.Views.{PassView, Trace, knows}
 use Rattle.vbr_slots.proofs.Lemmas.{quiet_on}
-use Rattle.vbr_at_table.specs.Alone.{NextStands, StandsNow}
+use Rattle.vbr_at_table.specs.Alone.{StandsNow}
 use Rattle.vbr_at_table.specs.Counts.{ChangesNone, advances, is_advance}
 use Rattle.vbr_at_table.specs.Held.{IsHeld}
 use Rattle.vbr_at_table.specs.Retiring.{StampsFreshly}
@@ -51,6 +51,13 @@ run_at p q s ok =
     let P : Start → Type 0 = λ start. IsRun start q.passes q.seen in
     let Q : ℕ → Type 0 = λ passes. IsRun p.start passes q.seen in
     subst Q s.passes (subst P s.start ok)
+
+pub run_to : {p q : Trace} → IsSame p q → (run : List Event) → IsRun p.start p.passes run → IsRun q.start q.passes run
+run_to {p} {q} s run ok = subst (λ (passes : ℕ). IsRun q.start passes run) (sym s.passes) (subst (λ (start : Start). IsRun start p.passes run) (sym s.start) ok)
+
+-- two later moments of a pass are at the same table
+pub same_between : {p q r : Trace} → IsSame p q → IsSame p r → IsSame q r
+same_between x y = record { table = y.table ∙ sym x.table; start = y.start ∙ sym x.start; passes = y.passes ∙ sym x.passes; who = y.who ∙ sym x.who }
 
 pub own_at : (p q r : Trace) → IsSame p q → IsSame p r → AddsNone q r → own_entries p.start r.seen p.who ≡ own_entries p.start q.seen p.who
 own_at p q r sq sr x = sym (λ i. own_entries (sr.start i) r.seen (sr.who i)) ∙ x.entries ∙ (λ i. own_entries (sq.start i) q.seen (sq.who i))
@@ -162,6 +169,10 @@ alone_undisturbed p q key alone =
     let bucket = bucket_of p.start.shape key in
     let same : disturbances p.start q.seen p.who bucket ≡ disturbances p.start p.seen p.who bucket = ap (λ l. disturbances p.start l p.who bucket) alone.seen ∙ own_disturbs_none p.start p.who bucket p.seen alone.own alone.each in
     omega (arith, same)
+
+-- so what is so of a pass that was disturbed so often is so of one that was disturbed never
+pub undisturbed : (P : ℕ → Type 0) {p q : Trace} (key : ℕ) → P (disturbed p q key) → IsAlone p q → P 0
+undisturbed P {p} {q} key x alone = subst P (alone_undisturbed p q key alone) x
 
 -- ---- what a look-up loses
 
@@ -339,39 +350,6 @@ module _ (p r : Trace) (is : IsStart p.start) (ok : IsRun p.start p.passes r.see
 -- a roll-back
 pub moves_on : (q r : Trace) → IsSame q r → Begins q.seen r.seen → MovesEpoch q r → MovesOn q r
 moves_on q r s b m = record { moment = r.seen; from = b; to = begins_refl r.seen; other = λ e. m.other (sym (fresh_at q r s m.fresh) ∙ e) }
-
--- ---- a pass that was alone
-
-module _ (p q : Trace) (is : IsStart p.start) (ok : IsRun p.start p.passes q.seen) (key : ℕ) (same : IsSame p q) (b : Begins p.seen q.seen) (alone : IsAlone p q) where
-  level : (moment : List Event) → Begins p.seen moment → Begins moment q.seen → disturbed_after p key q.seen ≡ disturbed_after p key moment
-  level moment a c =
-      let none = alone_undisturbed p q key alone in
-      let low = disturbances_grow (since p.start p.passes p.seen moment is (begins_run p.start p.passes moment q.seen c ok) a) p.who (bucket_of p.start.shape key) in
-      let high = disturbances_grow (since p.start p.passes moment q.seen is ok c) p.who (bucket_of p.start.shape key) in
-      omega (arith, none, low, high)
-
-  -- what stood open stands
-  pub stands_alone : (held : Held) → StandsStill p q key held → StandsNow q held
-  stands_alone held x =
-      let on = since p.start p.passes x.stood.moment q.seen is ok x.stood.to in
-      ap (λ (start : Start). link_shown_at (incarnations_after start q.seen) held.at) same.start
-      ∙ undisturbed_shown on p.who (bucket_of p.start.shape key) x.own (level x.stood.moment x.stood.from x.stood.to) held.at x.stood.is_open
-      ∙ x.stood.shown
-
-  pub next_stands_alone : (next : Option Held) → NextStandsStill p q key next → NextStands q next
-  next_stands_alone None x = tt
-  next_stands_alone (Some node) x = stands_alone node x
-
-  -- and so does the epoch that was known
-  pub fresh_alone : advances q ≡ advances p → KnowsEpoch p q → IsFresh q
-  fresh_alone none k =
-      let moved = moved_by_others p.start p.who (bucket_of p.start.shape key) k.moment k.to.0 (advances_none p q same none k.moment k.from k.to) in
-      let P : List Event → Type 0 = λ l. (nodes_after p l).epoch + disturbed_after p key k.moment ≤ (nodes_after p k.moment).epoch + disturbed_after p key l in
-      let there = subst P (sym k.to.1) moved in
-      let grows = (since p.start p.passes k.moment q.seen is ok k.to).grown.epoch in
-      let even = level k.moment k.from k.to in
-      let was = k.was in
-      ap (λ (start : Start). (incarnations_after start q.seen).epoch) same.start ∙ (let e : (nodes_after p q.seen).epoch ≡ (knows q).epoch = omega (arith, there, grows, even, was) in e)
 
 -- ---- what can be met of a pass that makes no call
 

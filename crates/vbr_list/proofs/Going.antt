@@ -1,6 +1,6 @@
 -- Pieces one after another: they make no call, their steps add up, and the slot in hand stays.
-use Rattle.std.proofs.Common.{◌≡◌, ℕ, ◌+◌, ◌≤◌, Result, Ok, Err, refl, sym, ap, ◌∙◌, subst, arith}
-use Rattle.std.specs.Prelude.{IfOk}
+use Rattle.std.proofs.Common.{◌≡◌, ℕ, ◌+◌, ◌≤◌, Result, Ok, Err, refl, sym, ap, ◌∙◌, subst, arith, inl, inr}
+use Rattle.std.specs.Prelude.{◌⊎◌, IfOk}
 use Rattle.vbr_words.specs.declared.nodes.Nodes.{Ghosts}
 use Rattle.vbr_words.specs.Dimensions.{Dimensions}
 use Rattle.vbr_machine.specs.Start.{Start}
@@ -21,6 +21,11 @@ use Rattle.vbr_at_table.specs.Reading.{ReadsIn}
 use Rattle.vbr_list.specs.Pieces.{Goes, GoesOn, IsSameCall, Settles, Tries, pass_in, trace_in}
 use Rattle.vbr_list.specs.declared.call.PendingCall.{PendingCall}
 use Rattle.vbr_list.proofs.KeptHands.{hand_refl, hand_on, own_kept}
+
+-- what follows of the one and of the other
+pub by_either : {A B C : Type 0} → A ⊎ B → (A → C) → (B → C) → C
+by_either (inl a) f g = f a
+by_either (inr b) f g = g b
 
 -- the pass stays one of the table
 pub of_on : {p q : Trace} {t : TableView} → IsSame p q → IsOf p t → IsOf q t

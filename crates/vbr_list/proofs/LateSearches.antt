@@ -2,25 +2,27 @@
 use Rattle.std.proofs.Common.{◌≡◌, ℕ, ◌+◌, ◌*◌, ◌<◌, ◌≤◌, sym, ap, ◌∙◌, subst, arith}
 use Rattle.std.proofs.lemmas.Nat.{mul-le}
 use Rattle.vbr_words.specs.Buckets.{bucket_of}
-use Rattle.vbr_machine.specs.Start.{Start, IsStart}
+use Rattle.vbr_machine.specs.Start.{IsStart}
 use Rattle.vbr_machine.specs.Calls.{own_calls}
 use Rattle.vbr_machine.specs.Runs.{Begins, IsRun}
 use Rattle.vbr_machine.specs.declared.history.Call.{Call}
 use Rattle.vbr_machine.specs.declared.history.Op.TheVariants.{Insert, Remove}
-use Rattle.vbr_machine.proofs.Lemmas.{begins_run, begins_trans, disturbances_grow, inserts_in, inserts_in-two, met_bound_made, since}
+use Rattle.vbr_machine.proofs.Lemmas.{begins_run, disturbances_grow, inserts_in, inserts_in-two, met_bound_made, since}
 use Rattle.vbr_slots.specs.Calls.{IsSame, Quiet}
 use Rattle.vbr_slots.specs.Views.{Trace}
 use Rattle.vbr_slots.proofs.Lemmas.{quiet_on, same_on}
 use Rattle.vbr_at_table.specs.Replacing.{MadeTwo}
+use Rattle.vbr_at_table.specs.declared.budget.TheConstants.{PIECE}
 use Rattle.vbr_list.specs.Budgets.{listed_for}
 use Rattle.vbr_list.specs.Disturbed.{disturbed, replace_costs_among, replaces_more}
 use Rattle.vbr_list.specs.Inserting.{SearchedFor}
-use Rattle.vbr_list.specs.Replacing.{AnswersLate, ReplacesAndSearches, SearchesWith}
+use Rattle.vbr_list.specs.Removing.{MarksAndSearches}
+use Rattle.vbr_list.specs.Replacing.{AnswersLate, SearchesWith}
 use Rattle.vbr_list.specs.Traversing.{LastWalk}
 use Rattle.vbr_list.specs.Walking.{met_since}
 use Rattle.vbr_list.specs.declared.found.Found.{Found}
-use Rattle.vbr_list.proofs.Disturbing.{disturbed_same, met_before, met_less, met_quiet}
-use Rattle.vbr_list.proofs.Marks.{lost_past}
+use Rattle.vbr_list.proofs.Disturbing.{disturbed_same, met_before, met_less, met_quiet, run_to, same_between}
+use Rattle.vbr_list.proofs.Marks.{late_rounds, same_searched, to_searched}
 use Rattle.vbr_list.proofs.Replacements.{both_replaced}
 use Rattle.vbr_list.proofs.Walking.{HasRepeated, disturbed_on, searched_first}
 
@@ -33,40 +35,13 @@ late_few lost t t2 m1 m2 m m3 m4 before used mid marked ended now x y z e g l k 
     let w = mul-le (t2 + 1) (9 * m3 + 3) (t2 + 1) (9 * m4 + 3) (omega arith) (omega (arith, j)) in
     omega (arith, x, y, z, e, g, u, v, w)
 
-pub late_searched : (p q m r : Trace) → IsStart p.start → IsRun p.start p.passes r.seen → (key : ℕ) → IsSame p q → IsSame q m → Begins p.seen q.seen → Begins q.seen m.seen → Quiet p m → Begins m.seen r.seen → {before_all used mid : ℕ} → HasRepeated 9 p q key 11 before_all used → (told : Found) → LastWalk q m key used mid told → (now : ℕ) → ReplacesAndSearches m r key mid now told.pred → AnswersLate p r key before_all now
+pub late_searched : (p q m r : Trace) → IsStart p.start → IsRun p.start p.passes r.seen → (key : ℕ) → IsSame p q → IsSame q m → Begins p.seen q.seen → Begins q.seen m.seen → Quiet p m → Begins m.seen r.seen → {before_all used mid : ℕ} → HasRepeated 9 p q key 11 before_all used → (told : Found) → LastWalk q m key used mid told → (now : ℕ) → MarksAndSearches PIECE m r key mid now told.pred → AnswersLate p r key before_all now
 late_searched p q m r is ok key sq sm a b quiet on {before_all} {used} {mid} x told last now late =
-    let t = last.begun in
-    let e = late.searches.ended in
-    let st : IsSame p t = same_on sq last.same in
     let pm : IsSame p m = same_on sq sm in
-    let pe : IsSame p e = same_on (same_on pm late.marks.same) late.searches.quiet.same in
-    let me : IsSame m e = same_on late.marks.same late.searches.quiet.same in
-    let tm : IsSame t m = record { table = pm.table ∙ sym st.table; start = pm.start ∙ sym st.start; passes = pm.passes ∙ sym st.passes; who = pm.who ∙ sym st.who } in
-    let te : IsSame t e = record { table = pe.table ∙ sym st.table; start = pe.start ∙ sym st.start; passes = pe.passes ∙ sym st.passes; who = pe.who ∙ sym st.who } in
-    let is_t : IsStart t.start = subst IsStart (sym st.start) is in
-    let is_m : IsStart m.start = subst IsStart (sym pm.start) is in
-    let ok_e = begins_run p.start p.passes e.seen r.seen late.searches.then.seen ok in
+    let e = late.searches.ended in
     let ok_m = begins_run p.start p.passes m.seen r.seen on ok in
-    let R : Start → Type 0 = λ start. IsRun start p.passes e.seen in
-    let ByPasses : ℕ → Type 0 = λ passes. IsRun t.start passes e.seen in
-    let ok_te : IsRun t.start t.passes e.seen = subst ByPasses (sym st.passes) (subst R (sym st.start) ok_e) in
-    let M : Start → Type 0 = λ start. IsRun start p.passes r.seen in
-    let M2 : ℕ → Type 0 = λ passes. IsRun m.start passes r.seen in
-    let ok_mr : IsRun m.start m.passes r.seen = subst M2 (sym pm.passes) (subst M (sym pm.start) ok) in
-    let marked = late.marks in
-    let to_marked = begins_trans m.seen marked.moment late.marked.seen marked.before marked.after in
-    let less = lost_past t m late.marked e is_t ok_te key tm marked.same te last.to late.searches.quiet.seen told.pred last.pred marked (late.searches.count ∙ marked.count ∙ last.count) last.knew late.searches.loses in
-    let here = disturbed_same p q key q.seen sq in
-    let mid_there = disturbed_same p q key t.seen sq in
-    let there = disturbed_same p t key t.seen st in
-    let end = disturbed_same p t key e.seen st in
-    let then_e = disturbed_same p e key e.seen pe in
-    let then_r = disturbed_same p e key r.seen pe in
-    let before = x.repeats.few in
-    let since_q = last.repeats.few in
-    let since_e = late.searches.walks.repeats.few in
-    let to_e = begins_trans m.seen late.marked.seen e.seen to_marked late.searches.quiet.seen in
-    let met_last = met_less m r is_m ok_mr key e me to_e late.searches.then.seen in
+    let rounds = late_rounds p q m r is ok key sq sm x told last late in
+    let met_last = met_less m r (subst IsStart (sym pm.start) is) (run_to pm r.seen ok) key e (same_between pm (same_searched p q m r is ok key sq sm x told last late)) (to_searched p q m r is ok key sq sm x told last late) late.searches.then.seen in
     let low = met_before p m is ok_m key q a b in
     let high = met_less p m is ok_m key q sq a b in
     record {
@@ -75,7 +50,7 @@ late_searched p q m r is ok key sq sm a b quiet on {before_all} {used} {mid} x t
       to = on;
       lost = x.lost + last.lost;
       later = late.searches.walks.lost;
-      few = omega (arith, before, since_q, since_e, less, here, mid_there, there, end, then_e, then_r);
+      few = omega (arith, rounds);
       paid = late_few x.lost last.lost late.searches.walks.lost (met_since p q key) (met_since q m key) (met_since p m key) (met_since e r key) (met_since m r key) before_all used mid late.used late.searches.used now x.repeats.paid last.repeats.paid late.few late.searches.few late.searches.walks.repeats.paid low high met_last;
     }
 

@@ -17,7 +17,8 @@ use Rattle.vbr_machine.specs.Membership.{HeldIn, KeyAt, StandsBehind}
 use Rattle.vbr_machine.specs.Runs.{Begins, IsRun}
 use Rattle.vbr_machine.specs.declared.history.Call.{Call}
 use Rattle.vbr_machine.specs.declared.history.Op.TheVariants.{Remove}
-use Rattle.vbr_machine.proofs.Lemmas.{begins_refl, begins_run, begins_trans, disturbances_grow, inserts_in, inserts_in-remove, known_open, met_bound_uninserted, one_key, since, undisturbed_shown}
+use Rattle.vbr_machine.proofs.Lemmas.{begins_refl, begins_run, begins_trans, disturbances_grow, inserts_in, inserts_in-remove, known_open, marked_fewer, met_bound_uninserted, one_key, since, undisturbed_shown}
+use Rattle.vbr_slots.specs.Alone.{IsAlone, ahead}
 use Rattle.vbr_slots.specs.Calls.{AddsNone, IsSame, Made, Quiet}
 use Rattle.vbr_slots.specs.Views.{Trace, knows}
 use Rattle.vbr_slots.proofs.Lemmas.{same_on}
@@ -27,13 +28,15 @@ use Rattle.vbr_at_table.specs.Marks.{LeavesOthers}
 use Rattle.vbr_at_table.specs.declared.held.Held.{Held}
 use Rattle.vbr_list.specs.Budgets.{listed_for, steps_to_value_of}
 use Rattle.vbr_list.specs.Disturbed.{changed_after, disturbed, disturbed_after, remove_costs_among}
+use Rattle.vbr_list.specs.Leaving.{Leaves}
 use Rattle.vbr_list.specs.Pieces.{trace_in}
 use Rattle.vbr_list.specs.Removing.{MarksAndSearches, MarksBehind}
 use Rattle.vbr_list.specs.Traversing.{Finds, LastWalk, SearchTires}
 use Rattle.vbr_list.specs.Walking.{KnowsEpoch, LosesPlace, StandsStill, WalksAgain, met_since, nodes_after}
 use Rattle.vbr_list.specs.declared.call.PendingCall.{PendingCall}
 use Rattle.vbr_list.specs.declared.found.Found.{Found}
-use Rattle.vbr_list.proofs.Disturbing.{changed_same, disturbed_same, loses_place_disturb, met_before, met_less, unchanged_at}
+use Rattle.vbr_list.proofs.Disturbing.{alone_undisturbed, changed_same, disturbed_same, grows_disturbed, loses_place_disturb, met_before, met_less, run_at, run_to, same_between, unchanged_at, undisturbed}
+use Rattle.vbr_list.proofs.Going.{by_either}
 use Rattle.vbr_list.proofs.Walking.{HasRepeated}
 
 -- ---- a search
@@ -150,6 +153,37 @@ met_removed p r is ok key {call} made op =
     let y = disturbances_grow (since p.start p.passes p.seen r.seen is ok made.seen) p.who bucket in
     omega (arith, x, y)
 
+-- a change that another search followed: for that the pass was disturbed once, and once for each search that was lost
+module _ (p q m r : Trace) (is : IsStart p.start) (ok : IsRun p.start p.passes r.seen) (key : ℕ) (sq : IsSame p q) (sm : IsSame q m) {each all used mid now most : ℕ} (x : HasRepeated 9 p q key each all used) (told : Found) (last : LastWalk q m key used mid told) (late : MarksAndSearches most m r key mid now told.pred) where
+  abbrev pub searched_from : Trace
+  searched_from = late.searches.ended
+
+  pub same_searched : IsSame p searched_from
+  same_searched = same_on (same_on (same_on sq sm) late.marks.same) late.searches.quiet.same
+
+  pub to_searched : Begins m.seen searched_from.seen
+  to_searched = begins_trans m.seen late.marked.seen searched_from.seen (begins_trans m.seen late.marks.moment late.marked.seen late.marks.before late.marks.after) late.searches.quiet.seen
+
+  pub late_rounds : disturbed_after p key p.seen + (x.lost + last.lost + late.searches.walks.lost + 1) ≤ disturbed_after p key r.seen
+  late_rounds =
+      let t = last.begun in
+      let e = searched_from in
+      let st : IsSame p t = same_on sq last.same in
+      let pe = same_searched in
+      let is_t : IsStart t.start = subst IsStart (sym st.start) is in
+      let ok_t = run_to st e.seen (begins_run p.start p.passes e.seen r.seen late.searches.then.seen ok) in
+      let less = lost_past t m late.marked e is_t ok_t key (same_between st (same_on sq sm)) late.marks.same (same_between st pe) last.to late.searches.quiet.seen told.pred last.pred late.marks (late.searches.count ∙ late.marks.count ∙ last.count) last.knew late.searches.loses in
+      let here = disturbed_same p q key q.seen sq in
+      let mid_there = disturbed_same p q key t.seen sq in
+      let there = disturbed_same p t key t.seen st in
+      let end = disturbed_same p t key e.seen st in
+      let then_e = disturbed_same p e key e.seen pe in
+      let then_r = disturbed_same p e key r.seen pe in
+      let before = x.repeats.few in
+      let since_q = last.repeats.few in
+      let since_e = late.searches.walks.repeats.few in
+      omega (arith, before, since_q, since_e, less, here, mid_there, there, end, then_e, then_r)
+
 soon_few : (lost t m1 m2 n d used mid now more : ℕ) → used ≤ 0 + lost * (9 * m1 + 6) → mid ≤ used + (t + 1) * (9 * m2 + 3) → now ≤ mid + (more + 7) → m1 ≤ n + d → m2 ≤ n + d → lost + t ≤ d → now ≤ remove_costs_among n d more
 soon_few lost t m1 m2 n d used mid now more x y z l k f =
     let u = mul-le lost (9 * m1 + 6) lost (9 * (n + d) + 6) (omega arith) (omega (arith, l)) in
@@ -165,15 +199,15 @@ late_few lost t t2 m1 m2 m3 n d used mid marked ended now more x y z e g l k j f
     let w = mul-le (lost + t + t2 + 1) (9 * (n + d) + 6) d (9 * (n + d) + 6) f (omega arith) in
     omega (arith, x, y, z, e, g, u, v, v2, w)
 
-module _ (p q m r : Trace) (is : IsStart p.start) (ok : IsRun p.start p.passes r.seen) (key : ℕ) (sq : IsSame p q) (sm : IsSame q m) (a : Begins p.seen q.seen) (b : Begins q.seen m.seen) {call : Call} (made : Made call p r) (op : call.op ≡ Remove) (on : Begins m.seen r.seen) where
-  from_q : Begins q.seen r.seen
-  from_q = begins_trans q.seen m.seen r.seen b on
+module _ (p q m r : Trace) (is : IsStart p.start) (key : ℕ) (sq : IsSame p q) (sm : IsSame q m) (a : Begins p.seen q.seen) (b : Begins q.seen m.seen) {call : Call} (made : Made call p r) (op : call.op ≡ Remove) (on : Begins m.seen r.seen) where
+  ok : IsRun p.start p.passes r.seen
+  ok = run_at p r made.same made.is_run
 
   met_all : met_since p r key ≤ listed_for p key + disturbed p r key
   met_all = met_removed p r is ok key made op
 
   met_first : met_since p q key ≤ listed_for p key + disturbed p r key
-  met_first = let low = met_before p r is ok key q a from_q in let all = met_all in omega (arith, low, all)
+  met_first = let low = met_before p r is ok key q a (begins_trans q.seen m.seen r.seen b on) in let all = met_all in omega (arith, low, all)
 
   met_mid : met_since q m key ≤ listed_for p key + disturbed p r key
   met_mid =
@@ -182,47 +216,51 @@ module _ (p q m r : Trace) (is : IsStart p.start) (ok : IsRun p.start p.passes r
       let all = met_all in
       omega (arith, less, low, all)
 
-  -- one that was soon
-  pub soon_paid : {used mid : ℕ} → HasRepeated 9 p q key 6 0 used → WalksAgain 9 q m key used mid → (now : ℕ) → now ≤ mid + (steps_to_value_of p.start + 7) → now ≤ remove_costs_among (listed_for p key) (disturbed p r key) (steps_to_value_of p.start)
-  soon_paid {used} {mid} x w now few =
-      let here = disturbed_same p q key q.seen sq in
-      let there = disturbed_same p q key m.seen sq in
-      let before = x.repeats.few in
-      let since_q = w.repeats.few in
-      let grows = disturbances_grow (since p.start p.passes m.seen r.seen is ok on) p.who (bucket_of p.start.shape key) in
-      soon_few x.lost w.lost (met_since p q key) (met_since q m key) (listed_for p key) (disturbed p r key) used mid now (steps_to_value_of p.start) x.repeats.paid w.repeats.paid few met_first met_mid (omega (arith, before, since_q, here, there, grows))
-
-  -- and one for which a search followed
-  pub late_paid : {used mid : ℕ} → HasRepeated 9 p q key 6 0 used → (told : Found) → LastWalk q m key used mid told → (now : ℕ) → MarksAndSearches m r key mid now told.pred → now ≤ remove_costs_among (listed_for p key) (disturbed p r key) (steps_to_value_of p.start)
-  late_paid {used} {mid} x told last now late =
-      let t = last.begun in
-      let e = late.searches.ended in
-      let st : IsSame p t = same_on sq last.same in
-      let pm : IsSame p m = same_on sq sm in
-      let pe : IsSame p e = same_on (same_on pm late.marks.same) late.searches.quiet.same in
-      let tm : IsSame t m = record { table = pm.table ∙ sym st.table; start = pm.start ∙ sym st.start; passes = pm.passes ∙ sym st.passes; who = pm.who ∙ sym st.who } in
-      let te : IsSame t e = record { table = pe.table ∙ sym st.table; start = pe.start ∙ sym st.start; passes = pe.passes ∙ sym st.passes; who = pe.who ∙ sym st.who } in
-      let is_t : IsStart t.start = subst IsStart (sym st.start) is in
-      let ok_e = begins_run p.start p.passes e.seen r.seen late.searches.then.seen ok in
-      let R : Start → Type 0 = λ start. IsRun start p.passes e.seen in
-      let ByPasses : ℕ → Type 0 = λ passes. IsRun t.start passes e.seen in
-      let ok_te : IsRun t.start t.passes e.seen = subst ByPasses (sym st.passes) (subst R (sym st.start) ok_e) in
-      let marked = late.marks in
-      let to_marked = begins_trans m.seen marked.moment late.marked.seen marked.before marked.after in
-      let less = lost_past t m late.marked e is_t ok_te key tm marked.same te last.to late.searches.quiet.seen told.pred last.pred marked (late.searches.count ∙ marked.count ∙ last.count) last.knew late.searches.loses in
-      let here = disturbed_same p q key q.seen sq in
-      let mid_there = disturbed_same p q key t.seen sq in
-      let there = disturbed_same p t key t.seen st in
-      let end = disturbed_same p t key e.seen st in
-      let then_e = disturbed_same p e key e.seen pe in
-      let then_r = disturbed_same p e key r.seen pe in
-      let before = x.repeats.few in
-      let since_q = last.repeats.few in
-      let since_e = late.searches.walks.repeats.few in
-      let start = ap steps_to_value_of pm.start in
-      let marked_few = late.few in
-      let to_e = begins_trans m.seen late.marked.seen e.seen to_marked late.searches.quiet.seen in
-      let met_last = met_less p r is ok key e pe (begins_trans p.seen m.seen e.seen (begins_trans p.seen q.seen m.seen a b) to_e) late.searches.then.seen in
+  -- a node that was marked and has left is in the list no more
+  pub left_fewer : Leaves p r key → IsAlone p r → listed_for r key < listed_for p key
+  left_fewer left alone =
+      let b = bucket_of p.start.shape key in
+      let less = marked_fewer p.start p.passes p.seen r.seen is ok made.seen p.who key b left in
       let all = met_all in
-      late_few x.lost last.lost late.searches.walks.lost (met_since p q key) (met_since q m key) (met_since e r key) (listed_for p key) (disturbed p r key) used mid late.used late.searches.used now (steps_to_value_of p.start) x.repeats.paid last.repeats.paid (omega (arith, marked_few, start)) late.searches.few late.searches.walks.repeats.paid met_first met_mid (omega (arith, met_last, all))
-      (omega (arith, before, since_q, since_e, less, here, mid_there, there, end, then_e, then_r))
+      let none = alone_undisturbed p r key alone in
+      let P : Start → Type 0 = λ s. ahead (record r { start = s }) (bucket_of s.shape key) (Head (bucket_of s.shape key)) < listed_for p key in
+      subst P (sym made.same.start) (omega (arith, less, all, none))
+
+  module _ {used mid : ℕ} (x : HasRepeated 9 p q key 6 0 used) where
+    -- one that was soon
+    soon_paid : WalksAgain 9 q m key used mid → (now : ℕ) → now ≤ mid + (steps_to_value_of p.start + 7) → now ≤ remove_costs_among (listed_for p key) (disturbed p r key) (steps_to_value_of p.start)
+    soon_paid w now few =
+        let here = disturbed_same p q key q.seen sq in
+        let there = disturbed_same p q key m.seen sq in
+        let before = x.repeats.few in
+        let since_q = w.repeats.few in
+        let grows = grows_disturbed p r is ok key m.seen on in
+        soon_few x.lost w.lost (met_since p q key) (met_since q m key) (listed_for p key) (disturbed p r key) used mid now (steps_to_value_of p.start) x.repeats.paid w.repeats.paid few met_first met_mid (omega (arith, before, since_q, here, there, grows))
+
+    module _ (told : Found) (last : LastWalk q m key used mid told) {now : ℕ} (late : MarksAndSearches (steps_to_value_of m.start + 1) m r key mid now told.pred) where
+      rounds : x.lost + last.lost + late.searches.walks.lost + 1 ≤ disturbed p r key
+      rounds = let few = late_rounds p q m r is ok key sq sm x told last late in omega (arith, few)
+
+      -- and one that was late
+      late_paid : now ≤ remove_costs_among (listed_for p key) (disturbed p r key) (steps_to_value_of p.start)
+      late_paid =
+          let e = late.searches.ended in
+          let to_e = to_searched p q m r is ok key sq sm x told last late in
+          let start = ap steps_to_value_of (same_on sq sm).start in
+          let marked_few = late.few in
+          let met_last = met_less p r is ok key e (same_searched p q m r is ok key sq sm x told last late) (begins_trans p.seen m.seen e.seen (begins_trans p.seen q.seen m.seen a b) to_e) late.searches.then.seen in
+          let all = met_all in
+          late_few x.lost last.lost late.searches.walks.lost (met_since p q key) (met_since q m key) (met_since e r key) (listed_for p key) (disturbed p r key) used mid late.used late.searches.used now (steps_to_value_of p.start) x.repeats.paid last.repeats.paid (omega (arith, marked_few, start)) late.searches.few late.searches.walks.repeats.paid met_first met_mid (omega (arith, met_last, all)) rounds
+
+    module _ {P : Type 0} (told : Found) (last : LastWalk q m key used mid told) {now : ℕ} (w : WalksAgain 9 q m key used mid) (paid : P ⊎ MarksAndSearches (steps_to_value_of m.start + 1) m r key mid now told.pred) where
+      -- the one or the other
+      pub remove_paid : (P → now ≤ mid + (steps_to_value_of p.start + 7)) → now ≤ remove_costs_among (listed_for p key) (disturbed p r key) (steps_to_value_of p.start)
+      remove_paid soon = by_either paid (λ few. soon_paid w now (soon few)) (λ late. late_paid told last late)
+
+      -- one that nothing disturbed was soon, and its last search had ended soon
+      pub remove_alone : IsAlone p r → P × (mid ≤ 9 * listed_for p key + 3)
+      remove_alone alone =
+          let none = alone_undisturbed p r key alone in
+          let steps = steps_to_value_of p.start in
+          let most = undisturbed (λ t. mid + (steps + 7) ≤ remove_costs_among (listed_for p key) t steps) key (soon_paid w (mid + (steps + 7)) (omega arith)) alone in
+          (by_either paid (λ soon. soon) (λ late. absurd (let some = rounds told last late in omega (arith, some, none))), omega (arith, most))

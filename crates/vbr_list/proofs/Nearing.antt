@@ -1,25 +1,20 @@
 -- A pass that was alone comes nearer to the key, node by node.
-use Rattle.std.proofs.Common.{◌≡◌, ◌≢◌, ℕ, suc, ◌<◌, true, sym, ap, ◌∙◌, subst, arith, inl, inr}
+use Rattle.std.proofs.Common.{◌≡◌, ℕ, suc, true, sym, ap, ◌∙◌, subst, inl, inr}
 use Rattle.std.specs.Prelude.{Result, Ok, Err, IfErr}
-use Rattle.vbr_machine.specs.Start.{Start}
 use Rattle.vbr_words.specs.Words.{link_of}
 use Rattle.vbr_words.specs.declared.place.At.{At}
-use Rattle.vbr_words.specs.declared.place.At.TheVariants.{Head, Slot}
-use Rattle.vbr_words.specs.Buckets.{bucket_of}
-use Rattle.vbr_machine.specs.Membership.{HeldIn}
+use Rattle.vbr_words.specs.declared.place.At.TheVariants.{Slot}
 use Rattle.vbr_machine.specs.Nodes.{is_there}
 use Rattle.vbr_machine.proofs.Lemmas.{named_there, one_fewer_behind}
-use Rattle.vbr_slots.specs.Alone.{IsAlone, IsFresh, LeavesLists, ahead, nodes}
+use Rattle.vbr_slots.specs.Alone.{IsAlone, LeavesLists, ahead, nodes}
 use Rattle.vbr_slots.specs.Calls.{Quiet}
 use Rattle.vbr_slots.specs.Views.{Trace, PassView, knows}
 use Rattle.vbr_slots.proofs.Lemmas.{alone_first, alone_then, same_leaves}
 use Rattle.vbr_at_table.specs.Alone.{StandsNow}
 use Rattle.vbr_at_table.specs.Held.{Names}
 use Rattle.vbr_at_table.specs.Reading.{ReadsIn}
-use Rattle.vbr_at_table.specs.Keeping.{Keeps}
 use Rattle.vbr_slots.specs.PassLaw.{PassLaw}
 use Rattle.vbr_at_table.specs.declared.held.Held.{Held}
-use Rattle.vbr_list.specs.Budgets.{listed_for}
 use Rattle.vbr_list.specs.Nearing.{StandsInList, StillAt}
 use Rattle.vbr_list.specs.Places.{IsPlaceIn}
 use Rattle.vbr_list.specs.Visiting.{ComesNearer}
@@ -46,13 +41,6 @@ read_leaves x alone = looks_leave x.quiet (x.looks alone)
 one_behind : (p : PassView) → PassLaw p → (bucket : ℕ) (here : Held) → IsPlaceIn (knows p.trace) bucket here → StandsInList p.trace here → StandsNow p.trace here → (s : ℕ) → Names here s → ahead p.trace bucket here.at ≡ suc (ahead p.trace bucket (Slot s))
 one_behind p sound bucket here x there stands s names = one_fewer_behind p.trace.start p.trace.passes p.trace.seen sound.start sound.is_run p.trace.who bucket here.at (link_of here.word) x.held.link there stands x.inside s names
 
--- so what the link of a place names is at another place
-pub named_elsewhere : (p : PassView) → PassLaw p → (bucket : ℕ) (here : Held) → IsPlaceIn (knows p.trace) bucket here → StandsInList p.trace here → StandsNow p.trace here → (s : ℕ) → Names here s → (at : At) → at ≡ Slot s → here.at ≢ at
-named_elsewhere p sound bucket here x there stands s names at is e =
-    let fewer = one_behind p sound bucket here x there stands s names in
-    let same = ap (ahead p.trace bucket) (e ∙ is) in
-    omega (arith, fewer, same)
-
 -- what it names, once it was read, is in the list too
 pub comes_nearer : (p : PassView) → PassLaw p → (q : Trace) (bucket : ℕ) (here node : Held) → IsPlaceIn (knows p.trace) bucket here → StandsInList p.trace here → StandsNow p.trace here → (s : ℕ) → Names here s → node.at ≡ Slot s → Quiet p.trace q → nodes q ≡ nodes p.trace → StillAt q node → ComesNearer p.trace q bucket here node
 comes_nearer p sound q bucket here node x there stands s names at quiet same still =
@@ -64,36 +52,11 @@ comes_nearer p sound q bucket here node x there stands s names at quiet same sti
       fewer = one_behind p sound bucket here x there stands s names ∙ ap suc (sym ((looks_leave quiet same).count bucket (Slot s)) ∙ ap (ahead q bucket) (sym at));
     }
 
--- ---- a mark
-
--- an epoch that was read last still stands where neither it nor what is known has changed
-pub fresh_marked : (p q : Trace) → (nodes q).epoch ≡ (nodes p).epoch → Keeps (knows p) (knows q) → IsFresh p → IsFresh q
-fresh_marked p q same keeps fresh = same ∙ fresh ∙ sym keeps.epoch
-
--- ---- the list of a key's bucket
-
--- as many nodes
-pub listed_same : (p q : Trace) (key : ℕ) → q.start ≡ p.start → ((bucket h : ℕ) → ahead q bucket (Head h) ≡ ahead p bucket (Head h)) → listed_for q key ≡ listed_for p key
-listed_same p q key start same =
-    let b = bucket_of p.start.shape key in
-    ap (λ (s : Start). ahead q (bucket_of s.shape key) (Head (bucket_of s.shape key))) start ∙ same b b
-
--- fewer, where that is so in each list that a place is held in
-pub listed_fewer : (p q : Trace) (key : ℕ) {at : At} → q.start ≡ p.start → ((bucket h : ℕ) → HeldIn (knows p) at bucket → ahead q bucket (Head h) < ahead p bucket (Head h)) → HeldIn (knows p) at (bucket_of p.start.shape key) → listed_for q key < listed_for p key
-listed_fewer p q key start fewer inside =
-    let b = bucket_of p.start.shape key in
-    let P : Start → Type 0 = λ s. ahead q (bucket_of s.shape key) (Head (bucket_of s.shape key)) < listed_for p key in
-    subst P (sym start) (fewer b b inside)
-
 -- ---- errors that are handed on
 
 pub either : {A E P : Type 0} (x : Result A E) → P → IfErr x (λ _. P)
 either (Ok a) p = tt
 either (Err e) p = p
-
--- what stands in lists as they were
-pub stands_on : (q r : Trace) (pred : Held) → LeavesLists q r → StandsNow q pred → StandsNow r pred
-stands_on q r pred l stands = l.links pred.at ∙ stands
 
 -- ---- again
 

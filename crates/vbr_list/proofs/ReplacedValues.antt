@@ -30,7 +30,7 @@ use Rattle.vbr_at_table.specs.declared.refusal.Refusal.{Refusal}
 use Rattle.vbr_list.proofs.Disturbing.{alone_undisturbed, run_at}
 use Rattle.vbr_list.proofs.Going.{room_left}
 use Rattle.vbr_list.proofs.Preparing.{made_since, within_all, within_most, within_on}
-use Rattle.vbr_list.proofs.Replacements.{had_since, replace_lacks, replace_lone, replace_lone_costs, replace_refused_second, run_two}
+use Rattle.vbr_list.proofs.Replacements.{had_since, replace_lacks, replace_lone, replace_lone_costs, replace_refused_second}
 use Rattle.vbr_list.proofs.LateSearches.{late_disturbs, late_paid, soon_searched}
 use Rattle.vbr_list.proofs.Sufficing.{answered_or_spent, lacks, never_refused, slot_alone, slot_later}
 use Rattle.vbr_list.proofs.Sweeping.{leaves_replaced_since}
@@ -86,14 +86,14 @@ module _ {N : Type 0} {kind : Ghosts N} (p : PassView) (d e : PendingCall N kind
   soon_used : (answer : Option ℕ) → IsSame p.trace (trace_in e) → IsRun (trace_in e).start (trace_in e).passes (trace_in e).seen → (soon : AnswersSoonFor answer) → soon.used ≤ 18 * (n + t) + replaces_more n t + (taking + 6)
   soon_used answer same run soon =
       let later = slot_later p (trace_in d) (trace_in e) (begins_trans (trace_in d).seen soon.ended.seen (trace_in e).seen soon.quiet.seen soon.to) in
-      let most = soon_searched p.trace (trace_in d) soon.ended (trace_in e) start (run_two p.trace (trace_in e) same run) key (steps_for_slot p (trace_in d)) first soon.quiet soon.to searched soon.searches in
+      let most = soon_searched p.trace (trace_in d) soon.ended (trace_in e) start (run_at p.trace (trace_in e) same run) key (steps_for_slot p (trace_in d)) first soon.quiet soon.to searched soon.searches in
       omega (arith, most, later)
 
   some_paid : {one two : Call} → MadeTwo one two p.trace (trace_in e) → one.op ≡ Remove → two.op ≡ Insert → Begins (trace_in d).seen (trace_in e).seen → (old : ℕ) → Paid (Some old) → e.used ≤ replace_costs_among n t taking
   some_paid made is_remove is_insert on old (inl soon) = let used = soon_used (Some old) made.same made.is_run soon in let few = soon.few in omega (arith, used, few)
   some_paid made is_remove is_insert on old (inr late) =
       let later = slot_later p (trace_in d) (trace_in e) on in
-      let most = late_paid p.trace (trace_in d) (trace_in e) start (run_two p.trace (trace_in e) made.same made.is_run) key (steps_for_slot p (trace_in d)) first made is_remove is_insert searched late in
+      let most = late_paid p.trace (trace_in d) (trace_in e) start (run_at p.trace (trace_in e) made.same made.is_run) key (steps_for_slot p (trace_in d)) first made is_remove is_insert searched late in
       omega (arith, most, later)
 
   lone_used : (n t taking most now : ℕ) → now ≤ 18 * (n + t) + replaces_more n t + (taking + 6) → t ≡ 0 → taking ≡ most → now ≤ 18 * n + most + 6
@@ -107,7 +107,7 @@ module _ {N : Type 0} {kind : Ghosts N} (p : PassView) (d e : PendingCall N kind
       let few = lone_used n t taking (most_to_take p.trace.start p.pool) soon.used (soon_used answer same run soon) (alone_undisturbed p.trace (trace_in e) key alone) (slot_alone p (trace_in e) alone) in
       soon.leaves given (omega (arith, few, enough))
   left_alone same run on alone enough answer given (inr late) =
-      let some = late_disturbs p.trace (trace_in d) (trace_in e) start (run_two p.trace (trace_in e) same run) key first on late in
+      let some = late_disturbs p.trace (trace_in d) (trace_in e) start (run_at p.trace (trace_in e) same run) key first on late in
       let none = alone_undisturbed p.trace (trace_in e) key alone in
       absurd (omega (arith, some, none))
 

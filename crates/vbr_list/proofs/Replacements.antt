@@ -5,16 +5,14 @@ use Rattle.vbr_machine.specs.Start.{Start, IsStart}
 use Rattle.vbr_machine.specs.Accounts.{incarnations_after}
 use Rattle.vbr_machine.specs.Runs.{Begins, IsRun}
 use Rattle.vbr_machine.proofs.Lemmas.{begins_run, begins_trans}
-use Rattle.vbr_machine.specs.declared.history.Call.{Call}
 use Rattle.vbr_slots.specs.Alone.{IsAlone}
 use Rattle.vbr_slots.specs.Calls.{IsSame, Quiet}
 use Rattle.vbr_slots.specs.Views.{PassView, Trace, knows}
-use Rattle.vbr_slots.proofs.Lemmas.{quiet_on, same_on}
+use Rattle.vbr_slots.proofs.Lemmas.{quiet_on}
 use Rattle.vbr_at_table.specs.Budgets.{most_to_take}
 use Rattle.vbr_at_table.specs.KeptSlots.{HasAllButOne, HasStill}
 use Rattle.vbr_at_table.specs.Moments.{WasSo}
 use Rattle.vbr_at_table.proofs.Lemmas.{counts_on, grows_same, had_grown, took_all}
-use Rattle.vbr_at_table.specs.Replacing.{MadeTwo}
 use Rattle.vbr_at_table.specs.Steps.{TookWithin}
 use Rattle.vbr_list.specs.Budgets.{LacksSteps, enough_past, enough_to_insert, listed_for, replace_costs}
 use Rattle.vbr_list.specs.Disturbed.{disturbed, enough_to_replace_among, replace_costs_among, replaces_more, steps_for_slot}
@@ -40,15 +38,6 @@ moves_later {p} {q} {r} quiet epoch m = record {
   to = m.to;
   other = λ e. m.other (ap (λ (start : Start). (incarnations_after start m.moment).epoch) quiet.same.start ∙ e ∙ sym epoch);
 }
-
--- ---- two calls
-
--- a run of a later moment, by the start of an earlier one
-pub run_two : (p r : Trace) → IsSame p r → IsRun r.start r.passes r.seen → IsRun p.start p.passes r.seen
-run_two p r same ok =
-    let P : Start → Type 0 = λ start. IsRun start p.passes r.seen in
-    let Q : ℕ → Type 0 = λ passes. IsRun r.start passes r.seen in
-    subst P same.start (subst Q same.passes ok)
 
 -- ---- slots
 

@@ -2,17 +2,13 @@
 use Rattle.std.proofs.Common.{◌≡◌, ◌≢◌, ℕ, ◌+◌, ◌*◌, ◌<◌, ◌≤◌, List, [], ◌∷◌, Result, Ok, Err, refl, sym, subst, arith}
 use Rattle.std.specs.Prelude.{IfErr}
 use Rattle.vbr_machine.specs.Start.{Start}
-use Rattle.vbr_words.specs.declared.place.At.TheVariants.{Head}
-use Rattle.vbr_words.specs.Buckets.{bucket_of}
-use Rattle.vbr_slots.specs.Alone.{IsAlone, ahead}
+use Rattle.vbr_slots.specs.Alone.{IsAlone}
 use Rattle.vbr_slots.specs.Calls.{Quiet}
 use Rattle.vbr_slots.specs.Views.{Trace, PassView}
-use Rattle.vbr_slots.proofs.Lemmas.{quiet_adds_none}
 use Rattle.vbr_machine.specs.Runs.{Begins}
 use Rattle.vbr_at_table.specs.Budgets.{most_to_take, most_to_take_among, steps_to_take_among}
 use Rattle.vbr_at_table.specs.Gained.{gained}
 use Rattle.vbr_at_table.proofs.Lemmas.{alone_gained, gained_on, gained_since, more_lost, none_lost}
-use Rattle.vbr_slots.specs.PassLaw.{PassLaw}
 use Rattle.vbr_at_table.specs.Steps.{TookWithin}
 use Rattle.vbr_at_table.specs.Values.{steps_to_value}
 use Rattle.vbr_list.specs.Budgets.{IsAnsweredOrSpent, LacksSteps, enough_past, enough_to_insert, insert_costs, insert_costs_past, listed_for}
@@ -21,12 +17,6 @@ use Rattle.vbr_list.specs.Inserting.{InsertIsShort, RefusesInsert}
 use Rattle.vbr_list.proofs.Disturbing.{alone_undisturbed}
 use Rattle.vbr_at_table.specs.declared.refusal.Refusal.{Refusal}
 use Rattle.vbr_at_table.specs.declared.refusal.Refusal.TheVariants.{OutOfSteps, NoSlot, EpochSpent}
-
--- a pass that was alone and made no call has no more nodes in the list of a key's bucket
-pub no_more_listed : (p : PassView) → PassLaw p → (q : Trace) (key : ℕ) → Quiet p.trace q → IsAlone p.trace q → listed_for q key ≤ listed_for p.trace key
-no_more_listed p sound q key quiet alone =
-    let P : Start → Type 0 = λ start. ahead q (bucket_of start.shape key) (Head (bucket_of start.shape key)) ≤ listed_for p.trace key in
-    subst P (sym quiet.same.start) (quiet_adds_none sound.start sound.is_run quiet alone (bucket_of p.trace.start.shape key) (bucket_of p.trace.start.shape key))
 
 -- where an own pool with slots keeps some, a slot is taken in no more steps than were allowed for before
 take_later : (start : Start) (before now : List ℕ) (less more : ℕ) → less ≤ more → (before ≢ [] → now ≢ []) → steps_to_take_among start now less ≤ most_to_take_among start before more

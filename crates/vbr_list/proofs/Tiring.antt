@@ -1,5 +1,5 @@
 -- A remove and a look-up that are refused for want of steps: the budget was below what is enough, alone and disturbed.
-use Rattle.std.proofs.Common.{◌≡◌, ℕ, ◌+◌, ◌*◌, ◌<◌, ◌≤◌, Bool, List, None, Result, Err, subst, arith}
+use Rattle.std.proofs.Common.{◌≡◌, ℕ, ◌+◌, ◌<◌, ◌≤◌, Bool, List, None, Result, Err, arith}
 use Rattle.vbr_machine.specs.Runs.{Begins, IsRun}
 use Rattle.vbr_machine.specs.declared.event.Event.{Event}
 use Rattle.vbr_machine.specs.declared.history.Call.{Call}
@@ -9,7 +9,7 @@ use Rattle.vbr_slots.proofs.Lemmas.{same_refl}
 use Rattle.vbr_at_table.specs.declared.budget.TheConstants.{PIECE}
 use Rattle.vbr_at_table.proofs.Lemmas.{took_all}
 use Rattle.vbr_list.specs.Budgets.{listed_for}
-use Rattle.vbr_list.specs.Disturbed.{disturbed, disturbed_after, enough_among}
+use Rattle.vbr_list.specs.Disturbed.{disturbed_after, enough_among, enough_to_search_among}
 use Rattle.vbr_list.specs.Leaving.{SparesRemove}
 use Rattle.vbr_list.specs.Pieces.{Goes, Observes, Tries}
 use Rattle.vbr_list.specs.Refusals.{IsTired}
@@ -17,14 +17,10 @@ use Rattle.vbr_list.specs.Sparing.{CallsAs, SparesLookUp}
 use Rattle.vbr_list.specs.Walking.{Repeats, WalksAgain}
 use Rattle.vbr_at_table.specs.declared.refusal.Refusal.{Refusal}
 use Rattle.vbr_at_table.specs.declared.refusal.Refusal.TheVariants.{OutOfSteps}
-use Rattle.vbr_list.proofs.Disturbing.{alone_undisturbed, own_at, run_at}
+use Rattle.vbr_list.proofs.Disturbing.{own_at, run_at, undisturbed}
 use Rattle.vbr_list.proofs.Going.{goes_on, within_of}
 use Rattle.vbr_list.proofs.Observing.{observes_on}
-use Rattle.vbr_list.proofs.Walking.{HasRepeated, enough_alone, lacks_steps, remove_lacks}
-
--- where nothing disturbed a look-up
-not_alone : (n times : ℕ) {budget : ℕ} → times ≡ 0 → budget < enough_among n times → budget < 5 * n + 11
-not_alone n times {budget} none lacks = let P : ℕ → Type 0 = λ t. budget < enough_among n t in let x = subst P none lacks in omega (arith, x)
+use Rattle.vbr_list.proofs.Walking.{HasRepeated, lacks_steps, remove_lacks}
 
 -- a call that has tried so far goes on, and then its budget has no room for one more piece
 module _ {p q r : PassView} (law : PassLaw p) (key : ℕ) {a b budget : ℕ} (tries : Tries p q 0 a budget) (went : Goes q r a b) (within : b ≤ budget) (short : budget < b + PIECE) (hand : r.hand ≡ None) where
@@ -47,7 +43,7 @@ module _ {p q r : PassView} (law : PassLaw p) (key : ℕ) {a b budget : ℕ} (tr
         takes_no_slot = whole.hand.takes_no_slot;
         unlists = tt;
         refused = tired;
-        within = λ alone. enough_alone (listed_for p.trace key) (disturbed p.trace r.trace key) (alone_undisturbed p.trace r.trace key alone) lacks;
+        within = λ alone. let x = undisturbed (λ t. budget < enough_to_search_among (listed_for p.trace key) t) key lacks alone in omega (arith, x);
         disturbed_within = lacks;
         costs = tt;
         disturbed_costs = tt;
@@ -64,7 +60,7 @@ module _ {p q r : PassView} (law : PassLaw p) (key : ℕ) {a b budget : ℕ} (tr
         adds_none = seen.adds_none;
         takes_no_slot = whole.hand.takes_no_slot;
         refused = tired;
-        within = λ alone. not_alone (listed_for p.trace key) (disturbed p.trace r.trace key) (alone_undisturbed p.trace r.trace key alone) lacks;
+        within = λ alone. let x = undisturbed (λ t. budget < enough_among (listed_for p.trace key) t) key lacks alone in omega (arith, x);
         disturbed_within = lacks;
         costs = tt;
         disturbed_costs = tt;

@@ -16,7 +16,7 @@ use Rattle.vbr_machine.specs.Machine.{link_at}
 use Rattle.vbr_machine.specs.Runs.{Begins, IsRun, world_after}
 use Rattle.vbr_machine.specs.declared.event.Event.{Event}
 use Rattle.vbr_machine.proofs.Lemmas.{ahead_few, begins_refl, begins_run, begins_trans, disturbances_grow, head_visited, next_visited, own_between, shown_there, since, unmarked_open, visited_few, visited_on}
-use Rattle.vbr_slots.specs.Alone.{IsAlone, IsFresh}
+use Rattle.vbr_slots.specs.Alone.{IsFresh}
 use Rattle.vbr_slots.specs.Calls.{IsSame, Quiet}
 use Rattle.vbr_slots.specs.Views.{Trace, knows}
 use Rattle.vbr_slots.proofs.Lemmas.{quiet_on, same_on}
@@ -24,8 +24,7 @@ use Rattle.vbr_at_table.specs.Held.{held_of}
 use Rattle.vbr_at_table.specs.declared.held.Held.{Held}
 use Rattle.vbr_at_table.specs.declared.held.Marked.{Marked}
 use Rattle.vbr_list.specs.Helping.{OpensPlace}
-use Rattle.vbr_list.specs.Budgets.{enough_to_search, listed_for}
-use Rattle.vbr_list.specs.Nearing.{FoundAlone}
+use Rattle.vbr_list.specs.Budgets.{listed_for}
 use Rattle.vbr_list.specs.declared.found.Found.{Found}
 use Rattle.vbr_at_table.specs.Counts.{advances}
 use Rattle.vbr_list.specs.Disturbed.{changed_after, costs_among, disturbed_after, disturbed, enough_among, enough_to_search_among, find_costs_among}
@@ -37,7 +36,7 @@ use Rattle.vbr_at_table.specs.declared.refusal.Refusal.TheVariants.{OutOfSteps, 
 use Rattle.vbr_list.specs.Inserting.{SearchedFor, SearchesFor, SearchesInVain}
 use Rattle.vbr_list.specs.Traversing.{LastWalk}
 use Rattle.vbr_list.specs.Walking.{KnowsEpoch, LosesFound, LosesHeld, MovesSince, NextStandsStill, ReadsFresh, ReadsNext, Repeats, StandsStill, StoodOpen, Walks, WalksAgain, WalksOnce, met_since, nodes_after}
-use Rattle.vbr_list.proofs.Disturbing.{alone_undisturbed, changed_same, disturbed_same, fresh_alone, fresh_at, grows_disturbed, loses_disturb, loses_found_disturb, met_before, met_few, met_less, met_quiet, moves_disturb, next_stands_alone, run_at, stands_alone}
+use Rattle.vbr_list.proofs.Disturbing.{changed_same, disturbed_same, fresh_at, grows_disturbed, loses_disturb, loses_found_disturb, met_before, met_few, met_less, met_quiet, moves_disturb, run_to, same_between}
 
 abbrev pub stood_on : {p q r : Trace} {key : ℕ} {held : Held} → Begins q.seen r.seen → StoodOpen p q key held → StoodOpen p r key held
 stood_on {p} {q} {r} b x = record { moment = x.moment; from = x.from; to = begins_trans x.moment q.seen r.seen x.to b; shown = x.shown; is_open = x.is_open }
@@ -373,32 +372,6 @@ pub next_still_from : (p q r : Trace) (key : ℕ) (next : Option Held) → IsSam
 next_still_from p q r key None s a x = tt
 next_still_from p q r key (Some node) s a x = still_from p q r key node s a x
 
-once_alone : (before since_then lost m n : ℕ) → since_then ≤ before + (lost + 1) * (9 * m + 3) → lost ≡ 0 → m ≤ n → since_then ≤ before + 3 + 9 * n
-once_alone before since_then lost m n paid none l =
-    let P : ℕ → Type 0 = λ t. since_then ≤ before + (t + 1) * (9 * m + 3) in
-    let x = subst P none paid in
-    omega (arith, x, l)
-
-module _ (p r : Trace) (is : IsStart p.start) (ok : IsRun p.start p.passes r.seen) (key : ℕ) (quiet : Quiet p r) {before used : ℕ} (x : WalksAgain 9 p r key before used) where
-  -- alone, one traversal is enough
-  pub searched_alone : IsAlone p r → used ≤ before + 3 + 9 * listed_for p key
-  searched_alone alone =
-      let none = alone_undisturbed p r key alone in
-      let grows = disturbances_grow (since p.start p.passes p.seen r.seen is ok quiet.seen) p.who (bucket_of p.start.shape key) in
-      let few = x.repeats.few in
-      let met_few = met_quiet p r is ok key quiet in
-      once_alone before used x.lost (met_since p r key) (listed_for p key) x.repeats.paid (omega (arith, none, grows, few)) (omega (arith, none, met_few))
-
-  pub found_alone : advances r ≡ advances p → (told : Found) → KnowsEpoch p r → StandsStill p r key told.pred → NextStandsStill p r key told.cur → IsAlone p r → FoundAlone p r key before used told
-  found_alone steps told knew pred cur alone = record {
-    pred = record { fresh = fresh_alone p r is ok key quiet.same quiet.seen alone steps knew; stands = stands_alone p r is ok key quiet.same quiet.seen alone told.pred pred };
-    cur = next_stands_alone p r is ok key quiet.same quiet.seen alone told.cur cur;
-    paid = searched_alone alone;
-  }
-
-  pub tired_alone : (budget : ℕ) → budget < used + 8 → IsAlone p r → budget < before + enough_to_search p key
-  tired_alone budget short alone = let paid = searched_alone alone in omega (arith, short, paid)
-
 search_few : (lost m n times used : ℕ) → used ≤ 0 + (lost + 1) * (9 * m + 3) → m ≤ n → lost ≤ times → used ≤ (times + 1) * (9 * n + 3)
 search_few lost m n times used x l f =
     let u = mul-le (lost + 1) (9 * m + 3) (times + 1) (9 * n + 3) (omega (arith, f)) (omega (arith, l)) in
@@ -421,12 +394,6 @@ module _ (p r : Trace) (is : IsStart p.start) (ok : IsRun p.start p.passes r.see
 
 -- ---- rounds of a remove
 
-run_on : (p r : Trace) → IsSame p r → IsRun p.start p.passes r.seen → IsRun r.start r.passes r.seen
-run_on p r s ok =
-    let P : Start → Type 0 = λ start. IsRun start p.passes r.seen in
-    let Q : ℕ → Type 0 = λ passes. IsRun r.start passes r.seen in
-    subst Q (sym s.passes) (subst P (sym s.start) ok)
-
 more_searches : (before each tries lost m1 m2 m a b c : ℕ) → a ≤ before + tries * (9 * m1 + (3 + each)) → b ≤ a + (lost + 1) * (9 * m2 + 3) → c ≤ b + each → m1 ≤ m → m2 ≤ m → c ≤ before + (tries + lost + 1) * (9 * m + (3 + each))
 more_searches before each tries lost m1 m2 m a b c x y z l k =
     let u = mul-le tries (9 * m1 + (3 + each)) tries (9 * m + (3 + each)) (omega arith) (omega (arith, l)) in
@@ -440,10 +407,10 @@ pub search_round_on : (p q m r : Trace) → IsStart p.start → IsRun p.start p.
 search_round_on p q m r is ok key each sq qm sr a b c count {before_all} {used} {mid} {now_used} x told last few loses =
     let t = last.begun in
     let st : IsSame p t = same_on sq last.same in
-    let tm : IsSame t m = record { table = qm.table ∙ sym last.same.table; start = qm.start ∙ sym last.same.start; passes = qm.passes ∙ sym last.same.passes; who = qm.who ∙ sym last.same.who } in
-    let tr : IsSame t r = record { table = sr.table ∙ sym st.table; start = sr.start ∙ sym st.start; passes = sr.passes ∙ sym st.passes; who = sr.who ∙ sym st.who } in
+    let tm = same_between last.same qm in
+    let tr = same_between st sr in
     let is_t : IsStart t.start = subst IsStart (sym st.start) is in
-    let less = loses_found_disturb t r is_t (run_at t r tr (run_on p r sr ok)) key tr (count ∙ last.count) m told tm c last.knew last.pred last.cur loses in
+    let less = loses_found_disturb t r is_t (run_to st r.seen ok) key tr (count ∙ last.count) m told tm c last.knew last.pred last.cur loses in
     let here = disturbed_same p q key q.seen sq in
     let mid_there = disturbed_same p q key t.seen sq in
     let there = disturbed_same p t key t.seen st in
@@ -480,32 +447,6 @@ remove_lacks p q m is ok key sq a b quiet {used} {mid} x w budget short =
     let low = met_before p m is ok key q a b in
     let high = met_less p m is ok key q sq a b in
     searches_lack x.lost w.lost (met_since p q key) (met_since q m key) (listed_for p key + disturbed p m key) (disturbed p m key) used mid budget x.repeats.paid w.repeats.paid (omega (arith, few, low)) (omega (arith, few, high)) (omega (arith, before, since_q, here, there)) short
-
--- where nothing disturbed it, that is what is enough alone
-pub enough_alone : (n times : ℕ) {budget : ℕ} → times ≡ 0 → budget < enough_to_search_among n times → budget < 9 * n + 11
-enough_alone n times {budget} none lacks = let P : ℕ → Type 0 = λ t. budget < enough_to_search_among n t in let x = subst P none lacks in omega (arith, x)
-
-first_few : (lost t m1 m2 n used mid : ℕ) → used ≤ 0 + lost * (9 * m1 + 6) → mid ≤ used + (t + 1) * (9 * m2 + 3) → lost ≡ 0 → t ≡ 0 → m2 ≤ n → mid ≤ 0 + 3 + 9 * n
-first_few lost t m1 m2 n used mid x y a b k =
-    let P : ℕ → Type 0 = λ u. used ≤ 0 + u * (9 * m1 + 6) in
-    let Q : ℕ → Type 0 = λ u. mid ≤ used + (u + 1) * (9 * m2 + 3) in
-    let v = subst P a x in
-    let w = subst Q b y in
-    omega (arith, v, w, k)
-
--- and the first search was the last
-pub searches_alone : (p q m : Trace) → IsStart p.start → IsRun p.start p.passes m.seen → (key : ℕ) → IsSame p q → Begins p.seen q.seen → Begins q.seen m.seen → Quiet p m → {used mid : ℕ} → HasRepeated 9 p q key 6 0 used → WalksAgain 9 q m key used mid → IsAlone p m → mid ≤ 0 + 3 + 9 * listed_for p key
-searches_alone p q m is ok key sq a b quiet {used} {mid} x w alone =
-    let none = alone_undisturbed p m key alone in
-    let grows = disturbances_grow (since p.start p.passes p.seen m.seen is ok quiet.seen) p.who (bucket_of p.start.shape key) in
-    let here = disturbed_same p q key q.seen sq in
-    let there = disturbed_same p q key m.seen sq in
-    let before = x.repeats.few in
-    let since_q = w.repeats.few in
-    let few = met_quiet p m is ok key quiet in
-    let low = grows_disturbed p m is ok key q.seen b in
-    let high = met_less p m is ok key q sq a b in
-    first_few x.lost w.lost (met_since p q key) (met_since q m key) (listed_for p key) used mid x.repeats.paid w.repeats.paid (omega (arith, none, grows, here, there, before, since_q, low)) (omega (arith, none, grows, here, there, before, since_q, low)) (omega (arith, none, few, high))
 
 -- ---- searches of an insert
 

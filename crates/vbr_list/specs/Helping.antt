@@ -1,7 +1,7 @@
 -- Helping to unlink a marked node. Only contracts of private functions cite this.
-use Rattle.std.specs.Prelude.{◌≡◌, ◌≢◌, ℕ, ◌+◌, ◌<◌, false, List}
+use Rattle.std.specs.Prelude.{◌≡◌, ◌≢◌, ℕ, ◌+◌, false, List}
 use Rattle.vbr_words.specs.Words.{link_of}
-use Rattle.vbr_words.specs.declared.place.At.TheVariants.{Head, Slot}
+use Rattle.vbr_words.specs.declared.place.At.TheVariants.{Slot}
 use Rattle.vbr_machine.specs.Accounts.{incarnations_after}
 use Rattle.vbr_machine.specs.Disturbances.{IsOpenIn, own_changes}
 use Rattle.vbr_machine.specs.Images.{link_shown_at}
@@ -9,9 +9,8 @@ use Rattle.vbr_machine.specs.Runs.{Begins}
 use Rattle.vbr_machine.specs.declared.event.Event.{Event}
 use Rattle.vbr_machine.specs.Membership.{HeldIn, KeyAt, StandsBehind}
 use Rattle.vbr_machine.specs.Removals.{IsTakenOut}
-use Rattle.vbr_slots.specs.Alone.{IsAlone, IsFresh, ahead, nodes}
+use Rattle.vbr_slots.specs.Alone.{nodes}
 use Rattle.vbr_slots.specs.Views.{PassView, Trace, knows}
-use Rattle.vbr_at_table.specs.Alone.{StandsNow}
 use Rattle.vbr_at_table.specs.Held.{IsHeld, HoldsMarked, Names}
 use Rattle.vbr_at_table.specs.declared.held.Held.{Held}
 use Rattle.vbr_at_table.specs.declared.held.Marked.{Marked}
@@ -54,19 +53,13 @@ pub record Helps (p q : PassView) (pred : Held) (gone : Marked) (place : Held) :
   pub opens : OpensPlace p.trace q.trace pred gone place
   pub come : (key : ℕ) → IsPred p.trace.start (knows p.trace) key pred → HasComeTo p.trace q.trace key place
 
--- the pass rolled back, as the place is lost, which it isn't for a pass that is alone, where it stood as it is held
-pub record IsLostPlace (p q : PassView) (pred : Held) : Type 0 where
-  pub loses : LosesPlace p.trace q.trace pred
-  pub still : IsFresh p.trace → StandsNow p.trace pred → IsAlone p.trace q.trace → ⊥
-
+-- the pass rolled back, as the place is lost
 abbrev pub HelpsNone : PassView → PassView → Held → Rollback → Type 0
-HelpsNone p q pred rollback = IsLostPlace p q pred
+HelpsNone p q pred rollback = LosesPlace p.trace q.trace pred
 
--- the marked node was unlinked and retired, so no marked node of its key was in a list but one that was replaced, where it was taken out, and it has left its list, if it stood behind the place by its key; where the epoch stayed, that helped, and alone it stays; and alone fewer nodes are in each list that the place is held in
+-- the marked node was unlinked and retired, so no marked node of its key was in a list but one that was replaced, where it was taken out, and it has left its list, if it stood behind the place by its key; where the epoch stayed, that helped
 pub record Retires (p q : PassView) (pred : Held) (gone : Marked) (place : Held) : Type 0 where
   pub helps : place.epoch ≡ (knows q.trace).epoch → Helps p q pred gone place
   pub late : place.epoch ≢ (knows q.trace).epoch → MovesOn p.trace q.trace
-  pub stays : IsFresh p.trace → StandsNow p.trace pred → IsAlone p.trace q.trace → place.epoch ≡ (knows q.trace).epoch
-  pub fewer : StandsNow p.trace pred → IsAlone p.trace q.trace → (bucket h : ℕ) → HeldIn (knows p.trace) pred.at bucket → ahead q.trace bucket (Head h) < ahead p.trace bucket (Head h)
   pub clear : (key : ℕ) → KeyAt (knows p.trace) (Slot gone.slot) key → StandsBehind p.trace.start (knows p.trace) pred.at key → IsTakenOut (nodes p.trace) (knows p.trace).epoch gone.slot → WasClear p.trace q.trace key
   pub left : (key : ℕ) → KeyAt (knows p.trace) (Slot gone.slot) key → StandsBehind p.trace.start (knows p.trace) pred.at key → LeavesAt p.trace q.trace gone.slot

@@ -1,5 +1,5 @@
 -- The pieces of a remove. Only contracts of private functions cite this.
-use Rattle.std.specs.Prelude.{◌≡◌, ℕ, ◌+◌, ◌<◌, ◌≤◌, ◌⊎◌, List, Option, true, is_some}
+use Rattle.std.specs.Prelude.{◌≡◌, ℕ, ◌+◌, ◌≤◌, ◌⊎◌, List, Option, true, is_some}
 use Rattle.vbr_words.specs.Words.{link_of}
 use Rattle.vbr_machine.specs.Start.{Start}
 use Rattle.vbr_words.specs.declared.nodes.Nodes.{Ghosts}
@@ -12,18 +12,17 @@ use Rattle.vbr_machine.specs.Removals.{IsTakenOut}
 use Rattle.vbr_machine.specs.Runs.{Begins}
 use Rattle.vbr_machine.specs.declared.event.Event.{Event}
 use Rattle.vbr_machine.specs.declared.history.Op.TheVariants.{Remove}
-use Rattle.vbr_slots.specs.Alone.{IsFresh, nodes}
+use Rattle.vbr_slots.specs.Alone.{nodes}
 use Rattle.vbr_slots.specs.Calls.{IsSame, Quiet}
 use Rattle.vbr_slots.specs.Views.{Trace, knows}
 use Rattle.vbr_at_table.specs.Counts.{advances}
-use Rattle.vbr_at_table.specs.Alone.{StandsNow}
 use Rattle.vbr_at_table.specs.declared.held.Held.{Held}
 use Rattle.vbr_at_table.specs.declared.held.Marked.{Marked}
 use Rattle.vbr_at_table.specs.declared.rollback.Rollback.{Rollback}
-use Rattle.vbr_list.specs.Budgets.{listed_for, steps_to_value_of}
+use Rattle.vbr_list.specs.Budgets.{steps_to_value_of}
 use Rattle.vbr_list.specs.Helping.{MayHelp}
 use Rattle.vbr_list.specs.Leaving.{Leaves, WasClear}
-use Rattle.vbr_list.specs.Pieces.{Gives, HasRoom, WasAlone, trace_in}
+use Rattle.vbr_list.specs.Pieces.{Gives, HasRoom, trace_in}
 use Rattle.vbr_list.specs.Disturbed.{changed_after}
 use Rattle.vbr_list.specs.Walking.{LosesFound, LosesPlace, WalksAgain, nodes_after}
 use Rattle.vbr_list.specs.declared.call.PendingCall.{PendingCall}
@@ -41,23 +40,14 @@ pub record IsMarkedFor {N : Type 0} {kind : Ghosts N} (c : PendingCall N kind) (
 abbrev pub Clears : {N : Type 0} {kind : Ghosts N} → PendingCall N kind → PendingCall N kind → Type 0
 Clears c d = HasRoom d → WasClear (trace_in c) (trace_in d) c.key
 
--- that takes six steps at most, and leaves fewer nodes in the list
-pub record UnlinksSoon {N : Type 0} {kind : Ghosts N} (c d : PendingCall N kind) : Type 0 where
-  pub few : d.used ≤ c.used + 6
-  pub fewer : listed_for (trace_in d) c.key < listed_for (trace_in c) c.key
-
--- so it is alone, where the place stands
-abbrev pub ClearsSoon : {N : Type 0} {kind : Ghosts N} → PendingCall N kind → PendingCall N kind → Held → Type 0
-ClearsSoon c d pred = IsFresh (trace_in c) → StandsNow (trace_in c) pred → WasAlone c d → UnlinksSoon c d
-
 -- the steps of an answer: those of reading the value, one for the mark, and six
 abbrev pub steps_to_remove : Start → ℕ
 steps_to_remove start = steps_to_value_of start + 7
 
--- the answer takes so many steps, and one that is yes leaves fewer nodes in the list, where the budget has room to unlink the node once its value is read and it is marked
+-- the answer takes so many steps, and where it is yes, the node that it marked has left its list, if the budget had room to unlink it once its value was read and it was marked
 pub record RemovesSoon {N : Type 0} {kind : Ghosts N} (c d : PendingCall N kind) (answer : Option ℕ) : Type 0 where
   pub few : d.used ≤ c.used + steps_to_remove (trace_in c).start
-  pub fewer : is_some answer ≡ true → c.used + steps_to_value_of (trace_in c).start + 9 ≤ c.budget → listed_for (trace_in d) c.key < listed_for (trace_in c) c.key
+  pub leaves : is_some answer ≡ true → c.used + steps_to_value_of (trace_in c).start + 9 ≤ c.budget → Leaves (trace_in c) (trace_in d) c.key
 
 -- past the mark of another node a place shows what it showed before; and where that is the link which is held of it, it is open
 pub record MarksBehind (p q : Trace) (key : ℕ) (pred : Held) : Type 0 where
@@ -82,24 +72,28 @@ pub record SearchesOn (p q : Trace) (key before since : ℕ) (pred : Held) : Typ
   pub then : Quiet ended q
   pub walks : WalksAgain 9 ended q key used since
 
--- the marked node is unlinked in as many, or not, as the place before it is lost
-abbrev pub UnlinksOrSearches : Trace → Trace → ℕ → ℕ → ℕ → Held → Type 0
-UnlinksOrSearches p q key before since pred = (since ≤ before + 6) ⊎ SearchesOn p q key before since pred
+-- the marked node is unlinked in as many, and so the key is clear
+pub record UnlinksSoon {N : Type 0} {kind : Ghosts N} (c d : PendingCall N kind) : Type 0 where
+  pub few : d.used ≤ c.used + 6
+  pub clear : WasClear (trace_in c) (trace_in d) c.key
 
--- a node was marked, once its value was read, and not unlinked, as the place before it was lost since
-pub record MarksAndSearches (p q : Trace) (key before since : ℕ) (pred : Held) : Type 0 where
+-- so it is, or it is not unlinked, as the place before it is lost
+abbrev pub UnlinksOrSearches : {N : Type 0} {kind : Ghosts N} → PendingCall N kind → PendingCall N kind → Held → Type 0
+UnlinksOrSearches c d pred = UnlinksSoon c d ⊎ SearchesOn (trace_in c) (trace_in d) c.key c.used d.used pred
+
+-- a node was marked in so many steps at most, and not unlinked, as the place before it was lost since
+pub record MarksAndSearches (most : ℕ) (p q : Trace) (key before since : ℕ) (pred : Held) : Type 0 where
   pub marked : Trace
   pub marks : MarksBehind p marked key pred
   pub used : ℕ
-  pub few : used ≤ before + steps_to_value_of p.start + 1
+  pub few : used ≤ before + most
   pub searches : SearchesOn marked q key used since pred
 
--- the remove is answered, and gives the value that was read of the node where nodes have values; where that is yes, the node that it marked has left its list, unless the budget has no room for one more piece; it is answered soon, but for a search once the place before the node was lost; and alone, where that place stands, so it is soon
+-- the remove is answered, and gives the value that was read of the node where nodes have values; where that is yes, the node that it marked has left its list, unless the budget has no room for one more piece; it is answered soon, but for a search once the place before the node was lost
 pub record RemoveAnswers {N : Type 0} {kind : Ghosts N} (c d : PendingCall N kind) (found : Found) (answer : Option ℕ) : Type 0 where
   pub made : Gives Remove c d answer
   pub unlists : is_some answer ≡ true → HasRoom d → Leaves (trace_in c) (trace_in d) c.key
-  pub paid : (d.used ≤ c.used + steps_to_remove (trace_in c).start) ⊎ MarksAndSearches (trace_in c) (trace_in d) c.key c.used d.used found.pred
-  pub soon : IsFresh (trace_in c) → StandsNow (trace_in c) found.pred → WasAlone c d → RemovesSoon c d answer
+  pub paid : RemovesSoon c d answer ⊎ MarksAndSearches (steps_to_value_of (trace_in c).start + 1) (trace_in c) (trace_in d) c.key c.used d.used found.pred
 
 -- it isn't answered in three steps at most, and no call was made, as what was found is lost
 pub record RemoveRollsBack {N : Type 0} {kind : Ghosts N} (c d : PendingCall N kind) (found : Found) (rollback : Rollback) : Type 0 where

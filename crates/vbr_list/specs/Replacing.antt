@@ -27,7 +27,7 @@ use Rattle.vbr_list.specs.Helping.{MayHelp}
 use Rattle.vbr_list.specs.Leaving.{LeavesAt, LeavesReplaced}
 use Rattle.vbr_list.specs.Inserting.{GivesHandBack, HasHandAndRoom, InsertIsShort, SearchedFor, SearchesInVain, TakesNone}
 use Rattle.vbr_list.specs.Pieces.{HasRoom, IsPiece, IsSameCall, Replies, pass_in, trace_in}
-use Rattle.vbr_list.specs.Removing.{MarksBehind, SearchesOn}
+use Rattle.vbr_list.specs.Removing.{MarksAndSearches, MarksBehind, SearchesOn}
 use Rattle.vbr_list.specs.Traversing.{LocatesFor}
 use Rattle.vbr_list.specs.Walking.{LosesPlace, met_since}
 use Rattle.vbr_list.specs.declared.call.PendingCall.{PendingCall}
@@ -89,18 +89,10 @@ pub record SettlesSoon {N : Type 0} {kind : Ghosts N} (c d : PendingCall N kind)
   pub few : d.used ≤ c.used + 14
   pub leaves : is_some answer ≡ true → c.used + 16 ≤ c.budget → LeavesReplaced (trace_in c) (trace_in d) c.key
 
--- a node was replaced in eight steps at most, and not unlinked, as the place before it was lost since
-pub record ReplacesAndSearches (p q : Trace) (key before since : ℕ) (pred : Held) : Type 0 where
-  pub marked : Trace
-  pub marks : MarksBehind p marked key pred
-  pub used : ℕ
-  pub few : used ≤ before + PIECE
-  pub searches : SearchesOn marked q key used since pred
-
 -- the one or, of a value that was replaced, the other
 abbrev pub SettlesPaid : {N : Type 0} {kind : Ghosts N} → PendingCall N kind → PendingCall N kind → Found → Option ℕ → Type 0
 SettlesPaid c d found None = SettlesSoon c d None
-SettlesPaid c d found (Some old) = SettlesSoon c d (Some old) ⊎ ReplacesAndSearches (trace_in c) (trace_in d) c.key c.used d.used found.pred
+SettlesPaid c d found (Some old) = SettlesSoon c d (Some old) ⊎ MarksAndSearches PIECE (trace_in c) (trace_in d) c.key c.used d.used found.pred
 
 -- a call that may have replaced a value: its steps are counted, and it takes no slot
 pub record MaySettleReplace {N : Type 0} {kind : Ghosts N} (c d : PendingCall N kind) : Type 0 where

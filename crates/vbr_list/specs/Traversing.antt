@@ -8,11 +8,9 @@ use Rattle.vbr_at_table.specs.declared.budget.TheConstants.{PIECE}
 use Rattle.vbr_at_table.specs.Counts.{advances}
 use Rattle.vbr_at_table.specs.Moments.{Stood}
 use Rattle.vbr_at_table.specs.declared.held.Held.{Held}
-use Rattle.vbr_list.specs.Budgets.{enough_to_search}
 use Rattle.vbr_list.specs.Disturbed.{disturbed_after}
 use Rattle.vbr_list.specs.Found.{IsFound}
-use Rattle.vbr_list.specs.Nearing.{FoundAlone}
-use Rattle.vbr_list.specs.Pieces.{WasAlone, trace_in}
+use Rattle.vbr_list.specs.Pieces.{trace_in}
 use Rattle.vbr_list.specs.Places.{IsPlaceBefore, IsPred, Locates}
 use Rattle.vbr_list.specs.Walking.{KnowsEpoch, NextStandsStill, Repeats, StandsStill, WalksAgain, WalksOnce}
 use Rattle.vbr_list.specs.declared.call.PendingCall.{PendingCall}
@@ -77,10 +75,8 @@ pub record Finds {N : Type 0} {kind : Ghosts N} (c d : PendingCall N kind) (told
   pub used : told.used ≡ d.used
   pub last : LastWalk (trace_in c) (trace_in d) c.key c.used d.used told
   pub walks : WalksAgain 9 (trace_in c) (trace_in d) c.key c.used d.used
-  pub alone : WasAlone c d → FoundAlone (trace_in c) (trace_in d) c.key c.used d.used told
 
--- the budget has no room for one more piece; alone it was below what is enough
+-- the budget has no room for one more piece
 pub record SearchTires {N : Type 0} {kind : Ghosts N} (c d : PendingCall N kind) : Type 0 where
   pub tired : c.budget < d.used + PIECE
   pub walks : WalksAgain 9 (trace_in c) (trace_in d) c.key c.used d.used
-  pub short : WasAlone c d → c.budget < c.used + enough_to_search (trace_in c) c.key

@@ -8,7 +8,7 @@ ghost use Rattle.vbr_at_table.specs.declared.budget.TheConstants.{PIECE};
 ghost use Rattle.vbr_list.specs.Sparing.{Calls, CallsAs, CallsRemove};
 ghost use Rattle.vbr_list.specs.Leaving.{SparesRemove, Sweeps, WasClear};
 ghost use Rattle.vbr_list.specs.Pieces.{Goes, GoesOn, HasRoom, Settles, trace_in};
-ghost use Rattle.vbr_list.specs.Removing.{Clears, ClearsSoon, IsMarkedFor, RemoveAnswers, RemoveRollsBack, UnlinksOrSearches};
+ghost use Rattle.vbr_list.specs.Removing.{Clears, IsMarkedFor, RemoveAnswers, RemoveRollsBack, UnlinksOrSearches};
 ghost use Rattle.vbr_list.specs.Told.{given_in};
 ghost use Rattle.vbr_list.specs.Traversing.{LocatesFor};
 ghost use Rattle.vbr_list.specs.Walking.{WalksAgain};
@@ -75,9 +75,7 @@ impl<N: Nodes> PendingCall<'_, N> {
         requires room { HasRoom self.old }
         ensures goes { GoesOn self.old self.new }
         ensures clear { Clears self.old self.new }
-        ensures paid { UnlinksOrSearches (trace_in self.old) (trace_in self.new) self.old.key
-            self.old.used self.new.used pred.now }
-        ensures soon { ClearsSoon self.old self.new pred.now }
+        ensures paid { UnlinksOrSearches self.old self.new pred.now }
     {
         let (outcome, made) = unlink_and_retire(&mut self.at, pred, marked);
         self.used += made;

@@ -62,6 +62,8 @@ pub use Rattle.vbr_machine.proofs.Since.{Since, changed_disturbed, disturbances_
 pub use Rattle.vbr_machine.proofs.MovedEpochs.{AdvancesNone, IsAdvance, moved_by_others, moved_by_steps}
 pub use Rattle.vbr_machine.proofs.Visits.{ahead_few, head_visited, known_open, met_bound, met_later, met_on, next_visited, shown_there, unmarked_open, visited_few, visited_on}
 pub use Rattle.vbr_machine.proofs.OwnInserts.{inserts_in, inserts_in-remove, inserts_in-two, met_bound_made, met_bound_quiet, met_bound_uninserted}
+-- Where a pass has marked a node that has left since, fewer nodes are in its list than could be met.
+pub use Rattle.vbr_machine.proofs.LeftNodes.{marked_fewer}
 -- A slot that was in the shared pool, and isn't there after events of other passes, was gained by one of these.
 pub use Rattle.vbr_machine.proofs.GainedSlots.{gains_grow, own_gains_uncounted, slot_gained}
 -- What disturbances are: updates that were answered, and advances.

@@ -78,6 +78,7 @@ mod Calm
 mod Since
 mod MetNodes
 mod Visits
+mod LeftNodes
 mod OwnInserts
 mod Progress
 mod MovedEpochs

@@ -65,7 +65,7 @@ disturbances_grow x who bucket = let s = disturbances_sum x who bucket in omega 
 
 -- ---- own events
 
-own_since : {start : Start} {first run : List Event} (x : Since start first run) (who : ℕ) → own_entries start run who ≡ own_entries start first who ++ entries_by who x.entries
+pub own_since : {start : Start} {first run : List Event} (x : Since start first run) (who : ℕ) → own_entries start run who ≡ own_entries start first who ++ entries_by who x.entries
 own_since {start} {first} x who = ap (entries_by who) x.adds ∙ filter-append (λ (entry : Entry). entry.pass == who) (chronicle start first) x.entries
 
 -- a pass that added none to its own events added none

@@ -2,7 +2,6 @@ use Rattle.std.proofs.Common.{◌+◌, ℕ, sym, ◌∙◌, subst, arith}
 use Rattle.vbr_machine.specs.Start.{Start}
 use Rattle.vbr_words.specs.Words.{link_of}
 use Rattle.vbr_words.specs.declared.place.At.{At}
-use Rattle.vbr_words.specs.declared.place.At.TheVariants.{Head}
 use Rattle.vbr_machine.specs.Acceptance.{IsUnlinked}
 use Rattle.vbr_machine.specs.Membership.{StandsBehind}
 use Rattle.vbr_machine.specs.declared.knowledge.Read.TheVariants.{KeyOf}
@@ -17,7 +16,6 @@ use Rattle.vbr_list.proofs.Disturbing.{loses_place, moved_late, opened, run_at}
 use Rattle.vbr_at_table.proofs.Lemmas.{unchanged_by_none}
 use Rattle.vbr_list.proofs.Going.{counts_step, took_same}
 use Rattle.vbr_list.proofs.KeptHands.{helped_hand, retired_hand}
-use Rattle.vbr_list.proofs.Nearing.{first_of, then_of}
 use Rattle.vbr_list.proofs.Reaching.{helped, retired_keeps}
 use Rattle.vbr_list.proofs.Sweeping.{left_skipped}
 use Rattle.vbr_list.proofs.helping.unlink_and_retire.Goals as goal
@@ -52,14 +50,6 @@ returns-in-Ok-clause-unlinks g c =
         come = λ key is. helped key c.args.pred.now c.in-Ok.place is won.keeps won.at won.still won.read a b (retired_keeps (knows q.trace) (knows r.trace) c.in-Ok.unlinked.slot (is_kept q.pool) c.retire.ensures.retires.known (sym e ∙ won.read.known.epoch));
       };
       late = λ other. moved_late p.trace q.trace r.trace a b c.law.ensures.start (won.read.known.epoch ∙ won.keeps.epoch) c.retire.ensures.retires.stamped other;
-      stays = λ fresh stands alone.
-          let u = won.alone (first_of a b alone) stands in
-          let l = c.retire.ensures.retires.alone (then_of a b alone) in
-          won.read.known.epoch ∙ won.keeps.epoch ∙ sym fresh ∙ sym u.epoch ∙ sym l.0.epoch ∙ l.1;
-      fewer = λ stands alone bucket h inside.
-          let u = (won.alone (first_of a b alone) stands).listed bucket h inside in
-          let l = (c.retire.ensures.retires.alone (then_of a b alone)).0.count bucket (Head h) in
-          omega (arith, u, l);
       clear = λ key k behind out.
           let P : At → Type 0 = λ t. StandsBehind q.trace.start (knows q.trace) t key in
           let Q : Start → Type 0 = λ s. StandsBehind s (knows q.trace) c.args.pred.now.at key in
@@ -77,7 +67,4 @@ returns-in-Ok-clause-unlinks g c =
 pub returns-in-Err-clause-lost : goal.returns-in-Err-clause-lost
 returns-in-Err-clause-lost g c =
     let failed = rw c.in-Err.is at c.unlink-outcome.ensures.failed in
-    record {
-      loses = loses_place c.args.at.now.stepper.now.trace c.unlink-outcome.new.at.stepper.now.trace c.args.pred.now c.in-Err.rollback c.unlink-outcome.ensures.stays.quiet.same failed.rolled failed.fresh (unchanged_by_none c.law.ensures.start (run_at c.args.at.now.stepper.now.trace c.unlink-outcome.new.at.stepper.now.trace c.unlink-outcome.ensures.stays.quiet.same (c.unlink-outcome.ensures.stays.quiet.is_run c.law.ensures.is_run)) c.unlink-outcome.ensures.stays.quiet.same c.unlink-outcome.ensures.stays.quiet.seen failed.adds_none) c.unlink-outcome.ensures.stays.quiet.seen;
-      still = λ fresh stands alone. failed.wins fresh alone stands;
-    }
+    loses_place c.args.at.now.stepper.now.trace c.unlink-outcome.new.at.stepper.now.trace c.args.pred.now c.in-Err.rollback c.unlink-outcome.ensures.stays.quiet.same failed.rolled failed.fresh (unchanged_by_none c.law.ensures.start (run_at c.args.at.now.stepper.now.trace c.unlink-outcome.new.at.stepper.now.trace c.unlink-outcome.ensures.stays.quiet.same (c.unlink-outcome.ensures.stays.quiet.is_run c.law.ensures.is_run)) c.unlink-outcome.ensures.stays.quiet.same c.unlink-outcome.ensures.stays.quiet.seen failed.adds_none) c.unlink-outcome.ensures.stays.quiet.seen

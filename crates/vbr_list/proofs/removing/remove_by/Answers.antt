@@ -1,20 +1,18 @@
-use Rattle.std.proofs.Common.{rules, refl, ◌∙◌, ⊎_elim, arith, ap}
-use Rattle.std.specs.Prelude.{◌⊎◌}
-use Rattle.vbr_slots.proofs.Lemmas.{alone_first, alone_then, quiet_on, same_on}
+use Rattle.std.proofs.Common.{rules, refl, ◌∙◌, arith, ap}
+use Rattle.vbr_slots.proofs.Lemmas.{quiet_on, same_on}
 use Rattle.vbr_at_table.proofs.Lemmas.{counts_on, none_on, took_all}
 use Rattle.vbr_list.proofs.Going.{call_on, goes_on, room_left, tries_on, within_call, within_of}
 use Rattle.vbr_list.proofs.Clearing.{leaves_since}
-use Rattle.vbr_list.proofs.Disturbing.{run_at}
-use Rattle.vbr_list.proofs.Walking.{search_round_on, searches_alone}
+use Rattle.vbr_list.proofs.Disturbing.{run_at, undisturbed}
+use Rattle.vbr_list.proofs.Walking.{search_round_on}
 use Rattle.vbr_list.proofs.LonePasses.{alone}
-use Rattle.std.proofs.Common.{◌≡◌, ℕ, ◌+◌, ◌*◌, ◌<◌, ◌≤◌, subst}
-use Rattle.vbr_slots.specs.Alone.{IsAlone}
+use Rattle.std.proofs.Common.{◌≡◌, ℕ, ◌+◌, ◌≤◌, subst}
 use Rattle.vbr_list.specs.Disturbed.{disturbed, remove_costs_among}
 use Rattle.vbr_list.specs.Budgets.{listed_for, remove_costs, steps_to_value_of}
-use Rattle.vbr_list.specs.Removing.{MarksAndSearches, RemovesSoon, steps_to_remove}
-use Rattle.vbr_list.proofs.Marks.{late_paid, soon_paid}
-use Rattle.vbr_list.proofs.Sufficing.{no_more_listed}
-use Rattle.vbr_list.proofs.Nearing.{then_of}
+use Rattle.std.specs.Prelude.{◌⊎◌}
+use Rattle.vbr_list.specs.Leaving.{Leaves}
+use Rattle.vbr_list.specs.Removing.{MarksAndSearches, RemovesSoon}
+use Rattle.vbr_list.proofs.Marks.{left_fewer, remove_alone, remove_paid}
 use Rattle.vbr_machine.specs.declared.history.Op.TheVariants.{Remove}
 use Rattle.vbr_list.proofs.Tiring.{remove_tires}
 use Rattle.vbr_list.proofs.Told.{given_same, told_since}
@@ -75,17 +73,13 @@ returns-in-Ok-clause-calls g c =
     let made = told_since first (given_same first.same Remove c.args.key c.in-Ok.answer) answered in
     let counts = counts_on (goes_on c.loop-found.invariant.3.goes c.reach.ensures.goes.goes).counts c.settle_remove.ensures.settles.counts in
     let values = ap steps_to_value_of first.same.start in
-    let whole = run_at p.trace q.trace first.same (first.is_run c.law.ensures.is_run) in
-    let searched : IsAlone p.trace q.trace → c.reach.new.self.used ≤ 0 + 3 + 9 * listed_for p.trace c.args.key = searches_alone p.trace c.loop-found.call.at.stepper.now.trace q.trace c.law.ensures.start whole c.args.key before.same before.seen went.seen first c.loop-found.invariant.4 (rw (c.loop-found.invariant.0.key ∙ c.loop-found.invariant.1) at c.in-Some.ensures.found.walks) in
     let walk = c.loop-found.call.at.stepper.now.trace in
     let there = c.loop-found.invariant.0.key ∙ c.loop-found.invariant.1 in
-    let run = run_at p.trace r.trace made.same made.is_run in
-    let P : ℕ → Type 0 = λ k. (c.settle_remove.new.self.used ≤ c.reach.new.self.used + steps_to_remove q.trace.start) ⊎ MarksAndSearches q.trace r.trace k c.reach.new.self.used c.settle_remove.new.self.used c.in-Some.found.pred in
-    let paid : c.settle_remove.new.self.used ≤ remove_costs_among (listed_for p.trace c.args.key) (disturbed p.trace r.trace c.args.key) (steps_to_value_of p.trace.start) = ⊎_elim
-    (λ (few : c.settle_remove.new.self.used ≤ c.reach.new.self.used + steps_to_remove q.trace.start). soon_paid p.trace walk q.trace r.trace c.law.ensures.start run c.args.key before.same went.same before.seen went.seen made refl answered.seen c.loop-found.invariant.4 (rw there at c.in-Some.ensures.found.walks) c.settle_remove.new.self.used (omega (arith, few, values)))
-    (λ (late : MarksAndSearches q.trace r.trace c.args.key c.reach.new.self.used c.settle_remove.new.self.used c.in-Some.found.pred). late_paid p.trace walk q.trace r.trace c.law.ensures.start run c.args.key before.same went.same before.seen went.seen made refl answered.seen c.loop-found.invariant.4 c.in-Some.found (rw there at c.in-Some.ensures.found.last) c.settle_remove.new.self.used late)
-    (subst P key c.in-Ok.ensures.answers.paid) in
-    let soon : IsAlone p.trace q.trace → IsAlone q.trace r.trace → RemovesSoon c.reach.new.self c.settle_remove.new.self c.in-Ok.answer = λ alone then. let stands = (c.in-Some.ensures.found.alone (then_of before went alone)).pred in c.in-Ok.ensures.answers.soon stands.fresh stands.stands then in
+    let last = rw there at c.in-Some.ensures.found.last in
+    let walks = rw there at c.in-Some.ensures.found.walks in
+    let E : ℕ → Type 0 = λ k. RemovesSoon c.reach.new.self c.settle_remove.new.self c.in-Ok.answer ⊎ MarksAndSearches (steps_to_value_of q.trace.start + 1) q.trace r.trace k c.reach.new.self.used c.settle_remove.new.self.used c.in-Some.found.pred in
+    let either = subst E key c.in-Ok.ensures.answers.paid in
+    let paid = remove_paid p.trace walk q.trace r.trace c.law.ensures.start c.args.key before.same went.same before.seen went.seen made refl answered.seen c.loop-found.invariant.4 c.in-Some.found last walks either (λ (soon : RemovesSoon c.reach.new.self c.settle_remove.new.self c.in-Ok.answer). let few = soon.few in omega (arith, few, values)) in
     rw same (record {
       same = same_on first.same answered.same;
       made = made;
@@ -102,18 +96,12 @@ returns-in-Ok-clause-calls g c =
         refused = tt;
         within = tt;
         disturbed_within = tt;
-        costs = λ whole.
-            let one = alone_first first.seen answered.seen whole in
-            let most = searched one in
-            let few = (soon one (alone_then first.same.who first.seen answered.seen whole)).few in
-            within_of c.settle_remove.new.self.used (remove_costs p.trace c.args.key) (omega (arith, most, few, values)) counts;
+        costs = λ whole. let most = undisturbed (λ t. c.settle_remove.new.self.used ≤ remove_costs_among (listed_for p.trace c.args.key) t (steps_to_value_of p.trace.start)) c.args.key paid whole in within_of c.settle_remove.new.self.used (remove_costs p.trace c.args.key) (omega (arith, most)) counts;
         disturbed_costs = within_of c.settle_remove.new.self.used (remove_costs_among (listed_for p.trace c.args.key) (disturbed p.trace r.trace c.args.key) (steps_to_value_of p.trace.start)) paid counts;
         fewer = λ yes whole enough.
-            let one = alone_first first.seen answered.seen whole in
-            let most = searched one in
-            let left = no_more_listed p c.law.ensures q.trace c.args.key first one in
-            let P : ℕ → Type 0 = λ k. listed_for r.trace k < listed_for q.trace k in
-            let less = subst P key ((soon one (alone_then first.same.who first.seen answered.seen whole)).fewer yes (omega (arith, most, enough, budget, values))) in
-            omega (arith, left, less);
+            let soon = remove_alone p.trace walk q.trace r.trace c.law.ensures.start c.args.key before.same went.same before.seen went.seen made refl answered.seen c.loop-found.invariant.4 c.in-Some.found last walks either whole in
+            let few = soon.1 in
+            let left = leaves_since r.trace c.args.key c.law.ensures.start first (subst (λ (k : ℕ). Leaves q.trace r.trace k) key (soon.0.leaves yes (omega (arith, few, enough, budget, values)))) in
+            left_fewer p.trace walk q.trace r.trace c.law.ensures.start c.args.key before.same went.same before.seen went.seen made refl answered.seen left whole;
       };
     })

@@ -1,5 +1,5 @@
 use Rattle.std.proofs.Common.{rules, arith}
-use Rattle.vbr_list.specs.Helping.{IsLostPlace}
+use Rattle.vbr_list.specs.Walking.{LosesPlace}
 use Rattle.vbr_list.proofs.Sufficing.{any_error}
 use Rattle.vbr_list.proofs.call.PendingCall.help.Goals as goal
 
@@ -12,5 +12,5 @@ returns-in_err-place-clause-goes g c = record { call = search rules; goes = c.he
 pub returns-in_err-place-clause-lost : goal.returns-in_err-place-clause-lost
 returns-in_err-place-clause-lost g c =
     let held = record c.args.pred { epoch = c.args.marked.epoch } in
-    let lost : IsLostPlace c.args.self.now.at.stepper.now c.help_by_copy-outcome.new.at.stepper.now held = search rules in
-    any_error c.from_residual.result (λ rollback. record { loses = lost.loses; still = lost.still })
+    let lost : LosesPlace c.args.self.now.at.stepper.now.trace c.help_by_copy-outcome.new.at.stepper.now.trace held = search rules in
+    any_error c.from_residual.result (λ rollback. lost)

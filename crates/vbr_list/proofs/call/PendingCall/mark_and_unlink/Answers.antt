@@ -1,26 +1,22 @@
-use Rattle.std.proofs.Common.{refl, ◌≡◌, ◌+◌, ℕ, ◌≤◌, true, false, Option, Some, rules, arith, sym, ap, ◌∙◌, subst, inl, inr, ⊎_elim}
-use Rattle.vbr_words.specs.Buckets.{bucket_of}
+use Rattle.std.proofs.Common.{refl, ◌≡◌, ◌+◌, ℕ, true, false, Option, Some, rules, arith, sym, ap, ◌∙◌, subst, inl, inr}
 use Rattle.vbr_words.specs.declared.place.At.{At}
-use Rattle.vbr_words.specs.declared.place.At.TheVariants.{Head}
 use Rattle.vbr_machine.specs.Membership.{KeyAt}
 use Rattle.vbr_machine.specs.declared.history.Op.TheVariants.{Remove}
 use Rattle.vbr_slots.specs.Views.{knows}
-use Rattle.vbr_slots.proofs.Lemmas.{alone_first, alone_then, made_then, quiet_on}
-use Rattle.vbr_at_table.proofs.Lemmas.{counts_on, no_room, fresh_kept, held_kept, unchanged_by_none}
+use Rattle.vbr_slots.proofs.Lemmas.{made_then, quiet_on}
+use Rattle.vbr_at_table.proofs.Lemmas.{counts_on, no_room, held_kept, unchanged_by_none}
 use Rattle.vbr_at_table.specs.Held.{Names}
 use Rattle.vbr_at_table.specs.declared.held.Held.{Held}
 use Rattle.vbr_list.specs.Pieces.{Goes}
-use Rattle.vbr_list.specs.Removing.{SearchesOn}
 use Rattle.vbr_list.specs.Walking.{LosesNext}
 use Rattle.vbr_list.specs.Budgets.{steps_to_value_of, steps_where}
 use Rattle.vbr_list.proofs.Clearing.{leaves_clear}
 use Rattle.vbr_list.proofs.Disturbing.{lost_place_later, moves_epoch, moves_on, run_at}
-use Rattle.vbr_list.proofs.Going.{goes_counted}
+use Rattle.vbr_list.proofs.Going.{by_either, goes_counted}
 use Rattle.vbr_list.proofs.KeptHands.{hand_on}
 use Rattle.vbr_list.proofs.Marks.{apart, marks_behind}
 use Rattle.vbr_list.proofs.Moments.{key_found, key_found_since}
-use Rattle.vbr_list.proofs.Nearing.{fresh_marked, listed_same, named_elsewhere, read_leaves, stands_on}
-use Rattle.vbr_list.proofs.Reaching.{key_kept, pred_inside, pred_on, slot_same}
+use Rattle.vbr_list.proofs.Reaching.{key_kept, pred_on, slot_same}
 use Rattle.vbr_list.proofs.Sufficing.{any_error}
 use Rattle.vbr_list.proofs.Told.{given_same, told_since}
 use Rattle.vbr_list.proofs.ValueReads.{cur_is, few_to_value, read_then_step, settles_read, slot_at, steps_read, valued_since}
@@ -138,8 +134,8 @@ returns-then-affords-clause-answers g c =
     let pred = pred_on c.args.self.now.key f.pred made.same mark.keeps (pred_on c.args.self.now.key f.pred same keeps c.requires.locates.pred) in
     record {
       made = made_then told then;
-      paid = ⊎_elim (λ (few : c.unlink_marked.new.self.used ≤ c.args.self.now.used + c.steps_to_value_of.result + 1 + 6). inl (omega (arith, few, steps)))
-          (λ (on : SearchesOn r.trace c.unlink_marked.new.self.at.stepper.now.trace c.args.self.now.key (c.args.self.now.used + c.steps_to_value_of.result + 1) c.unlink_marked.new.self.used f.pred). inr (record {
+      paid = by_either c.unlink_marked.ensures.paid (λ soon. inl (record { few = let few = soon.few in omega (arith, few, steps); leaves = λ yes room. leaves_clear c.law.ensures.start told then.same soon.clear }))
+          (λ on. inr (record {
             marked = r.trace;
             marks = marks_behind p.trace q.trace r.trace c.args.self.now.key f.pred c.in-Some.cur c.law.ensures.start (run_at p.trace r.trace told.same told.is_run) reads.quiet reads.adds_none made.same c.in_ok-marked.ensures.removed.leaves
                 (apart p.trace c.law.ensures.start c.law.ensures.is_run f.pred.at c.in-Some.cur.at c.args.self.now.key c.requires.locates.pred.behind key)
@@ -147,22 +143,8 @@ returns-then-affords-clause-answers g c =
             used = c.args.self.now.used + c.steps_to_value_of.result + 1;
             few = omega (arith, steps);
             searches = on;
-          }))
-          c.unlink_marked.ensures.paid;
+          }));
       unlists = λ yes room. leaves_clear c.law.ensures.start told then.same (c.unlink_marked.ensures.clear room);
-      soon = λ fresh stands alone.
-          let one = alone_first told.seen then.seen alone in
-          let read = alone_first reads.quiet.seen made.seen one in
-          let marks = c.in_ok-marked.ensures.removed.alone (alone_then same.who reads.quiet.seen made.seen one) in
-          let other = named_elsewhere p c.law.ensures (bucket_of p.trace.start.shape c.args.self.now.key) f.pred (pred_inside c.requires.locates.pred) (inl c.requires.locates.pred.unmarked) stands y.slot y.named c.in-Some.cur.at y.at in
-          let kept = fresh_marked q.trace r.trace marks.epoch c.mark-outcome.ensures.keeps.keeps (fresh_kept p.trace q.trace (reads.looks read) keeps fresh) in
-          let there = marks.others f.pred.at other ∙ stands_on p.trace q.trace f.pred (read_leaves reads read) stands in
-          let soon = c.unlink_marked.ensures.soon kept there (alone_then told.same.who told.seen then.seen alone) in
-          let few = soon.few in
-          let listed = soon.fewer in
-          let before = listed_same p.trace q.trace c.args.self.now.key same.start (λ bucket h. (read_leaves reads read).count bucket (Head h)) in
-          let now = listed_same q.trace r.trace c.args.self.now.key made.same.start marks.listed in
-          record { few = omega (arith, few, steps); fewer = λ yes room. omega (arith, listed, before, now) };
     }
 
 pub returns-else-affords-clause-settles : goal.returns-else-affords-clause-settles
@@ -179,12 +161,10 @@ returns-else-affords-clause-answers g c =
     let same = c.value_if_any-read.ensures.reads.quiet.same in
     let made = c.in_ok-marked.ensures.removed.made c.args.self.now.key c.in_ok-value.value there (valued_since same c.in_ok-value.ensures.value.value) in
     let told = told_since c.value_if_any-read.ensures.reads.quiet (given_same same Remove c.args.self.now.key (Some c.in_ok-value.value)) made in
+    let steps = steps_read c.steps_to_value_of.ensures c.value_if_any-read.new.at.own.1 same.start in
+    let short = no_room (c.args.self.now.used + c.steps_to_value_of.result + 1) c.args.self.now.budget c.affords.result c.if-affords.false c.affords.ensures.1 in
     record {
       made = told;
-      paid = inl (let steps = steps_read c.steps_to_value_of.ensures c.value_if_any-read.new.at.own.1 same.start in omega (arith, steps));
+      paid = inl (record { few = omega (arith, steps); leaves = λ yes room. absurd (omega (arith, steps, short, room)) });
       unlists = λ yes room. (let f = c.if-affords.false in let z = c.affords.ensures.1 room in let w : false ≡ true = sym f ∙ z in absurd (cc));
-      soon = λ fresh stands alone.
-          let steps = steps_read c.steps_to_value_of.ensures c.value_if_any-read.new.at.own.1 same.start in
-          let short = no_room (c.args.self.now.used + c.steps_to_value_of.result + 1) c.args.self.now.budget c.affords.result c.if-affords.false c.affords.ensures.1 in
-          record { few = omega (arith, steps); fewer = λ yes room. omega (arith, steps, short, room) };
     }

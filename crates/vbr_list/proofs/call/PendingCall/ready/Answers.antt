@@ -1,4 +1,4 @@
-use Rattle.std.proofs.Common.{ℕ, ◌+◌, Bool, inl, sym, ◌∙◌, subst, arith}
+use Rattle.std.proofs.Common.{◌+◌, Bool, inl, sym, ◌∙◌, subst, arith}
 use Rattle.std.proofs.lemmas.Result.{err_from_is_err_and}
 use Rattle.vbr_slots.proofs.Lemmas.{quiet_on}
 use Rattle.vbr_at_table.specs.Budgets.{steps_to_take_among}

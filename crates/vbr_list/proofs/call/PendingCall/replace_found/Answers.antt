@@ -20,7 +20,7 @@ use Rattle.vbr_list.proofs.Disturbing.{lost_place_later, moves_epoch, moves_on, 
 use Rattle.vbr_list.proofs.Marks.{apart, marks_behind}
 use Rattle.vbr_list.proofs.Moments.{key_found}
 use Rattle.vbr_list.proofs.Reaching.{key_kept, pred_on, slot_same}
-use Rattle.vbr_list.proofs.Replacements.{had_same, hand_kept, moves_later, run_two}
+use Rattle.vbr_list.proofs.Replacements.{had_same, hand_kept, moves_later}
 use Rattle.vbr_list.proofs.ValueReads.{cur_is, slot_at}
 use Rattle.vbr_list.proofs.call.PendingCall.replace_found.Goals as goal
 
@@ -150,7 +150,7 @@ returns-in-Ok-replace-clause-replaced g c =
     let pred = pred_on k f.pred both.same keeps c.requires.finds.locates.pred in
     let K : At → Type 0 = λ at. KeyAt (knows r) at k in
     let N : ℕ → Type 0 = Names f.pred in
-    let R : IsRun p.start p.passes r.seen = run_two p r both.same both.is_run in
+    let R : IsRun p.start p.passes r.seen = run_at p r both.same both.is_run in
     let steps = first.takes_no_slot.count in
     let steps_then = then.takes_no_slot.count in
     let steps_last = c.replace.ensures.stores.takes_no_slot.count in

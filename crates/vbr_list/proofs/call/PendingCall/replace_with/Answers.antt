@@ -9,16 +9,18 @@ use Rattle.vbr_slots.specs.Views.{Trace}
 use Rattle.vbr_slots.proofs.Lemmas.{quiet_on, same_on}
 use Rattle.vbr_at_table.specs.Replacing.{MadeTwo}
 use Rattle.vbr_at_table.specs.Values.{entry_call}
+use Rattle.vbr_at_table.specs.declared.budget.TheConstants.{PIECE}
 use Rattle.vbr_at_table.proofs.Lemmas.{had_back, had_grown, had_on, no_room, none_back, none_on, two_on}
 use Rattle.vbr_list.specs.Pieces.{pass_in, trace_in}
 use Rattle.vbr_list.specs.Leaving.{LeavesReplaced}
-use Rattle.vbr_list.specs.Replacing.{AnswersLate, AnswersPaid, AnswersSoon, ReplaceAnswers, ReplacesAndSearches, SearchesWith, SettlesPaid, SettlesSoon}
+use Rattle.vbr_list.specs.Removing.{MarksAndSearches}
+use Rattle.vbr_list.specs.Replacing.{AnswersLate, AnswersPaid, AnswersSoon, ReplaceAnswers, SearchesWith, SettlesPaid, SettlesSoon}
 use Rattle.vbr_list.specs.declared.found.Found.{Found}
 use Rattle.vbr_list.specs.declared.call.PendingCall.{PendingCall}
 use Rattle.vbr_list.proofs.Going.{call_on, within_call}
 use Rattle.vbr_list.proofs.Preparing.{made_since, within_on, within_same}
 use Rattle.vbr_list.proofs.Disturbing.{run_at}
-use Rattle.vbr_list.proofs.Replacements.{had_since, hand_kept, run_two, searches_with_end}
+use Rattle.vbr_list.proofs.Replacements.{had_since, hand_kept, searches_with_end}
 use Rattle.vbr_list.proofs.LateSearches.{late_searched}
 use Rattle.vbr_list.proofs.Sweeping.{leaves_replaced_since}
 use Rattle.vbr_list.proofs.Walking.{search_round_on}
@@ -35,7 +37,7 @@ answered_seen value c d None x = (x.made.same, x.made.seen, x.made.is_run)
 answered_seen value c d (Some old) x = (x.both.made.same, x.both.made.seen, x.both.made.is_run)
 
 -- and what it costs, after what made no call
-paid_since : {N : Type 0} {kind : Ghosts N} (b c d : PendingCall N kind) (found : Found) (answer : Option ℕ) → SettlesPaid c d found answer → (SettlesSoon c d answer → AnswersSoon b d answer) → (ReplacesAndSearches (trace_in c) (trace_in d) c.key c.used d.used found.pred → AnswersLate (trace_in b) (trace_in d) b.key b.used d.used) → AnswersPaid b d answer
+paid_since : {N : Type 0} {kind : Ghosts N} (b c d : PendingCall N kind) (found : Found) (answer : Option ℕ) → SettlesPaid c d found answer → (SettlesSoon c d answer → AnswersSoon b d answer) → (MarksAndSearches PIECE (trace_in c) (trace_in d) c.key c.used d.used found.pred → AnswersLate (trace_in b) (trace_in d) b.key b.used d.used) → AnswersPaid b d answer
 paid_since b c d found None x soon late = soon x
 paid_since b c d found (Some old) (inl x) soon late = inl (soon x)
 paid_since b c d found (Some old) (inr x) soon late = inr (late x)
@@ -210,7 +212,7 @@ returns-in-Ok-clause-paid g c =
           let budget = begun.budget in
           leaves_replaced_since r b.key c.law.ensures.start quiet (subst L begun.key (soon.leaves yes (omega (arith, room, budget))));
     })
-    (λ (late : ReplacesAndSearches m r d.key d.used e.used c.in-Some.found.pred). (
-    let S : ℕ → Type 0 = λ k. ReplacesAndSearches m r k d.used e.used c.in-Some.found.pred in
+    (λ (late : MarksAndSearches PIECE m r d.key d.used e.used c.in-Some.found.pred). (
+    let S : ℕ → Type 0 = λ k. MarksAndSearches PIECE m r k d.used e.used c.in-Some.found.pred in
     let whole : IsSame p r = same_on quiet.same then.0 in
-    late_searched p q m r c.law.ensures.start (run_two p r whole then.2) b.key first.same s.goes.quiet.same first.seen s.goes.quiet.seen quiet then.1 c.loop-found.invariant.6 c.in-Some.found (rw c.loop-found.invariant.0.key at c.in-Some.ensures.found.last) e.used (subst S begun.key late)))
+    late_searched p q m r c.law.ensures.start (run_at p r whole then.2) b.key first.same s.goes.quiet.same first.seen s.goes.quiet.seen quiet then.1 c.loop-found.invariant.6 c.in-Some.found (rw c.loop-found.invariant.0.key at c.in-Some.ensures.found.last) e.used (subst S begun.key late)))

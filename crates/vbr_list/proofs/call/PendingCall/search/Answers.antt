@@ -1,10 +1,9 @@
-use Rattle.std.proofs.Common.{arith, ◌∙◌}
+use Rattle.std.proofs.Common.{arith}
 use Rattle.vbr_list.specs.Disturbed.{disturbed_after}
-use Rattle.vbr_list.proofs.Disturbing.{knows_from}
 use Rattle.vbr_list.proofs.Going.{call_on, call_refl, goes_further, tries_on, tries_refl, within_call}
 use Rattle.vbr_list.proofs.Moments.{found_since}
-use Rattle.vbr_list.proofs.Walking.{found_alone, next_still_from, repeated_none, still_from, tired_alone}
-use Rattle.vbr_list.proofs.LostWalks.{last_walk, lost_on, run_whole, walks_again, whole}
+use Rattle.vbr_list.proofs.Walking.{repeated_none}
+use Rattle.vbr_list.proofs.LostWalks.{last_walk, lost_on, walks_again}
 use Rattle.vbr_list.proofs.call.PendingCall.search.Goals as goal
 
 pub loop-found-init : goal.loop-found-init
@@ -28,13 +27,9 @@ returns-in-Ok-clause-found g c =
     let x = c.in-Ok.ensures.found in
     let p = c.args.self.now.at.stepper.now.trace in
     let q = c.loop-found.self.at.stepper.now.trace in
-    let r = c.traverse.new.self.at.stepper.now.trace in
     let first = c.loop-found.invariant.1.goes.quiet in
     let t = c.traverse.ensures.goes.goes in
     let key = c.args.self.now.key in
-    let knew = knows_from p q r first.same first.seen x.knew in
-    let last_pred = rw c.loop-found.invariant.0.key at x.pred in
-    let last_cur = rw c.loop-found.invariant.0.key at x.cur in
     let walks = walks_again c.law.ensures c.loop-found.invariant.0 c.loop-found.invariant.1.goes.quiet c.traverse.ensures.goes c.loop-found.invariant.2 x.paid in
     record {
       found = found_since key c.in-Ok.found first (rw c.loop-found.invariant.0.key at x.found);
@@ -46,22 +41,16 @@ returns-in-Ok-clause-found g c =
         to = t.quiet.seen;
         count = t.hand.takes_no_slot.count;
         knew = x.knew;
-        pred = last_pred;
-        cur = last_cur;
+        pred = rw c.loop-found.invariant.0.key at x.pred;
+        cur = rw c.loop-found.invariant.0.key at x.cur;
         lost = c.loop-found.invariant.2.lost;
         repeats = last_walk c.law.ensures c.loop-found.invariant.0 c.loop-found.invariant.1.goes.quiet c.traverse.ensures.goes c.loop-found.invariant.2 x.paid (disturbed_after p key q.seen) (omega arith);
       };
       walks = walks;
-      alone = found_alone p r c.law.ensures.start (run_whole c.law.ensures c.loop-found.invariant.0 c.loop-found.invariant.1.goes.quiet c.traverse.ensures.goes) key (whole c.law.ensures c.loop-found.invariant.0 c.loop-found.invariant.1.goes.quiet c.traverse.ensures.goes) walks (t.hand.takes_no_slot.count ∙ c.loop-found.invariant.1.goes.hand.takes_no_slot.count) c.in-Ok.found knew (still_from p q r key c.in-Ok.found.pred first.same first.seen last_pred) (next_still_from p q r key c.in-Ok.found.cur first.same first.seen last_cur);
     }
 
 pub returns-in-Err-Tired-clause-tired : goal.returns-in-Err-Tired-clause-tired
 returns-in-Err-Tired-clause-tired g c =
     let x = rw c.in-Err-Tired.field-0-is at c.in-Err-Tired.ensures.stopped in
     let tired = rw c.loop-found.invariant.0.budget at x.0 in
-    let walks = walks_again c.law.ensures c.loop-found.invariant.0 c.loop-found.invariant.1.goes.quiet c.traverse.ensures.goes c.loop-found.invariant.2 x.1 in
-    record {
-      tired = tired;
-      walks = walks;
-      short = tired_alone c.args.self.now.at.stepper.now.trace c.traverse.new.self.at.stepper.now.trace c.law.ensures.start (run_whole c.law.ensures c.loop-found.invariant.0 c.loop-found.invariant.1.goes.quiet c.traverse.ensures.goes) c.args.self.now.key (whole c.law.ensures c.loop-found.invariant.0 c.loop-found.invariant.1.goes.quiet c.traverse.ensures.goes) walks c.args.self.now.budget tired;
-    }
+    record { tired = tired; walks = walks_again c.law.ensures c.loop-found.invariant.0 c.loop-found.invariant.1.goes.quiet c.traverse.ensures.goes c.loop-found.invariant.2 x.1 }

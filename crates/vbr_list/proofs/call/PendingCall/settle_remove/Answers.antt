@@ -27,7 +27,7 @@ pub returns-clause-answers : goal.returns-clause-answers
 returns-clause-answers g c =
     let p = c.args.self.now.at.stepper.now.trace in
     let made : Made (set_call p.who Remove c.args.self.now.key false) p c.confirm_absent-outcome.new.at.stepper.now.trace = search rules in
-    record { made = told_as (told_bare p.start p.who Remove c.args.self.now.key false) made; unlists = λ yes room. absurd (cc); paid = inl (omega arith); soon = λ fresh stands alone. record { few = omega arith; fewer = λ yes room. absurd (cc) } }
+    record { made = told_as (told_bare p.start p.who Remove c.args.self.now.key false) made; unlists = λ yes room. absurd (cc); paid = inl (record { few = omega arith; leaves = λ yes room. absurd (cc) }) }
 
 pub returns-in_err-outcome-clause-rolls : goal.returns-in_err-outcome-clause-rolls
 returns-in_err-outcome-clause-rolls g c =

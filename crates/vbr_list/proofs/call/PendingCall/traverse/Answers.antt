@@ -181,5 +181,5 @@ returns-in-Err-help-clause-stopped g c =
     let none = visit_changes_none c.law.ensures c.args.self.now.key c.loop-pred.invariant.1.tries.goes.quiet c.visit.ensures.goes.goes.quiet c.visit.ensures.observes in (
       omega arith,
       walk_visited 9 p t is ok_t key all.same q first.same first.seen later.seen i.walks (let count = met.count in omega (arith, count, few)) (ap is_some met.reads.named),
-      loses_place_disturb p t is ok_t key all.same steps r c.loop-pred.pred whole.same h.quiet.seen (knows_now p r whole.same whole.seen met.fresh) (stands_still_on v.quiet.seen none i.walks.stands) c.in-Err-help.ensures.lost.loses,
+      loses_place_disturb p t is ok_t key all.same steps r c.loop-pred.pred whole.same h.quiet.seen (knows_now p r whole.same whole.seen met.fresh) (stands_still_on v.quiet.seen none i.walks.stands) c.in-Err-help.ensures.lost,
     )

@@ -1,8 +1,7 @@
 use Rattle.std.proofs.Common.{rules, arith, inl, inr, sym, ◌∙◌, ◌+◌}
-use Rattle.vbr_list.specs.Helping.{IsLostPlace}
+use Rattle.vbr_list.specs.Walking.{LosesPlace}
 use Rattle.vbr_list.proofs.Clearing.{clear_since}
 use Rattle.vbr_list.proofs.Going.{goes_on}
-use Rattle.vbr_list.proofs.Nearing.{first_of, listed_fewer}
 use Rattle.vbr_list.proofs.Preparing.{if_failed, if_went}
 use Rattle.vbr_list.proofs.call.PendingCall.unlink_marked.Goals as goal
 
@@ -18,13 +17,13 @@ returns-else-is_err-clause-goes g c = record { call = search rules; goes = c.unl
 pub returns-then-is_err-clause-paid : goal.returns-then-is_err-clause-paid
 returns-then-is_err-clause-paid g c =
     let tried = c.unlink_and_retire-outcome in
-    let never : IsLostPlace c.args.self.now.at.stepper.now tried.new.at.stepper.now c.args.pred.now = if_failed tried.result.0 (sym c.is_err.ensures.value ∙ c.if-is_err.true) tried.ensures.lost in
+    let lost : LosesPlace c.args.self.now.at.stepper.now.trace tried.new.at.stepper.now.trace c.args.pred.now = if_failed {P = LosesPlace c.args.self.now.at.stepper.now.trace tried.new.at.stepper.now.trace c.args.pred.now} tried.result.0 (sym c.is_err.ensures.value ∙ c.if-is_err.true) tried.ensures.lost in
     let few = tried.ensures.few in
     inr (record {
       ended = tried.new.at.stepper.now.trace;
       quiet = (tried.ensures.goes 0).quiet;
       count = (tried.ensures.goes 0).hand.takes_no_slot.count;
-      loses = never.loses;
+      loses = lost;
       used = c.args.self.now.used + tried.result.1;
       few = omega (arith, few);
       then = c.walk_on-self.ensures.goes.quiet;
@@ -32,20 +31,7 @@ returns-then-is_err-clause-paid g c =
     })
 
 pub returns-else-is_err-clause-paid : goal.returns-else-is_err-clause-paid
-returns-else-is_err-clause-paid g c = let few = c.unlink_and_retire-outcome.ensures.few in inl (omega (arith, few))
-
-pub returns-then-is_err-clause-soon : goal.returns-then-is_err-clause-soon
-returns-then-is_err-clause-soon g c = λ fresh stands alone.
-    let tried = c.unlink_and_retire-outcome in
-    let never : IsLostPlace c.args.self.now.at.stepper.now tried.new.at.stepper.now c.args.pred.now = if_failed tried.result.0 (sym c.is_err.ensures.value ∙ c.if-is_err.true) tried.ensures.lost in
-    absurd (never.still fresh stands (first_of (tried.ensures.goes 0).quiet c.walk_on-self.ensures.goes.quiet alone))
-
-pub returns-else-is_err-clause-soon : goal.returns-else-is_err-clause-soon
-returns-else-is_err-clause-soon g c = λ fresh stands alone.
+returns-else-is_err-clause-paid g c =
     let tried = c.unlink_and_retire-outcome in
     let few = tried.ensures.few in
-    record {
-      few = omega (arith, few);
-      fewer = listed_fewer c.args.self.now.at.stepper.now.trace tried.new.at.stepper.now.trace c.args.self.now.key (tried.ensures.goes 0).quiet.same.start
-          (λ bucket h inside. (if_went tried.result.0 (sym c.is_err.ensures.value ∙ c.if-is_err.false) tried.ensures.unlinks).1.fewer stands alone bucket h inside) c.requires.marked.inside;
-    }
+    inl (record { few = omega (arith, few); clear = (if_went tried.result.0 (sym c.is_err.ensures.value ∙ c.if-is_err.false) tried.ensures.unlinks).1.clear c.args.self.now.key c.requires.marked.key c.requires.marked.behind c.requires.marked.out })
