@@ -1,5 +1,5 @@
 -- The steps of a replacement, and what its refusals say.
-use Rattle.std.proofs.Common.{◌≡◌, ℕ, ◌+◌, ◌*◌, ◌<◌, ◌≤◌, true, [], Option, Some, None, Result, Ok, Err, sym, ap, ◌∙◌, subst, arith}
+use Rattle.std.proofs.Common.{◌≡◌, ℕ, ◌+◌, ◌*◌, ◌<◌, ◌≤◌, true, Option, Some, None, Result, Ok, Err, sym, ap, ◌∙◌, subst, arith}
 use Rattle.std.proofs.lemmas.Nat.{mul-le}
 use Rattle.vbr_machine.specs.Start.{Start, IsStart}
 use Rattle.vbr_machine.specs.Accounts.{incarnations_after}
@@ -11,16 +11,15 @@ use Rattle.vbr_slots.specs.Views.{PassView, Trace, knows}
 use Rattle.vbr_slots.proofs.Lemmas.{quiet_on}
 use Rattle.vbr_at_table.specs.Budgets.{most_to_take}
 use Rattle.vbr_at_table.specs.KeptSlots.{HasAllButOne, HasStill}
-use Rattle.vbr_at_table.specs.Moments.{WasSo}
 use Rattle.vbr_at_table.proofs.Lemmas.{counts_on, grows_same, had_grown, took_all}
 use Rattle.vbr_at_table.specs.Steps.{TookWithin}
 use Rattle.vbr_list.specs.Budgets.{LacksSteps, enough_past, enough_to_insert, listed_for, replace_costs}
 use Rattle.vbr_list.specs.Disturbed.{disturbed, enough_to_replace_among, replace_costs_among, replaces_more, steps_for_slot}
-use Rattle.vbr_list.specs.Inserting.{CountsWithin, HasHandAndRoom, InsertIsShort, SearchedFor, SearchesFor, SearchesInVain, TakesNone}
+use Rattle.vbr_list.specs.Inserting.{CountsWithin, HasHandAndRoom, InsertIsShort, SearchedFor, SearchesFor, SearchesInVain, TakesNone, WasFoundFor}
 use Rattle.vbr_machine.specs.Learning.{birth_in_hand}
 use Rattle.vbr_at_table.specs.Hands.{HandView}
 use Rattle.vbr_list.specs.Pieces.{KeepsHand}
-use Rattle.vbr_list.specs.Replacing.{HasUnspent, IsRefusedReplace, SearchesWith, WasPresentFor}
+use Rattle.vbr_list.specs.Replacing.{HasUnspent, IsRefusedReplace, SearchesWith}
 use Rattle.vbr_list.specs.Walking.{MovesOn, WalksAgain, met_since}
 use Rattle.vbr_at_table.specs.declared.refusal.Refusal.{Refusal}
 use Rattle.vbr_at_table.specs.declared.refusal.Refusal.TheVariants.{OutOfSteps, NoSlot, EpochSpent}
@@ -61,13 +60,8 @@ had_since p q r (Err error) first then = λ slot has. then slot (first slot has)
 
 -- ---- refusals
 
-pub present_for : {p q : Trace} {key : ℕ} → WasSo p q key true → (refusal : Refusal) → WasPresentFor p q key refusal
-present_for so (OutOfSteps used) = tt
-present_for so NoSlot = so
-present_for so (EpochSpent epoch) = so
-
 -- a refusal before a slot was in hand is one of the whole call
-pub replace_refused_first : (p q : PassView) (key budget : ℕ) (refusal : Refusal) → TakesNone p q 0 budget refusal → WasPresentFor p.trace q.trace key refusal → IsRefusedReplace p q key budget refusal
+pub replace_refused_first : (p q : PassView) (key budget : ℕ) (refusal : Refusal) → TakesNone p q 0 budget refusal → WasFoundFor true p.trace q.trace key refusal → IsRefusedReplace p q key budget refusal
 replace_refused_first p q key budget (OutOfSteps used) x present = record { took = took_all x.counts.counts; within = x.counts.within.1; short = x.short }
 replace_refused_first p q key budget NoSlot x present = record { present = present; none = x }
 replace_refused_first p q key budget (EpochSpent epoch) x present = record { present = present; spent = x.spent; room = record { steps = x.since; room = x.room; took = took_all x.counts.counts } }
@@ -169,9 +163,3 @@ absent_paid p q is ok key taking {used} x =
     let most = once_paid p q is ok key x in
     let more = mul-le t (9 * (n + t) + 7) t (9 * (n + t) + 12) (omega arith) (omega arith) in
     omega (arith, most, more)
-
--- only an empty own pool has no slot
-pub had_no_slot : (p q : PassView) (before budget : ℕ) (refusal : Refusal) → TakesNone p q before budget refusal → refusal ≡ NoSlot → p.pool ≡ []
-had_no_slot p q before budget (OutOfSteps used) x e = absurd (cc)
-had_no_slot p q before budget NoSlot x e = x.empty
-had_no_slot p q before budget (EpochSpent epoch) x e = absurd (cc)

@@ -13,7 +13,7 @@ use Rattle.vbr_at_table.specs.Steps.{TookWithin}
 use Rattle.vbr_at_table.specs.Values.{steps_to_value}
 use Rattle.vbr_list.specs.Budgets.{IsAnsweredOrSpent, LacksSteps, enough_past, enough_to_insert, insert_costs, insert_costs_past, listed_for}
 use Rattle.vbr_list.specs.Disturbed.{disturbed, enough_to_insert_among, insert_costs_among, steps_for_slot}
-use Rattle.vbr_list.specs.Inserting.{InsertIsShort, RefusesInsert}
+use Rattle.vbr_list.specs.Inserting.{InsertIsShort, TakesNone}
 use Rattle.vbr_list.proofs.Disturbing.{alone_undisturbed}
 use Rattle.vbr_at_table.specs.declared.refusal.Refusal.{Refusal}
 use Rattle.vbr_at_table.specs.declared.refusal.Refusal.TheVariants.{OutOfSteps, NoSlot, EpochSpent}
@@ -62,10 +62,10 @@ never_refused pool p q before budget NoSlot x e = absurd x
 never_refused pool p q before budget (EpochSpent epoch) x e = absurd x
 
 -- only an empty own pool has no slot
-pub had_none : (p q : PassView) (key before budget : ℕ) (refusal : Refusal) → RefusesInsert p q key before budget refusal → refusal ≡ NoSlot → p.pool ≡ []
-had_none p q key before budget (OutOfSteps used) x e = absurd (cc)
-had_none p q key before budget NoSlot x e = x.empty
-had_none p q key before budget (EpochSpent epoch) x e = absurd (cc)
+pub had_no_slot : (p q : PassView) (before budget : ℕ) (refusal : Refusal) → TakesNone p q before budget refusal → refusal ≡ NoSlot → p.pool ≡ []
+had_no_slot p q before budget (OutOfSteps used) x e = absurd (cc)
+had_no_slot p q before budget NoSlot x e = x.empty
+had_no_slot p q before budget (EpochSpent epoch) x e = absurd (cc)
 
 -- what is so of a pass that was disturbed so often is so of one that was alone
 lone_short : (n t taking most budget : ℕ) → budget < enough_to_insert_among n t taking → t ≡ 0 → taking ≡ most → budget < enough_past n most

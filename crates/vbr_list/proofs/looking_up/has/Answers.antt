@@ -1,4 +1,4 @@
-use Rattle.std.proofs.Common.{◌≡◌, rules, sym, false, Bool, Option, ℕ, Result, subst}
+use Rattle.std.proofs.Common.{◌≡◌, rules, sym, Bool, Option, ℕ, Result, subst}
 use Rattle.std.specs.Prelude.{is_some}
 use Rattle.vbr_machine.specs.History.{set_call}
 use Rattle.vbr_machine.specs.declared.history.Op.TheVariants.{Has}
