@@ -1,39 +1,15 @@
 -- A key is clear at a moment: no marked node of it is in a list. What a walk to the key shows of that, and what follows for a node that the pass has marked.
-use Rattle.std.proofs.Common.{◌≡◌, ℕ, ◌+◌, ◌≤◌, arith, Bool, true, false, List, [], ◌∷◌, ◌++◌, Option, Some, None, refl, sym, ap, ◌∙◌, subst}
-use Rattle.std.specs.Prelude.{IfSome, IfNone}
-use Rattle.vbr_words.specs.declared.nodes.Nodes.{Ghosts}
-use Rattle.vbr_machine.specs.Start.{Start, IsStart}
-use Rattle.vbr_words.specs.Words.{link_of}
-use Rattle.vbr_words.specs.declared.link.Link.{Link}
-use Rattle.vbr_words.specs.declared.place.At.TheVariants.{Slot}
-use Rattle.vbr_machine.specs.Accounts.{incarnations_after}
-use Rattle.vbr_machine.specs.Calls.{own_calls}
+use Rattle.vbr_list.proofs.Names.{◌≡◌, ℕ, ◌+◌, ◌≤◌, arith, true, false, List, [], ◌∷◌, ◌++◌, Option, Some, None, refl, sym, ap, ◌∙◌, subst, IfSome, IfNone}
+use Rattle.vbr_list.proofs.Names.{Event, Ghosts, Held, incarnations_after, IsHeldPlace, IsRead, IsRun, IsSame, IsStart, IsTakenOut, KeyAt, KeyOf, Know, know_after, Knows, knows, left_since, Link, link_at, link_of, LinkAt, Made, marked_left, MarkedLeft, moment_after, moment_before, nodes, none_marked_between, none_marked_here, none_marked_skipped, NoneMarked, out_on, own_calls, PIECE, Quiet, Remove, same_on, Slot, StandsBefore, StandsBehind, Start, Trace, WasShown, world_after}
 use Rattle.vbr_machine.specs.declared.history.Call.{Call as ListedCall}
-use Rattle.vbr_machine.specs.Knowledge.{Know}
-use Rattle.vbr_machine.specs.Machine.{link_at}
-use Rattle.vbr_machine.specs.Membership.{Knows, IsHeldPlace, KeyAt, StandsBehind, StandsBefore}
-use Rattle.vbr_machine.specs.Moments.{WasShown}
-use Rattle.vbr_machine.specs.Removals.{IsTakenOut, MarkedLeft, NoneMarked}
-use Rattle.vbr_machine.specs.Runs.{IsRun, know_after, world_after}
-use Rattle.vbr_machine.specs.declared.event.Event.{Event}
-use Rattle.vbr_machine.specs.declared.history.Op.TheVariants.{Remove}
-use Rattle.vbr_machine.specs.declared.knowledge.Read.TheVariants.{LinkAt, KeyOf}
-use Rattle.vbr_machine.proofs.Lemmas.{left_since, marked_left, none_marked_between, none_marked_here, none_marked_skipped, out_on}
-use Rattle.vbr_slots.specs.Alone.{nodes}
-use Rattle.vbr_slots.specs.Calls.{IsSame, Made, Quiet}
-use Rattle.vbr_slots.specs.Views.{Trace, knows}
-use Rattle.vbr_slots.proofs.Lemmas.{moment_after, moment_before}
-use Rattle.vbr_at_table.specs.declared.budget.TheConstants.{PIECE}
-use Rattle.vbr_at_table.specs.Moments.{IsRead}
-use Rattle.vbr_at_table.specs.declared.held.Held.{Held}
-use Rattle.vbr_list.specs.Found.{CurStood, IsFound}
+use Rattle.vbr_list.specs.Found.{IsFound}
 use Rattle.vbr_list.specs.Leaving.{Leaves, WasClear}
-use Rattle.vbr_list.specs.Places.{IsEnd}
 use Rattle.vbr_list.specs.Pieces.{trace_in}
 use Rattle.vbr_list.specs.Traversing.{Finds, SearchTires}
 use Rattle.vbr_list.specs.declared.call.PendingCall.{PendingCall}
 use Rattle.vbr_list.specs.declared.found.Found.{Found}
-use Rattle.vbr_list.proofs.Moments.{key_known, stands_before}
+use Rattle.vbr_list.proofs.Disturbing.{run_at}
+use Rattle.vbr_list.proofs.Moments.{by_found, key_known}
 
 -- ---- what a read link shows
 
@@ -76,18 +52,10 @@ module _ {p q : Trace} (held : Held) (start : IsStart p.start) (same : IsSame p 
 -- ---- where a traversal has come to the key
 
 pub clear_found : {p q : Trace} (key : ℕ) (found : Found) → IsStart p.start → IsSame p q → IsFound p q key found → WasClear p q key
-clear_found {p} {q} key found start same x = go found.cur found.present x.locates.end x.cur_stood
-  where
-    pred : Held
-    pred = found.pred
-
-    absent : (cur : Option Held) → IsEnd (knows q) key pred cur false → WasClear p q key
-    absent cur y = clear_between pred start same (record { known = x.locates.pred.held; stood = x.stood }) x.locates.pred.unmarked key x.locates.pred.behind (stands_before (knows q) key pred cur y)
-
-    go : (cur : Option Held) (present : Bool) → IsEnd (knows q) key pred cur present → CurStood p q cur → WasClear p q key
-    go None present y z = absent None (y.0, refl)
-    go (Some cur) true y z = clear_here cur start same (record { known = y.held; stood = z }) y.unmarked key (key_known (knows q) key pred cur y)
-    go (Some cur) false y z = absent (Some cur) y
+clear_found {p} {q} key found start same x =
+    by_found key found (λ present. WasClear p q key) x
+    (λ before. clear_between found.pred start same (record { known = x.locates.pred.held; stood = x.stood }) x.locates.pred.unmarked key x.locates.pred.behind before)
+    (λ cur y z. clear_here cur start same (record { known = y.held; stood = z }) y.unmarked key (key_known (knows q) key found.pred cur y))
 
 -- of a walk that ended with room in its budget
 pub clear_walked : {N : Type 0} {kind : Ghosts N} → (c d : PendingCall N kind) (found : Option Found) → IsStart (trace_in c).start → IsSame (trace_in c) (trace_in d) → IfSome found (Finds c d) → IfNone found (SearchTires c d) → d.used + PIECE ≤ c.budget → WasClear (trace_in c) (trace_in d) c.key
@@ -108,19 +76,10 @@ clear_since {p} {q} {r} {key} a x = record {
 
 -- what was taken out stays so
 pub out_kept : (p q : Trace) (s : ℕ) → IsStart p.start → IsRun p.start p.passes p.seen → Quiet p q → (knows q).epoch ≡ (knows p).epoch → IsTakenOut (nodes p) (knows p).epoch s → IsTakenOut (nodes q) (knows q).epoch s
-out_kept p q s start ok a epoch out = subst R (sym epoch) (subst S (sym a.same.start) (out_on p.start p.passes p.seen q.seen start run a.seen p.who s out))
-  where
-    R : ℕ → Type 0
-    R e = IsTakenOut (nodes q) e s
-
-    S : Start → Type 0
-    S x = IsTakenOut (incarnations_after x q.seen) (knows p).epoch s
-
-    run : IsRun p.start p.passes q.seen
-    run =
-        let P : Start → Type 0 = λ x. IsRun x p.passes q.seen in
-        let Q : ℕ → Type 0 = λ n. IsRun q.start n q.seen in
-        subst P a.same.start (subst Q a.same.passes (a.is_run ok))
+out_kept p q s start ok a epoch out =
+    let R : ℕ → Type 0 = λ e. IsTakenOut (nodes q) e s in
+    let S : Start → Type 0 = λ x. IsTakenOut (incarnations_after x q.seen) (knows p).epoch s in
+    subst R (sym epoch) (subst S (sym a.same.start) (out_on p.start p.passes p.seen q.seen start (run_at p q a.same (a.is_run ok)) a.seen p.who s out))
 
 -- ---- the node that a remove has marked
 
@@ -128,19 +87,9 @@ out_kept p q s start ok a epoch out = subst R (sym epoch) (subst S (sym a.same.s
 pub leaves_clear : {p q r : Trace} {key : ℕ} {value : Option ℕ} → IsStart p.start → Made (record { who = p.who; op = Remove; key = key; reply = true; value = value }) p q → IsSame q r → WasClear q r key → Leaves p r key
 leaves_clear {p} {q} {r} {key} {value} start made same x =
     let P : Start → Type 0 = λ s. NoneMarked (incarnations_after s x.moment) key in
-    marked_left p.start p.passes start p.seen q.seen x.moment r.seen p.who call run made.seen x.within.from x.within.to refl refl calls (subst P made.same.start x.none)
-  where
-    run : IsRun p.start p.passes r.seen
-    run =
-        let P : Start → Type 0 = λ s. IsRun s p.passes r.seen in
-        let Q : ℕ → Type 0 = λ n. IsRun r.start n r.seen in
-        subst P (same.start ∙ made.same.start) (subst Q (same.passes ∙ made.same.passes) x.within.is_run)
-
-    call : ListedCall
-    call = record { who = p.who; op = Remove; key = key; reply = true; value = value }
-
-    calls : own_calls p.start q.seen p.who ≡ own_calls p.start p.seen p.who ++ call ∷ []
-    calls = sym (λ i. own_calls (made.same.start i) q.seen (made.same.who i)) ∙ made.calls
+    let call : ListedCall = record { who = p.who; op = Remove; key = key; reply = true; value = value } in
+    let calls : own_calls p.start q.seen p.who ≡ own_calls p.start p.seen p.who ++ call ∷ [] = sym (λ i. own_calls (made.same.start i) q.seen (made.same.who i)) ∙ made.calls in
+    marked_left p.start p.passes start p.seen q.seen x.moment r.seen p.who call (run_at p r (same_on made.same same) x.within.is_run) made.seen x.within.from x.within.to refl refl calls (subst P made.same.start x.none)
 
 -- what has left since a moment has left since an earlier one
 pub leaves_since : {p q : Trace} (r : Trace) (key : ℕ) → IsStart p.start → Quiet p q → Leaves q r key → Leaves p r key

@@ -1,14 +1,6 @@
 -- An iteration goes from bucket to bucket.
-use Rattle.std.proofs.Common.{◌≡◌, ℕ, suc, ◌+◌, ◌-◌, ◌<◌, ◌≤◌, Bool, true, false, Some, None, Ok, Err, refl, sym, ap, ◌∙◌, subst, arith, inl, inr}
-use Rattle.vbr_words.specs.Buckets.{bucket_of}
-use Rattle.vbr_machine.specs.Start.{Start}
-use Rattle.vbr_machine.specs.Runs.{IsRun}
-use Rattle.vbr_slots.specs.Alone.{IsAlone}
-use Rattle.vbr_slots.specs.Calls.{Quiet}
-use Rattle.vbr_slots.specs.PassLaw.{PassLaw}
-use Rattle.vbr_slots.specs.Views.{PassView, Trace}
-use Rattle.vbr_slots.proofs.Lemmas.{quiet_adds_none}
-use Rattle.vbr_at_table.proofs.Lemmas.{took_all}
+use Rattle.vbr_list.proofs.Names.{◌≡◌, ℕ, suc, ◌+◌, ◌-◌, ◌<◌, ◌≤◌, Bool, true, false, Some, None, Ok, Err, refl, sym, ap, ◌∙◌, subst, arith, inl, inr}
+use Rattle.vbr_list.proofs.Names.{bucket_of, IsAlone, IsRun, PassLaw, PassView, Quiet, quiet_adds_none, Start, took_all, Trace}
 use Rattle.vbr_list.specs.Budgets.{steps_to_value_of}
 use Rattle.vbr_list.specs.Cursors.{HasStayedOrMoved, IsBehindKey, IsPastKey, IteratesWhere, PassesBy, SeesMore, costs_over, entered_by, next_bucket}
 use Rattle.vbr_list.specs.Next.{HasNoNext, enough_to_seek, listed_in, seek_costs}
@@ -36,12 +28,12 @@ module _ {p : PassView} (q : PassView) (law : PassLaw p) (quiet : Quiet p.trace 
   listed_no_more = quiet_adds_none law.start law.is_run quiet alone bucket bucket
 
   -- a pass that was alone and made no call seeks at no more cost than before
-  costs_no_more : seek_costs q.trace bucket ≤ seek_costs p.trace bucket
+  pub costs_no_more : seek_costs q.trace bucket ≤ seek_costs p.trace bucket
   costs_no_more =
       let values : steps_to_value_of q.trace.start ≡ steps_to_value_of p.trace.start = ap steps_to_value_of quiet.same.start in
       omega (arith, listed_no_more, values)
 
-  enough_no_more : enough_to_seek q.trace bucket ≤ enough_to_seek p.trace bucket
+  pub enough_no_more : enough_to_seek q.trace bucket ≤ enough_to_seek p.trace bucket
   enough_no_more = omega (arith, listed_no_more)
 
 -- ---- what the loop keeps

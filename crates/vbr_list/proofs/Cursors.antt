@@ -1,21 +1,10 @@
 -- From cursor to cursor, and what an iteration has given.
-use Rattle.std.proofs.Common.{◌≡◌, ℕ, ◌+◌, ◌^◌, ◌<◌, ◌≤◌, Bool, true, false, List, [], ◌∷◌, ◌++◌, Option, Some, None, sym, ap, ◌∙◌, subst, arith, inl, inr, append-nil, option_to_list}
-use Rattle.std.specs.Prelude.{◌⊎◌, Contains, IfSome}
-use Rattle.std.specs.List.{AllByRecursion}
-use Rattle.std.proofs.lemmas.Bool.{cases_lt, cases_order}
-use Rattle.std.proofs.lemmas.List.Elements.{Contains-append_left, Contains-append_right, Contains-push, Contains-push_cases}
-use Rattle.vbr_machine.specs.Start.{Start}
-use Rattle.vbr_machine.specs.Opened.{opening_keys, opening_payloads}
-use Rattle.vbr_machine.specs.History.{set_after, values_after}
-use Rattle.vbr_machine.specs.Runs.{world_after}
-use Rattle.vbr_words.specs.Buckets.{bucket_of}
-use Rattle.vbr_machine.proofs.Lemmas.{begins_trans}
-use Rattle.vbr_slots.specs.Views.{Trace}
-use Rattle.vbr_slots.proofs.Lemmas.{same_on}
-use Rattle.vbr_at_table.specs.Moments.{WasEntry, WasSo}
+use Rattle.vbr_list.proofs.Names.{◌≡◌, ℕ, ◌+◌, ◌^◌, ◌<◌, ◌≤◌, Bool, true, false, List, [], ◌∷◌, ◌++◌, Option, Some, None, sym, ap, ◌∙◌, subst, arith, inl, inr, append-nil, option_to_list, ◌⊎◌, Contains, IfSome, AllByRecursion, Contains-append_left, Contains-append_right, Contains-push, Contains-push_cases}
+use Rattle.vbr_list.proofs.Names.{begins_trans, bucket_of, opening_keys, opening_payloads, same_on, set_after, Start, Trace, values_after, WasEntry, WasSo, world_after}
 use Rattle.vbr_list.specs.Cursors.{AreInOrder, ComesFirst, HasGiven, HasGivenAll, IsToCome, IsAtEnd, IsBehindKey, IsPassed, PassesBy, SeesMore, first_cursor, next_bucket}
 use Rattle.vbr_list.specs.Next.{HasNoNext, IsNextKey}
 use Rattle.vbr_list.specs.declared.cursor.Cursor.{Cursor}
+use Rattle.vbr_list.proofs.Going.{by_either}
 
 -- ---- a pass that has seen more
 
@@ -48,30 +37,22 @@ entry_since {p} {q} {r} {key} {value} x y = record {
 
 -- a key is passed, or is ahead
 pub passed_or_to_come : (start : Start) (c : Cursor) (key : ℕ) → IsPassed start c key ⊎ IsToCome start c key
-passed_or_to_come start c key = go (cases_order (bucket_of start.shape key) c.bucket)
-  where
-    in_it : bucket_of start.shape key ≡ c.bucket → (key < c.from) ⊎ (c.from ≤ key) → IsPassed start c key ⊎ IsToCome start c key
-    in_it e (inl low) = inl (inr (e, low))
-    in_it e (inr high) = inr (inr (e, high))
+passed_or_to_come start c key = grind arith
 
-    go : (bucket_of start.shape key ≡ c.bucket) ⊎ ((bucket_of start.shape key < c.bucket) ⊎ (c.bucket < bucket_of start.shape key)) → IsPassed start c key ⊎ IsToCome start c key
-    go (inl e) = in_it e (cases_lt key c.from)
-    go (inr (inl early)) = inl (inl early)
-    go (inr (inr late)) = inr (inl late)
+some_none : {key : ℕ} → None ≡ Some key → ⊥
+some_none e = cc
 
 -- not both
 pub not_both : (start : Start) (c : Cursor) (key : ℕ) → IsPassed start c key → IsToCome start c key → ⊥
-not_both start c key (inl x) (inl y) = omega (arith, x, y)
-not_both start c key (inl x) (inr y) = let e = y.0 in omega (arith, x, e)
-not_both start c key (inr x) (inl y) = let e = x.0 in omega (arith, y, e)
-not_both start c key (inr x) (inr y) = let u = x.1 in let v = y.1 in omega (arith, u, v)
+not_both start c key x y = grind arith
 
 -- a key that is passed comes before one that is ahead
 pub passed_first : (start : Start) (c : Cursor) (key other : ℕ) → IsPassed start c key → IsToCome start c other → ComesFirst start key other
-passed_first start c key other (inl x) (inl y) = inl (omega (arith, x, y))
-passed_first start c key other (inl x) (inr y) = inl (let e = y.0 in omega (arith, x, e))
-passed_first start c key other (inr x) (inl y) = inl (let e = x.0 in omega (arith, y, e))
-passed_first start c key other (inr x) (inr y) = inr (x.0 ∙ sym y.0, (let u = x.1 in let v = y.1 in omega (arith, u, v)))
+passed_first start c key other x y = grind arith
+
+-- before the next bucket each key is passed that was
+passed_next : (start : Start) (c : Cursor) (key : ℕ) → IsPassed start c key → IsPassed start (next_bucket c) key
+passed_next start c key x = grind arith
 
 -- ---- one call
 
@@ -81,74 +62,42 @@ passes_still p q c = record { onward = λ key passed. passed; was = tt; others =
 
 -- over what is left of a bucket
 pub passes_bucket : {p q : Trace} (c : Cursor) → HasNoNext p q c.bucket c.from → PassesBy p q c (next_bucket c) None
-passes_bucket {p} {q} c none = record {
-  onward = λ key passed. onward key passed;
-  was = tt;
-  others = λ key small ahead passed. inr (others key ahead passed);
-}
+passes_bucket {p} {q} c none = record { onward = passed_next p.start c; was = tt; others = λ key small ahead passed. inr (others key ahead passed) }
   where
-    onward : (key : ℕ) → IsPassed p.start c key → IsPassed p.start (next_bucket c) key
-    onward key (inl x) = inl (omega (arith, x))
-    onward key (inr x) = inl (let e = x.0 in omega (arith, e))
-
     others : (key : ℕ) → IsToCome p.start c key → IsPassed p.start (next_bucket c) key → WasSo p q key false
-    others key (inl x) (inl y) = absurd (omega (arith, x, y))
-    others key (inl x) (inr y) = absurd (let u = y.1 in omega (arith, u))
-    others key (inr x) y = none.behind key x.0 x.1
+    others key x y = grind (arith, none.behind)
+
+module _ (start : Start) (c d : Cursor) (key : ℕ) (is : bucket_of start.shape key ≡ c.bucket) (high : c.from ≤ key) (b : IsBehindKey c.bucket key d) where
+  passed_on : (other : ℕ) → IsPassed start c other → IsPassed start d other
+  passed_on other x = grind arith
+
+  passed_here : IsPassed start d key
+  passed_here = grind arith
+
+  no_higher : (other : ℕ) → other < 2 ^ 64 → IsToCome start c other → IsPassed start d other → (bucket_of start.shape other ≡ c.bucket) × (c.from ≤ other) × (other ≤ key)
+  no_higher other small x y = grind arith
 
 -- to a key, and right behind it
 pub passes_key : {p q : Trace} (c d : Cursor) (key : ℕ) → IsNextKey p q c.bucket c.from key → IsBehindKey c.bucket key d → PassesBy p q c d (Some key)
 passes_key {p} {q} c d key next behind = record {
-  onward = λ other passed. onward other behind passed;
-  was = (inr (next.of_bucket, next.high), here behind, next.was);
-  others = λ other small ahead passed. others other small behind ahead passed;
+  onward = passed_on p.start c d key next.of_bucket next.high behind;
+  was = (inr (next.of_bucket, next.high), passed_here p.start c d key next.of_bucket next.high behind, next.was);
+  others = λ other small ahead passed. let x = no_higher p.start c d key next.of_bucket next.high behind other small ahead passed in same_or_less other x.0 x.1 x.2;
 }
   where
-    onward : (other : ℕ) → IsBehindKey c.bucket key d → IsPassed p.start c other → IsPassed p.start d other
-    onward other (inl b) (inl x) = inl (let e = b.0 in omega (arith, e, x))
-    onward other (inl b) (inr x) = inr (x.0 ∙ sym b.0, (let u = x.1 in let v = next.high in let e = b.1 in omega (arith, u, v, e)))
-    onward other (inr b) (inl x) = inl (let e = b.0 in omega (arith, e, x))
-    onward other (inr b) (inr x) = inl (let e = b.0 in let f = x.0 in omega (arith, e, f))
-
-    here : IsBehindKey c.bucket key d → IsPassed p.start d key
-    here (inl b) = inr (next.of_bucket ∙ sym b.0, (let e = b.1 in omega (arith, e)))
-    here (inr b) = inl (let e = b.0 in let f = next.of_bucket in omega (arith, e, f))
-
-    same_or_less : (other : ℕ) → bucket_of p.start.shape other ≡ c.bucket → c.from ≤ other → other ≤ key → (other ≡ key) ⊎ ((other < key) ⊎ (key < other)) → (Some key ≡ Some other) ⊎ WasSo p q other false
-    same_or_less other b from le (inl e) = inl (ap Some (sym e))
-    same_or_less other b from le (inr (inl low)) = inr (next.between other b from low)
-    same_or_less other b from le (inr (inr high)) = absurd (omega (arith, le, high))
-
-    others : (other : ℕ) → other < 2 ^ 64 → IsBehindKey c.bucket key d → IsToCome p.start c other → IsPassed p.start d other → (Some key ≡ Some other) ⊎ WasSo p q other false
-    others other small (inl b) (inl x) (inl y) = absurd (let e = b.0 in omega (arith, e, x, y))
-    others other small (inl b) (inl x) (inr y) = absurd (let e = b.0 in let f = y.0 in omega (arith, e, f, x))
-    others other small (inl b) (inr x) (inl y) = absurd (let e = b.0 in let f = x.0 in omega (arith, e, f, y))
-    others other small (inl b) (inr x) (inr y) = same_or_less other x.0 x.1 (let e = b.1 in let u = y.1 in omega (arith, e, u)) (cases_order other key)
-    others other small (inr b) (inl x) (inl y) = absurd (let e = b.0 in omega (arith, e, x, y))
-    others other small (inr b) (inl x) (inr y) = absurd (let e = b.1 in let u = y.1 in omega (arith, e, u))
-    others other small (inr b) (inr x) y = same_or_less other x.0 x.1 (let u = b.2 in omega (arith, u, small)) (cases_order other key)
+    same_or_less : (other : ℕ) → bucket_of p.start.shape other ≡ c.bucket → c.from ≤ other → other ≤ key → (Some key ≡ Some other) ⊎ WasSo p q other false
+    same_or_less other b from le = grind (arith, next.between other)
 
 -- to the last key of a bucket, and before the next bucket
 pub passes_last : {p q : Trace} (c : Cursor) (key : ℕ) → IsNextKey p q c.bucket c.from key → HasNoNext p q c.bucket (key + 1) → PassesBy p q c (next_bucket c) (Some key)
 passes_last {p} {q} c key next none = record {
-  onward = λ other passed. onward other passed;
+  onward = passed_next p.start c;
   was = (inr (next.of_bucket, next.high), inl (let e = next.of_bucket in omega (arith, e)), next.was);
   others = λ other small ahead passed. others other ahead passed;
 }
   where
-    onward : (other : ℕ) → IsPassed p.start c other → IsPassed p.start (next_bucket c) other
-    onward other (inl x) = inl (omega (arith, x))
-    onward other (inr x) = inl (let e = x.0 in omega (arith, e))
-
-    at : (other : ℕ) → bucket_of p.start.shape other ≡ c.bucket → c.from ≤ other → (other ≡ key) ⊎ ((other < key) ⊎ (key < other)) → (Some key ≡ Some other) ⊎ WasSo p q other false
-    at other b from (inl e) = inl (ap Some (sym e))
-    at other b from (inr (inl low)) = inr (next.between other b from low)
-    at other b from (inr (inr high)) = inr (none.behind other b (omega (arith, high)))
-
     others : (other : ℕ) → IsToCome p.start c other → IsPassed p.start (next_bucket c) other → (Some key ≡ Some other) ⊎ WasSo p q other false
-    others other (inl x) (inl y) = absurd (omega (arith, x, y))
-    others other (inl x) (inr y) = absurd (let u = y.1 in omega (arith, u))
-    others other (inr x) y = at other x.0 x.1 (cases_order other key)
+    others other x y = grind (arith, next.between other, none.behind other)
 
 -- first to one cursor, where nothing is given, and then on to another
 pub passes_on : {p q r : Trace} {c d e : Cursor} {given : Option ℕ} → SeesMore p q → SeesMore q r → PassesBy p q c d None → PassesBy q r d e given → PassesBy p r c e given
@@ -162,11 +111,7 @@ passes_on {p} {q} {r} {c} {d} {e} {given} a b x y = record {
     to_end key passed = let P : Start → Type 0 = λ s. IsPassed s d key → IsPassed s e key in subst P a.same.start (y.onward key) passed
 
     behind : (key : ℕ) → IsToCome p.start d key → IsToCome p.start c key
-    behind key ahead = go (passed_or_to_come p.start c key)
-      where
-        go : IsPassed p.start c key ⊎ IsToCome p.start c key → IsToCome p.start c key
-        go (inl passed) = absurd (not_both p.start d key (x.onward key passed) ahead)
-        go (inr ahead) = ahead
+    behind key ahead = by_either (passed_or_to_come p.start c key) (λ passed. absurd (not_both p.start d key (x.onward key passed) ahead)) (λ to_come. to_come)
 
     was : (given : Option ℕ) → IfSome given (λ key. IsToCome q.start d key × IsPassed q.start e key × WasSo q r key true) → IfSome given (λ key. IsToCome p.start c key × IsPassed p.start e key × WasSo p r key true)
     was None g = tt
@@ -175,19 +120,11 @@ passes_on {p} {q} {r} {c} {d} {e} {given} a b x y = record {
         let Q : Start → Type 0 = λ s. IsPassed s e key in
         (behind key (subst P a.same.start g.0), subst Q a.same.start g.1, so_since a g.2)
 
-    first : (key : ℕ) → (None ≡ Some key) ⊎ WasSo p q key false → (given ≡ Some key) ⊎ WasSo p r key false
-    first key (inl never) = absurd (cc)
-    first key (inr so) = inr (so_more so b)
-
-    second : (key : ℕ) → (given ≡ Some key) ⊎ WasSo q r key false → (given ≡ Some key) ⊎ WasSo p r key false
-    second key (inl given_there) = inl given_there
-    second key (inr so) = inr (so_since a so)
-
     others : (key : ℕ) → key < 2 ^ 64 → IsToCome p.start c key → IsPassed p.start e key → IsPassed p.start d key ⊎ IsToCome p.start d key → (given ≡ Some key) ⊎ WasSo p r key false
-    others key small ahead passed (inl before) = first key (x.others key small ahead before)
+    others key small ahead passed (inl before) = inr (by_either (x.others key small ahead before) (λ never. absurd (some_none never)) (λ so. so_more so b))
     others key small ahead passed (inr after) =
         let P : Start → Type 0 = λ s. IsToCome s d key → IsPassed s e key → (given ≡ Some key) ⊎ WasSo q r key false in
-        second key ((subst P a.same.start (y.others key small)) after passed)
+        by_either ((subst P a.same.start (y.others key small)) after passed) (λ given_there. inl given_there) (λ so. inr (so_since a so))
 
 -- ---- an iteration
 
@@ -196,19 +133,14 @@ pub given_none : (p : Trace) → HasGiven p p first_cursor []
 given_none p = record { in_order = tt; were = λ key among. absurd (none key among); others = λ key small passed. absurd (no key passed) }
   where
     no : (key : ℕ) → IsPassed p.start first_cursor key → ⊥
-    no key (inl x) = omega (arith, x)
-    no key (inr x) = let u = x.1 in omega (arith, u)
+    no key x = grind arith
 
     none : (key : ℕ) → Contains [] key → ⊥
     none key among = grind (arith, among)
 
 -- while nothing is given and the cursor stays
 pub given_more : {p q r : Trace} {c : Cursor} {keys : List ℕ} → HasGiven p q c keys → SeesMore q r → HasGiven p r c keys
-given_more {p} {q} {r} {c} {keys} x b = record { in_order = x.in_order; were = λ key among. let w = x.were key among in (w.0, so_more w.1 b); others = λ key small passed. others key (x.others key small passed) }
-  where
-    others : (key : ℕ) → Contains keys key ⊎ WasSo p q key false → Contains keys key ⊎ WasSo p r key false
-    others key (inl among) = inl among
-    others key (inr so) = inr (so_more so b)
+given_more {p} {q} {r} {c} {keys} x b = record { in_order = x.in_order; were = λ key among. let w = x.were key among in (w.0, so_more w.1 b); others = λ key small passed. by_either (x.others key small passed) (λ among. inl among) (λ so. inr (so_more so b)) }
 
 -- one more key at the end
 all_and : (P : ℕ → Type 0) (keys : List ℕ) (key : ℕ) → AllByRecursion P keys → P key → AllByRecursion P (keys ++ key ∷ [])
@@ -234,14 +166,6 @@ given_on {p} {q} {r} {c} {d} {keys} {given} a b x y = go given y.was (λ key sma
         let P : Start → Type 0 = λ s. IsToCome s c key → IsPassed s d key → (given ≡ Some key) ⊎ WasSo q r key false in
         (subst P a.same.start (y.others key small)) ahead passed
 
-    before : (key : ℕ) → Contains keys key ⊎ WasSo p q key false → Contains keys key ⊎ WasSo p r key false
-    before key (inl among) = inl among
-    before key (inr so) = inr (so_more so b)
-
-    left : (key more : ℕ) → Contains keys key ⊎ WasSo p r key false → Contains (keys ++ more ∷ []) key ⊎ WasSo p r key false
-    left key more (inl among) = inl (Contains-append_left keys (more ∷ []) key among)
-    left key more (inr so) = inr so
-
     go : (given : Option ℕ) → IfSome given (λ key. IsToCome q.start c key × IsPassed q.start d key × WasSo q r key true) → ((key : ℕ) → key < 2 ^ 64 → IsToCome p.start c key → IsPassed p.start d key → (given ≡ Some key) ⊎ WasSo q r key false) → HasGiven p r d (keys ++ option_to_list given)
     go None was others =
         let P : List ℕ → Type 0 = HasGiven p r d in
@@ -251,13 +175,9 @@ given_on {p} {q} {r} {c} {d} {keys} {given} a b x y = go given y.was (λ key sma
           others = λ key small passed. by key small passed (passed_or_to_come p.start c key);
         })
       where
-        last : (key : ℕ) → (None ≡ Some key) ⊎ WasSo q r key false → Contains keys key ⊎ WasSo p r key false
-        last key (inl never) = absurd (cc)
-        last key (inr so) = inr (so_since a so)
-
         by : (key : ℕ) → key < 2 ^ 64 → IsPassed p.start d key → IsPassed p.start c key ⊎ IsToCome p.start c key → Contains keys key ⊎ WasSo p r key false
-        by key small passed (inl early) = before key (x.others key small early)
-        by key small passed (inr late) = last key (others key small late passed)
+        by key small passed (inl early) = by_either (x.others key small early) (λ among. inl among) (λ so. inr (so_more so b))
+        by key small passed (inr late) = by_either (others key small late passed) (λ never. absurd (some_none never)) (λ so. inr (so_since a so))
     go (Some more) was others = record {
       in_order = order_and p.start keys more x.in_order (λ other among. passed_first p.start c other more (x.were other among).0 ahead);
       were = λ key among. were key (Contains-push_cases keys more key among);
@@ -274,13 +194,12 @@ given_on {p} {q} {r} {c} {d} {keys} {given} a b x y = go given y.was (λ key sma
             let Q : ℕ → Type 0 = λ k. IsPassed p.start d k × WasSo p r k true in
             subst Q e (subst P a.same.start was.1, so_since a was.2)
 
-        last : (key : ℕ) → (Some more ≡ Some key) ⊎ WasSo q r key false → Contains (keys ++ more ∷ []) key ⊎ WasSo p r key false
-        last key (inl same) = inl (let e : more ≡ key = cc in let P : ℕ → Type 0 = Contains (keys ++ more ∷ []) in subst P e (Contains-push keys more))
-        last key (inr so) = inr (so_since a so)
+        given_now : (key : ℕ) → Some more ≡ Some key → Contains (keys ++ more ∷ []) key
+        given_now key same = let e : more ≡ key = cc in let P : ℕ → Type 0 = Contains (keys ++ more ∷ []) in subst P e (Contains-push keys more)
 
         by : (key : ℕ) → key < 2 ^ 64 → IsPassed p.start d key → IsPassed p.start c key ⊎ IsToCome p.start c key → Contains (keys ++ more ∷ []) key ⊎ WasSo p r key false
-        by key small passed (inl early) = left key more (before key (x.others key small early))
-        by key small passed (inr late) = last key (others key small late passed)
+        by key small passed (inl early) = by_either (x.others key small early) (λ among. inl (Contains-append_left keys (more ∷ []) key among)) (λ so. inr (so_more so b))
+        by key small passed (inr late) = by_either (others key small late passed) (λ same. inl (given_now key same)) (λ so. inr (so_since a so))
 
 -- at the end
 pub given_all : {p q : Trace} {c : Cursor} {keys : List ℕ} → ((key : ℕ) → bucket_of p.start.shape key < p.start.shape.buckets) → HasGiven p q c keys → IsAtEnd p.start c → HasGivenAll p q keys

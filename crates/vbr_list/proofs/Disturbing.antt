@@ -1,41 +1,7 @@
 -- What shows that another pass disturbed a call: an epoch that has moved, and a link that stands open no more. A pass that was alone was not disturbed.
-use Rattle.std.proofs.Common.{◌≡◌, ◌≢◌, ℕ, ◌+◌, ◌*◌, ◌<◌, ◌≤◌, Bool, true, false, cond, eq-eqb, Option, Some, None, List, [], ◌∷◌, ◌++◌, sym, ap, ◌∙◌, subst, inl, inr, arith, append_assoc, append-nil}
-use Rattle.std.specs.Prelude.{◌==◌, ◌&&◌, count_by}
-use Rattle.std.proofs.lemmas.List.Sums.{sum_by-append}
-use Rattle.std.proofs.lemmas.Nat.{mul-le}
-use Rattle.vbr_words.specs.Words.{link_of, word_of}
-use Rattle.vbr_words.proofs.Lemmas.{word_of-link_of}
-use Rattle.vbr_words.specs.Buckets.{bucket_of}
-use Rattle.vbr_machine.specs.Start.{Start, IsStart}
-use Rattle.vbr_machine.specs.Accounts.{incarnations_after, own_entries}
-use Rattle.vbr_machine.specs.Disturbances.{IsOpenIn, disturbances, met, own_changes}
-use Rattle.vbr_machine.specs.Images.{link_shown_at}
-use Rattle.vbr_machine.specs.Calls.{own_calls}
-use Rattle.vbr_machine.specs.Machine.{found}
-use Rattle.vbr_machine.specs.Membership.{HeldIn}
-use Rattle.vbr_words.specs.declared.place.At.{At}
-use Rattle.vbr_machine.specs.Runs.{Begins, IsRun, world_after}
-use Rattle.vbr_machine.specs.declared.event.Event.{Event}
-use Rattle.vbr_machine.specs.declared.event.Step.{Step}
-use Rattle.vbr_machine.specs.declared.event.Step.TheVariants.{LoadLink}
-use Rattle.vbr_machine.proofs.Lemmas.{AdvancesNone, IsAdvance, begins_refl, begins_run, begins_trans, changed_disturbed, disturbances_grow, disturbances_paid, known_open, link_loaded, met_bound, met_bound_quiet, met_later, met_on, moved_by_others, moved_disturbed, own_between, own_unchanged, run_agrees, shown_there, since, undisturbed_by_itself}
-use Rattle.vbr_slots.specs.Alone.{IsAlone, IsFresh, OnlyEventsOf}
-use Rattle.vbr_slots.specs.Calls.{AddsNone, IsSame, Quiet}
-use Rattle.vbr_slots.specs.Views.{PassView, Trace, knows}
-use Rattle.vbr_slots.proofs.Lemmas.{quiet_on}
-use Rattle.vbr_at_table.specs.Alone.{StandsNow}
-use Rattle.vbr_at_table.specs.Counts.{ChangesNone, advances, is_advance}
-use Rattle.vbr_at_table.specs.Held.{IsHeld}
-use Rattle.vbr_at_table.specs.Retiring.{StampsFreshly}
-use Rattle.vbr_at_table.specs.declared.held.Marked.{Marked}
+use Rattle.vbr_list.proofs.Names.{◌≡◌, ◌≢◌, ℕ, ◌+◌, ◌*◌, ◌<◌, ◌≤◌, Bool, true, false, cond, eq-eqb, Option, Some, None, List, [], ◌∷◌, ◌++◌, sym, ap, ◌∙◌, subst, inl, inr, arith, append_assoc, append-nil, ◌==◌, ◌&&◌, count_by, sum_by-append, mul-le}
+use Rattle.vbr_list.proofs.Names.{AddsNone, advances, AdvancesNone, At, Begins, begins_refl, begins_run, begins_trans, bucket_of, changed_disturbed, ChangesNone, disturbances, disturbances_grow, disturbances_paid, EpochMoved, Event, found, FreshIfMoved, Held, held_in_kept, HeldIn, incarnations_after, is_advance, IsAdvance, IsAlone, IsFresh, IsHeld, IsLost, IsMovedOrLost, IsOpenIn, IsRun, IsSame, IsStart, Keeps, keeps_on, known_open, knows, link_loaded, link_of, link_shown_at, LoadLink, LostExchange, Marked, met, met_bound, met_bound_quiet, met_later, met_on, moved_by_others, moved_disturbed, OnlyEventsOf, own_between, own_calls, own_changes, own_entries, own_unchanged, PassView, Quiet, quiet_on, Rollback, RollsBack, run_agrees, shown_there, since, StampsFreshly, StandsNow, Start, Step, Trace, undisturbed_by_itself, word_of, word_of-link_of, world_after}
 use Rattle.vbr_list.specs.Helping.{OpensPlace}
-use Rattle.vbr_at_table.specs.Keeping.{Keeps}
-use Rattle.vbr_at_table.proofs.Lemmas.{held_in_kept, keeps_on}
-use Rattle.vbr_at_table.specs.Reading.{RollsBack}
-use Rattle.vbr_at_table.specs.Rollbacks.{FreshIfMoved, IsLost, IsMovedOrLost}
-use Rattle.vbr_at_table.specs.declared.held.Held.{Held}
-use Rattle.vbr_at_table.specs.declared.rollback.Rollback.{Rollback}
-use Rattle.vbr_at_table.specs.declared.rollback.Rollback.TheVariants.{EpochMoved, LostExchange}
 use Rattle.vbr_list.specs.Budgets.{listed_for}
 use Rattle.vbr_list.specs.Disturbed.{changed_after, disturbed_after, disturbed, enough_among, enough_to_insert_among, enough_to_search_among, most_disturbed}
 use Rattle.vbr_list.specs.declared.found.Found.{Found}
@@ -241,8 +207,7 @@ loses_place p q pred (LostExchange found) same m f adds b = inr (found, m, adds)
 
 -- a link that didn't stand
 pub lost_place : {p q : Trace} (held : Held) (rollback : Rollback) → IsLost p q held rollback → ChangesNone p q → LosesPlace p q held
-lost_place held (EpochMoved now) l adds = absurd l
-lost_place held (LostExchange word) l adds = inr (word, l, adds)
+lost_place held rollback l adds = grind (arith, l)
 
 -- after what only read
 pub lost_place_later : {p q r : Trace} (held : Held) (rollback : Rollback) → Quiet p q → Keeps (knows p) (knows q) → ChangesNone p q → IsLost q r held rollback → ChangesNone q r → LosesPlace p r held
@@ -281,9 +246,7 @@ none_counted who (event ∷ events) none =
     (λ mine advance. one (event.pass == who) (is_advance event.step) (eq-eqb event.pass who mine) (is_advance_from event.step advance) (omega (arith, none, sum)), none_counted who events (omega (arith, none, sum)))
   where
     one : (p q : Bool) → p ≡ true → q ≡ true → 0 + cond (p && q) 1 0 ≡ 0 → ⊥
-    one true true a b z = omega (arith, z)
-    one false q a b z = cc
-    one true false a b z = cc
+    one p q a b z = grind arith
 
 -- a pass that made no step that would advance the epoch made none since a moment of that
 pub advances_none : (p q : Trace) → IsSame p q → advances q ≡ advances p → (moment : List Event) → Begins p.seen moment → (b : Begins moment q.seen) → AdvancesNone p.who b.0
@@ -362,9 +325,6 @@ met_quiet p r is ok key q =
     omega (arith, x, y)
 
 -- ---- from an earlier beginning
-
-pub knows_from : (p q r : Trace) → IsSame p q → Begins p.seen q.seen → KnowsEpoch q r → KnowsEpoch p r
-knows_from p q r s a x = record { moment = x.moment; from = begins_trans p.seen q.seen x.moment a x.from; to = x.to; was = ap (λ (start : Start). (incarnations_after start x.moment).epoch) (sym s.start) ∙ x.was }
 
 pub changed_same : (p q : Trace) (key : ℕ) (run : List Event) → IsSame p q → changed_after q key run ≡ changed_after p key run
 changed_same p q key run s = (λ i. own_changes (s.start i) run (s.who i) (bucket_of (let st : Start = s.start i in st.shape) key))

@@ -1,27 +1,6 @@
 -- A seek goes on from place to place, and what it tells of the keys that it has passed by.
-use Rattle.std.proofs.Common.{◌≡◌, ℕ, ◌+◌, ◌*◌, ◌<◌, ◌≤◌, Bool, true, false, Option, Some, None, refl, sym, ap, ◌∙◌, subst, arith, inl}
-use Rattle.std.specs.Option.{is_none}
-use Rattle.vbr_machine.specs.Start.{Start, IsStart}
-use Rattle.vbr_words.specs.Words.{link_of}
-use Rattle.vbr_words.specs.declared.place.At.{At}
-use Rattle.vbr_words.specs.declared.place.At.TheVariants.{Slot}
-use Rattle.vbr_words.specs.Buckets.{bucket_of}
-use Rattle.vbr_machine.specs.Membership.{KeyAt, LeadsTo, itself, onward, StandsBefore, StandsBehind}
-use Rattle.vbr_machine.proofs.Lemmas.{begins_trans}
-use Rattle.vbr_slots.specs.Alone.{IsAlone, ahead}
-use Rattle.vbr_slots.specs.Calls.{IsSame, Quiet}
-use Rattle.vbr_slots.specs.Views.{PassView, Trace, knows}
-use Rattle.vbr_slots.proofs.Lemmas.{quiet_on, quiet_refl}
-use Rattle.vbr_at_table.specs.Alone.{StandsNow}
-use Rattle.vbr_at_table.specs.Held.{held_of}
-use Rattle.vbr_at_table.specs.Keeping.{Keeps}
-use Rattle.vbr_at_table.specs.Moments.{IsRead, WasSo}
-use Rattle.vbr_at_table.specs.Reading.{ReadsIn}
-use Rattle.vbr_at_table.specs.Values.{ValueAt}
-use Rattle.vbr_at_table.specs.declared.budget.TheConstants.{PIECE}
-use Rattle.vbr_at_table.specs.declared.held.Held.{Held}
-use Rattle.vbr_at_table.specs.declared.held.Marked.{Marked}
-use Rattle.vbr_at_table.proofs.Lemmas.{behind_kept, held_in_kept, held_in_next, held_kept, keeps_on, stood_before, was_absent, was_absent_on, was_entry, was_present}
+use Rattle.vbr_list.proofs.Names.{◌≡◌, ℕ, ◌+◌, ◌*◌, ◌<◌, ◌≤◌, Bool, true, false, Option, Some, None, sym, ap, ◌∙◌, subst, arith, inl, is_none}
+use Rattle.vbr_list.proofs.Names.{ahead, At, begins_trans, behind_kept, bucket_of, Held, held_in_kept, held_in_next, held_kept, held_of, IsAlone, IsRead, IsSame, IsStart, itself, Keeps, keeps_on, KeyAt, knows, LeadsTo, link_of, Marked, onward, PassView, PIECE, Quiet, quiet_on, quiet_refl, ReadsIn, Slot, StandsBefore, StandsBehind, StandsNow, Start, stood_before, Trace, ValueAt, was_absent, was_absent_on, was_entry, was_present, WasSo}
 use Rattle.vbr_list.specs.Budgets.{steps_to_value_of}
 use Rattle.vbr_list.specs.Nearing.{StandsInList, StillAt}
 use Rattle.vbr_list.specs.Next.{HasNoNext, listed_in, seek_costs}
@@ -144,8 +123,7 @@ passed_by {p} {q} r bucket from a b budget here start x quiet keeps other is hig
     was_absent_on x.pred start whole.same (record { known = place.held; stood = stood_before x.come.stood quiet }) place.unmarked other (link_of here.word) (leads_kept (link_of x.pred.word) (link_of here.word) keeps x.leads) (place.behind other now high) before
 
 no_slot : (o : Option ℕ) → is_none o ≡ true → o ≡ None
-no_slot None e = refl
-no_slot (Some s) e = absurd (cc)
+no_slot o e = grind arith
 
 -- there is no next key
 pub tells_none : {p q : PassView} (bucket from a b budget : ℕ) (here : Held) → IsStart p.trace.start → Follows p q bucket from a b budget here → (link_of here.word).slot ≡ None → HasNoNext p.trace q.trace bucket from

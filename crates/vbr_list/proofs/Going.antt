@@ -1,23 +1,7 @@
 -- Pieces one after another: they make no call, their steps add up, and the slot in hand stays.
-use Rattle.std.proofs.Common.{◌≡◌, ℕ, ◌+◌, ◌≤◌, Result, Ok, Err, refl, sym, ap, ◌∙◌, subst, arith, inl, inr}
-use Rattle.std.specs.Prelude.{◌⊎◌, IfOk}
-use Rattle.vbr_words.specs.declared.nodes.Nodes.{Ghosts}
-use Rattle.vbr_words.specs.Dimensions.{Dimensions}
-use Rattle.vbr_machine.specs.Start.{Start}
+use Rattle.vbr_list.proofs.Names.{◌≡◌, ℕ, ◌+◌, ◌≤◌, Result, Ok, Err, refl, sym, ap, ◌∙◌, subst, arith, inl, inr, ◌⊎◌, IfOk}
+use Rattle.vbr_list.proofs.Names.{AtTable, counts_none, counts_on, CountsSteps, Dimensions, Ghosts, IsOf, IsSame, IsSameTable, Keeps, KeepsOwn, Know, LeavesRoom, PassView, PIECE, Quiet, quiet_on, quiet_refl, ReadsIn, Start, TableView, TakesNoSlot, Took, took_all, TookWithin, Trace}
 use Rattle.vbr_words.specs.Buckets.{bucket_of}
-use Rattle.vbr_slots.specs.AtTables.{IsSameTable}
-use Rattle.vbr_slots.specs.declared.at_table.AtTable.{AtTable}
-use Rattle.vbr_slots.specs.Calls.{IsSame, Quiet, Took}
-use Rattle.vbr_slots.specs.Views.{Trace, TableView, PassView, IsOf}
-use Rattle.vbr_slots.proofs.Lemmas.{quiet_on, quiet_refl}
-use Rattle.vbr_at_table.specs.KeptSlots.{TakesNoSlot}
-use Rattle.vbr_at_table.specs.Refusals.{LeavesRoom}
-use Rattle.vbr_at_table.specs.Steps.{CountsSteps, TookWithin}
-use Rattle.vbr_at_table.proofs.Lemmas.{counts_none, counts_on, took_all}
-use Rattle.vbr_machine.specs.Knowledge.{Know}
-use Rattle.vbr_at_table.specs.declared.budget.TheConstants.{PIECE}
-use Rattle.vbr_at_table.specs.Keeping.{Keeps, KeepsOwn}
-use Rattle.vbr_at_table.specs.Reading.{ReadsIn}
 use Rattle.vbr_list.specs.Pieces.{Goes, GoesOn, IsSameCall, Settles, Tries, pass_in, trace_in}
 use Rattle.vbr_list.specs.declared.call.PendingCall.{PendingCall}
 use Rattle.vbr_list.proofs.KeptHands.{hand_refl, hand_on, own_kept}

@@ -1,23 +1,8 @@
 -- The slot in hand stays while others are read and retired.
-use Rattle.std.proofs.Common.{◌≡◌, ◌≢◌, ℕ, suc, ◌-◌, ◌<◌, Bool, true, false, cond, List, [], ◌∷◌, ◌++◌, length, Option, Some, None, refl, sym, ap, ◌∙◌, subst, arith, inl, inr}
-use Rattle.std.specs.Prelude.{◌⊎◌, ◌==◌}
-use Rattle.std.proofs.lemmas.Bool.{cases_Bool}
-use Rattle.std.proofs.lemmas.Bool.Decides.{nat_tests}
-use Rattle.vbr_machine.specs.Acceptance.{IsInHand, IsUnlinked}
-use Rattle.vbr_machine.specs.Knowledge.{Know}
-use Rattle.vbr_machine.specs.Learning.{read_epoch, reread}
-use Rattle.vbr_machine.specs.declared.knowledge.Holding.{Holding}
-use Rattle.vbr_machine.specs.declared.knowledge.Holding.TheVariants.{Free, Unlinked, InHand}
-use Rattle.vbr_machine.proofs.Lemmas.{put_here, put_other}
-use Rattle.vbr_slots.specs.declared.pass.TheConstants.{POOL}
-use Rattle.vbr_slots.specs.Pools.{OwnPool}
-use Rattle.vbr_slots.specs.Pools as pools
-use Rattle.vbr_slots.specs.Views.{PassView, knows}
-use Rattle.vbr_at_table.specs.KeptSlots.{StaysInTurn, TakesNoSlot}
-use Rattle.vbr_at_table.specs.Retiring.{is_kept, know_retired, pool_retired}
-use Rattle.vbr_at_table.proofs.Lemmas.{none_on, none_refl, unlinks_none}
-use Rattle.vbr_at_table.specs.Keeping.{KeepsOwn, KeepsUnlinked}
+use Rattle.vbr_list.proofs.Names.{◌≡◌, ◌≢◌, ℕ, suc, ◌-◌, ◌<◌, Bool, true, false, cond, List, [], ◌∷◌, ◌++◌, length, Option, Some, None, refl, sym, ap, ◌∙◌, subst, arith, inl, inr, ◌⊎◌, ◌==◌, cases_Bool, nat_tests}
+use Rattle.vbr_list.proofs.Names.{Free, Holding, is_kept, IsInHand, IsUnlinked, KeepsOwn, KeepsUnlinked, Know, know_retired, knows, none_on, none_refl, OwnPool, PassView, POOL, pool_retired, put_here, put_other, read_epoch, reread, StaysInTurn, TakesNoSlot, unlinks_none}
 use Rattle.vbr_list.specs.Pieces.{KeepsHand}
+use Rattle.vbr_slots.specs.Pools as pools
 
 pub hand_refl : (p : PassView) → KeepsHand p p
 hand_refl p = record { hand = refl; in_hand = λ s e. refl; room = λ h. h; takes_no_slot = none_refl p }
@@ -49,16 +34,10 @@ own_read know epoch s = go (epoch == know.epoch)
     go false = refl
 
 hand_reread : (holding : Option Holding) → IsInHand holding → reread holding ≡ holding
-hand_reread None h = absurd h
-hand_reread (Some (Free stamp)) h = absurd h
-hand_reread (Some (Unlinked seen)) h = absurd h
-hand_reread (Some (InHand known)) h = refl
+hand_reread holding h = grind arith
 
 not_both : (holding : Option Holding) → IsInHand holding → IsUnlinked holding → ⊥
-not_both None h u = h
-not_both (Some (Free stamp)) h u = h
-not_both (Some (Unlinked seen)) h u = h
-not_both (Some (InHand known)) h u = u
+not_both holding h u = grind arith
 
 -- a pool with a free place keeps one
 place_kept : (pool : List ℕ) (slot : ℕ) → length pool < POOL → length (pool_retired pool slot) < POOL

@@ -1,29 +1,16 @@
 -- What a replacement costs: its searches, and those that follow where the place before the old node is lost.
-use Rattle.std.proofs.Common.{◌≡◌, ℕ, ◌+◌, ◌*◌, ◌<◌, ◌≤◌, sym, ap, ◌∙◌, subst, arith}
-use Rattle.std.proofs.lemmas.Nat.{mul-le}
-use Rattle.vbr_words.specs.Buckets.{bucket_of}
-use Rattle.vbr_machine.specs.Start.{IsStart}
-use Rattle.vbr_machine.specs.Calls.{own_calls}
-use Rattle.vbr_machine.specs.Runs.{Begins, IsRun}
-use Rattle.vbr_machine.specs.declared.history.Call.{Call}
-use Rattle.vbr_machine.specs.declared.history.Op.TheVariants.{Insert, Remove}
-use Rattle.vbr_machine.proofs.Lemmas.{begins_run, disturbances_grow, inserts_in, inserts_in-two, met_bound_made, since}
-use Rattle.vbr_slots.specs.Calls.{IsSame, Quiet}
-use Rattle.vbr_slots.specs.Views.{Trace}
-use Rattle.vbr_slots.proofs.Lemmas.{quiet_on, same_on}
-use Rattle.vbr_at_table.specs.Replacing.{MadeTwo}
-use Rattle.vbr_at_table.specs.declared.budget.TheConstants.{PIECE}
+use Rattle.vbr_list.proofs.Names.{◌≡◌, ℕ, ◌+◌, ◌*◌, ◌<◌, ◌≤◌, sym, ap, ◌∙◌, subst, arith, mul-le}
+use Rattle.vbr_list.proofs.Names.{Begins, begins_run, bucket_of, Call, disturbances_grow, Insert, inserts_in, inserts_in-two, IsRun, IsSame, IsStart, MadeTwo, met_bound_made, own_calls, PIECE, Quiet, quiet_on, Remove, same_on, since, Trace}
 use Rattle.vbr_list.specs.Budgets.{listed_for}
-use Rattle.vbr_list.specs.Disturbed.{disturbed, replace_costs_among, replaces_more}
+use Rattle.vbr_list.specs.Disturbed.{disturbed, replace_costs_among}
 use Rattle.vbr_list.specs.Inserting.{SearchedFor}
 use Rattle.vbr_list.specs.Removing.{MarksAndSearches}
-use Rattle.vbr_list.specs.Replacing.{AnswersLate, SearchesWith}
+use Rattle.vbr_list.specs.Replacing.{AnswersLate}
 use Rattle.vbr_list.specs.Traversing.{LastWalk}
 use Rattle.vbr_list.specs.Walking.{met_since}
 use Rattle.vbr_list.specs.declared.found.Found.{Found}
 use Rattle.vbr_list.proofs.Disturbing.{disturbed_same, met_before, met_less, met_quiet, run_to, same_between}
 use Rattle.vbr_list.proofs.Marks.{late_rounds, same_searched, to_searched}
-use Rattle.vbr_list.proofs.Replacements.{both_replaced}
 use Rattle.vbr_list.proofs.Walking.{HasRepeated, disturbed_on, searched_first}
 
 -- ---- the place before the old node was lost
@@ -64,21 +51,6 @@ met_replaced p r is ok key {first} {second} made one two =
     let x = met_bound_made p.start p.passes p.seen r.seen is ok made.seen p.who bucket bucket in
     let y = disturbances_grow (since p.start p.passes p.seen r.seen is ok made.seen) p.who bucket in
     omega (arith, x, y, calls)
-
-more_often : (k n t u now more : ℕ) → now ≤ k * (n + t) + replaces_more n t + more → t ≤ u → now ≤ k * (n + u) + replaces_more n u + more
-more_often k n t u now more x l =
-    let y = mul-le t (9 * (n + t) + 12) u (9 * (n + u) + 12) l (omega (arith, l)) in
-    let z = mul-le k (n + t) k (n + u) (omega arith) (omega (arith, l)) in
-    omega (arith, x, y, z)
-
--- of one that was soon, by the end of its last search
-pub soon_searched : (p q m r : Trace) → IsStart p.start → IsRun p.start p.passes r.seen → (key taking : ℕ) → Quiet p q → Quiet q m → Begins m.seen r.seen → {used now : ℕ} → SearchedFor p q key 0 used (taking + 3) → SearchesWith q m key used now 3 → now ≤ 18 * (listed_for p key + disturbed p r key) + replaces_more (listed_for p key) (disturbed p r key) + (taking + 6)
-soon_searched p q m r is ok key taking quiet then on {used} {now} x y =
-    let ok_m = begins_run p.start p.passes m.seen r.seen on ok in
-    let ok_q = begins_run p.start p.passes q.seen m.seen then.seen ok_m in
-    let first = searched_first p q is ok_q key x in
-    let both = both_replaced p q m is ok_m key quiet.same quiet.seen then.seen (met_quiet p m is ok_m key (quiet_on quiet then)) first y in
-    more_often 18 (listed_for p key) (disturbed p m key) (disturbed p r key) now (taking + 6) (omega (arith, both)) (disturbed_on p m r is ok key on)
 
 late_costs : (lost lost2 later m1 m2 m3 n t used now taking : ℕ) → used ≤ 0 + 9 * m1 + lost * (9 * m1 + 7) + (taking + 3) → now ≤ used + 9 * m2 + lost2 * (9 * m2 + 12) + (later + 1) * (9 * m3 + 3) + 17 → m1 ≤ n + t → m2 ≤ n + t → m3 ≤ n + t + 1 → lost + lost2 + later + 1 ≤ t → now ≤ replace_costs_among n t taking
 late_costs lost lost2 later m1 m2 m3 n t used now taking x y l k j f =

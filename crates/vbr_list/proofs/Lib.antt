@@ -1,3 +1,4 @@
+mod Names
 mod Traversals
 mod Going
 mod KeptHands

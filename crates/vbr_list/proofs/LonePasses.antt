@@ -1,18 +1,6 @@
 -- A pass that is its table's only one made all the calls of its run, and those are legal.
-use Rattle.std.proofs.Common.{◌≡◌, ℕ, ◌<◌, List, [], ◌∷◌, ◌++◌, Result, Ok, Err, refl, sym, ap, ◌∙◌, subst, arith}
-use Rattle.std.specs.Prelude.{IfOk}
-use Rattle.vbr_machine.specs.Start.{Start, IsStart}
-use Rattle.vbr_machine.specs.Calls.{calls_added}
-use Rattle.vbr_machine.specs.History.{GiveStored, GivesValue, IsLegal, Payloads, calls_by, keys_after, payloads_after, reply_of, set_after, values_after}
-use Rattle.vbr_machine.specs.Keys.{Keys}
-use Rattle.vbr_machine.specs.Opened.{opening_keys, opening_payloads}
-use Rattle.vbr_machine.specs.Machine.{World, opening, after}
-use Rattle.vbr_machine.specs.Runs.{AreAccepted, IsRun, world_from}
-use Rattle.vbr_machine.specs.declared.event.Event.{Event}
-use Rattle.vbr_machine.specs.declared.history.Call.{Call}
-use Rattle.vbr_machine.proofs.Lemmas.{added_own, calls_after, calls_by-append, every_run}
-use Rattle.vbr_slots.specs.Calls.{Made, made_by}
-use Rattle.vbr_slots.specs.Views.{Trace}
+use Rattle.vbr_list.proofs.Names.{◌≡◌, ℕ, ◌<◌, List, [], ◌∷◌, ◌++◌, Result, Ok, Err, refl, sym, ap, ◌∙◌, subst, arith, IfOk}
+use Rattle.vbr_list.proofs.Names.{added_own, after, AreAccepted, Call, calls_added, calls_after, calls_by, calls_by-append, Event, every_run, GiveStored, GivesValue, IsLegal, IsRun, IsStart, Keys, keys_after, Made, made_by, opening, opening_keys, opening_payloads, Payloads, payloads_after, reply_of, set_after, Start, Trace, values_after, World, world_from}
 use Rattle.vbr_list.specs.Alone.{AnswersAlone}
 use Rattle.vbr_list.specs.Sparing.{GivesAlone}
 

@@ -1,10 +1,6 @@
 -- Walks of a call, one after another: each but the last was lost, disturbed by another pass.
-use Rattle.std.proofs.Common.{ℕ, ◌+◌, ◌<◌, ◌≤◌, subst}
-use Rattle.vbr_words.specs.declared.nodes.Nodes.{Ghosts}
-use Rattle.vbr_machine.specs.Runs.{IsRun}
-use Rattle.vbr_slots.specs.Calls.{Quiet}
-use Rattle.vbr_slots.specs.PassLaw.{PassLaw}
-use Rattle.vbr_slots.proofs.Lemmas.{quiet_on}
+use Rattle.vbr_list.proofs.Names.{ℕ, ◌+◌, ◌<◌, ◌≤◌, subst}
+use Rattle.vbr_list.proofs.Names.{Ghosts, IsRun, PassLaw, Quiet, quiet_on}
 use Rattle.vbr_list.specs.Disturbed.{disturbed_after}
 use Rattle.vbr_list.specs.Inserting.{SearchesFor}
 use Rattle.vbr_list.specs.Pieces.{GoesOn, IsSameCall, pass_in, trace_in}

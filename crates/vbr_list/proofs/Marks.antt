@@ -1,31 +1,6 @@
 -- A remove after its mark: the place before the node stands as it stood, or the pass was disturbed; and what the answer costs.
-use Rattle.std.proofs.Common.{◌≡◌, ◌≢◌, ℕ, ◌+◌, ◌*◌, ◌<◌, ◌≤◌, false, Option, Some, None, refl, sym, ap, ◌∙◌, subst, inl, inr, arith}
-use Rattle.std.specs.Prelude.{◌⊎◌, IfNone, IfSome}
-use Rattle.std.proofs.lemmas.Bool.{cases_lt}
-use Rattle.std.proofs.lemmas.Nat.{mul-le}
-use Rattle.vbr_words.specs.Words.{link_of}
-use Rattle.vbr_words.specs.Buckets.{bucket_of}
-use Rattle.vbr_words.specs.declared.nodes.Nodes.{Ghosts}
-use Rattle.vbr_words.specs.declared.place.At.{At}
-use Rattle.vbr_words.specs.declared.place.At.TheVariants.{Head, Slot}
-use Rattle.vbr_machine.specs.Start.{Start, IsStart}
-use Rattle.vbr_machine.specs.Accounts.{incarnations_after}
-use Rattle.vbr_machine.specs.Calls.{own_calls}
-use Rattle.vbr_machine.specs.Disturbances.{IsOpenIn, own_changes}
-use Rattle.vbr_machine.specs.Images.{link_shown_at}
-use Rattle.vbr_machine.specs.Membership.{HeldIn, KeyAt, StandsBehind}
-use Rattle.vbr_machine.specs.Runs.{Begins, IsRun}
-use Rattle.vbr_machine.specs.declared.history.Call.{Call}
-use Rattle.vbr_machine.specs.declared.history.Op.TheVariants.{Remove}
-use Rattle.vbr_machine.proofs.Lemmas.{begins_refl, begins_run, begins_trans, disturbances_grow, inserts_in, inserts_in-remove, known_open, marked_fewer, met_bound_uninserted, one_key, since, undisturbed_shown}
-use Rattle.vbr_slots.specs.Alone.{IsAlone, ahead}
-use Rattle.vbr_slots.specs.Calls.{AddsNone, IsSame, Made, Quiet}
-use Rattle.vbr_slots.specs.Views.{Trace, knows}
-use Rattle.vbr_slots.proofs.Lemmas.{same_on}
-use Rattle.vbr_at_table.specs.Counts.{advances}
-use Rattle.vbr_at_table.specs.Held.{IsHeld}
-use Rattle.vbr_at_table.specs.Marks.{LeavesOthers}
-use Rattle.vbr_at_table.specs.declared.held.Held.{Held}
+use Rattle.vbr_list.proofs.Names.{◌≡◌, ◌≢◌, ℕ, ◌+◌, ◌*◌, ◌<◌, ◌≤◌, false, Option, refl, sym, ap, ◌∙◌, subst, inl, inr, arith, ◌⊎◌, IfNone, IfSome, cases_lt, mul-le}
+use Rattle.vbr_list.proofs.Names.{AddsNone, advances, ahead, At, Begins, begins_refl, begins_run, begins_trans, bucket_of, Call, disturbances_grow, Ghosts, Head, Held, HeldIn, incarnations_after, inserts_in, inserts_in-remove, IsAlone, IsHeld, IsOpenIn, IsRun, IsSame, IsStart, KeyAt, known_open, knows, LeavesOthers, link_of, link_shown_at, Made, marked_fewer, met_bound_uninserted, one_key, own_calls, own_changes, Quiet, Remove, same_on, since, Slot, StandsBehind, Start, Trace, undisturbed_shown}
 use Rattle.vbr_list.specs.Budgets.{listed_for, steps_to_value_of}
 use Rattle.vbr_list.specs.Disturbed.{changed_after, disturbed, disturbed_after, remove_costs_among}
 use Rattle.vbr_list.specs.Leaving.{Leaves}
@@ -43,8 +18,7 @@ use Rattle.vbr_list.proofs.Walking.{HasRepeated}
 
 -- whatever it came to
 pub walked : {N : Type 0} {kind : Ghosts N} (c d : PendingCall N kind) (found : Option Found) → IfSome found (Finds c d) → IfNone found (SearchTires c d) → WalksAgain 9 (trace_in c) (trace_in d) c.key c.used d.used
-walked c d None x tired = tired.walks
-walked c d (Some found) x tired = x.walks
+walked c d found x tired = grind arith
 
 -- ---- a mark
 
@@ -64,9 +38,7 @@ marks_behind p q r key pred node is ok quiet none same x other epoch count held 
     let bucket = bucket_of p.start.shape key in
     let all = begins_trans q.seen x.moment r.seen x.from x.to in
     let P : Start → Type 0 = λ start. IsOpenIn start (incarnations_after start r.seen) (bucket_of start.shape key) pred.at in
-    let R : Start → Type 0 = λ start. IsRun start r.passes r.seen in
-    let ByPasses : ℕ → Type 0 = λ passes. IsRun p.start passes r.seen in
-    let ok_r : IsRun r.start r.passes r.seen = subst R (sym whole.start) (subst ByPasses (sym whole.passes) ok) in
+    let ok_r = run_to whole r.seen ok in
     let later : own_changes p.start x.moment p.who bucket ≡ own_changes p.start q.seen p.who bucket = sym (λ i. own_changes (quiet.same.start i) x.moment (quiet.same.who i) bucket) ∙ x.own bucket ∙ (λ i. own_changes (quiet.same.start i) q.seen (quiet.same.who i) bucket) in
     record {
       same = whole;
@@ -130,17 +102,10 @@ module _ (b p r s : Trace) (is : IsStart b.start) (ok : IsRun b.start b.passes s
 
   -- a place that is lost past the mark shows a disturbance
   pub lost_past : advances s ≡ advances b → KnowsEpoch b p → LosesPlace r s pred → disturbed_after b key b.seen < disturbed_after b key s.seen
-  lost_past count knew loses = go stands_past
-    where
-      to_r : Begins p.seen r.seen
-      to_r = begins_trans p.seen mark.moment r.seen mark.before mark.after
-
-      knows_r : KnowsEpoch b r
-      knows_r = record { moment = knew.moment; from = knew.from; to = begins_trans knew.moment p.seen r.seen knew.to to_r; was = knew.was ∙ sym mark.epoch }
-
-      go : (disturbed_after b key b.seen < disturbed_after b key s.seen) ⊎ StandsStill b r key pred → disturbed_after b key b.seen < disturbed_after b key s.seen
-      go (inl less) = less
-      go (inr stands) = loses_place_disturb b s is ok key ss count r pred (same_on sp sr) last knows_r stands loses
+  lost_past count knew loses =
+      let to_r = begins_trans p.seen mark.moment r.seen mark.before mark.after in
+      let knows_r : KnowsEpoch b r = record { moment = knew.moment; from = knew.from; to = begins_trans knew.moment p.seen r.seen knew.to to_r; was = knew.was ∙ sym mark.epoch } in
+      by_either stands_past (λ less. less) (λ stands. loses_place_disturb b s is ok key ss count r pred (same_on sp sr) last knows_r stands loses)
 
 -- ---- what an answer costs
 

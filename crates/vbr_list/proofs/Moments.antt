@@ -1,18 +1,6 @@
 -- What was found was so at a moment.
-use Rattle.std.proofs.Common.{◌≡◌, ℕ, ◌<◌, Bool, true, false, Option, Some, None, refl, subst, arith}
-use Rattle.std.proofs.lemmas.Bool.Decides.{nat_tests}
-use Rattle.vbr_machine.specs.Start.{IsStart}
-use Rattle.vbr_words.specs.Words.{link_of}
-use Rattle.vbr_words.specs.declared.place.At.{At}
-use Rattle.vbr_machine.specs.Knowledge.{Know}
-use Rattle.vbr_machine.specs.Membership.{KeyAt, StandsBefore}
-use Rattle.vbr_slots.specs.Calls.{IsSame, Quiet}
-use Rattle.vbr_slots.specs.Views.{Trace, knows}
-use Rattle.vbr_slots.proofs.Lemmas.{moment_before}
-use Rattle.vbr_at_table.specs.Keeping.{Keeps}
-use Rattle.vbr_at_table.specs.Moments.{Stood, WasSo}
-use Rattle.vbr_at_table.specs.declared.held.Held.{Held}
-use Rattle.vbr_at_table.proofs.Lemmas.{stood_before, was_absent, was_present}
+use Rattle.vbr_list.proofs.Names.{◌≡◌, ℕ, ◌<◌, Bool, true, false, Option, Some, None, sym, subst, arith, nat_tests}
+use Rattle.vbr_list.proofs.Names.{At, Held, IsSame, IsStart, Keeps, KeyAt, Know, knows, link_of, moment_before, Quiet, StandsBefore, Stood, stood_before, Trace, was_absent, was_present, WasSo}
 use Rattle.vbr_list.specs.Found.{CurStood, IsFound}
 use Rattle.vbr_list.specs.Places.{IsCur, IsEnd}
 use Rattle.vbr_list.specs.Traversing.{HasComeTo}
@@ -47,26 +35,26 @@ before_cur know key pred cur y =
 
 -- an absent key stands before what the place names
 pub stands_before : (know : Know) (key : ℕ) (pred : Held) (cur : Option Held) → IsEnd know key pred cur false → StandsBefore know key (link_of pred.word).slot
-stands_before know key pred None y = rw y.0 tt
-stands_before know key pred (Some cur) y = before_cur know key pred cur y
+stands_before know key pred cur y = grind (arith, before_cur know key pred)
 
 -- a present key is known at the node
 pub key_known : (know : Know) (key : ℕ) (pred cur : Held) → IsCur know key pred cur true → KeyAt know cur.at key
 key_known know key pred cur y = let e : y.here ≡ key = let u = y.says in grind (arith, nat_tests) in rw e at y.read
 
-pub was_so : {p q : Trace} (key : ℕ) (found : Found) → IsStart p.start → IsSame p q → IsFound p q key found → WasSo p q key found.present
-was_so {p} {q} key found start same x = go found.cur found.present x.locates.end x.cur_stood
+-- what was found shows the one of a place, or the other of a node
+pub by_found : {p q : Trace} (key : ℕ) (found : Found) (X : Bool → Type 0) → IsFound p q key found → (StandsBefore (knows q) key (link_of found.pred.word).slot → X false) → ((cur : Held) → IsCur (knows q) key found.pred cur true → Stood p q cur → X true) → X found.present
+by_found {p} {q} key found X x absent present = go found.cur found.present x.locates.end x.cur_stood
   where
-    pred : Held
-    pred = found.pred
+    go : (cur : Option Held) (b : Bool) → IsEnd (knows q) key found.pred cur b → CurStood p q cur → X b
+    go None b y z = subst X (sym y.1) (absent (rw y.0 tt))
+    go (Some cur) true y z = present cur y z
+    go (Some cur) false y z = absent (before_cur (knows q) key found.pred cur y)
 
-    absent : (cur : Option Held) → IsEnd (knows q) key pred cur false → WasSo p q key false
-    absent cur y = was_absent pred start same (record { known = x.locates.pred.held; stood = x.stood }) x.locates.pred.unmarked key x.locates.pred.behind (stands_before (knows q) key pred cur y)
-
-    go : (cur : Option Held) (present : Bool) → IsEnd (knows q) key pred cur present → CurStood p q cur → WasSo p q key present
-    go None present y z = rw y.1 (absent None (y.0, refl))
-    go (Some cur) true y z = was_present cur start same (record { known = y.held; stood = z }) y.unmarked key (key_known (knows q) key pred cur y)
-    go (Some cur) false y z = absent (Some cur) y
+pub was_so : {p q : Trace} (key : ℕ) (found : Found) → IsStart p.start → IsSame p q → IsFound p q key found → WasSo p q key found.present
+was_so {p} {q} key found start same x =
+    by_found key found (WasSo p q key) x
+    (λ before. was_absent found.pred start same (record { known = x.locates.pred.held; stood = x.stood }) x.locates.pred.unmarked key x.locates.pred.behind before)
+    (λ cur y z. was_present cur start same (record { known = y.held; stood = z }) y.unmarked key (key_known (knows q) key found.pred cur y))
 
 pub so_before : {p q r : Trace} {key : ℕ} {present : Bool} → WasSo p q key present → Quiet q r → WasSo p r key present
 so_before x b = record { moment = x.moment; within = moment_before x.within b; was = x.was }

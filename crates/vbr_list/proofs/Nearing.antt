@@ -1,24 +1,9 @@
 -- A pass that was alone comes nearer to the key, node by node.
-use Rattle.std.proofs.Common.{◌≡◌, ℕ, suc, true, sym, ap, ◌∙◌, subst, inl, inr}
-use Rattle.std.specs.Prelude.{Result, Ok, Err, IfErr}
-use Rattle.vbr_words.specs.Words.{link_of}
-use Rattle.vbr_words.specs.declared.place.At.{At}
-use Rattle.vbr_words.specs.declared.place.At.TheVariants.{Slot}
-use Rattle.vbr_machine.specs.Nodes.{is_there}
-use Rattle.vbr_machine.proofs.Lemmas.{named_there, one_fewer_behind}
-use Rattle.vbr_slots.specs.Alone.{IsAlone, LeavesLists, ahead, nodes}
-use Rattle.vbr_slots.specs.Calls.{Quiet}
-use Rattle.vbr_slots.specs.Views.{Trace, PassView, knows}
-use Rattle.vbr_slots.proofs.Lemmas.{alone_first, alone_then, same_leaves}
-use Rattle.vbr_at_table.specs.Alone.{StandsNow}
-use Rattle.vbr_at_table.specs.Held.{Names}
-use Rattle.vbr_at_table.specs.Reading.{ReadsIn}
-use Rattle.vbr_slots.specs.PassLaw.{PassLaw}
-use Rattle.vbr_at_table.specs.declared.held.Held.{Held}
+use Rattle.vbr_list.proofs.Names.{◌≡◌, ℕ, suc, true, sym, ap, ◌∙◌, subst, inr, Result, IfErr, arith}
+use Rattle.vbr_list.proofs.Names.{ahead, alone_first, alone_then, At, Held, is_there, IsAlone, knows, LeavesLists, link_of, named_there, Names, nodes, one_fewer_behind, PassLaw, PassView, Quiet, ReadsIn, same_leaves, Slot, StandsNow, Trace}
 use Rattle.vbr_list.specs.Nearing.{StandsInList, StillAt}
 use Rattle.vbr_list.specs.Places.{IsPlaceIn}
 use Rattle.vbr_list.specs.Visiting.{ComesNearer}
-use Rattle.vbr_list.proofs.Traversals.{IsFirst}
 
 -- ---- two pieces
 
@@ -55,19 +40,4 @@ comes_nearer p sound q bucket here node x there stands s names at quiet same sti
 -- ---- errors that are handed on
 
 pub either : {A E P : Type 0} (x : Result A E) → P → IfErr x (λ _. P)
-either (Ok a) p = tt
-either (Err e) p = p
-
--- ---- again
-
--- a pass that rolls back was not alone
-pub first_lost : (p q r : PassView) {a b c : ℕ} → IsFirst p q a b → Quiet p.trace q.trace → Quiet q.trace r.trace → (IsAlone q.trace r.trace → ⊥) → IsFirst p r a c
-first_lost p q r x y z lost = inl (λ alone. lost (then_of y z alone))
-
--- alone, it is the first time
-pub at_first : (P : PassView → ℕ → Type 0) (p q r : PassView) {a b : ℕ} → IsFirst p q a b → Quiet p.trace q.trace → Quiet q.trace r.trace → IsAlone p.trace r.trace → (IsAlone q.trace r.trace → P q b) → P p a
-at_first P p q r (inl never) y z alone found = absurd (never (first_of y z alone))
-at_first P p q r {a} {b} (inr same) y z alone found =
-    let Q : ℕ → Type 0 = λ n. P q n in
-    let R : PassView → Type 0 = λ s. P s a in
-    subst R same.0 (subst Q same.1 (found (then_of y z alone)))
+either x p = grind arith

@@ -1,9 +1,6 @@
 -- Loads alone, one after another.
-use Rattle.std.specs.Prelude.{ℕ}
-use Rattle.vbr_slots.specs.Calls.{AddsNone, OnlyLoads}
-use Rattle.vbr_slots.specs.Views.{PassView, Trace}
-use Rattle.vbr_slots.proofs.Lemmas.{adds_on, adds_refl, loads_on, loads_refl}
-use Rattle.vbr_at_table.specs.Reading.{ReadsIn}
+use Rattle.vbr_list.proofs.Names.{ℕ}
+use Rattle.vbr_list.proofs.Names.{adds_on, adds_refl, AddsNone, loads_on, loads_refl, OnlyLoads, PassView, ReadsIn, Trace}
 use Rattle.vbr_list.specs.Pieces.{Observes}
 
 pub observes_refl : (p : Trace) → Observes p p

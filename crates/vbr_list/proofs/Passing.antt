@@ -1,22 +1,6 @@
 -- A look-up goes on from place to place: behind a place before the key known marked links lead on.
-use Rattle.std.proofs.Common.{◌≡◌, ℕ, ◌+◌, ◌≤◌, Bool, true, false, Option, None, sym, subst, arith}
-use Rattle.vbr_machine.specs.Start.{Start}
-use Rattle.vbr_words.specs.Words.{link_of}
-use Rattle.vbr_words.specs.declared.link.Link.{Link}
-use Rattle.vbr_words.specs.declared.place.At.TheVariants.{Slot}
-use Rattle.vbr_words.specs.Buckets.{bucket_of}
-use Rattle.vbr_machine.specs.Knowledge.{Know}
-use Rattle.vbr_machine.specs.Membership.{HeldIn, LeadsTo, itself, onward, StandsBeforeOn}
-use Rattle.vbr_machine.specs.declared.knowledge.Read.TheVariants.{LinkAt}
-use Rattle.vbr_slots.specs.Alone.{IsFresh}
-use Rattle.vbr_slots.specs.Calls.{IsSame}
-use Rattle.vbr_slots.specs.Views.{Trace, PassView, knows}
-use Rattle.vbr_at_table.specs.Held.{HoldsMarked, Names, held_of}
-use Rattle.vbr_at_table.specs.Keeping.{Keeps}
-use Rattle.vbr_at_table.specs.Reading.{ReadsIn}
-use Rattle.vbr_at_table.specs.declared.held.Held.{Held}
-use Rattle.vbr_at_table.specs.declared.held.Marked.{Marked}
-use Rattle.vbr_at_table.proofs.Lemmas.{held_in_kept, held_in_next, held_kept}
+use Rattle.vbr_list.proofs.Names.{◌≡◌, ℕ, ◌+◌, ◌≤◌, Bool, true, false, Option, None, sym, subst, arith}
+use Rattle.vbr_list.proofs.Names.{bucket_of, Held, held_in_kept, held_in_next, held_kept, held_of, HeldIn, HoldsMarked, IsFresh, IsSame, itself, Keeps, Know, knows, LeadsTo, Link, link_of, LinkAt, Marked, Names, onward, PassView, ReadsIn, Slot, StandsBeforeOn, Start, Trace}
 use Rattle.vbr_list.specs.Pieces.{Goes, Observes, Peeks}
 use Rattle.vbr_list.specs.Places.{IsCur, IsEnd, IsPred, IsSight}
 use Rattle.vbr_list.specs.Walking.{Walks}

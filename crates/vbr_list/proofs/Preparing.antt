@@ -1,21 +1,7 @@
 -- The steps of an insert, and what its refusals say.
-use Rattle.std.proofs.Common.{◌≡◌, ◌≢◌, ℕ, ◌+◌, ◌-◌, ◌<◌, ◌≤◌, Bool, true, false, List, [], ◌∷◌, length, Result, Ok, Err, inl, refl, sym, ◌∙◌, subst, arith}
-use Rattle.std.specs.Prelude.{IfOk, IfErr}
-use Rattle.std.specs.Result.{is_err, is_ok}
-use Rattle.vbr_words.specs.declared.nodes.Nodes.{Ghosts}
-use Rattle.vbr_machine.specs.Start.{Start}
-use Rattle.vbr_machine.specs.History.{set_call}
-use Rattle.vbr_machine.specs.Runs.{Begins, IsRun}
+use Rattle.vbr_list.proofs.Names.{◌≡◌, ◌≢◌, ℕ, ◌+◌, ◌-◌, ◌<◌, ◌≤◌, Bool, true, false, List, [], ◌∷◌, length, Result, Ok, Err, inl, refl, sym, ◌∙◌, subst, arith, IfOk, IfErr, is_err, is_ok}
+use Rattle.vbr_list.proofs.Names.{Begins, counts_on, CountsSteps, Ghosts, had_grown, had_on, IsRun, IsSame, IsSpent, LeavesRoom, Made, made_on, missed_after, needed_after, none_on, Op, PassView, Quiet, set_call, shared_taken, shares_more, slots_kept_on, Start, TakesNoSlot, Took, took_all, TookWithin, Trace, WasSo}
 use Rattle.vbr_machine.specs.declared.history.Call.{Call as ListedCall}
-use Rattle.vbr_machine.specs.declared.history.Op.{Op}
-use Rattle.vbr_slots.specs.Calls.{IsSame, Quiet, Made, Took}
-use Rattle.vbr_slots.specs.Views.{Trace, PassView}
-use Rattle.vbr_slots.proofs.Lemmas.{made_on}
-use Rattle.vbr_at_table.specs.Refusals.{IsSpent, LeavesRoom}
-use Rattle.vbr_at_table.specs.Steps.{CountsSteps, TookWithin}
-use Rattle.vbr_at_table.specs.KeptSlots.{TakesNoSlot}
-use Rattle.vbr_at_table.proofs.Lemmas.{counts_on, had_grown, had_on, none_on, slots_kept_on, missed_after, needed_after, shared_taken, shares_more, took_all}
-use Rattle.vbr_at_table.specs.Moments.{WasSo}
 use Rattle.vbr_list.specs.Inserting.{CountsWithin, InsertIsShort, InsertShowsSpent, Prepares, TakesNone, WasFoundFor}
 use Rattle.vbr_list.specs.Pieces.{GoesOn, HasRoom, IsSameCall, pass_in, trace_in}
 use Rattle.vbr_list.specs.Refusals.{IsRefusedInsert}
@@ -120,16 +106,13 @@ pub made_since : {p q r : Trace} {op : Op} {key : ℕ} {reply : Bool} → Quiet 
 made_since {p} {q} {r} {op} {key} {reply} quiet made = let P : ℕ → Type 0 = λ who. Made (set_call who op key reply) p r in subst P quiet.same.who (made_on quiet made)
 
 pub if_ok : {T E : Type 0} {P : Type 0} (x : Result T E) → is_ok x ≡ true → IfOk x (λ _. P) → P
-if_ok (Ok value) e p = p
-if_ok (Err error) e p = absurd (cc)
+if_ok x e p = grind arith
 
 pub if_err : {T E : Type 0} {P : Type 0} (x : Result T E) → is_ok x ≡ false → IfErr x (λ _. P) → P
-if_err (Ok value) e p = absurd (cc)
-if_err (Err error) e p = p
+if_err x e p = grind arith
 
 pub if_failed : {T E : Type 0} {P : Type 0} (x : Result T E) → is_err x ≡ true → IfErr x (λ _. P) → P
-if_failed (Ok value) e p = absurd (cc)
-if_failed (Err error) e p = p
+if_failed x e p = grind arith
 
 pub if_went : {T E : Type 0} {P : T → Type 0} (x : Result T E) → is_err x ≡ false → IfOk x P → (value : T) × P value
 if_went (Ok value) e p = (value, p)
@@ -140,8 +123,7 @@ each_since p q r then told (Ok reply) quiet same made = subst (λ (call : Listed
 each_since p q r then told (Err error) quiet same made = tt
 
 pub each_same : {A E : Type 0} (p q : Trace) (told : A → ListedCall) (answer : Result A E) → IfOk answer (λ reply. Made (told reply) p q) → IfErr answer (λ _. Quiet p q) → IsSame p q
-each_same p q told (Ok reply) made quiet = made.same
-each_same p q told (Err error) made quiet = quiet.same
+each_same p q told answer made quiet = grind arith
 
 -- the pass has seen more, answer or not
 pub each_seen : {A E : Type 0} (p q : Trace) (told : A → ListedCall) (answer : Result A E) → IfOk answer (λ reply. Made (told reply) p q) → IfErr answer (λ _. Quiet p q) → Begins p.seen q.seen × (IsRun p.start p.passes p.seen → IsRun q.start q.passes q.seen)

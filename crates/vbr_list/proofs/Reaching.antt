@@ -1,25 +1,6 @@
 -- A traversal goes on from place to place.
-use Rattle.std.proofs.Common.{◌≡◌, ℕ, ◌<◌, ◌≤◌, Bool, true, false, ◌++◌, refl, sym, ap, ◌∙◌, subst, arith, eq-eqb, Some}
-use Rattle.std.specs.Prelude.{◌==◌}
-use Rattle.std.proofs.lemmas.List.Elements.{Contains-append_left}
-use Rattle.vbr_machine.specs.Start.{Start}
-use Rattle.vbr_words.specs.Words.{link_of}
-use Rattle.vbr_words.specs.declared.place.At.{At}
-use Rattle.vbr_words.specs.declared.place.At.TheVariants.{Head, Slot}
-use Rattle.vbr_words.specs.Buckets.{bucket_of}
-use Rattle.vbr_machine.specs.Knowledge.{Know}
-use Rattle.vbr_machine.specs.Membership.{HeldIn, at_head, KeyAt, StandsBehind}
-use Rattle.vbr_machine.specs.declared.knowledge.Read.TheVariants.{KeyOf}
-use Rattle.vbr_slots.specs.Calls.{IsSame, Quiet}
-use Rattle.vbr_slots.specs.Views.{Trace, TableView, PassView, IsOf, knows}
-use Rattle.vbr_at_table.specs.Retiring.{know_retired}
-use Rattle.vbr_at_table.specs.Held.{IsSlot, HoldsMarked}
-use Rattle.vbr_at_table.specs.Keeping.{Keeps}
-use Rattle.vbr_at_table.specs.Moments.{Stood, IsRead, IsNext}
-use Rattle.vbr_slots.specs.PassLaw.{PassLaw}
-use Rattle.vbr_at_table.specs.declared.held.Held.{Held}
-use Rattle.vbr_at_table.specs.declared.held.Marked.{Marked}
-use Rattle.vbr_at_table.proofs.Lemmas.{behind_kept, held_in_kept, held_in_next, held_kept, link_in, stood_after, stood_before}
+use Rattle.vbr_list.proofs.Names.{◌≡◌, ℕ, ◌<◌, ◌≤◌, Bool, true, false, ◌++◌, refl, sym, ap, ◌∙◌, subst, arith, eq-eqb, Some, ◌==◌, Contains-append_left}
+use Rattle.vbr_list.proofs.Names.{At, at_head, behind_kept, bucket_of, Head, Held, held_in_kept, held_in_next, held_kept, HeldIn, IsNext, IsRead, IsSame, IsSlot, Keeps, KeyAt, KeyOf, Know, know_retired, knows, link_of, PassView, Quiet, Slot, StandsBehind, Start, Stood, stood_after, stood_before, Trace}
 use Rattle.vbr_list.specs.Pieces.{Goes}
 use Rattle.vbr_list.specs.Places.{IsCur, IsInside, IsPlaceIn, IsPred}
 use Rattle.vbr_list.specs.Traversing.{ComesBefore, HasComeTo}
@@ -142,10 +123,3 @@ traverses_on x y le high reached walks = record {
   some = let u = x.some in omega arith;
   reached = record { is = reached.is; stood = stood_since x.tries.goes.quiet reached.stood };
 }
-
--- the slot of a marked node is one of the shape
-pub marked_in : (p : PassView) → PassLaw p → (t : TableView) → IsOf p.trace t → (marked : Marked) → HoldsMarked (knows p.trace) marked → (s : ℕ) → s ≡ marked.slot → s < t.start.shape.slots
-marked_in p sound t own marked x s e =
-    let P : Start → Type 0 = λ start. marked.slot < start.shape.slots in
-    let Q : ℕ → Type 0 = λ i. i < t.start.shape.slots in
-    subst Q (sym e) (subst P own.1 (link_in p.trace.start p.trace.passes p.trace.seen sound.start sound.is_run p.trace.who (Slot marked.slot) (link_of marked.word) x.held.link))

@@ -1,26 +1,8 @@
 -- The call that replaces a value, once it has a slot in hand: what it tells, answered or refused.
-use Rattle.std.proofs.Common.{◌≡◌, ℕ, ◌+◌, true, false, refl, inl, inr, ◌*◌, ◌≤◌, Option, Some, None, Result, Ok, Err, subst, arith}
-use Rattle.std.specs.Prelude.{IfErr, IfOk, ◌⊎◌, is_some}
-use Rattle.vbr_words.specs.declared.nodes.Nodes.{Ghosts}
-use Rattle.vbr_machine.specs.Start.{Start, IsStart}
-use Rattle.vbr_machine.specs.History.{set_call}
-use Rattle.vbr_machine.specs.Runs.{Begins, IsRun}
-use Rattle.vbr_machine.specs.declared.history.Call.{Call}
-use Rattle.vbr_machine.proofs.Lemmas.{begins_trans}
-use Rattle.vbr_slots.specs.Alone.{IsAlone}
-use Rattle.vbr_machine.specs.declared.history.Op.TheVariants.{Insert, Remove}
-use Rattle.vbr_slots.specs.Calls.{IsSame, Made, Quiet}
-use Rattle.vbr_slots.specs.Views.{PassView, Trace}
-use Rattle.vbr_slots.proofs.Lemmas.{quiet_on}
-use Rattle.vbr_at_table.specs.Advances.{AdvancesWhereNeeded}
-use Rattle.vbr_at_table.specs.KeptSlots.{HasStill, KeepsSlots, SharesWhereFull}
-use Rattle.vbr_at_table.specs.Budgets.{most_to_take}
-use Rattle.vbr_at_table.specs.Replacing.{MadeTwo}
-use Rattle.vbr_at_table.specs.Steps.{TookWithin}
-use Rattle.vbr_at_table.specs.Values.{entry_call}
-use Rattle.vbr_at_table.proofs.Lemmas.{had_on, longer, needed_before, shared_on, shares_more, slots_kept_on, two_on}
+use Rattle.vbr_list.proofs.Names.{◌≡◌, ℕ, ◌+◌, true, false, refl, inl, inr, ◌*◌, ◌≤◌, Option, Some, None, Result, Ok, Err, subst, arith, IfErr, IfOk, ◌⊎◌, is_some}
+use Rattle.vbr_list.proofs.Names.{AdvancesWhereNeeded, Begins, begins_trans, Call, entry_call, Ghosts, had_on, HasStill, Insert, IsAlone, IsRun, IsSame, IsStart, KeepsSlots, longer, Made, MadeTwo, needed_before, PassView, Quiet, quiet_on, Remove, set_call, shared_on, shares_more, SharesWhereFull, slots_kept_on, Start, TookWithin, Trace, two_on}
 use Rattle.vbr_list.specs.Budgets.{enough_to_unlist, listed_for}
-use Rattle.vbr_list.specs.Disturbed.{disturbed, enough_to_replace_among, replace_costs_among, replaces_more, steps_for_slot}
+use Rattle.vbr_list.specs.Disturbed.{disturbed, enough_to_replace_among, replace_costs_among, searches_more, steps_for_slot}
 use Rattle.vbr_list.specs.Inserting.{CountsWithin, InsertIsShort, Links, SearchedFor}
 use Rattle.vbr_list.specs.Leaving.{LeavesReplaced}
 use Rattle.vbr_list.specs.Pieces.{pass_in, trace_in}
@@ -30,10 +12,11 @@ use Rattle.vbr_at_table.specs.declared.refusal.Refusal.{Refusal}
 use Rattle.vbr_list.proofs.Disturbing.{alone_undisturbed, run_at}
 use Rattle.vbr_list.proofs.Going.{room_left}
 use Rattle.vbr_list.proofs.Preparing.{made_since, within_all, within_most, within_on}
-use Rattle.vbr_list.proofs.Replacements.{had_since, replace_lacks, replace_lone, replace_lone_costs, replace_refused_second}
-use Rattle.vbr_list.proofs.LateSearches.{late_disturbs, late_paid, soon_searched}
-use Rattle.vbr_list.proofs.Sufficing.{answered_or_spent, lacks, never_refused, slot_alone, slot_later}
+use Rattle.vbr_list.proofs.Replacements.{had_since, replace_lone, replace_lone_costs, replace_refused_second}
+use Rattle.vbr_list.proofs.LateSearches.{late_disturbs, late_paid}
+use Rattle.vbr_list.proofs.Sufficing.{answered_or_spent, lacks, lone, never_refused, slot_later}
 use Rattle.vbr_list.proofs.Sweeping.{leaves_replaced_since}
+use Rattle.vbr_list.proofs.Walking.{both_lack, both_paid}
 
 module _ {N : Type 0} {kind : Ghosts N} (p : PassView) (d e : PendingCall N kind) (key value budget : ℕ) (start : IsStart p.trace.start) (ok : IsRun p.trace.start p.trace.passes p.trace.seen) (first : Quiet p.trace (trace_in d)) (advances : AdvancesWhereNeeded p (pass_in d)) (kept : KeepsSlots p (pass_in d)) (had : HasStill p (pass_in d)) (shared : SharesWhereFull 2 p (pass_in d)) (before : CountsWithin p.trace (trace_in d) 0 d.used budget) (same_key : d.key ≡ key) (same_budget : d.budget ≡ budget)
     (links : Links d e) (searched : SearchedFor p.trace (trace_in d) key 0 d.used (steps_for_slot p (trace_in d) + 3)) where
@@ -83,10 +66,10 @@ module _ {N : Type 0} {kind : Ghosts N} (p : PassView) (d e : PendingCall N kind
   paid_as old (inr late) = let A : ℕ → Type 0 = λ k. AnswersLate (trace_in d) (trace_in e) k d.used e.used in inr (subst A same_key late)
 
   -- by the end of its last search
-  soon_used : (answer : Option ℕ) → IsSame p.trace (trace_in e) → IsRun (trace_in e).start (trace_in e).passes (trace_in e).seen → (soon : AnswersSoonFor answer) → soon.used ≤ 18 * (n + t) + replaces_more n t + (taking + 6)
+  soon_used : (answer : Option ℕ) → IsSame p.trace (trace_in e) → IsRun (trace_in e).start (trace_in e).passes (trace_in e).seen → (soon : AnswersSoonFor answer) → soon.used ≤ 18 * (n + t) + searches_more 12 n t + (taking + 6)
   soon_used answer same run soon =
       let later = slot_later p (trace_in d) (trace_in e) (begins_trans (trace_in d).seen soon.ended.seen (trace_in e).seen soon.quiet.seen soon.to) in
-      let most = soon_searched p.trace (trace_in d) soon.ended (trace_in e) start (run_at p.trace (trace_in e) same run) key (steps_for_slot p (trace_in d)) first soon.quiet soon.to searched soon.searches in
+      let most = both_paid p.trace (trace_in d) soon.ended (trace_in e) start (run_at p.trace (trace_in e) same run) key first soon.quiet soon.to (omega arith) searched soon.searches in
       omega (arith, most, later)
 
   some_paid : {one two : Call} → MadeTwo one two p.trace (trace_in e) → one.op ≡ Remove → two.op ≡ Insert → Begins (trace_in d).seen (trace_in e).seen → (old : ℕ) → Paid (Some old) → e.used ≤ replace_costs_among n t taking
@@ -96,15 +79,9 @@ module _ {N : Type 0} {kind : Ghosts N} (p : PassView) (d e : PendingCall N kind
       let most = late_paid p.trace (trace_in d) (trace_in e) start (run_at p.trace (trace_in e) made.same made.is_run) key (steps_for_slot p (trace_in d)) first made is_remove is_insert searched late in
       omega (arith, most, later)
 
-  lone_used : (n t taking most now : ℕ) → now ≤ 18 * (n + t) + replaces_more n t + (taking + 6) → t ≡ 0 → taking ≡ most → now ≤ 18 * n + most + 6
-  lone_used n t taking most now few none same =
-      let P : ℕ → Type 0 = λ u. now ≤ 18 * (n + u) + replaces_more n u + (taking + 6) in
-      let x = subst P none few in
-      omega (arith, x, same)
-
   left_alone : IsSame p.trace (trace_in e) → IsRun (trace_in e).start (trace_in e).passes (trace_in e).seen → Begins (trace_in d).seen (trace_in e).seen → IsAlone p.trace (trace_in e) → enough_to_unlist p key ≤ budget → (answer : Option ℕ) → is_some answer ≡ true → Paid answer → LeavesReplaced (trace_in d) (trace_in e) key
   left_alone same run on alone enough answer given (inl soon) =
-      let few = lone_used n t taking (most_to_take p.trace.start p.pool) soon.used (soon_used answer same run soon) (alone_undisturbed p.trace (trace_in e) key alone) (slot_alone p (trace_in e) alone) in
+      let few = lone (λ u taken. soon.used ≤ 18 * (n + u) + searches_more 12 n u + (taken + 6)) p (trace_in e) key (soon_used answer same run soon) alone in
       soon.leaves given (omega (arith, few, enough))
   left_alone same run on alone enough answer given (inr late) =
       let some = late_disturbs p.trace (trace_in d) (trace_in e) start (run_at p.trace (trace_in e) same run) key first on late in
@@ -121,7 +98,7 @@ module _ {N : Type 0} {kind : Ghosts N} (p : PassView) (d e : PendingCall N kind
       let last : SearchesWith (trace_in d) (trace_in e) key d.used (budget + 1) 11 = subst K same_key (subst B same_budget none.searches) in
       let later = slot_later p (trace_in d) (trace_in e) none.quiet.seen in
       let run = run_at p.trace (trace_in e) quiet.same (quiet.is_run ok) in
-      let short = replace_lacks p.trace (trace_in d) (trace_in e) start run key budget d.used (steps_for_slot p (trace_in d)) first none.quiet searched last in
+      let short = both_lack p.trace (trace_in d) (trace_in e) start run key budget d.used (steps_for_slot p (trace_in d)) first none.quiet (omega arith) searched last in
       let within = lacks (enough_to_replace_among n t taking) budget refusal (omega (arith, short, later)) in
       let alone = replace_lone p (trace_in e) key budget refusal within in
       record {

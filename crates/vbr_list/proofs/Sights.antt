@@ -1,32 +1,20 @@
 -- What a look-up came to, as what its answer asks.
-use Rattle.std.proofs.Common.{◌≡◌, ℕ, ◌+◌, ◌*◌, ◌≤◌, Bool, true, false, arith}
-use Rattle.vbr_machine.specs.Start.{Start}
-use Rattle.vbr_words.specs.Words.{link_of}
-use Rattle.vbr_words.specs.declared.place.At.{At}
-use Rattle.vbr_words.specs.declared.place.At.TheVariants.{Head, Slot}
-use Rattle.vbr_machine.specs.Knowledge.{Know}
-use Rattle.vbr_machine.specs.Membership.{KeyAt}
-use Rattle.vbr_slots.specs.Views.{Trace}
-use Rattle.vbr_at_table.specs.Held.{IsHeld, IsSlot}
-use Rattle.vbr_at_table.specs.LookUps.{DecidesKey}
-use Rattle.vbr_list.specs.Budgets.{answer_costs, listed_for}
+use Rattle.vbr_list.proofs.Names.{◌≡◌, ℕ, ◌≤◌, Bool, false, arith}
+use Rattle.vbr_list.proofs.Names.{At, DecidesKey, IsHeld, IsSlot, KeyAt, Know, link_of, Start}
 use Rattle.vbr_list.specs.LookingUp.{steps_to_answer}
 use Rattle.vbr_list.specs.Places.{IsSight, sighted, is_present}
 use Rattle.vbr_list.specs.declared.looking.Sight.{Sight}
 use Rattle.vbr_list.specs.declared.looking.Sight.TheVariants.{Present, Absent}
 
 pub keyed_slot : (know : Know) (at : At) (key : ℕ) → KeyAt know at key → IsSlot at
-keyed_slot know (Head b) key k = absurd k
-keyed_slot know (Slot s) key k = tt
+keyed_slot know at key k = grind arith
 
 module _ (start : Start) (know : Know) (key : ℕ) where
   pub sight_held : (sight : Sight) → IsSight start know key sight → IsHeld know (sighted sight)
-  sight_held (Present node) s = s.0
-  sight_held (Absent pred) s = s.0.held
+  sight_held sight s = grind arith
 
   pub sight_unmarked : (sight : Sight) → IsSight start know key sight → (link_of (sighted sight).word).mark ≡ false
-  sight_unmarked (Present node) s = s.1
-  sight_unmarked (Absent pred) s = s.0.unmarked
+  sight_unmarked sight s = grind arith
 
   pub sight_answers : (sight : Sight) → IsSight start know key sight → DecidesKey start know key (sighted sight) (is_present sight)
   sight_answers (Present node) s = (keyed_slot know node.at key s.2, s.2)
@@ -35,9 +23,4 @@ module _ (start : Start) (know : Know) (key : ℕ) where
 -- ---- what its answer costs
 
 pub few_to_answer : (gives : Bool) → steps_to_answer gives ≤ 3
-few_to_answer true = omega arith
-few_to_answer false = omega arith
-
-pub costs_alone : (gives : Bool) (p : Trace) (key since : ℕ) → since ≤ (0 + 1) * (5 * (listed_for p key + 0) + (3 + steps_to_answer gives)) → since ≤ answer_costs gives p key
-costs_alone true p key since paid = omega (arith, paid)
-costs_alone false p key since paid = omega (arith, paid)
+few_to_answer gives = grind arith

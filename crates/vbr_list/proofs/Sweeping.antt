@@ -1,39 +1,15 @@
 -- What a walk to a key, and an unlinking, show of removed nodes: they have left their list.
-use Rattle.std.proofs.Common.{◌≡◌, ℕ, ◌+◌, ◌≤◌, Bool, true, false, Option, Some, None, refl, sym, subst, arith}
-use Rattle.std.specs.Prelude.{IfSome, IfNone}
-use Rattle.vbr_words.specs.declared.nodes.Nodes.{Ghosts}
-use Rattle.vbr_words.specs.Words.{link_of}
-use Rattle.vbr_words.specs.declared.place.At.{At}
-use Rattle.vbr_words.specs.declared.place.At.TheVariants.{Slot}
-use Rattle.vbr_machine.specs.Start.{Start, IsStart}
-use Rattle.vbr_machine.specs.Accounts.{incarnations_after}
-use Rattle.vbr_machine.specs.Agreement.{IsHeldIncarnation}
-use Rattle.vbr_machine.specs.Membership.{KeyAt, StandsBehind}
-use Rattle.vbr_machine.specs.Moments.{WasShown}
-use Rattle.vbr_machine.specs.Removals.{HasLeft, ReplacedAt, ReplacedLeft}
-use Rattle.vbr_machine.specs.Runs.{IsRun}
-use Rattle.vbr_machine.specs.Sound.{IsRemoved}
-use Rattle.vbr_machine.specs.declared.knowledge.Read.TheVariants.{KeyOf}
-use Rattle.vbr_machine.proofs.Lemmas.{begins_refl, found_left, has_key, held_key, held_on, left_on, passed_left, removed_on, replaced_earlier, replaced_later, skipped_left}
-use Rattle.vbr_slots.specs.Alone.{nodes}
-use Rattle.vbr_slots.specs.Calls.{IsSame, Quiet}
-use Rattle.vbr_slots.specs.Views.{Trace, knows}
-use Rattle.vbr_slots.proofs.Lemmas.{same_on}
-use Rattle.vbr_at_table.specs.Held.{HoldsMarked}
-use Rattle.vbr_at_table.specs.Keeping.{Keeps}
-use Rattle.vbr_at_table.specs.Moments.{IsRead}
-use Rattle.vbr_at_table.specs.declared.budget.TheConstants.{PIECE}
-use Rattle.vbr_at_table.specs.declared.held.Held.{Held}
-use Rattle.vbr_at_table.specs.declared.held.Marked.{Marked}
-use Rattle.vbr_list.specs.Found.{CurStood, IsFound}
+use Rattle.vbr_list.proofs.Names.{◌≡◌, ℕ, ◌+◌, ◌≤◌, false, Option, Some, None, sym, subst, arith, IfSome, IfNone}
+use Rattle.vbr_list.proofs.Names.{At, begins_refl, found_left, Ghosts, has_key, HasLeft, Held, held_key, held_on, HoldsMarked, incarnations_after, IsHeldIncarnation, IsRead, IsRemoved, IsRun, IsSame, IsStart, Keeps, KeyAt, KeyOf, knows, left_on, link_of, Marked, nodes, passed_left, PIECE, Quiet, removed_on, replaced_earlier, replaced_later, ReplacedAt, ReplacedLeft, same_on, skipped_left, Slot, StandsBehind, Start, Trace, WasShown}
+use Rattle.vbr_list.specs.Found.{IsFound}
 use Rattle.vbr_list.specs.Leaving.{LeavesAt, LeavesReplaced, Sweeps}
 use Rattle.vbr_list.specs.Pieces.{trace_in}
-use Rattle.vbr_list.specs.Places.{IsEnd}
 use Rattle.vbr_list.specs.Traversing.{Finds, SearchTires}
 use Rattle.vbr_list.specs.declared.call.PendingCall.{PendingCall}
 use Rattle.vbr_list.specs.declared.found.Found.{Found}
 use Rattle.vbr_list.proofs.Clearing.{was_shown}
-use Rattle.vbr_list.proofs.Moments.{key_known, stands_before}
+use Rattle.vbr_list.proofs.Disturbing.{run_at}
+use Rattle.vbr_list.proofs.Moments.{by_found, key_known}
 
 -- ---- from the start of one trace to that of another
 
@@ -61,25 +37,16 @@ module _ {p q : Trace} (key : ℕ) (start : IsStart p.start) (ok : IsRun p.start
 
   -- that came to the key
   found_swept : (found : Found) → IsFound p q key found → HasLeft ((nodes q).state node)
-  found_swept found x = go found.cur found.present x.locates.end x.cur_stood
-    where
-      pred : Held
-      pred = found.pred
-
-      shown : WasShown q.start x.stood.moment q.seen q.who pred.at (link_of pred.word)
-      shown = was_shown pred start quiet.same (record { known = x.locates.pred.held; stood = x.stood }) x.locates.pred.unmarked
-
-      absent : (cur : Option Held) → IsEnd (knows q) key pred cur false → HasLeft ((nodes q).state node)
-      absent cur y = passed_left q.start q.passes p.seen q.seen is_start (quiet.is_run ok) q.who key node was_removed had_key x.stood.moment pred.at (link_of pred.word) shown x.stood.within.from x.locates.pred.behind (stands_before (knows q) key pred cur y)
-
-      go : (cur : Option Held) (present : Bool) → IsEnd (knows q) key pred cur present → CurStood p q cur → HasLeft ((nodes q).state node)
-      go None present y z = absent None (y.0, refl)
-      go (Some cur) false y z = absent (Some cur) y
-      go (Some cur) true y z =
-          let there = was_shown cur start quiet.same (record { known = y.held; stood = z }) y.unmarked in
-          let P : At → Type 0 = λ at. WasShown q.start z.moment q.seen q.who at (link_of cur.word) in
-          let K : At → Type 0 = λ at. KeyAt (knows q) at key in
-          found_left q.start q.passes p.seen q.seen is_start (quiet.is_run ok) q.who key node was_removed had_key x.stood.moment z.moment pred.at (link_of pred.word) (link_of cur.word) y.slot shown (subst P y.at there) x.stood.within.from z.within.from x.locates.pred.behind y.named (subst K y.at (key_known (knows q) key pred cur y))
+  found_swept found x =
+      let pred = found.pred in
+      let shown : WasShown q.start x.stood.moment q.seen q.who pred.at (link_of pred.word) = was_shown pred start quiet.same (record { known = x.locates.pred.held; stood = x.stood }) x.locates.pred.unmarked in
+      by_found key found (λ present. HasLeft ((nodes q).state node)) x
+      (λ before. passed_left q.start q.passes p.seen q.seen is_start (quiet.is_run ok) q.who key node was_removed had_key x.stood.moment pred.at (link_of pred.word) shown x.stood.within.from x.locates.pred.behind before)
+      (λ cur y z.
+      (let there = was_shown cur start quiet.same (record { known = y.held; stood = z }) y.unmarked in
+      let P : At → Type 0 = λ at. WasShown q.start z.moment q.seen q.who at (link_of cur.word) in
+      let K : At → Type 0 = λ at. KeyAt (knows q) at key in
+      found_left q.start q.passes p.seen q.seen is_start (quiet.is_run ok) q.who key node was_removed had_key x.stood.moment z.moment pred.at (link_of pred.word) (link_of cur.word) y.slot shown (subst P y.at there) x.stood.within.from z.within.from x.locates.pred.behind y.named (subst K y.at (key_known (knows q) key pred cur y))))
 
 pub swept_found : {p q : Trace} (key : ℕ) (found : Found) → IsStart p.start → IsRun p.start p.passes p.seen → Quiet p q → IsFound p q key found → Sweeps p q key
 swept_found key found start ok quiet x node removed of_key = found_swept key start ok quiet node removed of_key found x
@@ -101,9 +68,7 @@ left_skipped p q r place gone key start ok quiet later keeps read unmarked marke
     let H : Start → Type 0 = λ s. IsHeldIncarnation (incarnations_after s q.seen) (knows p).epoch gone.slot node in
     let E : ℕ → Type 0 = λ e. IsHeldIncarnation (nodes q) e gone.slot node in
     let of_key : (nodes p).key node ≡ key = held_key p.start p.passes p.seen start ok p.who gone.slot key node held key_is in
-    let P : Start → Type 0 = λ s. IsRun s p.passes q.seen in
-    let Q : ℕ → Type 0 = λ n. IsRun q.start n q.seen in
-    let run_p : IsRun p.start p.passes q.seen = subst P quiet.same.start (subst Q quiet.same.passes run) in
+    let run_p = run_at p q quiet.same run in
     let held_q : IsHeldIncarnation (nodes q) (knows q).epoch gone.slot node = subst E (sym keeps.epoch) (moved_state H p q quiet.same (held_on p.start p.passes start p.seen q.seen p.who gone.slot node run_p quiet.seen held)) in
     left_later q r node is_q later run
     (skipped_left q.start q.passes p.seen q.seen is_q run q.who key node (moved_state R p q quiet.same removed) (moved_state K p q quiet.same of_key) gone.slot held_q (keeps.reads (KeyOf gone.slot key) key_is) read.stood.moment place.at (link_of place.word)
@@ -114,9 +79,7 @@ pub swept_at : (p q r : Trace) (slot key : ℕ) → IsStart p.start → IsRun p.
 swept_at p q r slot key start ok quiet sweeps key_is node held removed =
     let run = quiet.is_run ok in
     let of_key : (nodes p).key node ≡ key = held_key p.start p.passes p.seen start ok p.who slot key node held key_is in
-    let P : Start → Type 0 = λ s. IsRun s p.passes q.seen in
-    let Q : ℕ → Type 0 = λ n. IsRun q.start n q.seen in
-    let run_p : IsRun p.start p.passes q.seen = subst P quiet.same.start (subst Q quiet.same.passes run) in
+    let run_p = run_at p q quiet.same run in
     let R : Start → Type 0 = λ s. IsRemoved ((incarnations_after s q.seen).state node) in
     let K : Start → Type 0 = λ s. (incarnations_after s q.seen).key node ≡ key in
     sweeps node (moved_state R p q quiet.same (removed_on p.start p.passes start p.seen q.seen node run_p quiet.seen removed)) (moved_state K p q quiet.same (has_key p.start p.passes p.seen q.seen start run_p p.who key node removed of_key q.seen quiet.seen (begins_refl q.seen)))
@@ -132,9 +95,7 @@ leaves_replaced p q r slot key start same ok x key_is quiet leaves =
     let R : Start → Type 0 = λ s. IsRemoved ((incarnations_after s q.seen).state x.node) in
     let L : Start → Type 0 = λ s. HasLeft ((incarnations_after s r.seen).state x.node) in
     let K : Start → Type 0 = λ s. (incarnations_after s r.seen).key x.node ≡ key in
-    let P : Start → Type 0 = λ s. IsRun s q.passes r.seen in
-    let Q : ℕ → Type 0 = λ n. IsRun r.start n r.seen in
-    let run_q : IsRun q.start q.passes r.seen = subst P quiet.same.start (subst Q quiet.same.passes run) in
+    let run_q = run_at q r quiet.same run in
     let held = moved_state H p q same x.held in
     let removed = moved_state R p q same x.removed in
     let of_key = held_key q.start q.passes q.seen is_q ok q.who slot key x.node held key_is in

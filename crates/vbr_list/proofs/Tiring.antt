@@ -1,13 +1,6 @@
 -- A remove and a look-up that are refused for want of steps: the budget was below what is enough, alone and disturbed.
-use Rattle.std.proofs.Common.{◌≡◌, ℕ, ◌+◌, ◌<◌, ◌≤◌, Bool, List, None, Result, Err, arith}
-use Rattle.vbr_machine.specs.Runs.{Begins, IsRun}
-use Rattle.vbr_machine.specs.declared.event.Event.{Event}
-use Rattle.vbr_machine.specs.declared.history.Call.{Call}
-use Rattle.vbr_slots.specs.PassLaw.{PassLaw}
-use Rattle.vbr_slots.specs.Views.{PassView}
-use Rattle.vbr_slots.proofs.Lemmas.{same_refl}
-use Rattle.vbr_at_table.specs.declared.budget.TheConstants.{PIECE}
-use Rattle.vbr_at_table.proofs.Lemmas.{took_all}
+use Rattle.vbr_list.proofs.Names.{◌≡◌, ℕ, ◌+◌, ◌<◌, ◌≤◌, Bool, List, None, Result, Err, arith}
+use Rattle.vbr_list.proofs.Names.{Begins, Call, Event, IsRun, PassLaw, PassView, PIECE, same_refl, took_all}
 use Rattle.vbr_list.specs.Budgets.{listed_for}
 use Rattle.vbr_list.specs.Disturbed.{disturbed_after, enough_among, enough_to_search_among}
 use Rattle.vbr_list.specs.Leaving.{SparesRemove}
@@ -50,11 +43,11 @@ module _ {p q r : PassView} (law : PassLaw p) (key : ℕ) {a b budget : ℕ} (tr
         fewer = tt;
       })
 
-  pub look_up_tires : {A : Type 0} {told : A → Call} {most each : ℕ} → each ≤ 3 → Observes p.trace q.trace → Observes q.trace r.trace → HasRepeated 5 p.trace q.trace key (3 + each) 0 a → (lost : ℕ) (moment : List Event) → Begins moment r.trace.seen → Repeats 5 q.trace r.trace key 3 a b (lost + 1) (disturbed_after q.trace key moment + 1) → CallsAs told (SparesLookUp told most p r key budget) p r budget (Err (OutOfSteps b))
-  look_up_tires {A} {told} {most} {each} few before now rounds lost moment to repeats =
+  pub look_up_tires : {A : Type 0} {told : A → Call} {reading each : ℕ} → each ≤ 3 → Observes p.trace q.trace → Observes q.trace r.trace → HasRepeated 5 p.trace q.trace key (3 + each) 0 a → (lost : ℕ) (moment : List Event) → Begins moment r.trace.seen → Repeats 5 q.trace r.trace key 3 a b (lost + 1) (disturbed_after q.trace key moment + 1) → CallsAs told (SparesLookUp told reading p r key budget) p r budget (Err (OutOfSteps b))
+  look_up_tires {A} {told} {reading} {each} few before now rounds lost moment to repeats =
       let seen = observes_on before now in
       let lacks = lacks_steps p.trace q.trace r.trace law.start ok key each tries.goes.quiet.same tries.goes.quiet.seen went.quiet.seen (own_at p.trace p.trace r.trace (same_refl p.trace) whole.quiet.same seen.adds_none) rounds lost moment to repeats budget few short in
-      refused {S = SparesLookUp told most p r key budget} (record {
+      refused {S = SparesLookUp told reading p r key budget} (record {
         only_loads = seen.only_loads;
         adds = tt;
         adds_none = seen.adds_none;

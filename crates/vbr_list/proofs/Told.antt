@@ -1,16 +1,6 @@
 -- The calls that answers tell, at tables of both kinds, and the same record of a call with another answer.
-use Rattle.std.proofs.Common.{◌≡◌, ℕ, Bool, true, false, Option, Some, None, Result, Ok, Err, refl, sym, ap, subst}
-use Rattle.std.specs.Prelude.{is_some, if◌then◌else◌}
-use Rattle.vbr_machine.specs.Start.{Start}
-use Rattle.vbr_machine.specs.History.{set_call}
-use Rattle.vbr_machine.specs.Opened.{payload_kept}
-use Rattle.vbr_machine.specs.declared.history.Call.{Call}
-use Rattle.vbr_machine.specs.declared.history.Op.{Op}
-use Rattle.vbr_machine.specs.declared.history.Op.TheVariants.{Insert}
-use Rattle.vbr_slots.specs.Calls.{AddsAnswer, IsSame, Made, Quiet}
-use Rattle.vbr_slots.specs.PassLaw.{PassLaw}
-use Rattle.vbr_slots.specs.Views.{PassView, Trace}
-use Rattle.vbr_slots.proofs.Lemmas.{made_on}
+use Rattle.vbr_list.proofs.Names.{◌≡◌, ℕ, Bool, true, false, Option, Some, None, Result, Ok, Err, refl, sym, ap, subst, is_some, if◌then◌else◌, arith}
+use Rattle.vbr_list.proofs.Names.{AddsAnswer, Call, Insert, IsSame, Made, made_on, Op, PassLaw, PassView, payload_kept, Quiet, set_call, Start, Trace}
 use Rattle.vbr_list.specs.Alone.{AnswersAlone}
 use Rattle.vbr_list.specs.Sparing.{CallsAs, CallsEntry, SparesLookUp}
 use Rattle.vbr_list.specs.Leaving.{SparesRemove}
@@ -21,8 +11,7 @@ use Rattle.vbr_list.proofs.LonePasses.{gives_alone}
 -- ---- what is kept
 
 none_kept : (values : Bool) (value : Option ℕ) → value ≡ None → (if values then value else None) ≡ None
-none_kept true value none = none
-none_kept false value none = refl
+none_kept values value none = grind arith
 
 pub kept_none : (start : Start) → payload_kept start None ≡ None
 kept_none start = none_kept start.shape.values None refl
@@ -97,7 +86,7 @@ calls_entry (Err refusal) law x = record { calls = x; gives = tt }
 -- ---- what a call promises besides
 
 -- of an answer, told as another, and of a refusal
-look_up_read : {A B : Type 0} {f : A → Call} {g : B → Call} {most : ℕ} {p q : PassView} {key budget : ℕ} (reply : A) (given : B) → f reply ≡ g given → SparesLookUp f most p q key budget (Ok reply) → SparesLookUp g most p q key budget (Ok given)
+look_up_read : {A B : Type 0} {f : A → Call} {g : B → Call} {reading : ℕ} {p q : PassView} {key budget : ℕ} (reply : A) (given : B) → f reply ≡ g given → SparesLookUp f reading p q key budget (Ok reply) → SparesLookUp g reading p q key budget (Ok given)
 look_up_read {p = p} {q = q} reply given same x = record {
   only_loads = x.only_loads;
   adds = subst (λ (call : Call). AddsAnswer call p.trace q.trace) same x.adds;
@@ -110,14 +99,14 @@ look_up_read {p = p} {q = q} reply given same x = record {
   disturbed_costs = x.disturbed_costs;
 }
 
-look_up_refused : {A B : Type 0} {f : A → Call} {g : B → Call} {most : ℕ} {p q : PassView} {key budget : ℕ} {refusal : Refusal} → SparesLookUp f most p q key budget (Err refusal) → SparesLookUp g most p q key budget (Err refusal)
+look_up_refused : {A B : Type 0} {f : A → Call} {g : B → Call} {reading : ℕ} {p q : PassView} {key budget : ℕ} {refusal : Refusal} → SparesLookUp f reading p q key budget (Err refusal) → SparesLookUp g reading p q key budget (Err refusal)
 look_up_refused x = record { only_loads = x.only_loads; adds = tt; adds_none = x.adds_none; takes_no_slot = x.takes_no_slot; refused = x.refused; within = x.within; disturbed_within = x.disturbed_within; costs = tt; disturbed_costs = tt }
 
-pub look_up_as : {A : Type 0} {f g : A → Call} {most : ℕ} {p q : PassView} {key budget : ℕ} (answer : Result A Refusal) → SparesLookUp f most p q key budget answer → ((reply : A) → f reply ≡ g reply) → SparesLookUp g most p q key budget answer
+pub look_up_as : {A : Type 0} {f g : A → Call} {reading : ℕ} {p q : PassView} {key budget : ℕ} (answer : Result A Refusal) → SparesLookUp f reading p q key budget answer → ((reply : A) → f reply ≡ g reply) → SparesLookUp g reading p q key budget answer
 look_up_as (Ok reply) x same = look_up_read reply reply (same reply) x
 look_up_as (Err refusal) x same = look_up_refused x
 
-pub look_up_yes : {f : Option ℕ → Call} {g : Bool → Call} {most : ℕ} {p q : PassView} {key budget : ℕ} (answer : Result (Option ℕ) Refusal) → SparesLookUp f most p q key budget answer → ((given : Option ℕ) → f given ≡ g (is_some given)) → SparesLookUp g most p q key budget (is_yes answer)
+pub look_up_yes : {f : Option ℕ → Call} {g : Bool → Call} {reading : ℕ} {p q : PassView} {key budget : ℕ} (answer : Result (Option ℕ) Refusal) → SparesLookUp f reading p q key budget answer → ((given : Option ℕ) → f given ≡ g (is_some given)) → SparesLookUp g reading p q key budget (is_yes answer)
 look_up_yes (Ok given) x same = look_up_read given (is_some given) (same given) x
 look_up_yes (Err refusal) x same = look_up_refused x
 

@@ -1,15 +1,9 @@
 -- How far the loop of a traversal or of a look-up has come: what its pass did since it began, and where it stands.
-use Rattle.std.specs.Prelude.{ℕ, ◌≡◌, ◌⊎◌, ◌<◌}
-use Rattle.vbr_machine.specs.Start.{Start}
-use Rattle.vbr_words.specs.Words.{link_of}
-use Rattle.vbr_machine.specs.Knowledge.{Know}
-use Rattle.vbr_machine.specs.Membership.{LeadsTo}
-use Rattle.vbr_at_table.specs.declared.held.Held.{Held}
+use Rattle.vbr_list.proofs.Names.{ℕ, ◌<◌}
+use Rattle.vbr_list.proofs.Names.{Held, IsFresh, Know, knows, LeadsTo, link_of, PassView, Start}
 use Rattle.vbr_list.specs.Pieces.{Peeks, Tries}
 use Rattle.vbr_list.specs.Places.{IsInside, IsPred}
 use Rattle.vbr_list.specs.Traversing.{HasComeTo}
-use Rattle.vbr_slots.specs.Alone.{IsAlone, IsFresh}
-use Rattle.vbr_slots.specs.Views.{PassView, knows}
 use Rattle.vbr_list.specs.Walking.{Walks}
 
 -- known marked links lead from a place before the key to another place of the list, or to itself
@@ -17,10 +11,6 @@ pub record IsLook (start : Start) (know : Know) (key : ℕ) (pred here : Held) :
   pub before : IsPred start know key pred
   pub inside : IsInside start know key here
   pub leads : LeadsTo know (link_of pred.word) (link_of here.word)
-
--- nothing was done yet, or the pass was not alone
-abbrev pub IsFirst : PassView → PassView → ℕ → ℕ → Type 0
-IsFirst p q before since = (IsAlone p.trace q.trace → ⊥) ⊎ ((q ≡ p) × (since ≡ before))
 
 -- a traversal that began with so many steps stands at this place
 pub record Traverses (p q : PassView) (key before since budget : ℕ) (pred : Held) : Type 0 where

@@ -1,21 +1,7 @@
 -- Reading a value, and the steps that it takes.
-use Rattle.std.proofs.Common.{◌≡◌, ℕ, ◌+◌, ◌<◌, ◌≤◌, Bool, true, false, Option, Some, arith, refl, sym, ap, ◌∙◌, subst}
-use Rattle.vbr_words.specs.declared.nodes.Nodes.{Ghosts}
-use Rattle.vbr_machine.specs.Start.{Start}
-use Rattle.vbr_words.specs.declared.place.At.{At}
-use Rattle.vbr_machine.specs.Knowledge.{Know}
-use Rattle.vbr_slots.specs.Calls.{IsSame, Took}
-use Rattle.vbr_slots.specs.Views.{PassView, Trace}
-use Rattle.vbr_slots.proofs.Lemmas.{adds_refl, loads_refl, quiet_refl}
-use Rattle.vbr_at_table.proofs.Lemmas.{counts_none, counts_on, none_refl, took_all}
-use Rattle.vbr_at_table.specs.Held.{IsSlot}
-use Rattle.vbr_at_table.specs.Keeping.{KeepsOwn}
-use Rattle.vbr_at_table.specs.KeptSlots.{TakesNoSlot}
-use Rattle.vbr_at_table.specs.Steps.{CountsSteps}
-use Rattle.vbr_at_table.specs.Reading.{ReadsIn}
-use Rattle.vbr_at_table.specs.Values.{steps_to_update, steps_to_value}
-use Rattle.vbr_at_table.specs.declared.held.Held.{Held}
-use Rattle.vbr_list.specs.Budgets.{steps_to_value_of, steps_where}
+use Rattle.vbr_list.proofs.Names.{◌≡◌, ℕ, ◌+◌, ◌<◌, ◌≤◌, Bool, true, Option, Some, arith, refl, sym, ap, ◌∙◌, subst}
+use Rattle.vbr_list.proofs.Names.{adds_refl, At, counts_none, counts_on, CountsSteps, Ghosts, Held, IsSame, IsSlot, KeepsOwn, Know, loads_refl, none_refl, PassView, quiet_refl, ReadsIn, Start, steps_to_update, TakesNoSlot, Took, took_all, Trace}
+use Rattle.vbr_list.specs.Budgets.{steps_to_value_of}
 use Rattle.vbr_list.specs.Inserting.{Publishes}
 use Rattle.vbr_list.specs.Pieces.{Goes, IsSameCall, KeepsHand, Settles, pass_in, trace_in}
 use Rattle.vbr_list.specs.declared.call.PendingCall.{PendingCall}
@@ -55,18 +41,10 @@ settles_read {c = c} {d = d} {q = q} {steps = steps} same used e reads took own 
     record { call = same; counts = subst (CountsSteps (trace_in c) (trace_in d) c.used) (sym used) then.0; hand = then.1; more = omega (arith, used) }
 
 pub few_to_value : (start : Start) → steps_to_value_of start ≤ 2
-few_to_value start = go start.shape.values
-  where
-    go : (values : Bool) → steps_where values ≤ 2
-    go true = omega arith
-    go false = omega arith
+few_to_value start = grind arith
 
 pub few_to_update : (start : Start) → (0 < steps_to_update start) × (steps_to_update start ≤ 4)
-few_to_update start = go start.shape.values
-  where
-    go : (values : Bool) → (0 < 1 + steps_to_value values + 1 + 1) × (1 + steps_to_value values + 1 + 1 ≤ 4)
-    go true = (omega arith, omega arith)
-    go false = (omega arith, omega arith)
+few_to_update start = grind arith
 
 -- a node that was found behind a place
 pub cur_is : (know : Know) (key : ℕ) (pred cur : Held) (o : Option Held) (present : Bool) → IsEnd know key pred o present → o ≡ Some cur → IsCur know key pred cur present

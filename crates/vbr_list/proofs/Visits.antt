@@ -1,15 +1,6 @@
 -- What a start and a visit make of the walk of a call to a key, whatever others do meanwhile.
-use Rattle.std.proofs.Common.{◌≡◌, ℕ, ◌+◌, ◌<◌, ◌≤◌, true, false, ap}
-use Rattle.std.specs.Option.{is_some}
-use Rattle.vbr_words.specs.Words.{link_of}
-use Rattle.vbr_words.specs.Buckets.{bucket_of}
-use Rattle.vbr_machine.specs.Runs.{IsRun}
-use Rattle.vbr_slots.specs.Alone.{IsFresh}
-use Rattle.vbr_slots.specs.Calls.{Quiet}
-use Rattle.vbr_slots.specs.PassLaw.{PassLaw}
-use Rattle.vbr_slots.specs.Views.{PassView, Trace}
-use Rattle.vbr_slots.proofs.Lemmas.{quiet_on, same_refl}
-use Rattle.vbr_at_table.specs.declared.held.Held.{Held}
+use Rattle.vbr_list.proofs.Names.{◌≡◌, ℕ, ◌+◌, ◌<◌, ◌≤◌, true, false, ap, is_some}
+use Rattle.vbr_list.proofs.Names.{bucket_of, Held, IsFresh, IsRun, link_of, PassLaw, PassView, Quiet, quiet_on, same_refl, Trace}
 use Rattle.vbr_list.specs.Disturbed.{changed_after, disturbed_after}
 use Rattle.vbr_list.specs.Pieces.{Observes}
 use Rattle.vbr_list.specs.Visiting.{Meets, StartsAt, met_place}

@@ -1,42 +1,18 @@
 -- A walk goes on from place to place, whatever others do meanwhile; and it begins again only where it was disturbed.
-use Rattle.std.proofs.Common.{◌≡◌, ℕ, suc, ◌+◌, ◌*◌, ◌<◌, ◌≤◌, true, false, List, Option, Some, None, refl, sym, ap, ◌∙◌, subst, arith}
-use Rattle.std.proofs.Common.{Bool}
-use Rattle.std.specs.Option.{is_some}
-use Rattle.std.proofs.lemmas.Nat.{mul-le}
-use Rattle.vbr_words.specs.Words.{link_of}
-use Rattle.vbr_words.specs.Buckets.{bucket_of}
-use Rattle.vbr_words.specs.declared.place.At.{At}
-use Rattle.vbr_words.specs.declared.place.At.TheVariants.{Head, Slot}
-use Rattle.vbr_machine.specs.Start.{Start, IsStart}
-use Rattle.vbr_machine.specs.Accounts.{incarnations_after, own_entries}
-use Rattle.vbr_machine.specs.Disturbances.{HasVisited, IsAhead, IsOpenIn, own_changes}
-use Rattle.vbr_machine.specs.Membership.{HeldIn}
-use Rattle.vbr_machine.specs.Images.{link_shown_at}
-use Rattle.vbr_machine.specs.Machine.{link_at}
-use Rattle.vbr_machine.specs.Runs.{Begins, IsRun, world_after}
-use Rattle.vbr_machine.specs.declared.event.Event.{Event}
-use Rattle.vbr_machine.proofs.Lemmas.{ahead_few, begins_refl, begins_run, begins_trans, disturbances_grow, head_visited, next_visited, own_between, shown_there, since, unmarked_open, visited_few, visited_on}
-use Rattle.vbr_slots.specs.Alone.{IsFresh}
-use Rattle.vbr_slots.specs.Calls.{IsSame, Quiet}
-use Rattle.vbr_slots.specs.Views.{Trace, knows}
-use Rattle.vbr_slots.proofs.Lemmas.{quiet_on, same_on}
-use Rattle.vbr_at_table.specs.Held.{held_of}
-use Rattle.vbr_at_table.specs.declared.held.Held.{Held}
-use Rattle.vbr_at_table.specs.declared.held.Marked.{Marked}
+use Rattle.vbr_list.proofs.Names.{◌≡◌, ℕ, suc, ◌+◌, ◌*◌, ◌<◌, ◌≤◌, true, false, List, Option, Some, None, refl, sym, ap, ◌∙◌, subst, arith, is_some, mul-le}
+use Rattle.vbr_list.proofs.Names.{advances, ahead_few, At, Begins, begins_refl, begins_run, begins_trans, bucket_of, disturbances_grow, Event, HasVisited, Head, head_visited, Held, held_of, HeldIn, incarnations_after, IsAhead, IsFresh, IsOpenIn, IsRun, IsSame, IsStart, knows, link_at, link_of, link_shown_at, Marked, next_visited, own_between, own_changes, own_entries, Quiet, quiet_on, same_on, same_refl, shown_there, since, Slot, Start, steps_to_update, Trace, unmarked_open, visited_few, visited_on, world_after}
 use Rattle.vbr_list.specs.Helping.{OpensPlace}
 use Rattle.vbr_list.specs.Budgets.{listed_for}
 use Rattle.vbr_list.specs.declared.found.Found.{Found}
-use Rattle.vbr_at_table.specs.Counts.{advances}
 use Rattle.vbr_list.specs.Disturbed.{changed_after, costs_among, disturbed_after, disturbed, enough_among, enough_to_search_among, find_costs_among}
-use Rattle.vbr_at_table.specs.Values.{steps_to_update, steps_to_value}
-use Rattle.vbr_list.specs.Budgets.{LacksSteps}
+use Rattle.vbr_list.specs.Budgets.{LacksSteps, enough_past}
 use Rattle.vbr_list.specs.Disturbed.{enough_to_insert_among, searches_more}
 use Rattle.vbr_at_table.specs.declared.refusal.Refusal.{Refusal}
 use Rattle.vbr_at_table.specs.declared.refusal.Refusal.TheVariants.{OutOfSteps, NoSlot, EpochSpent}
-use Rattle.vbr_list.specs.Inserting.{SearchedFor, SearchesFor, SearchesInVain}
+use Rattle.vbr_list.specs.Inserting.{SearchedFor, Searches, SearchesFor, SearchesInVain}
 use Rattle.vbr_list.specs.Traversing.{LastWalk}
-use Rattle.vbr_list.specs.Walking.{KnowsEpoch, LosesFound, LosesHeld, MovesSince, NextStandsStill, ReadsFresh, ReadsNext, Repeats, StandsStill, StoodOpen, Walks, WalksAgain, WalksOnce, met_since, nodes_after}
-use Rattle.vbr_list.proofs.Disturbing.{changed_same, disturbed_same, fresh_at, grows_disturbed, loses_disturb, loses_found_disturb, met_before, met_few, met_less, met_quiet, moves_disturb, run_to, same_between}
+use Rattle.vbr_list.specs.Walking.{KnowsEpoch, LosesFound, LosesHeld, MovesSince, ReadsFresh, ReadsNext, Repeats, StandsStill, StoodOpen, Walks, WalksAgain, WalksOnce, met_since, nodes_after}
+use Rattle.vbr_list.proofs.Disturbing.{disturbed_same, fresh_at, grows_disturbed, loses_disturb, loses_found_disturb, met_before, met_few, met_less, met_quiet, moves_disturb, run_to, same_between}
 
 abbrev pub stood_on : {p q r : Trace} {key : ℕ} {held : Held} → Begins q.seen r.seen → StoodOpen p q key held → StoodOpen p r key held
 stood_on {p} {q} {r} b x = record { moment = x.moment; from = x.from; to = begins_trans x.moment q.seen r.seen x.to b; shown = x.shown; is_open = x.is_open }
@@ -226,10 +202,12 @@ more_tries per tries m1 m2 m before a b x y l k =
     let z = mul-le tries (per * m1 + 3) tries (per * m + 3) (omega arith) (omega (arith, u)) in
     omega (arith, x, y, z, v)
 
-more_rounds : (each tries lost m1 m2 m a b c : ℕ) → a ≤ 0 + tries * (5 * m1 + (3 + each)) → b ≤ a + (lost + 1) * (5 * m2 + 3) → c ≤ b + each → m1 ≤ m → m2 ≤ m → c ≤ 0 + (tries + lost + 1) * (5 * m + (3 + each))
-more_rounds each tries lost m1 m2 m a b c x y z l k =
-    let u = mul-le tries (5 * m1 + (3 + each)) tries (5 * m + (3 + each)) (omega arith) (omega (arith, l)) in
-    let v = mul-le (lost + 1) (5 * m2 + 3) (lost + 1) (5 * m + 3) (omega arith) (omega (arith, k)) in
+more_rounds : (per before each tries lost m1 m2 m a b c : ℕ) → a ≤ before + tries * (per * m1 + (3 + each)) → b ≤ a + (lost + 1) * (per * m2 + 3) → c ≤ b + each → m1 ≤ m → m2 ≤ m → c ≤ before + (tries + lost + 1) * (per * m + (3 + each))
+more_rounds per before each tries lost m1 m2 m a b c x y z l k =
+    let low = mul-le per m1 per m (omega arith) l in
+    let high = mul-le per m2 per m (omega arith) k in
+    let u = mul-le tries (per * m1 + (3 + each)) tries (per * m + (3 + each)) (omega arith) (omega (arith, low)) in
+    let v = mul-le (lost + 1) (per * m2 + 3) (lost + 1) (per * m + 3) (omega arith) (omega (arith, high)) in
     let w = mul-le 0 0 lost each (omega arith) (omega arith) in
     omega (arith, x, y, z, u, v, w)
 
@@ -297,20 +275,22 @@ round_on p q m r is ok key each sq sm sr a b c own {used} {mid} {now_used} held 
       lost = x.lost + lost + 1;
       repeats = record {
         few = omega (arith, before, since_q, less, here, there);
-        paid = more_rounds each x.lost lost (met_since p q key) (met_since q m key) (met_since p r key) used mid now_used x.repeats.paid rep.paid few low (omega (arith, mid_met, high));
+        paid = more_rounds 5 0 each x.lost lost (met_since p q key) (met_since q m key) (met_since p r key) used mid now_used x.repeats.paid rep.paid few low (omega (arith, mid_met, high));
       };
     }
 
-enough_few : (each lost t m1 m2 n times used now budget : ℕ) → used ≤ 0 + lost * (5 * m1 + (3 + each)) → now ≤ used + (t + 1) * (5 * m2 + 3) → m1 ≤ n → m2 ≤ n → lost + t ≤ times → each ≤ 3 → budget < now + 8 → budget < (times + 1) * (5 * n + 11)
-enough_few each lost t m1 m2 n times used now budget x y l k f e z =
-    let u = mul-le lost (5 * m1 + (3 + each)) lost (5 * n + 11) (omega arith) (omega (arith, l, e)) in
-    let v = mul-le (t + 1) (5 * m2 + 11) (t + 1) (5 * n + 11) (omega arith) (omega (arith, k)) in
-    let w = mul-le (lost + t + 1) (5 * n + 11) (times + 1) (5 * n + 11) (omega (arith, f)) (omega arith) in
+enough_few : (per each lost t m1 m2 n times used now budget : ℕ) → used ≤ 0 + lost * (per * m1 + (3 + each)) → now ≤ used + (t + 1) * (per * m2 + 3) → m1 ≤ n → m2 ≤ n → lost + t ≤ times → each ≤ 3 → budget < now + 8 → budget < (times + 1) * (per * n + 11)
+enough_few per each lost t m1 m2 n times used now budget x y l k f e z =
+    let low = mul-le per m1 per n (omega arith) l in
+    let high = mul-le per m2 per n (omega arith) k in
+    let u = mul-le lost (per * m1 + (3 + each)) lost (per * n + 11) (omega arith) (omega (arith, low, e)) in
+    let v = mul-le (t + 1) (per * m2 + 11) (t + 1) (per * n + 11) (omega arith) (omega (arith, high)) in
+    let w = mul-le (lost + t + 1) (per * n + 11) (times + 1) (per * n + 11) (omega (arith, f)) (omega arith) in
     omega (arith, x, y, z, u, v, w)
 
 costs_few : (each lost t m1 m2 n times used mid now : ℕ) → used ≤ 0 + lost * (5 * m1 + (3 + each)) → mid ≤ used + (t + 1) * (5 * m2 + 3) → now ≤ mid + each → m1 ≤ n → m2 ≤ n → lost + t ≤ times → now ≤ (times + 1) * (5 * n + (3 + each))
 costs_few each lost t m1 m2 n times used mid now x y z l k f =
-    let r = more_rounds each lost t m1 m2 n used mid now x y z l k in
+    let r = more_rounds 5 0 each lost t m1 m2 n used mid now x y z l k in
     let w = mul-le (lost + t + 1) (5 * n + (3 + each)) (times + 1) (5 * n + (3 + each)) (omega (arith, f)) (omega arith) in
     omega (arith, r, w)
 
@@ -336,51 +316,32 @@ module _ (p q r : Trace) (is : IsStart p.start) (ok : IsRun p.start p.passes r.s
 
   -- a budget that has no room for one more piece was below what is enough
   pub lacks_steps : (budget : ℕ) → each ≤ 3 → budget < mid + 8 → budget < enough_among (listed_for p key) (disturbed p r key)
-  lacks_steps budget few short = enough_few each x.lost lost (met_since p q key) (met_since q r key) (listed_for p key + disturbed p r key) (disturbed p r key) used mid budget x.repeats.paid rep.paid met_low met_high rounds few short
-
--- what an answer cost, so many steps after a look
-pub paid_answer : (p q m r : Trace) → IsStart p.start → IsRun p.start p.passes r.seen → (key each : ℕ) → IsSame p q → Begins p.seen q.seen → Begins q.seen m.seen → Begins m.seen r.seen → own_entries p.start m.seen p.who ≡ own_entries p.start p.seen p.who →
-    {used mid now_used : ℕ} (x : HasRepeated 5 p q key (3 + each) 0 used) (lost : ℕ) (moment : List Event) → Begins moment m.seen → Repeats 5 q m key 3 used mid (lost + 1) (disturbed_after q key moment + 1) → now_used ≤ mid + each →
-    now_used ≤ (disturbed p m key + 1) * (5 * (listed_for p key + disturbed p m key) + (3 + each))
-paid_answer p q m r is ok key each sq a b c own {used} {mid} {now_used} x lost moment to rep few =
-    let ok_m = begins_run p.start p.passes m.seen r.seen c ok in
-    costs_few each x.lost lost (met_since p q key) (met_since q m key) (listed_for p key + disturbed p m key) (disturbed p m key) used mid now_used x.repeats.paid rep.paid few
-    (met_low p q m is ok_m key each sq a b own x lost moment to rep) (met_high p q m is ok_m key each sq a b own x lost moment to rep) (rounds p q m is ok_m key each sq a b own x lost moment to rep)
+  lacks_steps budget few short = enough_few 5 each x.lost lost (met_since p q key) (met_since q r key) (listed_for p key + disturbed p r key) (disturbed p r key) used mid budget x.repeats.paid rep.paid met_low met_high rounds few short
 
 -- a later end was disturbed no less
 pub disturbed_on : (p m r : Trace) → IsStart p.start → IsRun p.start p.passes r.seen → (key : ℕ) → Begins m.seen r.seen → disturbed p m key ≤ disturbed p r key
 disturbed_on p m r is ok key c = let x = grows_disturbed p r is ok key m.seen c in omega (arith, x)
 
--- so it costs no more
-more_disturbed : (each n t u now : ℕ) → t ≤ u → each ≤ 3 → now ≤ (t + 1) * (5 * (n + t) + (3 + each)) → now ≤ costs_among n u
-more_disturbed each n t u now l e x =
-    let y = mul-le (t + 1) (5 * (n + t) + (3 + each)) (u + 1) (5 * (n + u) + 6) (omega (arith, l)) (omega (arith, l, e)) in
-    omega (arith, x, y)
-
-pub costs_among_on : (p m r : Trace) → IsStart p.start → IsRun p.start p.passes r.seen → (key each now_used : ℕ) → each ≤ 3 → Begins m.seen r.seen → now_used ≤ (disturbed p m key + 1) * (5 * (listed_for p key + disturbed p m key) + (3 + each)) → now_used ≤ costs_among (listed_for p key) (disturbed p r key)
-costs_among_on p m r is ok key each now_used e c x = more_disturbed each (listed_for p key) (disturbed p m key) (disturbed p r key) now_used (disturbed_on p m r is ok key c) e x
+-- what an answer cost, so many steps after a look
+pub paid_answer : (p q m r : Trace) → IsStart p.start → IsRun p.start p.passes r.seen → (key reading : ℕ) → IsSame p q → Begins p.seen q.seen → Begins q.seen m.seen → Begins m.seen r.seen → own_entries p.start m.seen p.who ≡ own_entries p.start p.seen p.who →
+    {used mid now_used : ℕ} (x : HasRepeated 5 p q key (3 + (1 + reading)) 0 used) (lost : ℕ) (moment : List Event) → Begins moment m.seen → Repeats 5 q m key 3 used mid (lost + 1) (disturbed_after q key moment + 1) → now_used ≤ mid + (1 + reading) →
+    now_used ≤ costs_among (listed_for p key) (disturbed p r key) reading
+paid_answer p q m r is ok key reading sq a b c own {used} {mid} {now_used} x lost moment to rep few =
+    let ok_m = begins_run p.start p.passes m.seen r.seen c ok in
+    let n = listed_for p key in
+    let t = disturbed p m key in
+    let on = disturbed_on p m r is ok key c in
+    let paid = costs_few (1 + reading) x.lost lost (met_since p q key) (met_since q m key) (n + t) t used mid now_used x.repeats.paid rep.paid few
+    (met_low p q m is ok_m key (1 + reading) sq a b own x lost moment to rep) (met_high p q m is ok_m key (1 + reading) sq a b own x lost moment to rep) (rounds p q m is ok_m key (1 + reading) sq a b own x lost moment to rep) in
+    let more = mul-le (t + 1) (5 * (n + t) + (3 + (1 + reading))) (disturbed p r key + 1) (5 * (n + disturbed p r key) + 4 + reading) (omega (arith, on)) (omega (arith, on)) in
+    omega (arith, paid, more)
 
 -- ---- rounds of a search
-
-pub still_from : (p q r : Trace) (key : ℕ) (held : Held) → IsSame p q → Begins p.seen q.seen → StandsStill q r key held → StandsStill p r key held
-still_from p q r key held s a x = record {
-  stood = stood_from p q r key held s a x.stood;
-  own = sym (changed_same p q key r.seen s) ∙ x.own ∙ changed_same p q key x.stood.moment s;
-}
-
-pub next_still_from : (p q r : Trace) (key : ℕ) (next : Option Held) → IsSame p q → Begins p.seen q.seen → NextStandsStill q r key next → NextStandsStill p r key next
-next_still_from p q r key None s a x = tt
-next_still_from p q r key (Some node) s a x = still_from p q r key node s a x
 
 search_few : (lost m n times used : ℕ) → used ≤ 0 + (lost + 1) * (9 * m + 3) → m ≤ n → lost ≤ times → used ≤ (times + 1) * (9 * n + 3)
 search_few lost m n times used x l f =
     let u = mul-le (lost + 1) (9 * m + 3) (times + 1) (9 * n + 3) (omega (arith, f)) (omega (arith, l)) in
     omega (arith, x, u)
-
-search_lacks : (lost m n times used budget : ℕ) → used ≤ 0 + (lost + 1) * (9 * m + 3) → m ≤ n → lost ≤ times → budget < used + 8 → budget < (times + 1) * (9 * n + 11)
-search_lacks lost m n times used budget x l f z =
-    let u = mul-le (lost + 1) (9 * m + 11) (times + 1) (9 * n + 11) (omega (arith, f)) (omega (arith, l)) in
-    omega (arith, x, u, z)
 
 module _ (p r : Trace) (is : IsStart p.start) (ok : IsRun p.start p.passes r.seen) (key : ℕ) (quiet : Quiet p r) {used : ℕ} (x : WalksAgain 9 p r key 0 used) where
   search_rounds : x.lost ≤ disturbed p r key
@@ -389,17 +350,7 @@ module _ (p r : Trace) (is : IsStart p.start) (ok : IsRun p.start p.passes r.see
   pub find_paid : used ≤ find_costs_among (listed_for p key) (disturbed p r key)
   find_paid = search_few x.lost (met_since p r key) (listed_for p key + disturbed p r key) (disturbed p r key) used x.repeats.paid (met_quiet p r is ok key quiet) search_rounds
 
-  pub find_lacks : (budget : ℕ) → budget < used + 8 → budget < enough_to_search_among (listed_for p key) (disturbed p r key)
-  find_lacks budget short = search_lacks x.lost (met_since p r key) (listed_for p key + disturbed p r key) (disturbed p r key) used budget x.repeats.paid (met_quiet p r is ok key quiet) search_rounds short
-
 -- ---- rounds of a remove
-
-more_searches : (before each tries lost m1 m2 m a b c : ℕ) → a ≤ before + tries * (9 * m1 + (3 + each)) → b ≤ a + (lost + 1) * (9 * m2 + 3) → c ≤ b + each → m1 ≤ m → m2 ≤ m → c ≤ before + (tries + lost + 1) * (9 * m + (3 + each))
-more_searches before each tries lost m1 m2 m a b c x y z l k =
-    let u = mul-le tries (9 * m1 + (3 + each)) tries (9 * m + (3 + each)) (omega arith) (omega (arith, l)) in
-    let v = mul-le (lost + 1) (9 * m2 + 3) (lost + 1) (9 * m + 3) (omega arith) (omega (arith, k)) in
-    let w = mul-le 0 0 lost each (omega arith) (omega arith) in
-    omega (arith, x, y, z, u, v, w)
 
 -- a search, from a later moment on, and an answer that was lost, which was disturbed since
 pub search_round_on : (p q m r : Trace) → IsStart p.start → IsRun p.start p.passes r.seen → (key each : ℕ) → IsSame p q → IsSame q m → IsSame p r → Begins p.seen q.seen → Begins q.seen m.seen → Begins m.seen r.seen → advances r ≡ advances m →
@@ -425,16 +376,9 @@ search_round_on p q m r is ok key each sq qm sr a b c count {before_all} {used} 
       lost = x.lost + last.lost + 1;
       repeats = record {
         few = omega (arith, before, since_q, less, here, mid_there, there, end);
-        paid = more_searches before_all each x.lost last.lost (met_since p q key) (met_since q m key) (met_since p r key) used mid now_used x.repeats.paid last.repeats.paid few low (omega (arith, mid_met, high));
+        paid = more_rounds 9 before_all each x.lost last.lost (met_since p q key) (met_since q m key) (met_since p r key) used mid now_used x.repeats.paid last.repeats.paid few low (omega (arith, mid_met, high));
       };
     }
-
-searches_lack : (lost t m1 m2 n times used now budget : ℕ) → used ≤ 0 + lost * (9 * m1 + 6) → now ≤ used + (t + 1) * (9 * m2 + 3) → m1 ≤ n → m2 ≤ n → lost + t ≤ times → budget < now + 8 → budget < (times + 1) * (9 * n + 11)
-searches_lack lost t m1 m2 n times used now budget x y l k f z =
-    let u = mul-le lost (9 * m1 + 6) lost (9 * n + 11) (omega arith) (omega (arith, l)) in
-    let v = mul-le (t + 1) (9 * m2 + 11) (t + 1) (9 * n + 11) (omega arith) (omega (arith, k)) in
-    let w = mul-le (lost + t + 1) (9 * n + 11) (times + 1) (9 * n + 11) (omega (arith, f)) (omega arith) in
-    omega (arith, x, y, z, u, v, w)
 
 -- a budget that has no room for one more piece was below what is enough
 pub remove_lacks : (p q m : Trace) → IsStart p.start → IsRun p.start p.passes m.seen → (key : ℕ) → IsSame p q → Begins p.seen q.seen → Begins q.seen m.seen → Quiet p m → {used mid : ℕ} → HasRepeated 9 p q key 6 0 used → WalksAgain 9 q m key used mid → (budget : ℕ) → budget < mid + 8 → budget < enough_to_search_among (listed_for p key) (disturbed p m key)
@@ -446,37 +390,40 @@ remove_lacks p q m is ok key sq a b quiet {used} {mid} x w budget short =
     let few = met_quiet p m is ok key quiet in
     let low = met_before p m is ok key q a b in
     let high = met_less p m is ok key q sq a b in
-    searches_lack x.lost w.lost (met_since p q key) (met_since q m key) (listed_for p key + disturbed p m key) (disturbed p m key) used mid budget x.repeats.paid w.repeats.paid (omega (arith, few, low)) (omega (arith, few, high)) (omega (arith, before, since_q, here, there)) short
+    enough_few 9 3 x.lost w.lost (met_since p q key) (met_since q m key) (listed_for p key + disturbed p m key) (disturbed p m key) used mid budget x.repeats.paid w.repeats.paid (omega (arith, few, low)) (omega (arith, few, high)) (omega (arith, before, since_q, here, there)) (omega arith) short
+
+-- and so it is of the first search
+pub find_lacks : (p r : Trace) → IsStart p.start → IsRun p.start p.passes r.seen → (key : ℕ) → Quiet p r → {used : ℕ} → WalksAgain 9 p r key 0 used → (budget : ℕ) → budget < used + 8 → budget < enough_to_search_among (listed_for p key) (disturbed p r key)
+find_lacks p r is ok key quiet x budget short = remove_lacks p p r is ok key (same_refl p) (begins_refl p.seen) quiet.seen quiet (repeated_none 9 p key 6 0) x budget short
 
 -- ---- searches of an insert
 
 pub few_to_update_most : (start : Start) → steps_to_update start ≤ 4
-few_to_update_most start = go start.shape.values
-  where
-    go : (values : Bool) → 1 + steps_to_value values + 1 + 1 ≤ 4
-    go true = omega arith
-    go false = omega arith
+few_to_update_most start = grind arith
 
-more_searched : (before tries lost m1 m2 m a b now more all : ℕ) → a ≤ before + tries * (9 * m1 + 7) → b ≤ a + (lost + 1) * (9 * m2 + 3) → now ≤ b + more → more + 3 ≤ all → m1 ≤ m → m2 ≤ m → now ≤ before + 9 * m + (tries + lost) * (9 * m + 7) + all
-more_searched before tries lost m1 m2 m a b now more all x y z w l k =
-    let u = mul-le tries (9 * m1 + 7) tries (9 * m + 7) (omega arith) (omega (arith, l)) in
-    let v = mul-le (lost + 1) (9 * m2 + 3) (lost + 1) (9 * m + 3) (omega arith) (omega (arith, k)) in
-    omega (arith, x, y, z, w, u, v)
+more_searched : (before e each tries lost m1 m2 m a b now more all : ℕ) → (e ≤ each) × (3 ≤ each) → a ≤ before + tries * (9 * m1 + e) → b ≤ a + (lost + 1) * (9 * m2 + 3) → now ≤ b + more → more + 3 ≤ all → m1 ≤ m → m2 ≤ m → now ≤ before + 9 * m + (tries + lost) * (9 * m + each) + all
+more_searched before e each tries lost m1 m2 m a b now more all f x y z w l k =
+    let low = f.0 in
+    let three = f.1 in
+    let u = mul-le tries (9 * m1 + e) tries (9 * m + each) (omega arith) (omega (arith, l, low)) in
+    let v = mul-le lost (9 * m2 + 3) lost (9 * m + each) (omega arith) (omega (arith, k, three)) in
+    omega (arith, x, y, z, w, u, v, k)
 
 -- after so many, and what came then
-pub searches_end : (p q m : Trace) → IsStart p.start → IsRun p.start p.passes m.seen → (key : ℕ) → IsSame p q → Begins p.seen q.seen → Begins q.seen m.seen → {before_all used mid : ℕ} → HasRepeated 9 p q key 7 before_all used → WalksAgain 9 q m key used mid → (since_then more all : ℕ) → since_then ≤ mid + more → more + 3 ≤ all → SearchesFor p m key before_all since_then all
-searches_end p q m is ok key sq a b {before_all} {used} {mid} x w since_then more all le least =
+pub searches_until : (p q m : Trace) → IsStart p.start → IsRun p.start p.passes m.seen → (key : ℕ) → IsSame p q → Begins p.seen q.seen → Begins q.seen m.seen → {e each before_all used mid : ℕ} → (e ≤ each) × (3 ≤ each) → HasRepeated 9 p q key e before_all used → WalksAgain 9 q m key used mid → (since_then more all : ℕ) → since_then ≤ mid + more → more + 3 ≤ all → Searches each p m key before_all since_then all
+searches_until p q m is ok key sq a b {e} {each} {before_all} {used} {mid} f x w since_then more all le least =
     let here = disturbed_same p q key q.seen sq in
     let there = disturbed_same p q key m.seen sq in
     let before = x.repeats.few in
     let since_q = w.repeats.few in
-    let low = met_before p m is ok key q a b in
-    let high = met_less p m is ok key q sq a b in
     record {
       lost = x.lost + w.lost;
       few = omega (arith, before, since_q, here, there);
-      paid = more_searched before_all x.lost w.lost (met_since p q key) (met_since q m key) (met_since p m key) used mid since_then more all x.repeats.paid w.repeats.paid le least low high;
+      paid = more_searched before_all e each x.lost w.lost (met_since p q key) (met_since q m key) (met_since p m key) used mid since_then more all f x.repeats.paid w.repeats.paid le least (met_before p m is ok key q a b) (met_less p m is ok key q sq a b);
     }
+
+pub searches_end : (p q m : Trace) → IsStart p.start → IsRun p.start p.passes m.seen → (key : ℕ) → IsSame p q → Begins p.seen q.seen → Begins q.seen m.seen → {before_all used mid : ℕ} → HasRepeated 9 p q key 7 before_all used → WalksAgain 9 q m key used mid → (since_then more all : ℕ) → since_then ≤ mid + more → more + 3 ≤ all → SearchesFor p m key before_all since_then all
+searches_end p q m is ok key sq a b x w = searches_until p q m is ok key sq a b (omega arith, omega arith) x w
 
 searched_later : (before lost m1 m2 now least most : ℕ) → now ≤ before + 9 * m1 + lost * (9 * m1 + 7) + least → m1 ≤ m2 → least ≤ most → now ≤ before + 9 * m2 + lost * (9 * m2 + 7) + most
 searched_later before lost m1 m2 now least most x l le =
@@ -484,7 +431,7 @@ searched_later before lost m1 m2 now least most x l le =
     omega (arith, x, l, le, u)
 
 -- until a later moment
-pub searches_later : (p m r : Trace) → IsStart p.start → IsRun p.start p.passes r.seen → (key : ℕ) → Begins p.seen m.seen → Begins m.seen r.seen → {before_all since_then least : ℕ} (most : ℕ) → least ≤ most → SearchesFor p m key before_all since_then least → SearchesFor p r key before_all since_then most
+pub searches_later : (p m r : Trace) → IsStart p.start → IsRun p.start p.passes r.seen → (key : ℕ) → Begins p.seen m.seen → Begins m.seen r.seen → {before_all since_then least : ℕ} (most : ℕ) → least ≤ most → Searches 7 p m key before_all since_then least → Searches 7 p r key before_all since_then most
 searches_later p m r is ok key a b {before_all} {since_then} {least} most le x =
     let grows = grows_disturbed p r is ok key m.seen b in
     let few = x.few in
@@ -496,25 +443,23 @@ searches_later p m r is ok key a b {before_all} {since_then} {least} most le x =
 
 -- a refusal for want of steps
 pub in_vain : (p r : Trace) (key before_all mid budget steps all : ℕ) → ((since_then more : ℕ) → since_then ≤ mid + more → more + 3 ≤ all → SearchesFor p r key before_all since_then all) → (refusal : Refusal) → steps + 10 ≤ all → LacksSteps (mid + steps + 7) budget refusal → SearchesInVain p r key before_all budget all refusal
-in_vain p r key before_all mid budget steps all x (OutOfSteps used) le short = x (budget + 1) (steps + 7) (omega (arith, short)) (omega (arith, le))
-in_vain p r key before_all mid budget steps all x NoSlot le short = tt
-in_vain p r key before_all mid budget steps all x (EpochSpent epoch) le short = tt
+in_vain p r key before_all mid budget steps all x refusal le short = grind (arith, x (budget + 1) (steps + 7))
 
 -- one half of an insert
-one_half : (lost m n t now more : ℕ) → now ≤ 0 + 9 * m + lost * (9 * m + 7) + more → m ≤ n + t → lost ≤ t → now ≤ 9 * (n + t) + searches_more n t + more
+one_half : (lost m n t now more : ℕ) → now ≤ 0 + 9 * m + lost * (9 * m + 7) + more → m ≤ n + t → lost ≤ t → now ≤ 9 * (n + t) + searches_more 7 n t + more
 one_half lost m n t now more x l f =
     let u = mul-le lost (9 * m + 7) t (9 * (n + t) + 7) f (omega (arith, l)) in
     omega (arith, x, u, l)
 
 -- and both
-both_halves : (lost lost2 m1 m2 n t used now more more2 : ℕ) → used ≤ 0 + 9 * m1 + lost * (9 * m1 + 7) + more → now ≤ used + 9 * m2 + lost2 * (9 * m2 + 7) + more2 → m1 ≤ n + t → m2 ≤ n + t → lost + lost2 ≤ t → now ≤ 18 * (n + t) + searches_more n t + more + more2
-both_halves lost lost2 m1 m2 n t used now more more2 x y l k f =
-    let u = mul-le lost (9 * m1 + 7) lost (9 * (n + t) + 7) (omega arith) (omega (arith, l)) in
-    let v = mul-le lost2 (9 * m2 + 7) lost2 (9 * (n + t) + 7) (omega arith) (omega (arith, k)) in
-    let w = mul-le (lost + lost2) (9 * (n + t) + 7) t (9 * (n + t) + 7) f (omega arith) in
+both_halves : (each lost lost2 m1 m2 n t used now more more2 : ℕ) → 7 ≤ each → used ≤ 0 + 9 * m1 + lost * (9 * m1 + 7) + more → now ≤ used + 9 * m2 + lost2 * (9 * m2 + each) + more2 → m1 ≤ n + t → m2 ≤ n + t → lost + lost2 ≤ t → now ≤ 18 * (n + t) + searches_more each n t + more + more2
+both_halves each lost lost2 m1 m2 n t used now more more2 e x y l k f =
+    let u = mul-le lost (9 * m1 + 7) lost (9 * (n + t) + each) (omega arith) (omega (arith, l, e)) in
+    let v = mul-le lost2 (9 * m2 + each) lost2 (9 * (n + t) + each) (omega arith) (omega (arith, k)) in
+    let w = mul-le (lost + lost2) (9 * (n + t) + each) t (9 * (n + t) + each) f (omega arith) in
     omega (arith, x, y, u, v, w, l, k)
 
-pub half_searched : (p q : Trace) → IsStart p.start → IsRun p.start p.passes q.seen → (key : ℕ) → Quiet p q → {used more : ℕ} → SearchesFor p q key 0 used more → used ≤ 9 * (listed_for p key + disturbed p q key) + searches_more (listed_for p key) (disturbed p q key) + more
+pub half_searched : (p q : Trace) → IsStart p.start → IsRun p.start p.passes q.seen → (key : ℕ) → Quiet p q → {used more : ℕ} → Searches 7 p q key 0 used more → used ≤ 9 * (listed_for p key + disturbed p q key) + searches_more 7 (listed_for p key) (disturbed p q key) + more
 half_searched p q is ok key quiet {used} {more} x =
     let few = x.few in
     one_half x.lost (met_since p q key) (listed_for p key) (disturbed p q key) used more x.paid (met_quiet p q is ok key quiet) (omega (arith, few))
@@ -524,46 +469,43 @@ vain_lacks p q is ok key budget taking quiet (OutOfSteps used) x = let most = ha
 vain_lacks p q is ok key budget taking quiet NoSlot x = tt
 vain_lacks p q is ok key budget taking quiet (EpochSpent epoch) x = tt
 
--- a search that follows another
-pub both_searched : (p q r : Trace) → IsStart p.start → IsRun p.start p.passes r.seen → (key : ℕ) → IsSame p q → Begins p.seen q.seen → Begins q.seen r.seen → met_since p r key ≤ listed_for p key + disturbed p r key → {used now more more2 : ℕ} → SearchesFor p q key 0 used more → SearchesFor q r key used now more2 → now ≤ 18 * (listed_for p key + disturbed p r key) + searches_more (listed_for p key) (disturbed p r key) + more + more2
-both_searched p q r is ok key sq a b few {used} {now} {more} {more2} x y =
-    let here = disturbed_same p q key q.seen sq in
-    let there = disturbed_same p q key r.seen sq in
-    let before = x.few in
-    let since_q = y.few in
-    let low = met_before p r is ok key q a b in
-    let high = met_less p r is ok key q sq a b in
-    both_halves x.lost y.lost (met_since p q key) (met_since q r key) (listed_for p key) (disturbed p r key) used now more more2 x.paid y.paid (omega (arith, few, low)) (omega (arith, few, high)) (omega (arith, before, since_q, here, there))
-
 -- the first search, until a later moment
 pub searched_first : (p q : Trace) → IsStart p.start → IsRun p.start p.passes q.seen → (key : ℕ) {before_all now more : ℕ} → SearchedFor p q key before_all now more → SearchesFor p q key before_all now more
 searched_first p q is ok key {before_all} {now} {more} x = searches_later p x.ended q is ok key x.quiet.seen x.to more (omega arith) x.searches
 
-more_often : (k n t u now more : ℕ) → now ≤ k * (n + t) + searches_more n t + more → t ≤ u → now ≤ k * (n + u) + searches_more n u + more
-more_often k n t u now more x l =
-    let y = mul-le t (9 * (n + t) + 7) u (9 * (n + u) + 7) l (omega (arith, l)) in
+more_often : (each k n t u now more : ℕ) → now ≤ k * (n + t) + searches_more each n t + more → t ≤ u → now ≤ k * (n + u) + searches_more each n u + more
+more_often each k n t u now more x l =
+    let y = mul-le t (9 * (n + t) + each) u (9 * (n + u) + each) l (omega (arith, l)) in
     let z = mul-le k (n + t) k (n + u) (omega arith) (omega (arith, l)) in
     omega (arith, x, y, z)
 
 -- what an answer cost: after one search
-pub once_paid : (p q : Trace) → IsStart p.start → IsRun p.start p.passes q.seen → (key : ℕ) {used more : ℕ} → SearchedFor p q key 0 used more → used ≤ 9 * (listed_for p key + disturbed p q key) + searches_more (listed_for p key) (disturbed p q key) + more
+pub once_paid : (p q : Trace) → IsStart p.start → IsRun p.start p.passes q.seen → (key : ℕ) {used more : ℕ} → SearchedFor p q key 0 used more → used ≤ 9 * (listed_for p key + disturbed p q key) + searches_more 7 (listed_for p key) (disturbed p q key) + more
 once_paid p q is ok key {used} {more} x =
     let most = half_searched p x.ended is (begins_run p.start p.passes x.ended.seen q.seen x.to ok) key x.quiet x.searches in
-    more_often 9 (listed_for p key) (disturbed p x.ended key) (disturbed p q key) used more most (disturbed_on p x.ended q is ok key x.to)
+    more_often 7 9 (listed_for p key) (disturbed p x.ended key) (disturbed p q key) used more most (disturbed_on p x.ended q is ok key x.to)
 
--- and after two
-pub twice_paid : (p q r : Trace) → IsStart p.start → IsRun p.start p.passes r.seen → (key : ℕ) → Quiet p q → {used now more more2 : ℕ} → SearchedFor p q key 0 used more → SearchedFor q r key used now more2 → now ≤ 18 * (listed_for p key + disturbed p r key) + searches_more (listed_for p key) (disturbed p r key) + (more + more2)
-twice_paid p q r is ok key quiet {used} {now} {more} {more2} x y =
-    let m = y.ended in
-    let ok_m = begins_run p.start p.passes m.seen r.seen y.to ok in
-    let ok_q = begins_run p.start p.passes q.seen m.seen y.quiet.seen ok_m in
-    let first = searched_first p q is ok_q key x in
-    let both = both_searched p q m is ok_m key quiet.same quiet.seen y.quiet.seen (met_quiet p m is ok_m key (quiet_on quiet y.quiet)) first y.searches in
-    more_often 18 (listed_for p key) (disturbed p m key) (disturbed p r key) now (more + more2) (omega (arith, both)) (disturbed_on p m r is ok key y.to)
+-- after two, of which the second ended at an earlier moment
+pub both_paid : (p q m r : Trace) → IsStart p.start → IsRun p.start p.passes r.seen → (key : ℕ) → Quiet p q → Quiet q m → Begins m.seen r.seen → {each used now more more2 : ℕ} → 7 ≤ each → SearchedFor p q key 0 used more → Searches each q m key used now more2 → now ≤ 18 * (listed_for p key + disturbed p r key) + searches_more each (listed_for p key) (disturbed p r key) + (more + more2)
+both_paid p q m r is ok key quiet then on {each} {used} {now} {more} {more2} e x y =
+    let ok_m = begins_run p.start p.passes m.seen r.seen on ok in
+    let first = searched_first p q is (begins_run p.start p.passes q.seen m.seen then.seen ok_m) key x in
+    let here = disturbed_same p q key q.seen quiet.same in
+    let there = disturbed_same p q key m.seen quiet.same in
+    let before = first.few in
+    let since_q = y.few in
+    let few = met_quiet p m is ok_m key (quiet_on quiet then) in
+    let low = met_before p m is ok_m key q quiet.seen then.seen in
+    let high = met_less p m is ok_m key q quiet.same quiet.seen then.seen in
+    let both = both_halves each first.lost y.lost (met_since p q key) (met_since q m key) (listed_for p key) (disturbed p m key) used now more more2 e first.paid y.paid (omega (arith, few, low)) (omega (arith, few, high)) (omega (arith, before, since_q, here, there)) in
+    more_often each 18 (listed_for p key) (disturbed p m key) (disturbed p r key) now (more + more2) (omega (arith, both)) (disturbed_on p m r is ok key on)
+
+pub twice_paid : (p q r : Trace) → IsStart p.start → IsRun p.start p.passes r.seen → (key : ℕ) → Quiet p q → {used now more more2 : ℕ} → SearchedFor p q key 0 used more → SearchedFor q r key used now more2 → now ≤ 18 * (listed_for p key + disturbed p r key) + searches_more 7 (listed_for p key) (disturbed p r key) + (more + more2)
+twice_paid p q r is ok key quiet x y = both_paid p q y.ended r is ok key quiet y.quiet y.to (omega arith) x y.searches
 
 -- a budget that has no room for one more piece was below what is enough
+pub both_lack : (p q r : Trace) → IsStart p.start → IsRun p.start p.passes r.seen → (key budget used taking : ℕ) → Quiet p q → Quiet q r → {each : ℕ} → 7 ≤ each → SearchedFor p q key 0 used (taking + 3) → Searches each q r key used (budget + 1) 11 → budget < enough_past (listed_for p key + disturbed p r key) taking + searches_more each (listed_for p key) (disturbed p r key)
+both_lack p q r is ok key budget used taking quiet then e x y = let both = both_paid p q r r is ok key quiet then (begins_refl r.seen) e x y in omega (arith, both)
+
 pub insert_lacks : (p q r : Trace) → IsStart p.start → IsRun p.start p.passes r.seen → (key budget used taking : ℕ) → Quiet p q → Quiet q r → SearchedFor p q key 0 used (taking + 3) → SearchesFor q r key used (budget + 1) 11 → budget < enough_to_insert_among (listed_for p key) (disturbed p r key) taking
-insert_lacks p q r is ok key budget used taking quiet then x y =
-    let first = searched_first p q is (begins_run p.start p.passes q.seen r.seen then.seen ok) key x in
-    let both = both_searched p q r is ok key quiet.same quiet.seen then.seen (met_quiet p r is ok key (quiet_on quiet then)) first y in
-    omega (arith, both)
+insert_lacks p q r is ok key budget used taking quiet then x y = both_lack p q r is ok key budget used taking quiet then (omega arith) x y

@@ -38,15 +38,6 @@ enough_with_a_slot p key = 18 * listed_for p key + 82
 abbrev pub look_up_costs : Trace → ℕ → ℕ
 look_up_costs p key = 5 * listed_for p key + 4
 
--- a get five for each, and six
-abbrev pub get_costs : Trace → ℕ → ℕ
-get_costs p key = 5 * listed_for p key + 6
-
--- one of these
-abbrev pub answer_costs : Bool → Trace → ℕ → ℕ
-answer_costs true = get_costs
-answer_costs false = look_up_costs
-
 -- to find where a key stands: nine for each, and three
 abbrev pub find_costs : Trace → ℕ → ℕ
 find_costs p key = 9 * listed_for p key + 3

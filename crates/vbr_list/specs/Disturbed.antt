@@ -28,9 +28,9 @@ most_disturbed p q = (incarnations_after p.start q.seen).epoch - (incarnations_a
 abbrev pub enough_among : ℕ → ℕ → ℕ
 enough_among nodes times = (times + 1) * (5 * (nodes + times) + 11)
 
--- the most that it costs where it is answered
-abbrev pub costs_among : ℕ → ℕ → ℕ
-costs_among nodes times = (times + 1) * (5 * (nodes + times) + 6)
+-- the most that it costs where it is answered, with so many steps to read a value
+abbrev pub costs_among : ℕ → ℕ → ℕ → ℕ
+costs_among nodes times reading = (times + 1) * (5 * (nodes + times) + 4 + reading)
 
 -- how often the pass had changed the list of a key's bucket itself, or moved the epoch
 abbrev pub changed_after : Trace → ℕ → List Event → ℕ
@@ -40,25 +40,21 @@ changed_after p key run = own_changes p.start run p.who (bucket_of p.start.shape
 abbrev pub enough_to_search_among : ℕ → ℕ → ℕ
 enough_to_search_among nodes times = (times + 1) * (9 * (nodes + times) + 11)
 
--- what an insert has to do more than alone where it is disturbed so often: for each time one more search among all nodes that it can meet, and seven steps
-abbrev pub searches_more : ℕ → ℕ → ℕ
-searches_more nodes times = times * (9 * (nodes + times) + 7)
+-- what a call has to do more than alone where it is disturbed so often: for each time one more search among all nodes that it can meet, and so many steps
+abbrev pub searches_more : ℕ → ℕ → ℕ → ℕ
+searches_more each nodes times = times * (9 * (nodes + times) + each)
 
--- enough to insert among so many nodes, for a pass that is disturbed so often and takes a slot in so many steps
+-- enough to insert among so many nodes, with seven steps more each time, for a pass that is disturbed so often and takes a slot in so many steps
 abbrev pub enough_to_insert_among : ℕ → ℕ → ℕ → ℕ
-enough_to_insert_among nodes times taking = enough_past (nodes + times) taking + searches_more nodes times
+enough_to_insert_among nodes times taking = enough_past (nodes + times) taking + searches_more 7 nodes times
 
 -- the most that it costs where it is answered, with so many steps to store a value
 abbrev pub insert_costs_among : ℕ → ℕ → ℕ → ℕ → ℕ
-insert_costs_among nodes times taking storing = insert_costs_past (nodes + times) taking storing + searches_more nodes times
+insert_costs_among nodes times taking storing = insert_costs_past (nodes + times) taking storing + searches_more 7 nodes times
 
--- what a replacement has to do more than alone where it is disturbed so often: for each time one more search among all nodes that it can meet, and twelve steps
-abbrev pub replaces_more : ℕ → ℕ → ℕ
-replaces_more nodes times = times * (9 * (nodes + times) + 12)
-
--- enough to replace the value of a key among so many nodes, for a pass that is disturbed so often and takes a slot in so many steps
+-- enough to replace the value of a key among so many nodes, with twelve steps more each time, for a pass that is disturbed so often and takes a slot in so many steps
 abbrev pub enough_to_replace_among : ℕ → ℕ → ℕ → ℕ
-enough_to_replace_among nodes times taking = enough_past (nodes + times) taking + replaces_more nodes times
+enough_to_replace_among nodes times taking = enough_past (nodes + times) taking + searches_more 12 nodes times
 
 -- the most that it costs where it is answered: six more
 abbrev pub replace_costs_among : ℕ → ℕ → ℕ → ℕ

@@ -107,11 +107,15 @@ pub record ProvidesNone {N : Type 0} {kind : Ghosts N} (c d : PendingCall N kind
   pub says : TakesNone (pass_in c) (pass_in d) c.used c.budget refusal
   pub enough : LacksSteps (c.used + steps_to_take_among (trace_in c).start (pass_in c).pool (gained (trace_in c) (trace_in d)) + 7) c.budget refusal
 
--- searches for a key, each but the last disturbed: so many steps for each node of each of them, seven for each that was disturbed, and so many more
-pub record SearchesFor (p q : Trace) (key before since more : ℕ) : Type 0 where
+-- searches for a key, each but the last disturbed: nine steps for each node of each of them, so many for each that was disturbed, and so many more
+pub record Searches (each : ℕ) (p q : Trace) (key before since more : ℕ) : Type 0 where
   pub lost : ℕ
   pub few : disturbed_after p key p.seen + lost ≤ disturbed_after p key q.seen
-  pub paid : since ≤ before + 9 * met_since p q key + lost * (9 * met_since p q key + 7) + more
+  pub paid : since ≤ before + 9 * met_since p q key + lost * (9 * met_since p q key + each) + more
+
+-- so it is without a slot, and with one that is to be linked: seven steps for each that was disturbed
+abbrev pub SearchesFor : Trace → Trace → ℕ → ℕ → ℕ → ℕ → Type 0
+SearchesFor p q key before since more = Searches 7 p q key before since more
 
 -- so it is until a moment at which the pass had made no call yet
 pub record SearchedFor (p q : Trace) (key before since more : ℕ) : Type 0 where

@@ -1,11 +1,12 @@
 -- A look-up, piece by piece: all its steps are loads. Only contracts of private functions cite this.
-use Rattle.std.specs.Prelude.{◌≡◌, ℕ, ◌+◌, ◌<◌, Bool, true, false, Option}
+use Rattle.std.specs.Prelude.{◌≡◌, ℕ, ◌+◌, ◌<◌, Bool, true, Option}
 use Rattle.vbr_words.specs.declared.nodes.Nodes.{Ghosts}
 use Rattle.vbr_slots.specs.Alone.{IsFresh}
 use Rattle.vbr_slots.specs.Calls.{AddsAnswer, AddsNone, Quiet}
 use Rattle.vbr_slots.specs.Views.{Trace, knows}
 use Rattle.vbr_at_table.specs.declared.budget.TheConstants.{PIECE}
 use Rattle.vbr_at_table.specs.declared.rollback.Rollback.{Rollback}
+use Rattle.vbr_list.specs.Budgets.{steps_where}
 use Rattle.vbr_list.specs.Disturbed.{disturbed_after}
 use Rattle.vbr_list.specs.Pieces.{Gives, trace_in}
 use Rattle.vbr_list.specs.Places.{IsSight, sighted}
@@ -49,8 +50,7 @@ pub record LookTires {N : Type 0} {kind : Ghosts N} (c d : PendingCall N kind) :
 
 -- the steps of an answer: one, and two for the value where it is given
 abbrev pub steps_to_answer : Bool → ℕ
-steps_to_answer true = 3
-steps_to_answer false = 1
+steps_to_answer gives = 1 + steps_where gives
 
 -- what is asked for is a look-up, or a get where nodes have values
 abbrev pub IsAskedOf : {N : Type 0} {kind : Ghosts N} → PendingCall N kind → Bool → Type 0

@@ -3,7 +3,6 @@ use Rattle.std.specs.Prelude.{◌≡◌, ℕ, ◌+◌, ◌<◌, ◌≤◌, Bool,
 use Rattle.vbr_words.specs.declared.nodes.Nodes.{Ghosts}
 use Rattle.vbr_machine.specs.History.{set_call}
 use Rattle.vbr_machine.specs.declared.history.Op.{Op}
-use Rattle.vbr_slots.specs.Alone.{IsAlone}
 use Rattle.vbr_slots.specs.AtTables.{IsSameTable}
 use Rattle.vbr_slots.specs.Calls.{AddsNone, Made, OnlyLoads, Quiet}
 use Rattle.vbr_slots.specs.Views.{PassView, Trace, knows}
@@ -33,10 +32,6 @@ pub record IsSameCall {N : Type 0} {kind : Ghosts N} (c d : PendingCall N kind) 
   pub key : d.key ≡ c.key
   pub bucket : d.bucket ≡ c.bucket
   pub budget : d.budget ≡ c.budget
-
--- what the pass has seen since is its own
-abbrev pub WasAlone : {N : Type 0} {kind : Ghosts N} → PendingCall N kind → PendingCall N kind → Type 0
-WasAlone c d = IsAlone (trace_in c) (trace_in d)
 
 -- the pass made the call, with this reply
 abbrev pub Replies : {N : Type 0} {kind : Ghosts N} → Op → PendingCall N kind → PendingCall N kind → Bool → Type 0

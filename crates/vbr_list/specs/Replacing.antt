@@ -25,7 +25,7 @@ use Rattle.vbr_list.specs.Budgets.{IsAnsweredOrSpent, LacksSteps, enough_to_inse
 use Rattle.vbr_list.specs.Disturbed.{disturbed, disturbed_after, enough_to_replace_among, replace_costs_among, steps_for_slot}
 use Rattle.vbr_list.specs.Helping.{MayHelp}
 use Rattle.vbr_list.specs.Leaving.{LeavesAt, LeavesReplaced}
-use Rattle.vbr_list.specs.Inserting.{AnswersNo, GivesHandBack, HasHandAndRoom, InsertIsShort}
+use Rattle.vbr_list.specs.Inserting.{AnswersNo, GivesHandBack, HasHandAndRoom, InsertIsShort, Searches}
 use Rattle.vbr_list.specs.Pieces.{HasRoom, IsPiece, IsSameCall, pass_in, trace_in}
 use Rattle.vbr_list.specs.Removing.{MarksAndSearches, MarksBehind, SearchesOn}
 use Rattle.vbr_list.specs.Traversing.{LocatesFor}
@@ -122,11 +122,9 @@ abbrev pub HasUnused : {A E : Type 0} → PassView → PassView → Result A E �
 HasUnused p q (Ok old) = HasAllButOne p q
 HasUnused p q (Err error) = HasStill p q
 
--- searches for a key with a slot in hand, each but the last disturbed: so many steps for each node of each of them, twelve for each that was disturbed, and so many more
-pub record SearchesWith (p q : Trace) (key before since more : ℕ) : Type 0 where
-  pub lost : ℕ
-  pub few : disturbed_after p key p.seen + lost ≤ disturbed_after p key q.seen
-  pub paid : since ≤ before + 9 * met_since p q key + lost * (9 * met_since p q key + 12) + more
+-- searches for a key with a slot in hand: twelve steps for each that was disturbed
+abbrev pub SearchesWith : Trace → Trace → ℕ → ℕ → ℕ → ℕ → Type 0
+SearchesWith p q key before since more = Searches 12 p q key before since more
 
 -- it is answered soon after its last search; with sixteen steps left of the budget then a replaced node has left its list
 pub record AnswersSoon {N : Type 0} {kind : Ghosts N} (c d : PendingCall N kind) (answer : Option ℕ) : Type 0 where

@@ -1,5 +1,5 @@
 -- What an insert, a remove and a look-up tell.
-use Rattle.std.specs.Prelude.{◌≡◌, ◌≢◌, ℕ, ◌<◌, ◌≤◌, Bool, [], None, Option, Result, IfOk, IfErr, is_some}
+use Rattle.std.specs.Prelude.{◌≡◌, ◌≢◌, ℕ, ◌+◌, ◌<◌, ◌≤◌, Bool, [], None, Option, Result, IfOk, IfErr, is_some}
 use Rattle.vbr_machine.specs.History.{GivesValue, set_call, values_after}
 use Rattle.vbr_machine.specs.Opened.{opening_payloads}
 use Rattle.vbr_machine.specs.declared.history.Call.{Call}
@@ -13,7 +13,7 @@ use Rattle.vbr_at_table.specs.KeptSlots.{HasUnpublished, KeepsSlots, SharesWhere
 use Rattle.vbr_at_table.specs.Steps.{TookWithin}
 use Rattle.vbr_at_table.specs.Values.{steps_to_value}
 use Rattle.vbr_list.specs.Alone.{AnswersAlone}
-use Rattle.vbr_list.specs.Budgets.{IsAnsweredOrSpent, LacksSteps, enough_to_insert, enough_to_look_up, enough_with_a_slot, get_costs, insert_costs, listed_for, look_up_costs}
+use Rattle.vbr_list.specs.Budgets.{IsAnsweredOrSpent, LacksSteps, enough_to_insert, enough_to_look_up, enough_with_a_slot, insert_costs, listed_for, look_up_costs}
 use Rattle.vbr_list.specs.Disturbed.{costs_among, disturbed, enough_among, enough_to_insert_among, insert_costs_among, steps_for_slot}
 use Rattle.vbr_list.specs.Leaving.{SparesRemove}
 use Rattle.vbr_list.specs.Refusals.{IsRefusedInsert, IsTired}
@@ -33,8 +33,8 @@ pub record SparesInsert (p q : PassView) (key budget : ℕ) (answer : Result Boo
   pub costs : IfOk answer (λ reply. IsAlone p.trace q.trace → TookWithin p.trace q.trace (insert_costs p key))
   pub disturbed_costs : IfOk answer (λ reply. TookWithin p.trace q.trace (insert_costs_among (listed_for p.trace key) (disturbed p.trace q.trace key) (steps_for_slot p q.trace) (steps_to_value p.trace.start.shape.values)))
 
--- what a call that looks a key up promises besides: all its steps are loads, and its answer is all that it adds to the chronicle; it advances no epoch, loses no slot, and is refused for want of steps alone; alone it has steps enough with a budget that is known before, and its answer costs no more than is known before; and so it is of a pass that was disturbed so often, by updates of others in the key's bucket and advances of the epoch
-pub record SparesLookUp {A : Type 0} (told : A → Call) (most : ℕ) (p q : PassView) (key budget : ℕ) (answer : Result A Refusal) : Type 0 where
+-- what a call that looks a key up promises besides: all its steps are loads, and its answer is all that it adds to the chronicle; it advances no epoch, loses no slot, and is refused for want of steps alone; alone it has steps enough with a budget that is known before, and its answer costs no more than is known before, with so many steps to read a value; and so it is of a pass that was disturbed so often, by updates of others in the key's bucket and advances of the epoch
+pub record SparesLookUp {A : Type 0} (told : A → Call) (reading : ℕ) (p q : PassView) (key budget : ℕ) (answer : Result A Refusal) : Type 0 where
   pub only_loads : OnlyLoads p.trace q.trace
   pub adds : IfOk answer (λ reply. AddsAnswer (told reply) p.trace q.trace)
   pub adds_none : IfErr answer (λ refusal. AddsNone p.trace q.trace)
@@ -42,12 +42,12 @@ pub record SparesLookUp {A : Type 0} (told : A → Call) (most : ℕ) (p q : Pas
   pub refused : IfErr answer (IsTired p q budget)
   pub within : IfErr answer (λ refusal. IsAlone p.trace q.trace → budget < enough_to_look_up p.trace key)
   pub disturbed_within : IfErr answer (λ refusal. budget < enough_among (listed_for p.trace key) (disturbed p.trace q.trace key))
-  pub costs : IfOk answer (λ reply. IsAlone p.trace q.trace → TookWithin p.trace q.trace most)
-  pub disturbed_costs : IfOk answer (λ reply. TookWithin p.trace q.trace (costs_among (listed_for p.trace key) (disturbed p.trace q.trace key)))
+  pub costs : IfOk answer (λ reply. IsAlone p.trace q.trace → TookWithin p.trace q.trace (look_up_costs p.trace key + reading))
+  pub disturbed_costs : IfOk answer (λ reply. TookWithin p.trace q.trace (costs_among (listed_for p.trace key) (disturbed p.trace q.trace key) reading))
 
 -- what a look-up of a set promises besides
 abbrev pub SparesHas : PassView → PassView → ℕ → ℕ → Result Bool Refusal → Type 0
-SparesHas p q key budget answer = SparesLookUp (set_call p.trace.who Has key) (look_up_costs p.trace key) p q key budget answer
+SparesHas p q key budget answer = SparesLookUp (set_call p.trace.who Has key) 0 p q key budget answer
 
 -- what a call promises besides its answer; no set has a get
 abbrev pub Spares : Op → PassView → PassView → ℕ → ℕ → Result Bool Refusal → Type 0
@@ -91,4 +91,4 @@ CallsRemove p q key budget answer = CallsEntry (given_call p.trace.who Remove ke
 
 -- a get of an entry
 abbrev pub CallsGet : PassView → PassView → ℕ → ℕ → Result (Option ℕ) Refusal → Type 0
-CallsGet p q key budget answer = CallsEntry (given_call p.trace.who Get key) (SparesLookUp (given_call p.trace.who Get key) (get_costs p.trace key) p q key budget) p q budget answer
+CallsGet p q key budget answer = CallsEntry (given_call p.trace.who Get key) (SparesLookUp (given_call p.trace.who Get key) 2 p q key budget) p q budget answer

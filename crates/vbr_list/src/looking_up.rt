@@ -4,7 +4,7 @@ ghost use Rattle.vbr_machine.specs.declared.history.Op.TheVariants.{Has};
 ghost use Rattle.vbr_slots.specs.Calls.{OnlyLoads, Took};
 ghost use Rattle.vbr_slots.specs.Views.{IsOf};
 ghost use Rattle.vbr_list.specs.Sparing.{Calls, CallsAs, CallsGet, SparesLookUp};
-ghost use Rattle.vbr_list.specs.Budgets.{answer_costs};
+ghost use Rattle.vbr_list.specs.Budgets.{steps_where};
 ghost use Rattle.vbr_list.specs.declared.looking.Sight.TheVariants.{Present, Absent};
 ghost use Rattle.vbr_list.specs.LookingUp.{IsAskedOf, IsSightFor, LookUpAnswers, LookUpRollsBack, steps_to_answer};
 ghost use Rattle.vbr_list.specs.Pieces.{HasRoom, Settles, trace_in};
@@ -198,7 +198,7 @@ fn look_up<N: Nodes>(
     ensures took { Took stepper.old.trace stepper.new.trace result.1 }
     ensures calls { CallsAs (given_in stepper.old.trace (look_up_op gives) key)
         (SparesLookUp (given_in stepper.old.trace (look_up_op gives) key)
-        (answer_costs gives stepper.old.trace key) stepper.old stepper.new key budget)
+        (steps_where gives) stepper.old stepper.new key budget)
         stepper.old stepper.new budget result.0 }
 {
     let mut call = begin!(slots, stepper, key, budget, 0);

@@ -94,6 +94,7 @@ pub(crate) fn seek_in<N: Nodes>(
     ensures sought { Sought (pass_of at.old) (pass_of at.new)
         bucket from used result.1 budget result.0 }
 {
+    at.law();
     let mut since = used;
     loop {
         match walk(at, bucket, from, budget, &mut since) {

@@ -9,7 +9,6 @@ use Rattle.vbr_at_table.specs.Steps.{TookWithin}
 use Rattle.vbr_at_table.specs.Soundness.{HasSafeRun}
 use Rattle.vbr_list.specs.Alone.{AnswersAlone}
 use Rattle.vbr_list.specs.Sparing.{GivesAlone, SparesInsert, SparesLookUp}
-use Rattle.vbr_list.specs.Budgets.{get_costs}
 use Rattle.vbr_list.specs.Leaving.{SparesRemove}
 use Rattle.vbr_list.specs.Told.{given_call, stored_call}
 use Rattle.vbr_at_table.specs.declared.refusal.Refusal.{Refusal}
@@ -45,4 +44,4 @@ RemovesEntry m n key budget answer = MapCalled (given_call m.pass.trace.who Remo
 
 -- a get, which gives the value
 abbrev pub GetsEntry : MemberView → MemberView → ℕ → ℕ → Result (Option ℕ) Refusal → Type 0
-GetsEntry m n key budget answer = MapCalled (given_call m.pass.trace.who Get key) (SparesLookUp (given_call m.pass.trace.who Get key) (get_costs m.pass.trace key) m.pass n.pass key budget) m n budget answer
+GetsEntry m n key budget answer = MapCalled (given_call m.pass.trace.who Get key) (SparesLookUp (given_call m.pass.trace.who Get key) 2 m.pass n.pass key budget) m n budget answer

@@ -1,19 +1,8 @@
-use Rattle.std.proofs.Common.{◌+◌, ℕ, sym, ◌∙◌, subst, arith}
-use Rattle.vbr_machine.specs.Start.{Start}
-use Rattle.vbr_words.specs.Words.{link_of}
-use Rattle.vbr_words.specs.declared.place.At.{At}
-use Rattle.vbr_machine.specs.Acceptance.{IsUnlinked}
-use Rattle.vbr_machine.specs.Membership.{StandsBehind}
-use Rattle.vbr_machine.specs.declared.knowledge.Read.TheVariants.{KeyOf}
-use Rattle.vbr_slots.specs.Views.{knows}
-use Rattle.vbr_slots.proofs.Lemmas.{quiet_on}
-use Rattle.vbr_at_table.proofs.Lemmas.{counts_on, behind_kept}
-use Rattle.vbr_at_table.specs.Retiring.{is_kept}
-use Rattle.vbr_at_table.specs.Keeping.{KeepsUnlinked}
+use Rattle.vbr_list.proofs.Names.{◌+◌, ℕ, sym, ◌∙◌, subst, arith}
+use Rattle.vbr_list.proofs.Names.{At, behind_kept, counts_on, is_kept, IsUnlinked, KeepsUnlinked, KeyOf, knows, link_of, quiet_on, StandsBehind, Start, unchanged_by_none}
 use Rattle.vbr_list.specs.Pieces.{Goes}
 use Rattle.vbr_list.proofs.Clearing.{clear_before, clear_skipped, out_kept}
 use Rattle.vbr_list.proofs.Disturbing.{loses_place, moved_late, opened, run_at}
-use Rattle.vbr_at_table.proofs.Lemmas.{unchanged_by_none}
 use Rattle.vbr_list.proofs.Going.{counts_step, took_same}
 use Rattle.vbr_list.proofs.KeptHands.{helped_hand, retired_hand}
 use Rattle.vbr_list.proofs.Reaching.{helped, retired_keeps}

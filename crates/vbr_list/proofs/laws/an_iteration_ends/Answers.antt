@@ -1,4 +1,4 @@
-use Rattle.vbr_words.proofs.Lemmas.{bucket_of-lt}
+use Rattle.vbr_list.proofs.Names.{bucket_of-lt}
 use Rattle.vbr_list.proofs.Cursors.{given_all}
 use Rattle.vbr_list.proofs.laws.an_iteration_ends.Goals as goal
 

@@ -1,21 +1,21 @@
-use Rattle.std.proofs.Common.{rules, ◌≡◌, ℕ, ◌+◌, ◌*◌, ◌≤◌, refl, ◌∙◌, arith, ap, subst}
+use Rattle.std.proofs.Common.{rules, ◌≡◌, ◌+◌, ◌≤◌, refl, ◌∙◌, arith, ap, subst}
 use Rattle.vbr_machine.proofs.Lemmas.{begins_refl}
-use Rattle.vbr_slots.proofs.Lemmas.{adds_on, alone_first, answer_on, loads_on, quiet_on, same_on, same_refl}
+use Rattle.vbr_slots.proofs.Lemmas.{adds_on, answer_on, loads_on, quiet_on, same_on, same_refl}
 use Rattle.vbr_at_table.proofs.Lemmas.{counts_on, no_room, none_on, took_all}
 use Rattle.vbr_machine.specs.Start.{Start}
 use Rattle.vbr_list.proofs.Going.{call_on, call_refl, goes_on, within_call, within_of}
 use Rattle.vbr_list.proofs.Observing.{observed, observes_on}
-use Rattle.vbr_list.specs.Budgets.{answer_costs, listed_for}
+use Rattle.vbr_list.specs.Budgets.{listed_for, look_up_costs, steps_where}
 use Rattle.vbr_list.specs.Disturbed.{costs_among, disturbed}
 use Rattle.vbr_list.specs.LookingUp.{steps_to_answer}
 use Rattle.vbr_list.specs.Places.{sighted}
 use Rattle.vbr_list.specs.Told.{given_call, kept_call, look_up_op}
 use Rattle.vbr_slots.specs.Calls.{AddsAnswer}
-use Rattle.vbr_list.proofs.Disturbing.{alone_undisturbed, own_at, run_at, unchanged_at}
-use Rattle.vbr_list.proofs.Walking.{costs_among_on, paid_answer, repeated_none, round_on}
+use Rattle.vbr_list.proofs.Disturbing.{own_at, run_at, unchanged_at, undisturbed}
+use Rattle.vbr_list.proofs.Walking.{paid_answer, repeated_none, round_on}
 use Rattle.vbr_list.proofs.Passing.{peeks_on, peeks_refl}
 use Rattle.vbr_list.proofs.LonePasses.{alone}
-use Rattle.vbr_list.proofs.Sights.{costs_alone, few_to_answer}
+use Rattle.vbr_list.proofs.Sights.{few_to_answer}
 use Rattle.vbr_list.proofs.Tiring.{look_up_tires}
 use Rattle.vbr_list.proofs.Told.{given_same, told_since}
 use Rattle.vbr_list.proofs.looking_up.look_up.Goals as goal
@@ -102,7 +102,7 @@ returns-in-Ok-clause-calls g c =
     let sight = rw (c.loop-sight.invariant.0.key ∙ c.loop-sight.invariant.1) at c.in-Some.ensures.sight.looks in
     let ok_r = run_at p.trace r.trace (same_on first.same answered.same) answered.is_run in
     let adds = adds_on c.loop-sight.invariant.3.observes.adds_none c.look.ensures.observes.adds_none in
-    let paid = paid_answer p.trace loop.trace q.trace r.trace c.law.ensures.start ok_r c.args.key (steps_to_answer c.args.gives) begun.same begun.seen c.look.ensures.goes.goes.quiet.seen answered.seen (own_at p.trace p.trace q.trace (same_refl p.trace) first.same adds) c.loop-sight.invariant.4 sight.lost sight.stood.moment sight.stood.to sight.repeats c.settle_look_up.ensures.few in
+    let paid = paid_answer p.trace loop.trace q.trace r.trace c.law.ensures.start ok_r c.args.key (steps_where c.args.gives) begun.same begun.seen c.look.ensures.goes.goes.quiet.seen answered.seen (own_at p.trace p.trace q.trace (same_refl p.trace) first.same adds) c.loop-sight.invariant.4 sight.lost sight.stood.moment sight.stood.to sight.repeats c.settle_look_up.ensures.few in
     let S : Start → Type 0 = λ start. AddsAnswer (kept_call start (given_call q.trace.who op c.args.key c.in-Ok.answer)) q.trace r.trace in
     rw same (record {
       same = same_on first.same answered.same;
@@ -119,10 +119,7 @@ returns-in-Ok-clause-calls g c =
         refused = tt;
         within = tt;
         disturbed_within = tt;
-        costs = (λ whole.
-            let P : ℕ → Type 0 = λ times. c.settle_look_up.new.self.used ≤ (times + 1) * (5 * (listed_for p.trace c.args.key + times) + (3 + steps_to_answer c.args.gives)) in
-            let x = subst P (alone_undisturbed p.trace q.trace c.args.key (alone_first first.seen answered.seen whole)) paid in
-            within_of c.settle_look_up.new.self.used (answer_costs c.args.gives p.trace c.args.key) (costs_alone c.args.gives p.trace c.args.key c.settle_look_up.new.self.used x) counts);
-        disturbed_costs = within_of c.settle_look_up.new.self.used (costs_among (listed_for p.trace c.args.key) (disturbed p.trace r.trace c.args.key)) (costs_among_on p.trace q.trace r.trace c.law.ensures.start ok_r c.args.key (steps_to_answer c.args.gives) c.settle_look_up.new.self.used (few_to_answer c.args.gives) answered.seen paid) counts;
+        costs = λ whole. let most = undisturbed (λ t. c.settle_look_up.new.self.used ≤ costs_among (listed_for p.trace c.args.key) t (steps_where c.args.gives)) c.args.key paid whole in within_of c.settle_look_up.new.self.used (look_up_costs p.trace c.args.key + steps_where c.args.gives) (omega (arith, most)) counts;
+        disturbed_costs = within_of c.settle_look_up.new.self.used (costs_among (listed_for p.trace c.args.key) (disturbed p.trace r.trace c.args.key) (steps_where c.args.gives)) paid counts;
       };
     })

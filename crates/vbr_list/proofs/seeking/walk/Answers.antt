@@ -1,8 +1,5 @@
-use Rattle.std.proofs.Common.{◌≡◌, refl, sym, ap, ◌∙◌, subst, arith, Bool, true, false, not, Option, ℕ, Some, None}
-use Rattle.std.specs.Option.{is_none, is_some}
-use Rattle.vbr_words.specs.declared.link.Link.{Link}
-use Rattle.vbr_slots.proofs.Lemmas.{quiet_on}
-use Rattle.vbr_at_table.specs.declared.held.Held.{Held}
+use Rattle.vbr_list.proofs.Names.{◌≡◌, sym, ap, ◌∙◌, subst, arith, Bool, false, not, Option, ℕ, None, is_none, is_some}
+use Rattle.vbr_list.proofs.Names.{Held, Link, quiet_on}
 use Rattle.vbr_list.proofs.Going.{table_on}
 use Rattle.vbr_list.proofs.Nearing.{first_of, then_of}
 use Rattle.vbr_list.proofs.Following.{Follows, follows_head, follows_marked, follows_node, next_paid, peeks_value, peeks_visit, tells_next, tells_none}
@@ -10,12 +7,10 @@ use Rattle.vbr_list.proofs.ValueReads.{steps_read}
 use Rattle.vbr_list.proofs.seeking.walk.Goals as goal
 
 no_slot : (o : Option ℕ) → is_some o ≡ false → o ≡ None
-no_slot None e = refl
-no_slot (Some s) e = absurd (cc)
+no_slot o e = grind arith
 
 is_last_so : (is_last : Bool) (slot : Option ℕ) → is_some slot ≡ not is_last → is_last ≡ is_none slot
-is_last_so true slot e = ap not (sym e)
-is_last_so false slot e = ap not (sym e)
+is_last_so is_last slot e = grind arith
 
 pub loop-here-init : goal.loop-here-init
 loop-here-init g c = (c.start_at-head.ensures.table, follows_head c.args.bucket c.args.from c.args.used.now c.args.budget c.in-Ok.here c.start_at-head.ensures.reads (c.affords.ensures.0 c.if-not-affords.false) c.in-Ok.ensures.head)

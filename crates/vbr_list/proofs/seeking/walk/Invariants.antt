@@ -1,5 +1,5 @@
-use Rattle.std.proofs.Common.{◌-◌}
-use Rattle.vbr_slots.specs.AtTables.{IsSameTable}
+use Rattle.vbr_list.proofs.Names.{◌-◌}
+use Rattle.vbr_list.proofs.Names.{IsSameTable}
 use Rattle.vbr_list.proofs.Following.{Follows}
 use Rattle.vbr_list.proofs.seeking.walk.Given as goal
 

@@ -1,4 +1,4 @@
-use Rattle.std.proofs.Common.{◌≡◌, Bool, refl, sym, ◌∙◌, subst}
+use Rattle.vbr_list.proofs.Names.{◌≡◌, Bool, refl, sym, ◌∙◌, subst}
 use Rattle.vbr_list.specs.Budgets.{steps_where}
 use Rattle.vbr_list.proofs.valuing.steps_to_value_of.Goals as goal
 

@@ -1,7 +1,5 @@
-use Rattle.std.proofs.Common.{◌≡◌, Bool, true, false, sym, ap, ◌∙◌, subst}
-use Rattle.vbr_machine.specs.Start.{Start}
-use Rattle.vbr_slots.specs.Views.{knows}
-use Rattle.vbr_at_table.specs.Reading.{ReadsIn, RollsBack}
+use Rattle.vbr_list.proofs.Names.{◌≡◌, Bool, true, false, sym, ap, ◌∙◌, subst}
+use Rattle.vbr_list.proofs.Names.{knows, ReadsIn, RollsBack, Start}
 use Rattle.vbr_list.specs.Budgets.{steps_where}
 use Rattle.vbr_list.specs.Valuing.{LosesValue}
 use Rattle.vbr_list.proofs.Going.{keeps_still, ok_as}

@@ -1,11 +1,5 @@
-use Rattle.std.proofs.Common.{ℕ, Ok, Err}
-use Rattle.std.specs.Prelude.{IfOk, IfErr, Result}
-use Rattle.vbr_slots.specs.Alone.{IsFresh}
-use Rattle.vbr_slots.specs.Views.{PassView}
-use Rattle.vbr_at_table.specs.Reading.{IsHeadRead, ReadsIn, RollsBack}
-use Rattle.vbr_at_table.specs.declared.held.Held.{Held}
-use Rattle.vbr_at_table.specs.declared.rollback.Rollback.{Rollback}
-use Rattle.vbr_at_table.proofs.Lemmas.{reads_on}
+use Rattle.vbr_list.proofs.Names.{ℕ, Ok, Err, IfOk, IfErr, Result}
+use Rattle.vbr_list.proofs.Names.{Held, IsFresh, IsHeadRead, PassView, reads_on, ReadsIn, Rollback, RollsBack}
 use Rattle.vbr_list.specs.Visiting.{StartsAt, StartsNone}
 use Rattle.vbr_list.specs.Walking.{Checks}
 use Rattle.vbr_list.proofs.Disturbing.{moves_epoch}

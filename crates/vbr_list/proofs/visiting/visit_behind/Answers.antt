@@ -1,21 +1,5 @@
-use Rattle.std.proofs.Common.{◌≡◌, ◌≤◌, ℕ, ◌+◌, Option, Some, None, sym, ap, ◌∙◌, subst, arith, false}
-use Rattle.std.specs.Prelude.{IsSome}
-use Rattle.vbr_words.specs.Words.{link_of}
-use Rattle.vbr_words.specs.Buckets.{bucket_of}
-use Rattle.vbr_machine.specs.Start.{Start}
-use Rattle.vbr_machine.specs.Images.{link_shown_at}
-use Rattle.vbr_machine.specs.Membership.{HeldIn}
-use Rattle.vbr_slots.specs.Alone.{IsAlone}
-use Rattle.vbr_slots.specs.PassLaw.{PassLaw}
-use Rattle.vbr_slots.specs.Views.{PassView, Trace, knows}
-use Rattle.vbr_at_table.specs.Alone.{StandsNow}
-use Rattle.vbr_at_table.specs.CallSteps.{next_steps}
-use Rattle.vbr_at_table.specs.Held.{IsHeld}
-use Rattle.vbr_at_table.specs.Keeping.{Keeps}
-use Rattle.vbr_at_table.specs.Moments.{IsNext}
-use Rattle.vbr_at_table.specs.Reading.{IsKeyRead, ReadsIn}
-use Rattle.vbr_at_table.specs.declared.held.Held.{Held}
-use Rattle.vbr_at_table.proofs.Lemmas.{fresh_kept, held_kept, keeps_on, reads_on, stood_before}
+use Rattle.vbr_list.proofs.Names.{◌≡◌, ◌≤◌, ℕ, ◌+◌, Option, Some, None, sym, ap, ◌∙◌, subst, arith, false, IsSome}
+use Rattle.vbr_list.proofs.Names.{bucket_of, fresh_kept, Held, held_kept, HeldIn, IsAlone, IsHeld, IsKeyRead, IsNext, Keeps, keeps_on, knows, link_of, link_shown_at, next_steps, PassLaw, PassView, reads_on, ReadsIn, StandsNow, Start, stood_before, Trace}
 use Rattle.vbr_list.specs.Nearing.{StandsInList}
 use Rattle.vbr_list.specs.Pieces.{LooksOn}
 use Rattle.vbr_list.specs.Visiting.{ComesNearer, HasKey}

@@ -1,0 +1,83 @@
+-- What proofs of this crate name of std and of the crates below it, from one place.
+pub use Rattle.std.specs.List.{AllByRecursion}
+pub use Rattle.std.specs.Option.{is_none, is_some}
+pub use Rattle.std.specs.Prelude.{Contains, count_by, IfErr, IfNone, IfOk, IfSome, if◌then◌else◌, IsSome, ◌&&◌, ◌==◌, ◌⊎◌}
+pub use Rattle.std.specs.Result.{is_err, is_ok}
+pub use Rattle.std.proofs.Common.{[], ap, append-nil, append_assoc, arith, Bool, cond, eq-eqb, Err, false, inl, inr, length, List, None, not, Ok, Option, option_to_list, refl, Result, Some, subst, suc, sym, true, ℕ, ◌*◌, ◌++◌, ◌+◌, ◌-◌, ◌<◌, ◌^◌, ◌∙◌, ◌∷◌, ◌≡◌, ◌≢◌, ◌≤◌}
+pub use Rattle.std.proofs.lemmas.Bool.{cases_Bool, cases_lt}
+pub use Rattle.std.proofs.lemmas.Bool.Decides.{nat_tests}
+pub use Rattle.std.proofs.lemmas.List.Elements.{Contains-append_left, Contains-append_right, Contains-push, Contains-push_cases}
+pub use Rattle.std.proofs.lemmas.List.Sums.{sum_by-append}
+pub use Rattle.std.proofs.lemmas.Nat.{mul-le}
+pub use Rattle.vbr_words.specs.Buckets.{bucket_of}
+pub use Rattle.vbr_words.specs.Dimensions.{Dimensions}
+pub use Rattle.vbr_words.specs.Words.{link_of, word_of}
+pub use Rattle.vbr_words.specs.declared.link.Link.{Link}
+pub use Rattle.vbr_words.specs.declared.nodes.Nodes.{Ghosts}
+pub use Rattle.vbr_words.specs.declared.place.At.{At}
+pub use Rattle.vbr_words.specs.declared.place.At.TheVariants.{Head, Slot}
+pub use Rattle.vbr_words.proofs.Lemmas.{bucket_of-lt, word_of-link_of}
+pub use Rattle.vbr_machine.specs.Acceptance.{IsInHand, IsUnlinked}
+pub use Rattle.vbr_machine.specs.Accounts.{incarnations_after, own_entries}
+pub use Rattle.vbr_machine.specs.Agreement.{IsHeldIncarnation}
+pub use Rattle.vbr_machine.specs.Calls.{calls_added, own_calls}
+pub use Rattle.vbr_machine.specs.Disturbances.{disturbances, HasVisited, IsAhead, IsOpenIn, met, own_changes}
+pub use Rattle.vbr_machine.specs.History.{calls_by, GiveStored, GivesValue, IsLegal, keys_after, Payloads, payloads_after, reply_of, set_after, set_call, values_after}
+pub use Rattle.vbr_machine.specs.Images.{link_shown_at}
+pub use Rattle.vbr_machine.specs.Keys.{Keys}
+pub use Rattle.vbr_machine.specs.Knowledge.{Know}
+pub use Rattle.vbr_machine.specs.Learning.{birth_in_hand, read_epoch, reread}
+pub use Rattle.vbr_machine.specs.Machine.{after, found, link_at, opening, World}
+pub use Rattle.vbr_machine.specs.Membership.{at_head, HeldIn, IsHeldPlace, itself, KeyAt, Knows, LeadsTo, onward, StandsBefore, StandsBeforeOn, StandsBehind}
+pub use Rattle.vbr_machine.specs.Moments.{WasShown}
+pub use Rattle.vbr_machine.specs.Nodes.{is_there}
+pub use Rattle.vbr_machine.specs.Opened.{opening_keys, opening_payloads, payload_kept}
+pub use Rattle.vbr_machine.specs.Removals.{HasLeft, IsTakenOut, MarkedLeft, NoneMarked, ReplacedAt, ReplacedLeft}
+pub use Rattle.vbr_machine.specs.Runs.{AreAccepted, Begins, IsRun, know_after, world_after, world_from}
+pub use Rattle.vbr_machine.specs.Sound.{IsRemoved}
+pub use Rattle.vbr_machine.specs.Start.{IsStart, Start}
+pub use Rattle.vbr_machine.specs.declared.event.Event.{Event}
+pub use Rattle.vbr_machine.specs.declared.event.Step.{Step}
+pub use Rattle.vbr_machine.specs.declared.event.Step.TheVariants.{LoadLink}
+pub use Rattle.vbr_machine.specs.declared.history.Call.{Call}
+pub use Rattle.vbr_machine.specs.declared.history.Op.{Op}
+pub use Rattle.vbr_machine.specs.declared.history.Op.TheVariants.{Insert, Remove}
+pub use Rattle.vbr_machine.specs.declared.knowledge.Holding.{Holding}
+pub use Rattle.vbr_machine.specs.declared.knowledge.Holding.TheVariants.{Free}
+pub use Rattle.vbr_machine.specs.declared.knowledge.Read.TheVariants.{KeyOf, LinkAt}
+pub use Rattle.vbr_machine.proofs.Lemmas.{added_own, AdvancesNone, ahead_few, begins_refl, begins_run, begins_trans, calls_after, calls_by-append, changed_disturbed, disturbances_grow, disturbances_paid, every_run, found_left, has_key, head_visited, held_key, held_on, inserts_in, inserts_in-remove, inserts_in-two, IsAdvance, known_open, left_on, left_since, link_loaded, marked_fewer, marked_left, met_bound, met_bound_made, met_bound_quiet, met_bound_uninserted, met_later, met_on, moved_by_others, moved_disturbed, named_there, next_visited, none_marked_between, none_marked_here, none_marked_skipped, one_fewer_behind, one_key, out_on, own_between, own_unchanged, passed_left, put_here, put_other, removed_on, replaced_earlier, replaced_later, run_agrees, shown_there, since, skipped_left, undisturbed_by_itself, undisturbed_shown, unmarked_open, visited_few, visited_on}
+pub use Rattle.vbr_slots.specs.Alone.{ahead, IsAlone, IsFresh, LeavesLists, nodes, OnlyEventsOf}
+pub use Rattle.vbr_slots.specs.AtTables.{IsSameTable}
+pub use Rattle.vbr_slots.specs.Calls.{AddsAnswer, AddsNone, IsSame, Made, made_by, OnlyLoads, Quiet, Took}
+pub use Rattle.vbr_slots.specs.PassLaw.{PassLaw}
+pub use Rattle.vbr_slots.specs.Pools.{OwnPool}
+pub use Rattle.vbr_slots.specs.Views.{IsOf, knows, PassView, TableView, Trace}
+pub use Rattle.vbr_slots.specs.declared.at_table.AtTable.{AtTable}
+pub use Rattle.vbr_slots.specs.declared.pass.TheConstants.{POOL}
+pub use Rattle.vbr_slots.proofs.Lemmas.{adds_on, adds_refl, alone_first, alone_then, loads_on, loads_refl, made_on, moment_after, moment_before, quiet_adds_none, quiet_on, quiet_refl, same_leaves, same_on, same_refl}
+pub use Rattle.vbr_at_table.specs.Advances.{AdvancesWhereNeeded}
+pub use Rattle.vbr_at_table.specs.Alone.{StandsNow}
+pub use Rattle.vbr_at_table.specs.Budgets.{most_to_take, most_to_take_among, steps_to_take_among}
+pub use Rattle.vbr_at_table.specs.CallSteps.{next_steps}
+pub use Rattle.vbr_at_table.specs.Counts.{advances, ChangesNone, is_advance}
+pub use Rattle.vbr_at_table.specs.Gained.{gained}
+pub use Rattle.vbr_at_table.specs.Hands.{HandView}
+pub use Rattle.vbr_at_table.specs.Held.{held_of, HoldsMarked, IsHeld, IsSlot, Names}
+pub use Rattle.vbr_at_table.specs.Keeping.{Keeps, KeepsOwn, KeepsUnlinked}
+pub use Rattle.vbr_at_table.specs.KeptSlots.{HasAllButOne, HasStill, KeepsSlots, SharesWhereFull, StaysInTurn, TakesNoSlot}
+pub use Rattle.vbr_at_table.specs.LookUps.{DecidesKey}
+pub use Rattle.vbr_at_table.specs.Marks.{LeavesOthers}
+pub use Rattle.vbr_at_table.specs.Moments.{IsNext, IsRead, Stood, WasEntry, WasSo}
+pub use Rattle.vbr_at_table.specs.Reading.{IsHeadRead, IsKeyRead, ReadsIn, RollsBack}
+pub use Rattle.vbr_at_table.specs.Refusals.{IsSpent, LeavesRoom}
+pub use Rattle.vbr_at_table.specs.Replacing.{MadeTwo}
+pub use Rattle.vbr_at_table.specs.Retiring.{is_kept, know_retired, pool_retired, StampsFreshly}
+pub use Rattle.vbr_at_table.specs.Rollbacks.{FreshIfMoved, IsLost, IsMovedOrLost}
+pub use Rattle.vbr_at_table.specs.Steps.{CountsSteps, TookWithin}
+pub use Rattle.vbr_at_table.specs.Values.{entry_call, steps_to_update, steps_to_value, ValueAt}
+pub use Rattle.vbr_at_table.specs.declared.budget.TheConstants.{PIECE}
+pub use Rattle.vbr_at_table.specs.declared.held.Held.{Held}
+pub use Rattle.vbr_at_table.specs.declared.held.Marked.{Marked}
+pub use Rattle.vbr_at_table.specs.declared.rollback.Rollback.{Rollback}
+pub use Rattle.vbr_at_table.specs.declared.rollback.Rollback.TheVariants.{EpochMoved, LostExchange}
+pub use Rattle.vbr_at_table.proofs.Lemmas.{alone_gained, behind_kept, counts_none, counts_on, fresh_kept, gained_on, gained_since, grows_same, had_grown, had_on, held_in_kept, held_in_next, held_kept, keeps_on, longer, missed_after, more_lost, needed_after, needed_before, none_lost, none_on, none_refl, reads_on, shared_on, shared_taken, shares_more, slots_kept_on, stood_after, stood_before, took_all, two_on, unchanged_by_none, unlinks_none, was_absent, was_absent_on, was_entry, was_present}
