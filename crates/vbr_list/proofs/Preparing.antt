@@ -2,14 +2,13 @@
 use Rattle.vbr_list.proofs.Names.{◌≡◌, ◌≢◌, ℕ, ◌+◌, ◌-◌, ◌<◌, ◌≤◌, Bool, true, false, List, [], ◌∷◌, length, Result, Ok, Err, inl, refl, sym, ◌∙◌, subst, arith, IfOk, IfErr, is_err, is_ok}
 use Rattle.vbr_list.proofs.Names.{Begins, counts_on, CountsSteps, Ghosts, had_grown, had_on, IsRun, IsSame, IsSpent, LeavesRoom, Made, made_on, missed_after, needed_after, none_on, Op, PassView, Quiet, set_call, shared_taken, shares_more, slots_kept_on, Start, TakesNoSlot, Took, took_all, TookWithin, Trace, WasSo}
 use Rattle.vbr_machine.specs.declared.history.Call.{Call as ListedCall}
-use Rattle.vbr_list.specs.Inserting.{CountsWithin, InsertIsShort, InsertShowsSpent, Prepares, RefusesInsert, TakesNone}
+use Rattle.vbr_list.specs.Inserting.{CountsWithin, InsertIsShort, InsertShowsSpent, Prepares, TakesNone, WasFoundFor}
 use Rattle.vbr_list.specs.Pieces.{GoesOn, HasRoom, IsSameCall, pass_in, trace_in}
 use Rattle.vbr_list.specs.Refusals.{IsRefusedInsert}
 use Rattle.vbr_at_table.specs.declared.refusal.Refusal.{Refusal}
 use Rattle.vbr_at_table.specs.declared.refusal.Refusal.TheVariants.{OutOfSteps, NoSlot, EpochSpent}
 use Rattle.vbr_list.specs.declared.call.PendingCall.{PendingCall}
 use Rattle.vbr_list.proofs.Going.{call_on, counts_step, within_call}
-use Rattle.vbr_list.proofs.Moments.{so_before}
 
 pub within_on : {p q r : Trace} {a b c budget : ℕ} → CountsWithin p q a b budget → CountsSteps q r b c → b ≤ c → c ≤ budget → CountsWithin p r a c budget
 within_on x y low high = record { counts = counts_on x.counts y; within = (let u = x.within.0 in omega arith, high) }
@@ -78,20 +77,17 @@ takes_after p q r quiet some x more NoSlot y = record {
 }
 takes_after p q r quiet some x more (EpochSpent epoch) y = record { spent = y.spent; since = y.since; counts = within_on x y.counts.counts y.counts.within.0 y.counts.within.1; room = y.room }
 
--- where the key was absent, it is one of an insert
-says_absent : (p r : PassView) (key a budget : ℕ) → WasSo p.trace r.trace key false → (refusal : Refusal) → TakesNone p r a budget refusal → RefusesInsert p r key a budget refusal
-says_absent p r key a budget absent (OutOfSteps used) y = y
-says_absent p r key a budget absent NoSlot y = record { absent = absent; empty = y.empty; still = y.still; outside = y.outside }
-says_absent p r key a budget absent (EpochSpent epoch) y = (absent, y)
-
-pub refuses_after : (p q r : PassView) {key a b budget : ℕ} → Quiet p.trace q.trace → (p.pool ≢ [] → q.pool ≢ []) → CountsWithin p.trace q.trace a b budget → WasSo p.trace q.trace key false → Quiet q.trace r.trace → (refusal : Refusal) → TakesNone q r b budget refusal → RefusesInsert p r key a budget refusal
-refuses_after p q r {key} {a} {b} {budget} quiet some x absent more refusal y = says_absent p r key a budget (so_before absent more) refusal (takes_after p q r quiet some x more refusal y)
+-- it comes where the key was found as it was wanted
+pub found_for : {p q : Trace} {key : ℕ} {wanted : Bool} → WasSo p q key wanted → (refusal : Refusal) → WasFoundFor wanted p q key refusal
+found_for so (OutOfSteps used) = tt
+found_for so NoSlot = so
+found_for so (EpochSpent epoch) = so
 
 -- a refusal behind no steps is one of the whole call
-pub refused_first : (p q : PassView) (key budget : ℕ) (refusal : Refusal) → RefusesInsert p q key 0 budget refusal → IsRefusedInsert p q key budget refusal
-refused_first p q key budget (OutOfSteps used) x = record { took = took_all x.counts.counts; within = x.counts.within.1; short = x.short }
-refused_first p q key budget NoSlot x = x
-refused_first p q key budget (EpochSpent epoch) x = record { absent = x.0; spent = x.1.spent; room = record { steps = x.1.since; room = x.1.room; took = took_all x.1.counts.counts } }
+pub refused_first : (p q : PassView) (key budget : ℕ) (refusal : Refusal) → TakesNone p q 0 budget refusal → WasFoundFor false p.trace q.trace key refusal → IsRefusedInsert p q key budget refusal
+refused_first p q key budget (OutOfSteps used) x so = record { took = took_all x.counts.counts; within = x.counts.within.1; short = x.short }
+refused_first p q key budget NoSlot x so = record { absent = so; empty = x.empty; still = x.still; outside = x.outside }
+refused_first p q key budget (EpochSpent epoch) x so = record { absent = so; spent = x.spent; room = record { steps = x.since; room = x.room; took = took_all x.counts.counts } }
 
 -- what shows that the epoch is spent, with what is left of the budget
 pub spent_rest : (p q : PassView) (used budget epoch : ℕ) → used ≤ budget → IsSpent q epoch → LeavesRoom p q (budget - used) → InsertShowsSpent p q used budget epoch

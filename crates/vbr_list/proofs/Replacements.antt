@@ -1,16 +1,16 @@
 -- The steps of a replacement, and what its refusals say.
 use Rattle.vbr_list.proofs.Names.{◌≡◌, ℕ, ◌+◌, ◌*◌, ◌≤◌, true, [], Option, Some, None, Result, Ok, Err, sym, ap, ◌∙◌, arith, mul-le}
-use Rattle.vbr_list.proofs.Names.{Begins, begins_trans, birth_in_hand, counts_on, grows_same, had_grown, HandView, HasAllButOne, HasStill, incarnations_after, IsAlone, IsRun, IsSame, IsStart, knows, PassView, Quiet, Start, took_all, TookWithin, Trace, WasSo}
+use Rattle.vbr_list.proofs.Names.{Begins, begins_trans, birth_in_hand, counts_on, grows_same, had_grown, HandView, HasAllButOne, HasStill, incarnations_after, IsAlone, IsRun, IsSame, IsStart, knows, PassView, Quiet, Start, took_all, TookWithin, Trace}
 use Rattle.vbr_list.specs.Budgets.{LacksSteps, enough_to_insert, listed_for, replace_costs}
 use Rattle.vbr_list.specs.Disturbed.{disturbed, enough_to_replace_among, replace_costs_among, steps_for_slot}
-use Rattle.vbr_list.specs.Inserting.{CountsWithin, HasHandAndRoom, InsertIsShort, SearchedFor, SearchesInVain, TakesNone}
+use Rattle.vbr_list.specs.Inserting.{CountsWithin, HasHandAndRoom, InsertIsShort, SearchedFor, SearchesInVain, TakesNone, WasFoundFor}
 use Rattle.vbr_list.specs.Pieces.{KeepsHand}
-use Rattle.vbr_list.specs.Replacing.{HasUnspent, IsRefusedReplace, SearchesWith, WasPresentFor}
+use Rattle.vbr_list.specs.Replacing.{HasUnspent, IsRefusedReplace, SearchesWith}
 use Rattle.vbr_list.specs.Walking.{MovesOn, WalksAgain}
 use Rattle.vbr_at_table.specs.declared.refusal.Refusal.{Refusal}
 use Rattle.vbr_at_table.specs.declared.refusal.Refusal.TheVariants.{OutOfSteps, NoSlot, EpochSpent}
 use Rattle.vbr_list.proofs.Sufficing.{lacks_more, lone, took_more}
-use Rattle.vbr_list.proofs.Walking.{HasRepeated, once_paid, vain_lacks, searches_until}
+use Rattle.vbr_list.proofs.Walking.{HasRepeated, once_paid, searches_until, vain_lacks}
 
 -- ---- what is lost
 
@@ -45,11 +45,8 @@ had_since p q r (Err error) first then = λ slot has. then slot (first slot has)
 
 -- ---- refusals
 
-pub present_for : {p q : Trace} {key : ℕ} → WasSo p q key true → (refusal : Refusal) → WasPresentFor p q key refusal
-present_for so refusal = grind (arith, so)
-
 -- a refusal before a slot was in hand is one of the whole call
-pub replace_refused_first : (p q : PassView) (key budget : ℕ) (refusal : Refusal) → TakesNone p q 0 budget refusal → WasPresentFor p.trace q.trace key refusal → IsRefusedReplace p q key budget refusal
+pub replace_refused_first : (p q : PassView) (key budget : ℕ) (refusal : Refusal) → TakesNone p q 0 budget refusal → WasFoundFor true p.trace q.trace key refusal → IsRefusedReplace p q key budget refusal
 replace_refused_first p q key budget (OutOfSteps used) x present = record { took = took_all x.counts.counts; within = x.counts.within.1; short = x.short }
 replace_refused_first p q key budget NoSlot x present = record { present = present; none = x }
 replace_refused_first p q key budget (EpochSpent epoch) x present = record { present = present; spent = x.spent; room = record { steps = x.since; room = x.room; took = took_all x.counts.counts } }
@@ -90,7 +87,3 @@ absent_paid p q is ok key taking {used} x =
     let most = once_paid p q is ok key x in
     let more = mul-le t (9 * (n + t) + 7) t (9 * (n + t) + 12) (omega arith) (omega arith) in
     omega (arith, most, more)
-
--- only an empty own pool has no slot
-pub had_no_slot : (p q : PassView) (before budget : ℕ) (refusal : Refusal) → TakesNone p q before budget refusal → refusal ≡ NoSlot → p.pool ≡ []
-had_no_slot p q before budget refusal x e = grind arith

@@ -3,10 +3,10 @@ use Rattle.vbr_list.proofs.Names.{◌≡◌, ◌≢◌, ℕ, ◌+◌, ◌*◌, �
 use Rattle.vbr_list.proofs.Names.{alone_gained, Begins, gained, gained_on, gained_since, IsAlone, more_lost, most_to_take, most_to_take_among, none_lost, PassView, Quiet, Start, steps_to_take_among, steps_to_value, TookWithin, Trace}
 use Rattle.vbr_list.specs.Budgets.{IsAnsweredOrSpent, LacksSteps, enough_to_insert, insert_costs, listed_for}
 use Rattle.vbr_list.specs.Disturbed.{disturbed, enough_to_insert_among, insert_costs_among, steps_for_slot}
-use Rattle.vbr_list.specs.Inserting.{InsertIsShort, RefusesInsert}
+use Rattle.vbr_list.specs.Inserting.{InsertIsShort, TakesNone}
 use Rattle.vbr_list.proofs.Disturbing.{undisturbed}
 use Rattle.vbr_at_table.specs.declared.refusal.Refusal.{Refusal}
-use Rattle.vbr_at_table.specs.declared.refusal.Refusal.TheVariants.{OutOfSteps, NoSlot, EpochSpent}
+use Rattle.vbr_at_table.specs.declared.refusal.Refusal.TheVariants.{NoSlot}
 
 -- where an own pool with slots keeps some, a slot is taken in no more steps than were allowed for before
 take_later : (start : Start) (before now : List ℕ) (less more : ℕ) → less ≤ more → (before ≢ [] → now ≢ []) → steps_to_take_among start now less ≤ most_to_take_among start before more
@@ -39,8 +39,8 @@ pub never_refused : (pool : List ℕ) (p q : PassView) (before budget : ℕ) (re
 never_refused pool p q before budget refusal x e = grind arith
 
 -- only an empty own pool has no slot
-pub had_none : (p q : PassView) (key before budget : ℕ) (refusal : Refusal) → RefusesInsert p q key before budget refusal → refusal ≡ NoSlot → p.pool ≡ []
-had_none p q key before budget refusal x e = grind arith
+pub had_no_slot : (p q : PassView) (before budget : ℕ) (refusal : Refusal) → TakesNone p q before budget refusal → refusal ≡ NoSlot → p.pool ≡ []
+had_no_slot p q before budget refusal x e = grind arith
 
 -- what is so of a pass that was disturbed so often, and takes a slot in so many steps, is so of one that was alone
 pub lone : (P : ℕ → ℕ → Type 0) (p : PassView) (q : Trace) (key : ℕ) → P (disturbed p.trace q key) (steps_for_slot p q) → IsAlone p.trace q → P 0 (most_to_take p.trace.start p.pool)

@@ -9,7 +9,7 @@ use Rattle.vbr_list.specs.Budgets.{LacksSteps, enough_past}
 use Rattle.vbr_list.specs.Disturbed.{enough_to_insert_among, searches_more}
 use Rattle.vbr_at_table.specs.declared.refusal.Refusal.{Refusal}
 use Rattle.vbr_at_table.specs.declared.refusal.Refusal.TheVariants.{OutOfSteps, NoSlot, EpochSpent}
-use Rattle.vbr_list.specs.Inserting.{SearchedFor, SearchesFor, SearchesInVain, Searches}
+use Rattle.vbr_list.specs.Inserting.{SearchedFor, Searches, SearchesFor, SearchesInVain}
 use Rattle.vbr_list.specs.Traversing.{LastWalk}
 use Rattle.vbr_list.specs.Walking.{KnowsEpoch, LosesFound, LosesHeld, MovesSince, ReadsFresh, ReadsNext, Repeats, StandsStill, StoodOpen, Walks, WalksAgain, WalksOnce, met_since, nodes_after}
 use Rattle.vbr_list.proofs.Disturbing.{disturbed_same, fresh_at, grows_disturbed, loses_disturb, loses_found_disturb, met_before, met_few, met_less, met_quiet, moves_disturb, run_to, same_between}

@@ -1,8 +1,9 @@
--- An insert, piece by piece: it takes a slot once it has found the key absent, and then links it. Only contracts of private functions cite this.
-use Rattle.std.specs.Prelude.{◌≡◌, ℕ, ◌+◌, ◌*◌, ◌<◌, ◌≤◌, Bool, false, length, Option, Some, None}
+-- An insert, piece by piece: it takes a slot once it has found the key absent, and then links it. A replacement takes one by the same piece, once it has found the key present. Only contracts of private functions cite this.
+use Rattle.std.specs.Prelude.{◌≡◌, ℕ, ◌+◌, ◌*◌, ◌<◌, ◌≤◌, Bool, true, false, not, length, Option, Some, None}
 use Rattle.vbr_words.specs.declared.nodes.Nodes.{Ghosts}
 use Rattle.vbr_machine.specs.Runs.{Begins}
-use Rattle.vbr_machine.specs.declared.history.Op.TheVariants.{Insert}
+use Rattle.vbr_machine.specs.declared.history.Op.{Op}
+use Rattle.vbr_machine.specs.declared.history.Op.TheVariants.{Insert, Remove}
 use Rattle.vbr_slots.specs.declared.pass.TheConstants.{POOL}
 use Rattle.vbr_slots.specs.Calls.{Quiet}
 use Rattle.vbr_slots.specs.Views.{Trace, PassView}
@@ -18,9 +19,8 @@ use Rattle.vbr_at_table.specs.Moments.{WasSo}
 use Rattle.vbr_at_table.specs.Values.{steps_to_update}
 use Rattle.vbr_list.specs.Budgets.{LacksSteps}
 use Rattle.vbr_list.specs.Disturbed.{disturbed_after, steps_for_slot}
-use Rattle.vbr_list.specs.Walking.{LosesFound, LosesNext, met_since}
+use Rattle.vbr_list.specs.Walking.{LosesFound, met_since}
 use Rattle.vbr_list.specs.Pieces.{IsPiece, IsSameCall, Replies, Stores, pass_in, trace_in}
-use Rattle.vbr_list.specs.Refusals.{FoundNoSlot}
 use Rattle.vbr_list.specs.declared.call.PendingCall.{PendingCall}
 use Rattle.vbr_list.specs.declared.found.Found.{Found}
 use Rattle.vbr_at_table.specs.declared.refusal.Refusal.{Refusal}
@@ -56,11 +56,11 @@ TakesNone p q before budget (OutOfSteps used) = RunsShort p.trace q.trace before
 TakesNone p q before budget NoSlot = HasNoSlot p q
 TakesNone p q before budget (EpochSpent epoch) = InsertShowsSpent p q before budget epoch
 
--- what a refusal says of an insert behind so many steps
-abbrev pub RefusesInsert : PassView → PassView → ℕ → ℕ → ℕ → Refusal → Type 0
-RefusesInsert p q key before budget (OutOfSteps used) = RunsShort p.trace q.trace before used budget
-RefusesInsert p q key before budget NoSlot = FoundNoSlot p q key
-RefusesInsert p q key before budget (EpochSpent epoch) = WasSo p.trace q.trace key false × InsertShowsSpent p q before budget epoch
+-- a refusal that isn't for want of steps comes where the key was found as it was wanted
+abbrev pub WasFoundFor : Bool → Trace → Trace → ℕ → Refusal → Type 0
+WasFoundFor wanted p q key (OutOfSteps used) = Unit {0}
+WasFoundFor wanted p q key NoSlot = WasSo p q key wanted
+WasFoundFor wanted p q key (EpochSpent epoch) = WasSo p q key wanted
 
 -- a refusal for want of steps, and no other
 abbrev pub InsertIsShort : PassView → PassView → ℕ → ℕ → Refusal → Type 0
@@ -70,10 +70,20 @@ InsertIsShort p q before budget (EpochSpent epoch) = ⊥
 
 -- ---- an answer no
 
--- the insert isn't answered, and no call was made, as the node with the key is lost
+-- what is answered no where the key is present, and where it is absent: an insert, and a remove
+abbrev pub denied : Bool → Op
+denied true = Insert
+denied false = Remove
+
+-- the pass has answered no, and its hand is empty
+pub record AnswersNo {N : Type 0} {kind : Ghosts N} (op : Op) (c d : PendingCall N kind) : Type 0 where
+  pub made : Replies op c d false
+  pub spent : (pass_in d).hand ≡ None
+
+-- it hasn't, and no call was made, as what was found is lost
 pub record DeniesNone {N : Type 0} {kind : Ghosts N} (c d : PendingCall N kind) (found : Found) : Type 0 where
   pub quiet : Quiet (trace_in c) (trace_in d)
-  pub loses : LosesNext (trace_in c) (trace_in d) found.cur
+  pub loses : LosesFound (trace_in c) (trace_in d) found
 
 -- ---- a slot is taken
 
@@ -120,21 +130,22 @@ SearchesInVain p q key before budget more (OutOfSteps used) = SearchesFor p q ke
 SearchesInVain p q key before budget more NoSlot = Unit {0}
 SearchesInVain p q key before budget more (EpochSpent epoch) = Unit {0}
 
--- the pass has answered no; or it has made no call, and has a slot in hand
-abbrev pub IsPrepared : {N : Type 0} {kind : Ghosts N} → PendingCall N kind → PendingCall N kind → Option HandView → Type 0
-IsPrepared c d None = Replies Insert c d false × ((pass_in d).hand ≡ None)
-IsPrepared c d (Some hand) = Quiet (trace_in c) (trace_in d) × HasHandAndRoom (pass_in d) hand
+-- the pass has answered no, as the key was found otherwise than it was wanted; or it has made no call, and has a slot in hand
+abbrev pub IsPrepared : {N : Type 0} {kind : Ghosts N} → Bool → PendingCall N kind → PendingCall N kind → Option HandView → Type 0
+IsPrepared wanted c d None = AnswersNo (denied (not wanted)) c d
+IsPrepared wanted c d (Some hand) = Quiet (trace_in c) (trace_in d) × HasHandAndRoom (pass_in d) hand
 
 -- so it is, once it has come to the key and then taken a slot
-pub record PreparesHand {N : Type 0} {kind : Ghosts N} (c d : PendingCall N kind) (hand : Option HandView) : Type 0 where
-  pub is : IsPrepared c d hand
+pub record PreparesHand {N : Type 0} {kind : Ghosts N} (wanted : Bool) (c d : PendingCall N kind) (hand : Option HandView) : Type 0 where
+  pub is : IsPrepared wanted c d hand
   pub searched : SearchedFor (trace_in c) (trace_in d) c.key c.used d.used (steps_for_slot (pass_in c) (trace_in d) + 3)
 
 -- it isn't; a budget with seven steps more has enough
-pub record PreparesNone {N : Type 0} {kind : Ghosts N} (c d : PendingCall N kind) (refusal : Refusal) : Type 0 where
+pub record PreparesNone {N : Type 0} {kind : Ghosts N} (wanted : Bool) (c d : PendingCall N kind) (refusal : Refusal) : Type 0 where
   pub quiet : Quiet (trace_in c) (trace_in d)
   pub hand : (pass_in d).hand ≡ None
-  pub says : RefusesInsert (pass_in c) (pass_in d) c.key c.used c.budget refusal
+  pub says : TakesNone (pass_in c) (pass_in d) c.used c.budget refusal
+  pub so : WasFoundFor wanted (trace_in c) (trace_in d) c.key refusal
   pub searches : SearchesInVain (trace_in c) (trace_in d) c.key c.used c.budget (steps_for_slot (pass_in c) (trace_in d) + 10) refusal
 
 -- ---- the slot is linked

@@ -25,11 +25,11 @@ use Rattle.vbr_list.specs.Budgets.{IsAnsweredOrSpent, LacksSteps, enough_to_inse
 use Rattle.vbr_list.specs.Disturbed.{disturbed, disturbed_after, enough_to_replace_among, replace_costs_among, steps_for_slot}
 use Rattle.vbr_list.specs.Helping.{MayHelp}
 use Rattle.vbr_list.specs.Leaving.{LeavesAt, LeavesReplaced}
-use Rattle.vbr_list.specs.Inserting.{GivesHandBack, HasHandAndRoom, InsertIsShort, SearchedFor, Searches, SearchesInVain, TakesNone}
-use Rattle.vbr_list.specs.Pieces.{HasRoom, IsPiece, IsSameCall, Replies, pass_in, trace_in}
+use Rattle.vbr_list.specs.Inserting.{AnswersNo, GivesHandBack, HasHandAndRoom, InsertIsShort, Searches}
+use Rattle.vbr_list.specs.Pieces.{HasRoom, IsPiece, IsSameCall, pass_in, trace_in}
 use Rattle.vbr_list.specs.Removing.{MarksAndSearches, MarksBehind, SearchesOn}
 use Rattle.vbr_list.specs.Traversing.{LocatesFor}
-use Rattle.vbr_list.specs.Walking.{LosesPlace, met_since}
+use Rattle.vbr_list.specs.Walking.{met_since}
 use Rattle.vbr_list.specs.declared.call.PendingCall.{PendingCall}
 use Rattle.vbr_list.specs.declared.found.Found.{Found}
 use Rattle.vbr_at_table.specs.declared.refusal.Refusal.{Refusal}
@@ -106,43 +106,9 @@ pub record SettlesNone {N : Type 0} {kind : Ghosts N} (c d : PendingCall N kind)
   pub given : GivesHandBack c d found back
   pub few : d.used ≤ c.used + PIECE
 
--- the key isn't answered absent, and no call was made, as the place before it is lost
-pub record DeniesAbsent {N : Type 0} {kind : Ghosts N} (c d : PendingCall N kind) (found : Found) : Type 0 where
-  pub quiet : Quiet (trace_in c) (trace_in d)
-  pub loses : LosesPlace (trace_in c) (trace_in d) found.pred
-
--- the pass has answered no, and its hand is empty
-pub record FindsAbsent {N : Type 0} {kind : Ghosts N} (c d : PendingCall N kind) : Type 0 where
-  pub made : Replies Remove c d false
-  pub spent : (pass_in d).hand ≡ None
-
--- so it has; or it has made no call, and has a slot in hand
-abbrev pub IsReady : {N : Type 0} {kind : Ghosts N} → PendingCall N kind → PendingCall N kind → Option HandView → Type 0
-IsReady c d None = FindsAbsent c d
-IsReady c d (Some hand) = Quiet (trace_in c) (trace_in d) × HasHandAndRoom (pass_in d) hand
-
--- so it is, once it has come to the key and then taken a slot
-pub record ReadiesHand {N : Type 0} {kind : Ghosts N} (c d : PendingCall N kind) (hand : Option HandView) : Type 0 where
-  pub is : IsReady c d hand
-  pub searched : SearchedFor (trace_in c) (trace_in d) c.key c.used d.used (steps_for_slot (pass_in c) (trace_in d) + 3)
-
--- a refusal that isn't for want of steps comes where the key was found present
-abbrev pub WasPresentFor : Trace → Trace → ℕ → Refusal → Type 0
-WasPresentFor p q key (OutOfSteps used) = Unit {0}
-WasPresentFor p q key NoSlot = WasSo p q key true
-WasPresentFor p q key (EpochSpent epoch) = WasSo p q key true
-
--- no slot is in hand, and no call was made; a budget with seven steps more has enough
-pub record ReadiesNone {N : Type 0} {kind : Ghosts N} (c d : PendingCall N kind) (refusal : Refusal) : Type 0 where
-  pub quiet : Quiet (trace_in c) (trace_in d)
-  pub hand : (pass_in d).hand ≡ None
-  pub says : TakesNone (pass_in c) (pass_in d) c.used c.budget refusal
-  pub present : WasPresentFor (trace_in c) (trace_in d) c.key refusal
-  pub searches : SearchesInVain (trace_in c) (trace_in d) c.key c.used c.budget (steps_for_slot (pass_in c) (trace_in d) + 10) refusal
-
 -- the pass has answered no, or has replaced the value
 abbrev pub ReplaceAnswers : {N : Type 0} {kind : Ghosts N} → ℕ → PendingCall N kind → PendingCall N kind → Option ℕ → Type 0
-ReplaceAnswers value c d None = FindsAbsent c d
+ReplaceAnswers value c d None = AnswersNo Remove c d
 ReplaceAnswers value c d (Some old) = ReplacesAndLeaves value c d old
 
 -- each slot that the pass had it has still, but for the one that it published, if it replaced a value

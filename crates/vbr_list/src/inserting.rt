@@ -1,96 +1,23 @@
 //! Inserts.
-ghost use Rattle.std.specs.Prelude.{◌≡◌, ◌+◌, ◌≤◌, true, false, length, None, IfOk, IfErr};
+ghost use Rattle.std.specs.Prelude.{◌≡◌, None, IfOk, IfErr};
 ghost use Rattle.vbr_machine.specs.declared.history.Op.TheVariants.{Insert};
 ghost use Rattle.vbr_at_table.specs.KeptSlots.{HasUnpublished};
-ghost use Rattle.vbr_slots.specs.Calls.{Quiet, Took};
+ghost use Rattle.vbr_slots.specs.Calls.{Took};
 ghost use Rattle.vbr_slots.specs.Views.{IsOf};
-ghost use Rattle.vbr_at_table.specs.Answering.{KeepsIn};
 ghost use Rattle.vbr_list.specs.Sparing.{Calls, CallsAs, CallsInsert, SparesInsert};
-ghost use Rattle.vbr_list.specs.Inserting.{DeniesNone, GivesHandBack, HasHandAndRoom, InsertAnswers, Links, LinksHand, LinksNone, Prepares, PreparesHand, PreparesNone, Provides, ProvidesNone, Publishes};
-ghost use Rattle.vbr_list.specs.Pieces.{HasRoom, IsSameCall, Replies, pass_in, trace_in};
+ghost use Rattle.vbr_list.specs.Inserting.{GivesHandBack, HasHandAndRoom, InsertAnswers, Links, LinksHand, LinksNone, Publishes};
+ghost use Rattle.vbr_list.specs.Pieces.{HasRoom, pass_in};
 ghost use Rattle.vbr_list.specs.Told.{stored_in};
 ghost use Rattle.vbr_list.specs.Traversing.{LocatesFor};
 
 use crate::call::{PendingCall, begin};
 use crate::found::Found;
 use crate::valuing::steps_to_update;
-use vbr_at_table::budget::affords;
-use vbr_at_table::{Hand, Refusal, Rollback, confirm_present, give_back, take, update};
-use vbr_machine::Op;
+use vbr_at_table::{Hand, Refusal, give_back, update};
 use vbr_slots::{Pass, Slots, Stepper};
 use vbr_words::{Entries, Nodes};
 
 impl<N: Nodes> PendingCall<'_, N> {
-    // Answers an insert with no, in one step, if the link of the node that was found is as it was read.
-    #[inline]
-    fn deny(&mut self, found: &Found) -> Result<(), Rollback>
-        requires locates { LocatesFor self.old found.now }
-        requires present { found.now.present ≡ true }
-        requires room { HasRoom self.old }
-        ensures call { IsSameCall self.old self.new }
-        ensures keeps { KeepsIn (pass_in self.old) (pass_in self.new) 1 }
-        ensures used { self.new.used ≡ self.old.used + 1 }
-        ensures made { IfOk result (λ _. Replies Insert self.old self.new false) }
-        ensures rolls { IfErr result (λ r. DeniesNone self.old self.new found.now) }
-    {
-        let Some(cur) = &found.cur else {
-            unreachable!()
-        };
-        self.at.law();
-        self.used += 1;
-        confirm_present(&mut self.at, Op::Insert, cur)
-    }
-
-    // Takes a slot with what is left of the budget.
-    pub(crate) fn provide(&mut self) -> Result<Hand, Refusal>
-        requires empty_hand { (pass_in self.old).hand ≡ None }
-        ensures prepares { Prepares self.old self.new }
-        ensures quiet { Quiet (trace_in self.old) (trace_in self.new) }
-        ensures one { length (pass_in self.old).pool ≤ length (pass_in self.new).pool + 1 }
-        ensures hand { IfOk result (Provides self.old self.new) }
-        ensures refused { IfErr result (ProvidesNone self.old self.new) }
-    {
-        let before = self.used;
-        let (outcome, made) = take(&mut self.at, self.budget - before);
-        self.used += made;
-        match outcome {
-            Ok(hand) => Ok(hand),
-            Err(refusal) => match refusal {
-                Refusal::OutOfSteps { used: more } => Err(Refusal::OutOfSteps {
-                    used: before + more,
-                }),
-                Refusal::NoSlot => Err(Refusal::NoSlot),
-                Refusal::EpochSpent { epoch } => Err(Refusal::EpochSpent { epoch }),
-            },
-        }
-    }
-
-    // Looks for the key without a hand: a hand, once the key was found absent; or none, and the answer is
-    // no.
-    fn prepare(&mut self) -> Result<Option<Hand>, Refusal>
-        requires empty_hand { (pass_in self.old).hand ≡ None }
-        ensures prepares { Prepares self.old self.new }
-        ensures prepared { IfOk result (PreparesHand self.old self.new) }
-        ensures refused { IfErr result (PreparesNone self.old self.new) }
-    {
-        self.at.law();
-        loop {
-            let Some(found) = self.search() else {
-                return Err(Refusal::OutOfSteps { used: self.used });
-            };
-            if !found.present {
-                let hand = self.provide()?;
-                return Ok(Some(hand));
-            }
-            if !affords(self.budget, self.used) {
-                return Err(Refusal::OutOfSteps { used: self.used });
-            }
-            if self.deny(&found).is_ok() {
-                return Ok(None);
-            }
-        }
-    }
-
     // Answers an insert by what was found, with a slot in hand, which gets the value where nodes have
     // values; else the hand comes back.
     #[inline]
@@ -104,7 +31,7 @@ impl<N: Nodes> PendingCall<'_, N> {
         ensures back { IfErr result (GivesHandBack self.old self.new found.now) }
     {
         if found.present {
-            if self.deny(found).is_err() {
+            if self.answer_no(found).is_err() {
                 return Err(hand);
             }
             give_back(&mut self.at, hand);
@@ -134,14 +61,10 @@ impl<N: Nodes> PendingCall<'_, N> {
     {
         self.at.law();
         loop {
-            let Some(found) = self.search() else {
+            let Some(found) = self.reach() else {
                 give_back(&mut self.at, hand);
                 return Err(Refusal::OutOfSteps { used: self.used });
             };
-            if !affords(self.budget, self.used) {
-                give_back(&mut self.at, hand);
-                return Err(Refusal::OutOfSteps { used: self.used });
-            }
             match self.settle_insert(&found, value, hand) {
                 Ok(reply) => return Ok(reply),
                 Err(back) => hand = back,
@@ -218,7 +141,7 @@ fn insert_by<N: Nodes>(
 {
     let mut call = begin!(slots, stepper, key, budget, 0);
     call.at.law();
-    match call.prepare() {
+    match call.prepare(false) {
         Err(refusal) => (Err(refusal), call.used),
         Ok(None) => (Ok(false), call.used),
         Ok(Some(hand)) => (call.link(value, hand), call.used),

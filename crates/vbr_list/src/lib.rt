@@ -22,6 +22,7 @@ pub mod next;
 pub mod removing;
 mod replacing;
 mod seeking;
+mod taking;
 mod traversal;
 mod valuing;
 mod visiting;

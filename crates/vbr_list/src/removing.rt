@@ -18,8 +18,7 @@ use crate::found::Found;
 use crate::helping::unlink_and_retire;
 use crate::valuing::{is_yes, steps_to_value_of, value_if_any};
 use vbr_at_table::budget::affords;
-use vbr_at_table::{Held, Marked, Refusal, Rollback, confirm_absent, mark};
-use vbr_machine::Op;
+use vbr_at_table::{Held, Marked, Refusal, Rollback, mark};
 use vbr_slots::{AtTable, Pass, Slots, Stepper};
 use vbr_words::{Entries, Nodes};
 
@@ -125,9 +124,7 @@ impl<N: Nodes> PendingCall<'_, N> {
         if found.present {
             return self.mark_and_unlink(found);
         }
-        let outcome = confirm_absent(&mut self.at, Op::Remove, self.key, &found.pred);
-        self.used += 1;
-        outcome?;
+        self.answer_no(found)?;
         Ok(None)
     }
 }

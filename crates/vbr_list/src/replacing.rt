@@ -1,14 +1,12 @@
 //! Replacing the value of a key.
 ghost use Rattle.std.specs.Prelude.{◌≡◌, ◌+◌, ◌≤◌, true, false, None, Some, IfOk, IfErr};
-ghost use Rattle.vbr_machine.specs.declared.history.Op.TheVariants.{Remove};
-ghost use Rattle.vbr_slots.specs.Calls.{Quiet, Took};
+ghost use Rattle.vbr_slots.specs.Calls.{Took};
 ghost use Rattle.vbr_slots.specs.Views.{IsOf};
-ghost use Rattle.vbr_at_table.specs.Answering.{KeepsIn};
 ghost use Rattle.vbr_at_table.specs.CallSteps.{steps_to_birth};
-ghost use Rattle.vbr_list.specs.Inserting.{GivesHandBack, HasHandAndRoom, Links, Prepares};
+ghost use Rattle.vbr_list.specs.Inserting.{GivesHandBack, HasHandAndRoom, Links};
 ghost use Rattle.vbr_list.specs.Leaving.{LeavesAt};
 ghost use Rattle.vbr_list.specs.Pieces.{GoesOn, HasRoom, IsSameCall, Replies, pass_in, trace_in};
-ghost use Rattle.vbr_list.specs.Replacing.{AnswersPaid, CallsReplace, DeniesAbsent, FindsPresent, HasHandForValue, HasUnspent, HasUnused, IsOldNode, MayReplaceNode, MaySettleReplace, ReadiesHand, ReadiesNone, ReplaceAnswers, Replaces, ReplacesAndLeaves, ReplacesNone, SettlesNone, SettlesPaid, UnlinksReplaced};
+ghost use Rattle.vbr_list.specs.Replacing.{AnswersPaid, CallsReplace, FindsPresent, HasHandForValue, HasUnspent, HasUnused, IsOldNode, MayReplaceNode, MaySettleReplace, ReplaceAnswers, Replaces, ReplacesAndLeaves, ReplacesNone, SettlesNone, SettlesPaid, UnlinksReplaced};
 ghost use Rattle.vbr_list.specs.Traversing.{LocatesFor};
 
 use crate::call::{PendingCall, begin};
@@ -16,10 +14,7 @@ use crate::found::Found;
 use crate::helping::unlink_and_retire;
 use crate::removing::walk_on;
 use vbr_at_table::budget::affords;
-use vbr_at_table::{
-    Hand, Held, Marked, Refusal, Rollback, birth_after, confirm_absent, give_back, value_of,
-};
-use vbr_machine::Op;
+use vbr_at_table::{Hand, Held, Marked, Refusal, birth_after, give_back, value_of};
 use vbr_slots::{Pass, Slots, Stepper};
 use vbr_words::{Entries, Nodes, decode};
 
@@ -68,49 +63,6 @@ impl<N: Nodes> PendingCall<'_, N> {
         match vbr_at_table::replace(&mut self.at, cur, birth, self.key, value, hand) {
             Ok(marked) => Ok((old, marked)),
             Err((back, _)) => Err(back),
-        }
-    }
-
-    // Answers no, in one step, if the link of the place before the key is as it was read.
-    #[inline]
-    fn answer_absent(&mut self, found: &Found) -> Result<(), Rollback>
-        requires locates { LocatesFor self.old found.now }
-        requires absent { found.now.present ≡ false }
-        requires room { HasRoom self.old }
-        ensures call { IsSameCall self.old self.new }
-        ensures keeps { KeepsIn (pass_in self.old) (pass_in self.new) 1 }
-        ensures used { self.new.used ≡ self.old.used + 1 }
-        ensures made { IfOk result (λ _. Replies Remove self.old self.new false) }
-        ensures rolls { IfErr result (λ _. DeniesAbsent self.old self.new found.now) }
-    {
-        self.at.law();
-        self.used += 1;
-        confirm_absent(&mut self.at, Op::Remove, self.key, &found.pred)
-    }
-
-    // Looks for the key without a hand: a hand, once the key was found present; or none, and the answer
-    // is no.
-    fn ready(&mut self) -> Result<Option<Hand>, Refusal>
-        requires empty_hand { (pass_in self.old).hand ≡ None }
-        ensures prepares { Prepares self.old self.new }
-        ensures ready { IfOk result (ReadiesHand self.old self.new) }
-        ensures refused { IfErr result (ReadiesNone self.old self.new) }
-    {
-        self.at.law();
-        loop {
-            let Some(found) = self.search() else {
-                return Err(Refusal::OutOfSteps { used: self.used });
-            };
-            if found.present {
-                let hand = self.provide()?;
-                return Ok(Some(hand));
-            }
-            if !affords(self.budget, self.used) {
-                return Err(Refusal::OutOfSteps { used: self.used });
-            }
-            if self.answer_absent(&found).is_ok() {
-                return Ok(None);
-            }
         }
     }
 
@@ -181,7 +133,7 @@ impl<N: Nodes> PendingCall<'_, N> {
                 Err(back) => Err(back),
             };
         }
-        if self.answer_absent(found).is_err() {
+        if self.answer_no(found).is_err() {
             return Err(spare);
         }
         give_back(&mut self.at, spare);
@@ -201,14 +153,10 @@ impl<N: Nodes> PendingCall<'_, N> {
     {
         self.at.law();
         loop {
-            let Some(found) = self.search() else {
+            let Some(found) = self.reach() else {
                 give_back(&mut self.at, hand);
                 return Err(Refusal::OutOfSteps { used: self.used });
             };
-            if !affords(self.budget, self.used) {
-                give_back(&mut self.at, hand);
-                return Err(Refusal::OutOfSteps { used: self.used });
-            }
             match self.settle_replace(&found, value, hand) {
                 Ok(answer) => return Ok(answer),
                 Err(back) => hand = back,
@@ -266,7 +214,7 @@ fn replace_by(
     slots.kind();
     let mut call = begin!(slots, stepper, key, budget, 0);
     call.at.law();
-    match call.ready() {
+    match call.prepare(true) {
         Err(refusal) => (Err(refusal), call.used),
         Ok(None) => (Ok(None), call.used),
         Ok(Some(hand)) => (call.replace_with(value, hand), call.used),

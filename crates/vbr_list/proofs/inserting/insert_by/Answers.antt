@@ -17,7 +17,7 @@ use Rattle.vbr_list.proofs.Disturbing.{run_at}
 use Rattle.vbr_list.proofs.Going.{ok_as}
 use Rattle.vbr_list.proofs.LonePasses.{alone, each_alone}
 use Rattle.vbr_list.proofs.Preparing.{each_same, each_seen, each_since, refused_first, refused_second, within_all, within_most, within_on}
-use Rattle.vbr_list.proofs.Sufficing.{answered_or_spent, each_error, had_none, lacks, lone_costs, lone_lacks, never_refused, slot_later}
+use Rattle.vbr_list.proofs.Sufficing.{answered_or_spent, each_error, had_no_slot, lacks, lone_costs, lone_lacks, never_refused, slot_later}
 use Rattle.vbr_list.proofs.Told.{stored_same, told_as, told_bare}
 use Rattle.vbr_list.proofs.Walking.{insert_lacks, once_paid, twice_paid, vain_lacks}
 use Rattle.vbr_list.proofs.inserting.insert_by.Goals as goal
@@ -42,10 +42,10 @@ returns-in-Err-clause-calls g c =
         kept = search rules;
         had = c.prepare.ensures.prepares.had;
         shared = search rules;
-        refused = refused_first p q c.args.key c.args.budget c.in-Err.refusal refused.says;
+        refused = refused_first p q c.args.key c.args.budget c.in-Err.refusal refused.says refused.so;
         disturbed_within = within;
         within = alone;
-        ready = λ some is_alone enough. answered_or_spent {A = Bool} p q c.args.budget (listed_for p.trace c.args.key) (Err c.in-Err.refusal) some is_alone enough (had_none p q c.args.key 0 c.args.budget c.in-Err.refusal refused.says) alone;
+        ready = λ some is_alone enough. answered_or_spent {A = Bool} p q c.args.budget (listed_for p.trace c.args.key) (Err c.in-Err.refusal) some is_alone enough (had_no_slot p q 0 c.args.budget c.in-Err.refusal refused.says) alone;
         costs = tt;
         disturbed_costs = tt;
       };
@@ -56,7 +56,8 @@ returns-in-Ok-None-clause-calls g c =
     let same : c.stepper-in-Ok-None-1.given.0 ≡ c.prepare.new.self.at.stepper.now = search rules in
     let p = c.args.stepper.now in
     let q = c.prepare.new.self.at.stepper.now in
-    let answers = (rw c.in-Ok-None.field-0-is at c.in-Ok-None.ensures.prepared.is).0 in
+    let is = rw c.in-Ok-None.field-0-is at c.in-Ok-None.ensures.prepared.is in
+    let answers = is.made in
     let paid = once_paid p.trace q.trace c.law.ensures.start (run_at p.trace q.trace answers.same answers.is_run) c.args.key c.in-Ok-None.ensures.prepared.searched in
     let costs : TookWithin p.trace q.trace (insert_costs_among (listed_for p.trace c.args.key) (disturbed p.trace q.trace c.args.key) (steps_for_slot p q.trace) (steps_to_value p.trace.start.shape.values)) = within_most c.prepare.ensures.prepares.counts (omega (arith, paid)) in
     rw same (record {
@@ -64,7 +65,7 @@ returns-in-Ok-None-clause-calls g c =
       made = told_as (told_bare p.trace.start p.trace.who Insert c.args.key false) answers;
       alone = alone c.law.ensures.start c.law.ensures.low answers;
       quiet = tt;
-      hand = search rules;
+      hand = is.spent;
       steps = within_all c.prepare.ensures.prepares.counts;
       spares = record {
         advances = search rules;

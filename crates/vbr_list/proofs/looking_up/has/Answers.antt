@@ -1,8 +1,7 @@
-use Rattle.std.proofs.Common.{◌≡◌, rules, sym, false, Bool, Option, ℕ, Result, subst}
+use Rattle.std.proofs.Common.{◌≡◌, rules, sym, Bool, Option, ℕ, Result, subst}
 use Rattle.std.specs.Prelude.{is_some}
 use Rattle.vbr_machine.specs.History.{set_call}
 use Rattle.vbr_machine.specs.declared.history.Op.TheVariants.{Has}
-use Rattle.vbr_list.specs.Budgets.{look_up_costs}
 use Rattle.vbr_list.specs.Sparing.{Calls, CallsAs, SparesLookUp}
 use Rattle.vbr_list.specs.Told.{given_in}
 use Rattle.vbr_at_table.specs.declared.refusal.Refusal.{Refusal}
@@ -14,7 +13,7 @@ returns g c =
     let p = c.args.pass.now in
     let q = c.during-answer.new.self in
     let answer = c.during-answer.result in
-    let told : CallsAs (given_in p.trace Has c.args.key) (SparesLookUp (given_in p.trace Has c.args.key) (look_up_costs p.trace c.args.key) p q c.args.key c.args.budget) p q c.args.budget answer = search rules in
+    let told : CallsAs (given_in p.trace Has c.args.key) (SparesLookUp (given_in p.trace Has c.args.key) 0 p q c.args.key c.args.budget) p q c.args.budget answer = search rules in
     let P : Result Bool Refusal → Type 0 = Calls Has p q c.args.key c.args.budget in
     let same : (given : Option ℕ) → given_in p.trace Has c.args.key given ≡ set_call p.trace.who Has c.args.key (is_some given) = λ given. sym (told_bare p.trace.start p.trace.who Has c.args.key (is_some given)) in
     subst P (sym c.is_yes.ensures) (calls_yes answer told same (λ spares. look_up_yes answer spares same))

@@ -4,23 +4,23 @@ use Rattle.vbr_list.specs.Budgets.{listed_for}
 use Rattle.vbr_list.specs.Disturbed.{steps_for_slot}
 use Rattle.vbr_list.proofs.Disturbing.{run_at}
 use Rattle.vbr_list.proofs.Preparing.{within_all, within_most, within_on}
-use Rattle.vbr_list.proofs.Replacements.{absent_paid, had_no_slot, replace_lone, replace_lone_costs, replace_refused_first, replace_vain}
+use Rattle.vbr_list.proofs.Replacements.{absent_paid, replace_lone, replace_lone_costs, replace_refused_first, replace_vain}
 use Rattle.vbr_list.proofs.ReplacedValues.{calls_with}
-use Rattle.vbr_list.proofs.Sufficing.{answered_or_spent}
+use Rattle.vbr_list.proofs.Sufficing.{answered_or_spent, had_no_slot}
 use Rattle.vbr_list.proofs.replacing.replace_by.Goals as goal
 
 pub returns-in-Ok-Some-clause-took : goal.returns-in-Ok-Some-clause-took
 returns-in-Ok-Some-clause-took c =
     let same : c.stepper-in-Ok-Some-1.given.0 ≡ c.replace_with.new.self.at.stepper.now = search rules in
-    let counts = rw c.ready.ensures.prepares.call.budget at c.replace_with.ensures.links.counts in
-    rw same (took_all (within_on c.ready.ensures.prepares.counts counts.counts counts.within.0 counts.within.1).counts)
+    let counts = rw c.prepare.ensures.prepares.call.budget at c.replace_with.ensures.links.counts in
+    rw same (took_all (within_on c.prepare.ensures.prepares.counts counts.counts counts.within.0 counts.within.1).counts)
 
 pub returns-in-Err-clause-calls : goal.returns-in-Err-clause-calls
 returns-in-Err-clause-calls c =
-    let same : c.stepper-1.given.0 ≡ c.ready.new.self.at.stepper.now = search rules in
+    let same : c.stepper-1.given.0 ≡ c.prepare.new.self.at.stepper.now = search rules in
     let p = c.args.stepper.now in
-    let q = c.ready.new.self.at.stepper.now in
-    let prepares = c.ready.ensures.prepares in
+    let q = c.prepare.new.self.at.stepper.now in
+    let prepares = c.prepare.ensures.prepares in
     let none = c.in-Err.ensures.refused in
     let refusal = c.in-Err.refusal in
     let taking = steps_for_slot p q.trace in
@@ -37,7 +37,7 @@ returns-in-Err-clause-calls c =
         advances = prepares.advances;
         had = prepares.had;
         shared = prepares.shared;
-        refused = replace_refused_first p q c.args.key c.args.budget refusal none.says none.present;
+        refused = replace_refused_first p q c.args.key c.args.budget refusal none.says none.so;
         within = alone;
         disturbed_within = within;
         ready = λ some is_alone enough. answered_or_spent {A = Option ℕ} p q c.args.budget (listed_for p.trace c.args.key) (Err refusal) some is_alone enough (had_no_slot p q 0 c.args.budget refusal none.says) alone;
@@ -50,12 +50,12 @@ returns-in-Err-clause-calls c =
 
 pub returns-in-Ok-None-clause-calls : goal.returns-in-Ok-None-clause-calls
 returns-in-Ok-None-clause-calls c =
-    let same : c.stepper-in-Ok-None-1.given.0 ≡ c.ready.new.self.at.stepper.now = search rules in
-    let prepares = c.ready.ensures.prepares in
-    let x = rw c.in-Ok-None.field-0-is at c.in-Ok-None.ensures.ready.is in
+    let same : c.stepper-in-Ok-None-1.given.0 ≡ c.prepare.new.self.at.stepper.now = search rules in
+    let prepares = c.prepare.ensures.prepares in
+    let x = rw c.in-Ok-None.field-0-is at c.in-Ok-None.ensures.prepared.is in
     let p = c.args.stepper.now in
-    let q = c.ready.new.self.at.stepper.now in
-    let costs = within_most prepares.counts (absent_paid p.trace q.trace c.law.ensures.start (run_at p.trace q.trace x.made.same x.made.is_run) c.args.key (steps_for_slot p q.trace) c.in-Ok-None.ensures.ready.searched) in
+    let q = c.prepare.new.self.at.stepper.now in
+    let costs = within_most prepares.counts (absent_paid p.trace q.trace c.law.ensures.start (run_at p.trace q.trace x.made.same x.made.is_run) c.args.key (steps_for_slot p q.trace) c.in-Ok-None.ensures.prepared.searched) in
     rw same (record {
       same = x.made.same;
       made = x.made;
@@ -69,7 +69,7 @@ returns-in-Ok-None-clause-calls c =
 pub returns-in-Ok-Some-clause-calls : goal.returns-in-Ok-Some-clause-calls
 returns-in-Ok-Some-clause-calls c =
     let same : c.stepper-in-Ok-Some-1.given.0 ≡ c.replace_with.new.self.at.stepper.now = search rules in
-    let prepares = c.ready.ensures.prepares in
-    let first = (rw c.in-Ok-Some.field-0-is at c.in-Ok-Some.ensures.ready.is).0 in
-    rw same (calls_with c.args.stepper.now c.ready.new.self c.replace_with.new.self c.args.key c.args.value c.args.budget c.law.ensures.start c.law.ensures.is_run first prepares.advances prepares.kept prepares.had prepares.shared prepares.counts prepares.call.key prepares.call.budget
-    c.replace_with.ensures.links c.in-Ok-Some.ensures.ready.searched c.replace_with.result c.replace_with.ensures.had c.replace_with.ensures.answers c.replace_with.ensures.refused c.replace_with.ensures.paid)
+    let prepares = c.prepare.ensures.prepares in
+    let first = (rw c.in-Ok-Some.field-0-is at c.in-Ok-Some.ensures.prepared.is).0 in
+    rw same (calls_with c.args.stepper.now c.prepare.new.self c.replace_with.new.self c.args.key c.args.value c.args.budget c.law.ensures.start c.law.ensures.is_run first prepares.advances prepares.kept prepares.had prepares.shared prepares.counts prepares.call.key prepares.call.budget
+    c.replace_with.ensures.links c.in-Ok-Some.ensures.prepared.searched c.replace_with.result c.replace_with.ensures.had c.replace_with.ensures.answers c.replace_with.ensures.refused c.replace_with.ensures.paid)

@@ -2,7 +2,7 @@ use Rattle.std.proofs.Common.{rules, ◌+◌, ◌∙◌, ap, sym, subst, arith}
 use Rattle.vbr_slots.specs.Calls.{Quiet}
 use Rattle.vbr_slots.specs.Views.{Trace}
 use Rattle.vbr_slots.proofs.Lemmas.{quiet_on}
-use Rattle.vbr_at_table.proofs.Lemmas.{had_back, had_grown, had_on, had_then, no_room, none_back, none_on}
+use Rattle.vbr_at_table.proofs.Lemmas.{had_back, had_grown, had_on, had_then, none_back, none_on}
 use Rattle.vbr_at_table.specs.Values.{steps_to_update}
 use Rattle.vbr_list.specs.Inserting.{SearchesFor}
 use Rattle.vbr_list.proofs.Going.{call_on, within_call}
@@ -15,14 +15,13 @@ use Rattle.vbr_list.proofs.call.PendingCall.link.Goals as goal
 
 pub loop-found-preserved : goal.loop-found-preserved
 loop-found-preserved g c =
-    let s = c.search.ensures.goes in
+    let s = c.reach.ensures.goes in
     let back = c.in-Err.ensures.back in
     let more = c.settle_insert.ensures.publishes in
-    let fits = c.if-not-affords.ensures in
     let begun = call_on c.loop-found.invariant.0 s.call in
     let same = call_on begun more.call in
     let p = c.args.self.now.at.stepper.now in
-    let q = c.search.new.self.at.stepper.now in
+    let q = c.reach.new.self.at.stepper.now in
     let r = c.settle_insert.new.self.at.stepper.now in (
       same,
       quiet_on c.loop-found.invariant.1 (quiet_on s.goes.quiet back.quiet),
@@ -39,41 +38,24 @@ loop-found-preserved g c =
 
 pub returns-in_default-clause-links : goal.returns-in_default-clause-links
 returns-in_default-clause-links g c =
-    let s = c.search.ensures.goes in
+    let s = c.reach.ensures.goes in
     let begun = call_on c.loop-found.invariant.0 s.call in
     record {
       call = search rules;
       counts = within_same c.give_back.ensures.back.trace (within_on c.loop-found.invariant.2 s.goes.counts s.more (within_call begun));
-      takes_no_slot = none_on (none_on c.loop-found.invariant.3 s.goes.hand.takes_no_slot) (none_back c.search.new.self.at.stepper.now c.give_back.new.at.stepper.now c.loop-found.hand.slot c.give_back.ensures.back.trace c.give_back.ensures.back.pool c.give_back.ensures.back.kept);
+      takes_no_slot = none_on (none_on c.loop-found.invariant.3 s.goes.hand.takes_no_slot) (none_back c.reach.new.self.at.stepper.now c.give_back.new.at.stepper.now c.loop-found.hand.slot c.give_back.ensures.back.trace c.give_back.ensures.back.pool c.give_back.ensures.back.kept);
       spent = search rules;
     }
 
 pub returns-in_default-clause-had : goal.returns-in_default-clause-had
 returns-in_default-clause-had g c =
-    let s = c.search.ensures.goes.goes.hand in
-    let q = c.search.new.self.at.stepper.now in
+    let s = c.reach.ensures.goes.goes.hand in
+    let q = c.reach.new.self.at.stepper.now in
     had_on c.args.self.now.at.stepper.now q c.give_back.new.at.stepper.now (had_on c.args.self.now.at.stepper.now c.loop-found.self.at.stepper.now q c.loop-found.invariant.5 (had_grown c.loop-found.self.at.stepper.now q s.takes_no_slot.grows s.hand)) (had_back q c.give_back.new.at.stepper.now c.loop-found.hand.slot (s.hand ∙ c.loop-found.invariant.4.is.slot) c.give_back.ensures.back.pool)
-
-pub returns-then-not-affords-clause-links : goal.returns-then-not-affords-clause-links
-returns-then-not-affords-clause-links g c =
-    let s = c.search.ensures.goes in
-    let begun = call_on c.loop-found.invariant.0 s.call in
-    record {
-      call = search rules;
-      counts = within_same c.give_back-then-not-affords.ensures.back.trace (within_on c.loop-found.invariant.2 s.goes.counts s.more (within_call begun));
-      takes_no_slot = none_on (none_on c.loop-found.invariant.3 s.goes.hand.takes_no_slot) (none_back c.search.new.self.at.stepper.now c.give_back-then-not-affords.new.at.stepper.now c.loop-found.hand.slot c.give_back-then-not-affords.ensures.back.trace c.give_back-then-not-affords.ensures.back.pool c.give_back-then-not-affords.ensures.back.kept);
-      spent = search rules;
-    }
-
-pub returns-then-not-affords-clause-had : goal.returns-then-not-affords-clause-had
-returns-then-not-affords-clause-had g c =
-    let s = c.search.ensures.goes.goes.hand in
-    let q = c.search.new.self.at.stepper.now in
-    had_on c.args.self.now.at.stepper.now q c.give_back-then-not-affords.new.at.stepper.now (had_on c.args.self.now.at.stepper.now c.loop-found.self.at.stepper.now q c.loop-found.invariant.5 (had_grown c.loop-found.self.at.stepper.now q s.takes_no_slot.grows s.hand)) (had_back q c.give_back-then-not-affords.new.at.stepper.now c.loop-found.hand.slot (s.hand ∙ c.loop-found.invariant.4.is.slot) c.give_back-then-not-affords.ensures.back.pool)
 
 pub returns-in_default-clause-refused : goal.returns-in_default-clause-refused
 returns-in_default-clause-refused g c =
-    let s = c.search.ensures.goes in
+    let s = c.reach.ensures.goes in
     let begun = call_on c.loop-found.invariant.0 s.call in
     let tired = c.in_default.ensures.tired in
     let Q : Trace → Type 0 = λ t. Quiet c.args.self.now.at.stepper.now.trace t in
@@ -82,26 +64,12 @@ returns-in_default-clause-refused g c =
     record {
       quiet = subst Q (sym c.give_back.ensures.back.trace) (quiet_on c.loop-found.invariant.1 s.goes.quiet);
       says = record { counts = within_same c.give_back.ensures.back.trace (within_on c.loop-found.invariant.2 s.goes.counts s.more (within_call begun)); short = rw c.loop-found.invariant.0.budget at tired.tired };
-      searches = subst S (sym c.give_back.ensures.back.trace) (search_ends c.law.ensures c.loop-found.invariant.0 c.loop-found.invariant.1 c.search.ensures.goes c.loop-found.invariant.6 c.in_default.ensures.tired.walks (c.args.self.now.budget + 1) 8 11 (let t = rw c.loop-found.invariant.0.budget at tired.tired in omega (arith, t)) (omega arith));
-    }
-
-pub returns-then-not-affords-clause-refused : goal.returns-then-not-affords-clause-refused
-returns-then-not-affords-clause-refused g c =
-    let s = c.search.ensures.goes in
-    let begun = call_on c.loop-found.invariant.0 s.call in
-    let short = rw begun.budget at (no_room c.search.new.self.used c.search.new.self.budget c.affords.result c.if-not-affords.true c.affords.ensures.1) in
-    let Q : Trace → Type 0 = λ t. Quiet c.args.self.now.at.stepper.now.trace t in
-    let p = c.args.self.now.at.stepper.now.trace in
-    let S : Trace → Type 0 = λ t. SearchesFor p t c.args.self.now.key c.args.self.now.used (c.args.self.now.budget + 1) 11 in
-    record {
-      quiet = subst Q (sym c.give_back-then-not-affords.ensures.back.trace) (quiet_on c.loop-found.invariant.1 s.goes.quiet);
-      says = record { counts = within_same c.give_back-then-not-affords.ensures.back.trace (within_on c.loop-found.invariant.2 s.goes.counts s.more (within_call begun)); short = short };
-      searches = subst S (sym c.give_back-then-not-affords.ensures.back.trace) (search_ends c.law.ensures c.loop-found.invariant.0 c.loop-found.invariant.1 c.search.ensures.goes c.loop-found.invariant.6 c.in-Some.ensures.found.walks (c.args.self.now.budget + 1) 8 11 (omega (arith, short)) (omega arith));
+      searches = subst S (sym c.give_back.ensures.back.trace) (search_ends c.law.ensures c.loop-found.invariant.0 c.loop-found.invariant.1 c.reach.ensures.goes c.loop-found.invariant.6 c.in_default.ensures.tired.walks (c.args.self.now.budget + 1) 8 11 (let t = rw c.loop-found.invariant.0.budget at tired.tired in omega (arith, t)) (omega arith));
     }
 
 pub returns-in-Ok-clause-links : goal.returns-in-Ok-clause-links
 returns-in-Ok-clause-links g c =
-    let s = c.search.ensures.goes in
+    let s = c.reach.ensures.goes in
     let more = c.settle_insert.ensures.publishes in
     let begun = call_on c.loop-found.invariant.0 s.call in
     let same = call_on begun more.call in
@@ -114,19 +82,19 @@ returns-in-Ok-clause-links g c =
 
 pub returns-in-Ok-clause-had : goal.returns-in-Ok-clause-had
 returns-in-Ok-clause-had g c =
-    let s = c.search.ensures.goes.goes.hand in
-    let q = c.search.new.self.at.stepper.now in
+    let s = c.reach.ensures.goes.goes.hand in
+    let q = c.reach.new.self.at.stepper.now in
     let then = had_then c.args.self.now.at.stepper.now q c.settle_insert.new.self.at.stepper.now c.settle_insert.result (had_on c.args.self.now.at.stepper.now c.loop-found.self.at.stepper.now q c.loop-found.invariant.5 (had_grown c.loop-found.self.at.stepper.now q s.takes_no_slot.grows s.hand)) c.settle_insert.ensures.had in
     rw c.in-Ok.is at then
 
 pub returns-in-Ok-clause-linked : goal.returns-in-Ok-clause-linked
 returns-in-Ok-clause-linked g c =
-    let s = c.search.ensures.goes.goes.quiet in
+    let s = c.reach.ensures.goes.goes.quiet in
     let first = c.loop-found.invariant.1 in
     let quiet = quiet_on first s in
-    let made = rw (call_on c.loop-found.invariant.0 c.search.ensures.goes.call).key at c.in-Ok.ensures.answers.made in
+    let made = rw (call_on c.loop-found.invariant.0 c.reach.ensures.goes.call).key at c.in-Ok.ensures.answers.made in
     let p = c.args.self.now.at.stepper.now.trace in
-    let m = c.search.new.self.at.stepper.now.trace in
+    let m = c.reach.new.self.at.stepper.now.trace in
     let few = c.settle_insert.ensures.publishes.few in
     let start = ap steps_to_update quiet.same.start in
     record {
@@ -135,6 +103,6 @@ returns-in-Ok-clause-linked g c =
         ended = m;
         quiet = quiet;
         to = made.seen;
-        searches = search_ends c.law.ensures c.loop-found.invariant.0 c.loop-found.invariant.1 c.search.ensures.goes c.loop-found.invariant.6 c.in-Some.ensures.found.walks c.settle_insert.new.self.used (steps_to_update p.start) (steps_to_update p.start + 3) (omega (arith, few, start)) (omega arith);
+        searches = search_ends c.law.ensures c.loop-found.invariant.0 c.loop-found.invariant.1 c.reach.ensures.goes c.loop-found.invariant.6 c.in-Some.ensures.found.walks c.settle_insert.new.self.used (steps_to_update p.start) (steps_to_update p.start + 3) (omega (arith, few, start)) (omega arith);
       };
     }

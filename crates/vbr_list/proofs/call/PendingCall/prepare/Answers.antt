@@ -1,38 +1,56 @@
-use Rattle.std.proofs.Common.{◌+◌, Bool, inr, sym, ◌∙◌, subst, arith}
+use mathlib.Core.Bool.{beq}
+use Rattle.std.proofs.Common.{◌≡◌, ◌+◌, Bool, true, false, refl, sym, ◌∙◌, subst, arith}
+use Rattle.std.specs.Prelude.{not}
 use Rattle.std.proofs.lemmas.Result.{err_from_is_err_and}
+use Rattle.vbr_machine.specs.History.{set_call}
+use Rattle.vbr_slots.specs.Calls.{Made}
 use Rattle.vbr_slots.proofs.Lemmas.{quiet_on}
 use Rattle.vbr_at_table.specs.Budgets.{steps_to_take_among}
 use Rattle.vbr_at_table.specs.Gained.{gained}
 use Rattle.vbr_at_table.proofs.Lemmas.{no_room, some_grown}
 use Rattle.vbr_at_table.specs.Moments.{WasSo}
 use Rattle.vbr_list.specs.Disturbed.{steps_for_slot}
+use Rattle.vbr_list.specs.Inserting.{denied}
 use Rattle.vbr_list.proofs.Going.{call_on, goes_further, goes_step, tries_on, within_call}
 use Rattle.vbr_list.proofs.Disturbing.{run_at}
 use Rattle.vbr_list.proofs.Walking.{in_vain, search_round_on, searches_later}
 use Rattle.vbr_list.proofs.LostWalks.{search_ends}
-use Rattle.vbr_list.proofs.Moments.{found_since, was_so}
-use Rattle.vbr_list.proofs.Preparing.{if_err, if_ok, made_since, prepares_answered, prepares_on, prepares_still, refuses_after, steps_gone}
+use Rattle.vbr_list.proofs.Moments.{found_since, so_before, was_so}
+use Rattle.vbr_list.proofs.Preparing.{found_for, if_err, if_ok, made_since, prepares_answered, prepares_on, prepares_still, steps_gone, takes_after}
 use Rattle.vbr_list.proofs.Sufficing.{take_after, take_least}
 use Rattle.vbr_list.proofs.call.PendingCall.prepare.Goals as goal
+
+-- what was found is as it was wanted, or the other
+same_as : (found wanted : Bool) → beq found wanted ≡ true → found ≡ wanted
+same_as true true x = refl
+same_as true false x = absurd (cc)
+same_as false true x = absurd (cc)
+same_as false false x = refl
+
+other_than : (found wanted : Bool) → beq found wanted ≡ false → found ≡ not wanted
+other_than true true x = absurd (cc)
+other_than true false x = refl
+other_than false true x = refl
+other_than false false x = absurd (cc)
 
 pub loop-found-preserved : goal.loop-found-preserved
 loop-found-preserved g c =
     let s = c.search.ensures.goes in
-    let d = c.deny.ensures in
+    let d = c.answer_no.ensures in
     let fits = c.affords.ensures.0 c.if-not-affords.false in
     let begun = call_on c.loop-found.invariant.0 s.call in
     let found = tries_on c.loop-found.invariant.1 s.goes s.more (within_call begun) in
-    let rolls = if_err c.deny.result (sym c.is_ok.ensures.value ∙ c.if-is_ok.false) d.rolls in (
+    let rolls = if_err c.answer_no.result (sym c.is_ok.ensures.value ∙ c.if-is_ok.false) d.rolls in (
       call_on begun d.call,
       rw d.used (tries_on found (goes_step c.search.new.self.used 1 rolls.quiet d.keeps.took d.keeps.own d.keeps.takes_no_slot) (omega arith) (let e = begun.budget in omega (arith, fits, e))),
       let p = c.args.self.now.at.stepper.now.trace in
           let q = c.loop-found.self.at.stepper.now.trace in
           let m = c.search.new.self.at.stepper.now.trace in
-          let r = c.deny.new.self.at.stepper.now.trace in
+          let r = c.answer_no.new.self.at.stepper.now.trace in
           let first = c.loop-found.invariant.1.goes.quiet in
           let whole = quiet_on (quiet_on first s.goes.quiet) rolls.quiet in
           let used = d.used in
-          search_round_on p q m r c.law.ensures.start (run_at p r whole.same (whole.is_run c.law.ensures.is_run)) c.args.self.now.key 4 first.same s.goes.quiet.same whole.same first.seen s.goes.quiet.seen rolls.quiet.seen d.keeps.takes_no_slot.count c.loop-found.invariant.2 c.in-Some.found (rw c.loop-found.invariant.0.key at c.in-Some.ensures.found.last) (omega (arith, used)) (inr rolls.loses),
+          search_round_on p q m r c.law.ensures.start (run_at p r whole.same (whole.is_run c.law.ensures.is_run)) c.args.self.now.key 4 first.same s.goes.quiet.same whole.same first.seen s.goes.quiet.seen rolls.quiet.seen d.keeps.takes_no_slot.count c.loop-found.invariant.2 c.in-Some.found (rw c.loop-found.invariant.0.key at c.in-Some.ensures.found.last) (omega (arith, used)) rolls.loses,
     )
 
 pub returns-in_default-clause-prepares : goal.returns-in_default-clause-prepares
@@ -44,12 +62,12 @@ returns-then-not-affords-clause-prepares g c = prepares_still (goes_further c.lo
 pub returns-in_err-hand-clause-prepares : goal.returns-in_err-hand-clause-prepares
 returns-in_err-hand-clause-prepares g c = prepares_on (goes_further c.loop-found.invariant.0 c.loop-found.invariant.1 c.search.ensures.goes) c.provide.ensures.one c.provide.ensures.prepares
 
-pub returns-then-not-found-clause-prepares : goal.returns-then-not-found-clause-prepares
-returns-then-not-found-clause-prepares g c = prepares_on (goes_further c.loop-found.invariant.0 c.loop-found.invariant.1 c.search.ensures.goes) c.provide.ensures.one c.provide.ensures.prepares
+pub returns-then-found-wanted-clause-prepares : goal.returns-then-found-wanted-clause-prepares
+returns-then-found-wanted-clause-prepares g c = prepares_on (goes_further c.loop-found.invariant.0 c.loop-found.invariant.1 c.search.ensures.goes) c.provide.ensures.one c.provide.ensures.prepares
 
 pub returns-then-is_ok-clause-prepares : goal.returns-then-is_ok-clause-prepares
 returns-then-is_ok-clause-prepares g c =
-    let d = c.deny.ensures in
+    let d = c.answer_no.ensures in
     prepares_answered (goes_further c.loop-found.invariant.0 c.loop-found.invariant.1 c.search.ensures.goes) d.call d.used (c.affords.ensures.0 c.if-not-affords.false) d.keeps.took d.keeps.takes_no_slot d.keeps.own.hand
 
 pub returns-in_default-clause-refused : goal.returns-in_default-clause-refused
@@ -63,6 +81,7 @@ returns-in_default-clause-refused g c =
       quiet = gone.goes.quiet;
       hand = gone.goes.hand.hand ∙ c.requires.empty_hand;
       says = record { counts = steps_gone gone; short = rw c.loop-found.invariant.0.budget at tired.tired };
+      so = tt;
       searches = search_ends c.law.ensures c.loop-found.invariant.0 c.loop-found.invariant.1.goes.quiet c.search.ensures.goes c.loop-found.invariant.2 tired.walks (c.args.self.now.budget + 1) 8 (steps_for_slot p m + 10) (let t = rw c.loop-found.invariant.0.budget at tired.tired in omega (arith, t)) (omega (arith, least));
     }
 
@@ -77,6 +96,7 @@ returns-then-not-affords-clause-refused g c =
       quiet = gone.goes.quiet;
       hand = gone.goes.hand.hand ∙ c.requires.empty_hand;
       says = record { counts = steps_gone gone; short = short };
+      so = tt;
       searches = search_ends c.law.ensures c.loop-found.invariant.0 c.loop-found.invariant.1.goes.quiet c.search.ensures.goes c.loop-found.invariant.2 c.in-Some.ensures.found.walks (c.args.self.now.budget + 1) 8 (steps_for_slot p m + 10) (omega (arith, short)) (omega (arith, least));
     }
 
@@ -100,7 +120,8 @@ returns-in_err-hand-clause-refused g c =
     rw (error.1, error.2) (record {
       quiet = whole;
       hand = none.hand;
-      says = refuses_after p m r gone.goes.quiet some counts (subst P c.if-not-found.true so) d refusal (rw gone.call.budget at none.says);
+      says = takes_after p m r gone.goes.quiet some counts d refusal (rw gone.call.budget at none.says);
+      so = found_for (so_before (subst P (same_as c.in-Some.found.present c.args.wanted c.if-found-wanted.true) so) d) refusal;
       searches = in_vain p.trace r.trace c.args.self.now.key c.args.self.now.used c.search.new.self.used c.args.self.now.budget (steps_to_take_among m.trace.start m.pool (gained m.trace r.trace)) (steps_for_slot p r.trace + 10)
           (λ since_then more le least. searches_later p.trace m.trace r.trace c.law.ensures.start (run_at p.trace r.trace whole.same (whole.is_run c.law.ensures.is_run)) c.args.self.now.key gone.goes.quiet.seen d.seen (steps_for_slot p r.trace + 10) (omega arith)
           (search_ends c.law.ensures c.loop-found.invariant.0 c.loop-found.invariant.1.goes.quiet c.search.ensures.goes c.loop-found.invariant.2 c.in-Some.ensures.found.walks since_then more (steps_for_slot p r.trace + 10) le least))
@@ -109,26 +130,27 @@ returns-in_err-hand-clause-refused g c =
 
 pub returns-then-is_ok-clause-prepared : goal.returns-then-is_ok-clause-prepared
 returns-then-is_ok-clause-prepared g c =
-    let d = c.deny.ensures in
+    let d = c.answer_no.ensures in
     let gone = goes_further c.loop-found.invariant.0 c.loop-found.invariant.1 c.search.ensures.goes in
-    let made = if_ok c.deny.result (sym c.is_ok.ensures.value ∙ c.if-is_ok.true) d.made in
+    let made = if_ok c.answer_no.result (sym c.is_ok.ensures.value ∙ c.if-is_ok.true) d.made in
+    let M : Bool → Type 0 = λ present. Made (set_call c.search.new.self.at.stepper.now.trace.who (denied present) c.args.self.now.key false) c.search.new.self.at.stepper.now.trace c.answer_no.new.self.at.stepper.now.trace in
     let p = c.args.self.now.at.stepper.now in
     let m = c.search.new.self.at.stepper.now.trace in
-    let r = c.deny.new.self.at.stepper.now.trace in
+    let r = c.answer_no.new.self.at.stepper.now.trace in
     let least = take_least p r in
     let used = d.used in
     record {
-      is = (made_since gone.goes.quiet (rw gone.call.key at made), d.keeps.own.hand ∙ gone.goes.hand.hand ∙ c.requires.empty_hand);
+      is = record { made = made_since gone.goes.quiet (subst M (other_than c.in-Some.found.present c.args.wanted c.if-found-wanted.false) (rw gone.call.key at made)); spent = d.keeps.own.hand ∙ gone.goes.hand.hand ∙ c.requires.empty_hand };
       searched = record {
         ended = m;
         quiet = gone.goes.quiet;
         to = made.seen;
-        searches = search_ends c.law.ensures c.loop-found.invariant.0 c.loop-found.invariant.1.goes.quiet c.search.ensures.goes c.loop-found.invariant.2 c.in-Some.ensures.found.walks c.deny.new.self.used 1 (steps_for_slot p r + 3) (omega (arith, used)) (omega (arith, least));
+        searches = search_ends c.law.ensures c.loop-found.invariant.0 c.loop-found.invariant.1.goes.quiet c.search.ensures.goes c.loop-found.invariant.2 c.in-Some.ensures.found.walks c.answer_no.new.self.used 1 (steps_for_slot p r + 3) (omega (arith, used)) (omega (arith, least));
       };
     }
 
-pub returns-then-not-found-clause-prepared : goal.returns-then-not-found-clause-prepared
-returns-then-not-found-clause-prepared g c =
+pub returns-then-found-wanted-clause-prepared : goal.returns-then-found-wanted-clause-prepared
+returns-then-found-wanted-clause-prepared g c =
     let gone = goes_further c.loop-found.invariant.0 c.loop-found.invariant.1 c.search.ensures.goes in
     let d = c.provide.ensures.quiet in
     let hand = c.in_ok-hand.ensures.hand in

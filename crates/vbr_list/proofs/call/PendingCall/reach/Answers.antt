@@ -10,5 +10,4 @@ returns-then-not-affords-clause-tired g c =
     record {
       tired = omega (arith, short, budget);
       walks = found.walks;
-      short = λ alone. let paid = (found.alone alone).paid in omega (arith, short, budget, paid);
     }

@@ -10,7 +10,7 @@ use Rattle.vbr_slots.proofs.Lemmas.{quiet_on, same_on}
 use Rattle.vbr_at_table.specs.Replacing.{MadeTwo}
 use Rattle.vbr_at_table.specs.Values.{entry_call}
 use Rattle.vbr_at_table.specs.declared.budget.TheConstants.{PIECE}
-use Rattle.vbr_at_table.proofs.Lemmas.{had_back, had_grown, had_on, no_room, none_back, none_on, two_on}
+use Rattle.vbr_at_table.proofs.Lemmas.{had_back, had_grown, had_on, none_back, none_on, two_on}
 use Rattle.vbr_list.specs.Pieces.{pass_in, trace_in}
 use Rattle.vbr_list.specs.Leaving.{LeavesReplaced}
 use Rattle.vbr_list.specs.Removing.{MarksAndSearches}
@@ -61,14 +61,13 @@ answers_since value b c d key start quiet (Some old) x =
 
 pub loop-found-preserved : goal.loop-found-preserved
 loop-found-preserved g c =
-    let s = c.search.ensures.goes in
+    let s = c.reach.ensures.goes in
     let back = c.in-Err.ensures.back.given in
     let more = c.settle_replace.ensures.settles in
-    let fits = c.if-not-affords.ensures in
     let begun = call_on c.loop-found.invariant.0 s.call in
     let same = call_on begun more.call in
     let p = c.args.self.now.at.stepper.now in
-    let q = c.search.new.self.at.stepper.now in
+    let q = c.reach.new.self.at.stepper.now in
     let r = c.settle_replace.new.self.at.stepper.now in (
       same,
       quiet_on c.loop-found.invariant.1 (quiet_on s.goes.quiet back.quiet),
@@ -84,66 +83,48 @@ loop-found-preserved g c =
 
 pub settle_replace-requires-clause-has : goal.settle_replace-requires-clause-has
 settle_replace-requires-clause-has g c =
-    let s = c.search.ensures.goes.goes in
+    let s = c.reach.ensures.goes.goes in
     record { values = ap (λ (d : Start). d.shape.values) (quiet_on c.loop-found.invariant.1 s.quiet).same.start ∙ c.requires.values; hand = hand_kept c.loop-found.hand s.hand c.loop-found.invariant.4 }
 
 pub returns-in_default-clause-links : goal.returns-in_default-clause-links
 returns-in_default-clause-links g c =
-    let s = c.search.ensures.goes in
+    let s = c.reach.ensures.goes in
     let begun = call_on c.loop-found.invariant.0 s.call in
     record {
       call = search rules;
       counts = within_same c.give_back.ensures.back.trace (within_on c.loop-found.invariant.2 s.goes.counts s.more (within_call begun));
-      takes_no_slot = none_on (none_on c.loop-found.invariant.3 s.goes.hand.takes_no_slot) (none_back c.search.new.self.at.stepper.now c.give_back.new.at.stepper.now c.loop-found.hand.slot c.give_back.ensures.back.trace c.give_back.ensures.back.pool c.give_back.ensures.back.kept);
-      spent = search rules;
-    }
-
-pub returns-then-not-affords-clause-links : goal.returns-then-not-affords-clause-links
-returns-then-not-affords-clause-links g c =
-    let s = c.search.ensures.goes in
-    let begun = call_on c.loop-found.invariant.0 s.call in
-    record {
-      call = search rules;
-      counts = within_same c.give_back-then-not-affords.ensures.back.trace (within_on c.loop-found.invariant.2 s.goes.counts s.more (within_call begun));
-      takes_no_slot = none_on (none_on c.loop-found.invariant.3 s.goes.hand.takes_no_slot) (none_back c.search.new.self.at.stepper.now c.give_back-then-not-affords.new.at.stepper.now c.loop-found.hand.slot c.give_back-then-not-affords.ensures.back.trace c.give_back-then-not-affords.ensures.back.pool c.give_back-then-not-affords.ensures.back.kept);
+      takes_no_slot = none_on (none_on c.loop-found.invariant.3 s.goes.hand.takes_no_slot) (none_back c.reach.new.self.at.stepper.now c.give_back.new.at.stepper.now c.loop-found.hand.slot c.give_back.ensures.back.trace c.give_back.ensures.back.pool c.give_back.ensures.back.kept);
       spent = search rules;
     }
 
 pub returns-in_default-clause-had : goal.returns-in_default-clause-had
 returns-in_default-clause-had g c =
-    let s = c.search.ensures.goes.goes.hand in
-    let q = c.search.new.self.at.stepper.now in
+    let s = c.reach.ensures.goes.goes.hand in
+    let q = c.reach.new.self.at.stepper.now in
     had_on c.args.self.now.at.stepper.now q c.give_back.new.at.stepper.now (had_on c.args.self.now.at.stepper.now c.loop-found.self.at.stepper.now q c.loop-found.invariant.5 (had_grown c.loop-found.self.at.stepper.now q s.takes_no_slot.grows s.hand)) (had_back q c.give_back.new.at.stepper.now c.loop-found.hand.slot (s.hand ∙ c.loop-found.invariant.4.is.slot) c.give_back.ensures.back.pool)
-
-pub returns-then-not-affords-clause-had : goal.returns-then-not-affords-clause-had
-returns-then-not-affords-clause-had g c =
-    let s = c.search.ensures.goes.goes.hand in
-    let q = c.search.new.self.at.stepper.now in
-    had_on c.args.self.now.at.stepper.now q c.give_back-then-not-affords.new.at.stepper.now (had_on c.args.self.now.at.stepper.now c.loop-found.self.at.stepper.now q c.loop-found.invariant.5 (had_grown c.loop-found.self.at.stepper.now q s.takes_no_slot.grows s.hand)) (had_back q c.give_back-then-not-affords.new.at.stepper.now c.loop-found.hand.slot (s.hand ∙ c.loop-found.invariant.4.is.slot) c.give_back-then-not-affords.ensures.back.pool)
 
 pub returns-in-Ok-clause-links : goal.returns-in-Ok-clause-links
 returns-in-Ok-clause-links g c =
-    let s = c.search.ensures.goes in
+    let s = c.reach.ensures.goes in
     let more = c.settle_replace.ensures.settles in
     let begun = call_on c.loop-found.invariant.0 s.call in
     let same = call_on begun more.call in
-    let fits = c.if-not-affords.ensures in
     record {
       call = same;
       counts = within_on (within_on c.loop-found.invariant.2 s.goes.counts s.more (within_call begun)) more.counts (let l = more.more in omega (arith, l)) (within_call same);
       takes_no_slot = none_on (none_on c.loop-found.invariant.3 s.goes.hand.takes_no_slot) more.takes_no_slot;
-      spent = spent_of c.args.value c.search.new.self c.settle_replace.new.self c.in-Ok.answer c.in-Ok.ensures.answers;
+      spent = spent_of c.args.value c.reach.new.self c.settle_replace.new.self c.in-Ok.answer c.in-Ok.ensures.answers;
     }
 
 pub returns-in_default-clause-refused : goal.returns-in_default-clause-refused
 returns-in_default-clause-refused g c =
-    let s = c.search.ensures.goes in
+    let s = c.reach.ensures.goes in
     let begun = call_on c.loop-found.invariant.0 s.call in
     let tired = c.in_default.ensures.tired in
     let Q : Trace → Type 0 = λ t. Quiet c.args.self.now.at.stepper.now.trace t in
     let p = c.args.self.now.at.stepper.now.trace in
     let q = c.loop-found.self.at.stepper.now.trace in
-    let m = c.search.new.self.at.stepper.now.trace in
+    let m = c.reach.new.self.at.stepper.now.trace in
     let first = c.loop-found.invariant.1 in
     let whole = quiet_on first s.goes.quiet in
     let S : Trace → Type 0 = λ t. SearchesWith p t c.args.self.now.key c.args.self.now.used (c.args.self.now.budget + 1) 11 in
@@ -153,45 +134,27 @@ returns-in_default-clause-refused g c =
       searches = subst S (sym c.give_back.ensures.back.trace) (searches_with_end p q m c.law.ensures.start (run_at p m whole.same (whole.is_run c.law.ensures.is_run)) c.args.self.now.key first.same first.seen s.goes.quiet.seen c.loop-found.invariant.6 (rw c.loop-found.invariant.0.key at c.in_default.ensures.tired.walks) (c.args.self.now.budget + 1) 8 11 (let t = rw c.loop-found.invariant.0.budget at tired.tired in omega (arith, t)) (omega arith));
     }
 
-pub returns-then-not-affords-clause-refused : goal.returns-then-not-affords-clause-refused
-returns-then-not-affords-clause-refused g c =
-    let s = c.search.ensures.goes in
-    let begun = call_on c.loop-found.invariant.0 s.call in
-    let short = rw begun.budget at (no_room c.search.new.self.used c.search.new.self.budget c.affords.result c.if-not-affords.true c.affords.ensures.1) in
-    let Q : Trace → Type 0 = λ t. Quiet c.args.self.now.at.stepper.now.trace t in
-    let p = c.args.self.now.at.stepper.now.trace in
-    let q = c.loop-found.self.at.stepper.now.trace in
-    let m = c.search.new.self.at.stepper.now.trace in
-    let first = c.loop-found.invariant.1 in
-    let whole = quiet_on first s.goes.quiet in
-    let S : Trace → Type 0 = λ t. SearchesWith p t c.args.self.now.key c.args.self.now.used (c.args.self.now.budget + 1) 11 in
-    record {
-      quiet = subst Q (sym c.give_back-then-not-affords.ensures.back.trace) (quiet_on c.loop-found.invariant.1 s.goes.quiet);
-      says = record { counts = within_same c.give_back-then-not-affords.ensures.back.trace (within_on c.loop-found.invariant.2 s.goes.counts s.more (within_call begun)); short = short };
-      searches = subst S (sym c.give_back-then-not-affords.ensures.back.trace) (searches_with_end p q m c.law.ensures.start (run_at p m whole.same (whole.is_run c.law.ensures.is_run)) c.args.self.now.key first.same first.seen s.goes.quiet.seen c.loop-found.invariant.6 (rw c.loop-found.invariant.0.key at c.in-Some.ensures.found.walks) (c.args.self.now.budget + 1) 8 11 (omega (arith, short)) (omega arith));
-    }
-
 pub returns-in-Ok-clause-had : goal.returns-in-Ok-clause-had
 returns-in-Ok-clause-had g c =
-    let s = c.search.ensures.goes.goes.hand in
-    let q = c.search.new.self.at.stepper.now in
+    let s = c.reach.ensures.goes.goes.hand in
+    let q = c.reach.new.self.at.stepper.now in
     let then = had_since c.args.self.now.at.stepper.now q c.settle_replace.new.self.at.stepper.now c.settle_replace.result (had_on c.args.self.now.at.stepper.now c.loop-found.self.at.stepper.now q c.loop-found.invariant.5 (had_grown c.loop-found.self.at.stepper.now q s.takes_no_slot.grows s.hand)) c.settle_replace.ensures.had in
     rw c.in-Ok.is at then
 
 pub returns-in-Ok-clause-answers : goal.returns-in-Ok-clause-answers
 returns-in-Ok-clause-answers g c =
-    let quiet = quiet_on c.loop-found.invariant.1 c.search.ensures.goes.goes.quiet in
-    answers_since c.args.value c.args.self.now c.search.new.self c.settle_replace.new.self (call_on c.loop-found.invariant.0 c.search.ensures.goes.call).key c.law.ensures.start quiet c.in-Ok.answer c.in-Ok.ensures.answers
+    let quiet = quiet_on c.loop-found.invariant.1 c.reach.ensures.goes.goes.quiet in
+    answers_since c.args.value c.args.self.now c.reach.new.self c.settle_replace.new.self (call_on c.loop-found.invariant.0 c.reach.ensures.goes.call).key c.law.ensures.start quiet c.in-Ok.answer c.in-Ok.ensures.answers
 
 pub returns-in-Ok-clause-paid : goal.returns-in-Ok-clause-paid
 returns-in-Ok-clause-paid g c =
-    let s = c.search.ensures.goes in
+    let s = c.reach.ensures.goes in
     let more = c.settle_replace.ensures.settles in
     let first = c.loop-found.invariant.1 in
     let quiet = quiet_on first s.goes.quiet in
     let begun = call_on c.loop-found.invariant.0 s.call in
     let b = c.args.self.now in
-    let d = c.search.new.self in
+    let d = c.reach.new.self in
     let e = c.settle_replace.new.self in
     let p = b.at.stepper.now.trace in
     let q = c.loop-found.self.at.stepper.now.trace in

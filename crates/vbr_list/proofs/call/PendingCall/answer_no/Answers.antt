@@ -1,0 +1,71 @@
+use Rattle.std.proofs.Common.{rules, inl, inr, false, Bool, Option, subst, sym}
+use Rattle.std.specs.Prelude.{Result, Ok, Err, IfOk, OnOk}
+use Rattle.vbr_machine.specs.History.{set_call}
+use Rattle.vbr_slots.specs.Calls.{Made}
+use Rattle.vbr_slots.specs.Views.{knows}
+use Rattle.vbr_at_table.specs.Answering.{FindsAnother}
+use Rattle.vbr_at_table.specs.declared.held.Held.{Held}
+use Rattle.vbr_at_table.proofs.Lemmas.{unchanged_by_none}
+use Rattle.vbr_list.specs.Inserting.{denied}
+use Rattle.vbr_list.specs.Walking.{LosesNext}
+use Rattle.vbr_list.proofs.Disturbing.{lost_place, run_at}
+use Rattle.vbr_list.proofs.Moments.{key_found}
+use Rattle.vbr_list.proofs.Passing.{before_named}
+use Rattle.vbr_list.proofs.Sufficing.{each_error}
+use Rattle.vbr_list.proofs.call.PendingCall.answer_no.Goals as goal
+
+on_ok : {A E P Q : Type 0} (x : Result A E) → (P → Q) → OnOk x P → IfOk x (λ _. Q)
+on_ok (Ok value) f p = f p
+on_ok (Err error) f p = tt
+
+pub confirm_absent-requires-clause-gap : goal.confirm_absent-requires-clause-gap
+confirm_absent-requires-clause-gap g c =
+    let f = c.args.found.now in
+    record {
+      held = search rules;
+      behind = search rules;
+      before = before_named (knows c.args.self.now.at.stepper.now.trace) c.args.self.now.key f.pred f.cur f.present c.requires.locates.end c.if-not-found.true;
+      unmarked = search rules;
+    }
+
+pub confirm_absent-requires-clause-op : goal.confirm_absent-requires-clause-op
+confirm_absent-requires-clause-op g c = record { other = λ e. absurd (cc); asked = λ get. absurd (cc) }
+
+pub confirm_present-requires-clause-asked : goal.confirm_present-requires-clause-asked
+confirm_present-requires-clause-asked g c = λ get. absurd (cc)
+
+pub returns-then-not-found-clause-made : goal.returns-then-not-found-clause-made
+returns-then-not-found-clause-made g c =
+    let p = c.args.self.now.at.stepper.now.trace in
+    let P : Bool → Type 0 = λ present. IfOk c.confirm_absent.result (λ _. Made (set_call p.who (denied present) c.args.self.now.key false) p c.confirm_absent.new.at.stepper.now.trace) in
+    subst P (sym c.if-not-found.true) (on_ok c.confirm_absent.result (λ answers. answers.made) c.confirm_absent.ensures.answers)
+
+pub returns-clause-made : goal.returns-clause-made
+returns-clause-made g c =
+    let f = c.args.found.now in
+    let p = c.args.self.now.at.stepper.now.trace in
+    let key = key_found (knows p) c.args.self.now.key f.pred c.in-Some.cur f.cur f.present c.requires.locates.end c.in-Some.is c.if-not-found.false in
+    let P : Bool → Type 0 = λ present. IfOk c.confirm_present.result (λ _. Made (set_call p.who (denied present) c.args.self.now.key false) p c.confirm_present.new.at.stepper.now.trace) in
+    subst P (sym c.if-not-found.false) (on_ok c.confirm_present.result (λ answers. (answers.answers c.args.self.now.key 0 key (λ get. absurd (cc))).made) c.confirm_present.ensures.answers)
+
+pub returns-then-not-found-clause-rolls : goal.returns-then-not-found-clause-rolls
+returns-then-not-found-clause-rolls g c =
+    let p = c.args.self.now.at.stepper.now.trace in
+    let r = c.confirm_absent.new.at.stepper.now.trace in
+    let pred = c.args.found.now.pred in
+    each_error (FindsAnother p r pred) _ c.confirm_absent.result
+    (λ rollback lost. record {
+      quiet = lost.quiet;
+      loses = inl (lost_place pred rollback lost.lost (unchanged_by_none c.law.ensures.start (run_at p r lost.quiet.same (lost.quiet.is_run c.law.ensures.is_run)) lost.quiet.same lost.quiet.seen lost.adds_none));
+    }) c.confirm_absent.ensures.lost
+
+pub returns-clause-rolls : goal.returns-clause-rolls
+returns-clause-rolls g c =
+    let p = c.args.self.now.at.stepper.now.trace in
+    let r = c.confirm_present.new.at.stepper.now.trace in
+    let Q : Option Held → Type 0 = LosesNext p r in
+    each_error (FindsAnother p r c.in-Some.cur) _ c.confirm_present.result
+    (λ rollback lost. record {
+      quiet = lost.quiet;
+      loses = inr (subst Q (sym c.in-Some.is) (lost_place c.in-Some.cur rollback lost.lost (unchanged_by_none c.law.ensures.start (run_at p r lost.quiet.same (lost.quiet.is_run c.law.ensures.is_run)) lost.quiet.same lost.quiet.seen lost.adds_none)));
+    }) c.confirm_present.ensures.lost

@@ -1,0 +1,91 @@
+//! What an insert and a replacement do first: they take a slot, once the key was found as it is wanted.
+ghost use Rattle.std.specs.Prelude.{◌≡◌, ◌+◌, ◌≤◌, false, length, None, IfOk, IfErr};
+ghost use Rattle.vbr_slots.specs.Calls.{Quiet};
+ghost use Rattle.vbr_at_table.specs.Answering.{KeepsIn};
+ghost use Rattle.vbr_list.specs.Inserting.{DeniesNone, Prepares, PreparesHand, PreparesNone, Provides, ProvidesNone, denied};
+ghost use Rattle.vbr_list.specs.Pieces.{HasRoom, IsSameCall, Replies, pass_in, trace_in};
+ghost use Rattle.vbr_list.specs.Traversing.{LocatesFor};
+
+use crate::call::PendingCall;
+use crate::found::Found;
+use vbr_at_table::budget::affords;
+use vbr_at_table::{Hand, Refusal, Rollback, confirm_absent, confirm_present, take};
+use vbr_machine::Op;
+use vbr_words::Nodes;
+
+impl<N: Nodes> PendingCall<'_, N> {
+    /// Answers no by what was found, in one step, if the link that tells it is as it was read: an insert
+    /// where the key is present, else a remove.
+    #[inline]
+    pub(crate) fn answer_no(&mut self, found: &Found) -> Result<(), Rollback>
+        requires locates { LocatesFor self.old found.now }
+        requires room { HasRoom self.old }
+        ensures call { IsSameCall self.old self.new }
+        ensures keeps { KeepsIn (pass_in self.old) (pass_in self.new) 1 }
+        ensures used { self.new.used ≡ self.old.used + 1 }
+        ensures made { IfOk result
+            (λ _. Replies (denied found.now.present) self.old self.new false) }
+        ensures rolls { IfErr result (λ _. DeniesNone self.old self.new found.now) }
+    {
+        self.at.law();
+        self.used += 1;
+        if !found.present {
+            return confirm_absent(&mut self.at, Op::Remove, self.key, &found.pred);
+        }
+        let Some(cur) = &found.cur else {
+            unreachable!()
+        };
+        confirm_present(&mut self.at, Op::Insert, cur)
+    }
+
+    // Takes a slot with what is left of the budget.
+    fn provide(&mut self) -> Result<Hand, Refusal>
+        requires empty_hand { (pass_in self.old).hand ≡ None }
+        ensures prepares { Prepares self.old self.new }
+        ensures quiet { Quiet (trace_in self.old) (trace_in self.new) }
+        ensures one { length (pass_in self.old).pool ≤ length (pass_in self.new).pool + 1 }
+        ensures hand { IfOk result (Provides self.old self.new) }
+        ensures refused { IfErr result (ProvidesNone self.old self.new) }
+    {
+        let before = self.used;
+        let (outcome, made) = take(&mut self.at, self.budget - before);
+        self.used += made;
+        match outcome {
+            Ok(hand) => Ok(hand),
+            Err(refusal) => match refusal {
+                Refusal::OutOfSteps { used: more } => Err(Refusal::OutOfSteps {
+                    used: before + more,
+                }),
+                Refusal::NoSlot => Err(Refusal::NoSlot),
+                Refusal::EpochSpent { epoch } => Err(Refusal::EpochSpent { epoch }),
+            },
+        }
+    }
+
+    /// Looks for the key without a hand: a hand, once the key was found as it is wanted, present or absent;
+    /// or none, and the answer is no.
+    #[inline(always)]
+    pub(crate) fn prepare(&mut self, wanted: bool) -> Result<Option<Hand>, Refusal>
+        requires empty_hand { (pass_in self.old).hand ≡ None }
+        ensures prepares { Prepares self.old self.new }
+        ensures prepared { IfOk result (PreparesHand wanted self.old self.new) }
+        ensures refused { IfErr result (PreparesNone wanted self.old self.new) }
+    {
+        self.at.law();
+        loop {
+            let Some(found) = self.search() else {
+                return Err(Refusal::OutOfSteps { used: self.used });
+            };
+            if found.present == wanted {
+                let hand = self.provide()?;
+                return Ok(Some(hand));
+            }
+            if !affords(self.budget, self.used) {
+                return Err(Refusal::OutOfSteps { used: self.used });
+            }
+            if self.answer_no(&found).is_ok() {
+                return Ok(None);
+            }
+        }
+    }
+}
