@@ -3,6 +3,7 @@ use Rattle.std.proofs.Common.{◌≡◌, ℕ, ◌<◌, Bool, true, false, Option
 use Rattle.std.specs.Prelude.{unwrap_or}
 use Rattle.vbr_words.specs.Words.{link_of}
 use Rattle.vbr_words.specs.declared.link.Link.{Link}
+use Rattle.vbr_machine.specs.Start.{Start}
 use Rattle.vbr_machine.specs.Acceptance.{IsNextIn, IsInHand, Accepts}
 use Rattle.vbr_machine.specs.Knowledge.{Know}
 use Rattle.vbr_machine.specs.Learning.{with_key, with_link, with_value, with_own, link_written, birth_in_hand, key_in_hand, value_in_hand}
@@ -26,7 +27,8 @@ use Rattle.vbr_slots.specs.PassLaw.{PassLaw}
 use Rattle.vbr_at_table.specs.declared.held.Held.{Held}
 use Rattle.vbr_at_table.proofs.MadeCalls.{published}
 use Rattle.vbr_at_table.proofs.Accepted.{place_in, slot_in, named_slot}
-use Rattle.vbr_at_table.specs.Values.{entry_call, with_kept_value}
+use Rattle.vbr_at_table.specs.Values.{PutsValue, entry_call, with_kept_value}
+use Rattle.vbr_at_table.proofs.Keeping.{birth_named_kept, held_kept, keeps_on}
 use Rattle.vbr_at_table.proofs.NoValues.{kept_same, value_asked}
 
 -- ---- what is in hand
@@ -69,7 +71,7 @@ kept_hand : (b : Bool) (holding : Option Holding) (value birth : ℕ) → IsInHa
 kept_hand true holding value birth is same = let i = in_hand_is holding is in rw i.1 (tt, ap birth_in_hand (sym i.1) ∙ same)
 kept_hand false holding value birth is same = (is, same)
 
-pub valued_hand : (b : Bool) (before after : Option Holding) (value birth : ℕ) → after ≡ with_kept_value b before value → IsInHand before × (birth_in_hand before ≡ birth) → IsInHand after × (birth_in_hand after ≡ birth)
+valued_hand : (b : Bool) (before after : Option Holding) (value birth : ℕ) → after ≡ with_kept_value b before value → IsInHand before × (birth_in_hand before ≡ birth) → IsInHand after × (birth_in_hand after ≡ birth)
 valued_hand b before after value birth now was = rw now (kept_hand b before value birth was.0 was.1)
 
 entry_is : (b : Bool) (holding : Option Holding) (key value birth : ℕ) (link : Link) → IsInHand holding → birth_in_hand holding ≡ birth → IsFilled (with_link (with_kept_value b (with_key holding key) value) link) birth key link × (b ≡ true → value_in_hand (with_link (with_kept_value b (with_key holding key) value) link) ≡ Some value)
@@ -113,14 +115,34 @@ pub link_stored_keeps : {p q : Trace} {s r : ℕ} {next : Option ℕ} → Did (S
 link_stored_keeps d = keeps_owned _ _ _ _ d.know
 
 -- the birth in hand once the key is stored
-pub keyed_hand : {p q : Trace} {s key r birth : ℕ} → Did (StoreKey s key) p q r → IsInHand ((knows p).own s) → birth_in_hand ((knows p).own s) ≡ birth → IsInHand ((knows q).own s) × (birth_in_hand ((knows q).own s) ≡ birth)
+keyed_hand : {p q : Trace} {s key r birth : ℕ} → Did (StoreKey s key) p q r → IsInHand ((knows p).own s) → birth_in_hand ((knows p).own s) ≡ birth → IsInHand ((knows q).own s) × (birth_in_hand ((knows q).own s) ≡ birth)
 keyed_hand {p} {q} {s} {key} {r} {birth} d is same =
     let now : (knows q).own s ≡ with_key ((knows p).own s) key = ap (λ (k : Know). k.own s) d.know ∙ put_here (knows p).own s _ in
     let k = keyed ((knows p).own s) key birth is same in
     rw now k
 
+-- the slot in hand is ready for its link: it is in hand with this birth, what it is to stand behind is held, and this is the birth of what comes next there
+pub record IsReady (p : PassView) (pred : Held) (s birth next : ℕ) : Type 0 where
+  pub low : s < p.trace.start.shape.slots
+  pub hand : IsInHand ((knows p.trace).own s) × (birth_in_hand ((knows p.trace).own s) ≡ birth)
+  pub held : IsHeld (knows p.trace) pred
+  pub named : BirthNamed (knows p.trace) (link_of pred.word).slot next
+
+-- it is so once its key and its value are stored
+pub ready : {p q r : PassView} {s key one value : ℕ} (hand : HandView) (pred : Held) (next : ℕ) → PassLaw p → IsHandOf p hand → s ≡ hand.slot → IsHeld (knows p.trace) pred → BirthNamed (knows p.trace) (link_of pred.word).slot next → Did (StoreKey s key) p.trace q.trace one → PutsValue q r s value → Keeps (knows q.trace) (knows r.trace) → IsReady r pred s hand.birth next
+ready {p} {q} {r} {s} {key} {one} {value} hand pred next law is same held named d put more =
+    let at = hand_at p law hand is s same in
+    let keeps = keeps_on (key_stored_keeps d) more in
+    let P : Start → Type 0 = λ start. s < start.shape.slots in
+    record {
+      low = subst P (sym (put.quiet.same.start ∙ d.same.1)) at.0;
+      hand = valued_hand q.trace.start.shape.values ((knows q.trace).own s) ((knows r.trace).own s) value hand.birth put.holding (keyed_hand d at.1 at.2);
+      held = held_kept pred keeps held;
+      named = birth_named_kept (link_of pred.word).slot next keeps named;
+    }
+
 -- the link that is stored, by any birth that is known of what it names
-module _ (p : PassView) (sound : PassLaw p) (pred : Held) (s birth next : ℕ) (h : IsHeld (knows p.trace) pred) (low : s < p.trace.start.shape.slots) (is : IsInHand ((knows p.trace).own s)) (known : BirthNamed (knows p.trace) (link_of pred.word).slot next) where
+module _ (p : PassView) (sound : PassLaw p) (pred : Held) (s birth next : ℕ) (is_ready : IsReady p pred s birth next) where
   named_in : (slot : Option ℕ) → ((n : ℕ) → slot ≡ Some n → IsHeldSlot (knows p.trace) n) → IsNextIn p.trace.start slot
   named_in None held = tt
   named_in (Some n) held = slot_in p sound n (held n refl)
@@ -130,24 +152,24 @@ module _ (p : PassView) (sound : PassLaw p) (pred : Held) (s birth next : ℕ) (
   named_known (Some n) held k = (held n refl, (next, k))
 
   held : (n : ℕ) → (link_of pred.word).slot ≡ Some n → IsHeldSlot (knows p.trace) n
-  held n names = named_slot pred n h names
+  held n names = named_slot pred n is_ready.held names
 
   pub link_accepted : Accepts p.trace.start (knows p.trace) (StoreLink s (link_of pred.word).slot)
   link_accepted = known_accepts p.trace.start p.trace.passes p.trace.seen sound.start sound.is_run p.trace.who (StoreLink s (link_of pred.word).slot) (record {
-    in_shape = (low, named_in (link_of pred.word).slot held);
-    owned = is;
-    known = named_known (link_of pred.word).slot held known;
+    in_shape = (is_ready.low, named_in (link_of pred.word).slot held);
+    owned = is_ready.hand.0;
+    known = named_known (link_of pred.word).slot held is_ready.named;
     in_range = tt;
     below_last = tt;
   })
 
-  link_stored_is : birth_in_hand ((knows p.trace).own s) ≡ birth → link_written (knows p.trace) (StoreLink s (link_of pred.word).slot) ≡ link_to (link_of pred.word).slot birth next
-  link_stored_is same =
-      written_is p.trace.start p.trace.passes p.trace.seen sound.start sound.is_run p.trace.who (StoreLink s (link_of pred.word).slot) (link_to (link_of pred.word).slot (birth_in_hand ((knows p.trace).own s)) next) (next, known, refl)
-      ∙ ap (λ (b : ℕ). link_to (link_of pred.word).slot b next) same
+  link_stored_is : link_written (knows p.trace) (StoreLink s (link_of pred.word).slot) ≡ link_to (link_of pred.word).slot birth next
+  link_stored_is =
+      written_is p.trace.start p.trace.passes p.trace.seen sound.start sound.is_run p.trace.who (StoreLink s (link_of pred.word).slot) (link_to (link_of pred.word).slot (birth_in_hand ((knows p.trace).own s)) next) (next, is_ready.named, refl)
+      ∙ ap (λ (b : ℕ). link_to (link_of pred.word).slot b next) is_ready.hand.1
 
-  pub link_now : birth_in_hand ((knows p.trace).own s) ≡ birth → (slot : Option ℕ) → slot ≡ (link_of pred.word).slot → link_written (knows p.trace) (StoreLink s slot) ≡ link_to (link_of pred.word).slot birth next
-  link_now same slot e = ap (λ (o : Option ℕ). link_written (knows p.trace) (StoreLink s o)) e ∙ link_stored_is same
+  pub link_now : (slot : Option ℕ) → slot ≡ (link_of pred.word).slot → link_written (knows p.trace) (StoreLink s slot) ≡ link_to (link_of pred.word).slot birth next
+  link_now slot e = ap (λ (o : Option ℕ). link_written (knows p.trace) (StoreLink s o)) e ∙ link_stored_is
 
 -- the slot in hand once all is stored
 pub filled : {p q t r : Trace} {s key birth one two : ℕ} {next : Option ℕ} {link : Link} (b : Bool) (value : ℕ) → Did (StoreKey s key) p q one → (knows t).own s ≡ with_kept_value b ((knows q).own s) value → Did (StoreLink s next) t r two → IsInHand ((knows p).own s) → birth_in_hand ((knows p).own s) ≡ birth → link_written (knows t) (StoreLink s next) ≡ link

@@ -1,4 +1,4 @@
-use Rattle.std.proofs.Common.{◌≡◌, ℕ, ◌+◌, ◌==◌, ◌<◌, Bool, Option, Some, sym, ap, ◌∙◌, subst, refl}
+use Rattle.std.proofs.Common.{◌≡◌, ℕ, ◌+◌, ◌==◌, Bool, Option, Some, sym, ap, ◌∙◌, subst, refl}
 use Rattle.vbr_machine.specs.Start.{Start}
 use Rattle.vbr_words.specs.Words.{link_of, word_of}
 use Rattle.vbr_words.specs.declared.link.Link.{Link}
@@ -12,60 +12,37 @@ use Rattle.vbr_machine.specs.Learning.{value_in_hand}
 use Rattle.vbr_at_table.specs.Exchanges.{StoresIn}
 use Rattle.vbr_at_table.specs.Held.{IsFilled}
 use Rattle.vbr_at_table.specs.Values.{steps_to_value}
-use Rattle.vbr_at_table.proofs.Keeping.{held_kept, birth_named_kept, keeps_on}
 use Rattle.vbr_at_table.proofs.WrittenLinks.{fits, birth_in_hand_low, birth_named_low}
-use Rattle.vbr_at_table.proofs.Filled.{hand_at, keyed_hand, key_stored_keeps, key_stored_quiet, link_stored_quiet, link_accepted, link_now, filled, link_stored_keeps, valued_hand}
+use Rattle.vbr_at_table.proofs.Filled.{hand_at, key_stored_keeps, key_stored_quiet, link_stored_quiet, link_accepted, link_now, filled, link_stored_keeps, ready}
 use Rattle.vbr_at_table.proofs.Storing.{stores_on, stores_one}
 use Rattle.vbr_at_table.proofs.updating.fill.Goals as goal
 
 pub link_to-link-requires : goal.link_to-link-requires
 link_to-link-requires g c =
-    let key = c.store_key.ensures.step in
-    let at = hand_at c.args.at.now.stepper.now c.law.ensures c.args.hand.now c.requires.hand c.slot-slot.result c.slot-slot.ensures in
-    let put = c.put_value.ensures.puts in
-    let now = valued_hand _ _ _ c.args.value c.args.hand.now.birth put.holding (keyed_hand key at.1 at.2) in
-    let known = birth_named_kept (link_of c.args.pred.now.word).slot c.args.birth (keeps_on (key_stored_keeps key) c.put_value.ensures.stores.keeps) c.requires.birth in
+    let all = ready c.args.hand.now c.args.pred.now c.args.birth c.law.ensures c.requires.hand c.slot-slot.ensures c.requires.pred c.requires.birth c.store_key.ensures.step c.put_value.ensures.puts c.put_value.ensures.stores.keeps in
     fits c.put_value.new.at.stepper.now c.law-2.ensures c.decode.result.slot c.birth.result c.args.birth c.decode.ensures.fits.slot
-    (birth_in_hand_low c.put_value.new.at.stepper.now c.law-2.ensures c.slot-slot.result c.birth.result (now.1 ∙ sym c.birth.ensures))
-    (birth_named_low c.put_value.new.at.stepper.now c.law-2.ensures (link_of c.args.pred.now.word).slot c.args.birth known)
+    (birth_in_hand_low c.put_value.new.at.stepper.now c.law-2.ensures c.slot-slot.result c.birth.result (all.hand.1 ∙ sym c.birth.ensures))
+    (birth_named_low c.put_value.new.at.stepper.now c.law-2.ensures (link_of c.args.pred.now.word).slot c.args.birth all.named)
 
 pub store_link-requires-clause-next_in : goal.store_link-requires-clause-next_in
 store_link-requires-clause-next_in g c =
-    let key = c.store_key.ensures.step in
-    let at = hand_at c.args.at.now.stepper.now c.law.ensures c.args.hand.now c.requires.hand c.slot-slot.result c.slot-slot.ensures in
-    let put = c.put_value.ensures.puts in
-    let now = valued_hand _ _ _ c.args.value c.args.hand.now.birth put.holding (keyed_hand key at.1 at.2) in
-    let keeps = keeps_on (key_stored_keeps key) c.put_value.ensures.stores.keeps in
-    let known = birth_named_kept (link_of c.args.pred.now.word).slot c.args.birth keeps c.requires.birth in
-    let low : c.slot-slot.result < c.put_value.new.at.stepper.now.trace.start.shape.slots = (let P : Start → Type 0 = λ start. c.slot-slot.result < start.shape.slots in subst P (sym (put.quiet.same.start ∙ key.same.1)) at.0) in
-    let ok = link_accepted c.put_value.new.at.stepper.now c.law-2.ensures c.args.pred.now c.slot-slot.result c.args.hand.now.birth c.args.birth (held_kept c.args.pred.now keeps c.requires.pred) low now.0 known in
+    let all = ready c.args.hand.now c.args.pred.now c.args.birth c.law.ensures c.requires.hand c.slot-slot.ensures c.requires.pred c.requires.birth c.store_key.ensures.step c.put_value.ensures.puts c.put_value.ensures.stores.keeps in
+    let ok = link_accepted c.put_value.new.at.stepper.now c.law-2.ensures c.args.pred.now c.slot-slot.result c.args.hand.now.birth c.args.birth all in
     let P : Start → Type 0 = λ start. IsNextIn start (link_of c.args.pred.now.word).slot in
     let Q : Option ℕ → Type 0 = IsNextIn c.put_value.new.at.slots.now.start in
     subst Q (sym (ap (λ (l : Link). l.slot) (c.link_to-link.ensures.link) ∙ ap (λ (l : Link). l.slot) c.decode.ensures.link)) (subst P c.put_value.new.at.own.1 ok.in_shape.1)
 
 pub store_link-requires-clause-next_held : goal.store_link-requires-clause-next_held
 store_link-requires-clause-next_held g c =
-    let key = c.store_key.ensures.step in
-    let at = hand_at c.args.at.now.stepper.now c.law.ensures c.args.hand.now c.requires.hand c.slot-slot.result c.slot-slot.ensures in
-    let put = c.put_value.ensures.puts in
-    let now = valued_hand _ _ _ c.args.value c.args.hand.now.birth put.holding (keyed_hand key at.1 at.2) in
-    let keeps = keeps_on (key_stored_keeps key) c.put_value.ensures.stores.keeps in
-    let known = birth_named_kept (link_of c.args.pred.now.word).slot c.args.birth keeps c.requires.birth in
-    let low : c.slot-slot.result < c.put_value.new.at.stepper.now.trace.start.shape.slots = (let P : Start → Type 0 = λ start. c.slot-slot.result < start.shape.slots in subst P (sym (put.quiet.same.start ∙ key.same.1)) at.0) in
-    let ok = link_accepted c.put_value.new.at.stepper.now c.law-2.ensures c.args.pred.now c.slot-slot.result c.args.hand.now.birth c.args.birth (held_kept c.args.pred.now keeps c.requires.pred) low now.0 known in
+    let all = ready c.args.hand.now c.args.pred.now c.args.birth c.law.ensures c.requires.hand c.slot-slot.ensures c.requires.pred c.requires.birth c.store_key.ensures.step c.put_value.ensures.puts c.put_value.ensures.stores.keeps in
+    let ok = link_accepted c.put_value.new.at.stepper.now c.law-2.ensures c.args.pred.now c.slot-slot.result c.args.hand.now.birth c.args.birth all in
     let Q : Option ℕ → Type 0 = IsNextHeld (knows c.put_value.new.at.stepper.now.trace).checked in
     subst Q (sym (ap (λ (l : Link). l.slot) (c.link_to-link.ensures.link) ∙ ap (λ (l : Link). l.slot) c.decode.ensures.link)) ok.held
 
 pub store_link-requires-clause-word : goal.store_link-requires-clause-word
 store_link-requires-clause-word g c =
-    let key = c.store_key.ensures.step in
-    let at = hand_at c.args.at.now.stepper.now c.law.ensures c.args.hand.now c.requires.hand c.slot-slot.result c.slot-slot.ensures in
-    let put = c.put_value.ensures.puts in
-    let now = valued_hand _ _ _ c.args.value c.args.hand.now.birth put.holding (keyed_hand key at.1 at.2) in
-    let keeps = keeps_on (key_stored_keeps key) c.put_value.ensures.stores.keeps in
-    let known = birth_named_kept (link_of c.args.pred.now.word).slot c.args.birth keeps c.requires.birth in
-    let low : c.slot-slot.result < c.put_value.new.at.stepper.now.trace.start.shape.slots = (let P : Start → Type 0 = λ start. c.slot-slot.result < start.shape.slots in subst P (sym (put.quiet.same.start ∙ key.same.1)) at.0) in
-    let written = link_now c.put_value.new.at.stepper.now c.law-2.ensures c.args.pred.now c.slot-slot.result c.args.hand.now.birth c.args.birth (held_kept c.args.pred.now keeps c.requires.pred) low now.0 known now.1
+    let all = ready c.args.hand.now c.args.pred.now c.args.birth c.law.ensures c.requires.hand c.slot-slot.ensures c.requires.pred c.requires.birth c.store_key.ensures.step c.put_value.ensures.puts c.put_value.ensures.stores.keeps in
+    let written = link_now c.put_value.new.at.stepper.now c.law-2.ensures c.args.pred.now c.slot-slot.result c.args.hand.now.birth c.args.birth all
     (link_of c.link_to-link.result).slot (ap (λ (l : Link). l.slot) (c.link_to-link.ensures.link) ∙ ap (λ (l : Link). l.slot) c.decode.ensures.link) in
     let is : link_to c.decode.result.slot c.birth.result c.args.birth ≡ link_to (link_of c.args.pred.now.word).slot c.args.hand.now.birth c.args.birth = (λ i. link_to (c.decode.ensures.link i).slot (c.birth.ensures i) c.args.birth) in
     c.link_to-link.ensures.word ∙ ap word_of is ∙ ap word_of (sym written)
@@ -90,11 +67,8 @@ returns-clause-fills g c =
     let link = c.store_link.ensures.step in
     let put = c.put_value.ensures.puts in
     let at = hand_at p c.law.ensures c.args.hand.now c.requires.hand c.slot-slot.result c.slot-slot.ensures in
-    let now = valued_hand _ _ _ c.args.value c.args.hand.now.birth put.holding (keyed_hand key at.1 at.2) in
-    let keeps = keeps_on (key_stored_keeps key) c.put_value.ensures.stores.keeps in
-    let known = birth_named_kept (link_of c.args.pred.now.word).slot c.args.birth keeps c.requires.birth in
-    let low : c.slot-slot.result < c.put_value.new.at.stepper.now.trace.start.shape.slots = (let P : Start → Type 0 = λ start. c.slot-slot.result < start.shape.slots in subst P (sym (put.quiet.same.start ∙ key.same.1)) at.0) in
-    let written = link_now c.put_value.new.at.stepper.now c.law-2.ensures c.args.pred.now c.slot-slot.result c.args.hand.now.birth c.args.birth (held_kept c.args.pred.now keeps c.requires.pred) low now.0 known now.1
+    let all = ready c.args.hand.now c.args.pred.now c.args.birth c.law.ensures c.requires.hand c.slot-slot.ensures c.requires.pred c.requires.birth c.store_key.ensures.step c.put_value.ensures.puts c.put_value.ensures.stores.keeps in
+    let written = link_now c.put_value.new.at.stepper.now c.law-2.ensures c.args.pred.now c.slot-slot.result c.args.hand.now.birth c.args.birth all
     (link_of c.link_to-link.result).slot (ap (λ (l : Link). l.slot) (c.link_to-link.ensures.link) ∙ ap (λ (l : Link). l.slot) c.decode.ensures.link) in
     let values : c.store_key.new.self.stepper.now.trace.start.shape.values ≡ p.trace.start.shape.values = ap (λ (d : Start). d.shape.values) key.same.1 in
     let full = filled c.store_key.new.self.stepper.now.trace.start.shape.values c.args.value key put.holding link at.1 at.2 written in
@@ -110,8 +84,7 @@ returns-clause-fills g c =
             let first = key_stored_quiet key in
             let front = alone_first (quiet_on first put.quiet).seen (link_stored_quiet link).seen alone in
             let last = alone_then (quiet_on first put.quiet).same.who (quiet_on first put.quiet).seen (link_stored_quiet link).seen alone in
-            let held = held_kept c.args.pred.now keeps c.requires.pred in
-            link_stored_leaves c.args.pred.now.at (link_of c.args.pred.now.word) c.law-2.ensures.start link last held.link unmarked
+            link_stored_leaves c.args.pred.now.at (link_of c.args.pred.now.word) c.law-2.ensures.start link last all.held.link unmarked
             (put.links (alone_then first.same.who first.seen put.quiet.seen front) c.args.pred.now.at ∙ key_stored_leaves c.args.pred.now.at c.law.ensures.start key (alone_first first.seen put.quiet.seen front) ∙ stands));
       };
       valued = λ has. subst V c.slot-slot.ensures (full.1 (values ∙ has));
