@@ -262,263 +262,139 @@ fn words_with_values_after(
     close_two(alloc, slots, a, b)
 }
 
+// Compares words with these, which stand one after another, and the flag word behind them.
+fn expect_words(
+    rt: &impl Abort,
+    alloc: Global,
+    words: Option<Vec<u64>>,
+    parts: &[&[u64]],
+    flags: u64,
+) -> Result<(), Fail> {
+    let Some(words) = words else {
+        panic!(rt; "no words")
+    };
+    let mut wanted = Vec::new(alloc);
+    for part in parts {
+        wanted.extend_from_slice(part)?;
+    }
+    wanted.push(flags)?;
+    assert_eq!(rt; words.as_slice(), wanted.as_slice());
+    Ok(())
+}
+
 #[test]
 fn two_passes_unlink_one_node(rt: HostRuntime) -> Result<(), Fail> {
     let shape = Shape::new(1, 1, 10)?;
-    let Some(words) = words_after(&rt, rt.alloc(), shape, &TWO_HELPERS, &TWO_HELPERS_WORDS) else {
-        panic!(rt; "no words")
-    };
-    assert_eq!(rt;
-        words.as_slice(),
-        [1, 167_772_161, 0, 50_331_648, 1, 0, 7, 0].as_slice()
-    );
-    Ok(())
+    let words = words_after(&rt, rt.alloc(), shape, &TWO_HELPERS, &TWO_HELPERS_WORDS);
+    let wanted: [&[u64]; 2] = [&[1, 167_772_161, 0], &[50_331_648, 1, 0, 7]];
+    expect_words(&rt, rt.alloc(), words, &wanted, 0)
 }
 
 #[test]
 fn a_slot_is_reborn(rt: HostRuntime) -> Result<(), Fail> {
     let shape = Shape::new(3, 1, 10)?;
-    let Some(words) = words_after(&rt, rt.alloc(), shape, &REBORN_SLOT, &REBORN_SLOT_WORDS) else {
-        panic!(rt; "no words")
-    };
-    assert_eq!(rt;
-        words.as_slice(),
-        [
-            2,
-            167_772_163,
-            67_108_866,
-            33_554_432,
-            1,
-            0,
-            30,
-            67_108_865,
-            2,
-            1,
-            10,
-            33_554_433,
-            1,
-            0,
-            25,
-            0
-        ]
-        .as_slice()
-    );
-    Ok(())
+    let words = words_after(&rt, rt.alloc(), shape, &REBORN_SLOT, &REBORN_SLOT_WORDS);
+    let wanted: [&[u64]; 4] = [
+        &[2, 167_772_163, 67_108_866],
+        &[33_554_432, 1, 0, 30],
+        &[67_108_865, 2, 1, 10],
+        &[33_554_433, 1, 0, 25],
+    ];
+    expect_words(&rt, rt.alloc(), words, &wanted, 0)
 }
 
 #[test]
 fn a_word_comes_back(rt: HostRuntime) -> Result<(), Fail> {
     let shape = Shape::new(3, 1, 10)?;
-    let Some(words) = words_after(&rt, rt.alloc(), shape, &SAME_WORD, &SAME_WORD_WORDS) else {
-        panic!(rt; "no words")
-    };
-    assert_eq!(rt;
-        words.as_slice(),
-        [
-            5,
-            167_772_163,
-            67_108_866,
-            67_108_864,
-            2,
-            0,
-            30,
-            67_108_865,
-            2,
-            0,
-            20,
-            184_549_377,
-            5,
-            0,
-            10,
-            0
-        ]
-        .as_slice()
-    );
-    Ok(())
+    let words = words_after(&rt, rt.alloc(), shape, &SAME_WORD, &SAME_WORD_WORDS);
+    let wanted: [&[u64]; 4] = [
+        &[5, 167_772_163, 67_108_866],
+        &[67_108_864, 2, 0, 30],
+        &[67_108_865, 2, 0, 20],
+        &[184_549_377, 5, 0, 10],
+    ];
+    expect_words(&rt, rt.alloc(), words, &wanted, 0)
 }
 
 #[test]
 fn two_passes_unlink_one_node_with_a_value(rt: HostRuntime) -> Result<(), Fail> {
     let shape = Shape::new(1, 1, 10)?.with_values();
     let rows = with_values(rt.alloc(), &TWO_HELPERS)?;
-    let Some(words) = words_with_values_after(&rt, rt.alloc(), shape, &rows, &TWO_HELPERS_WORDS)
-    else {
-        panic!(rt; "no words")
-    };
-    assert_eq!(rt;
-        words.as_slice(),
-        [1, 167_772_161, 0, 50_331_648, 1, 0, 7, 107, 0,].as_slice()
-    );
-    Ok(())
+    let words = words_with_values_after(&rt, rt.alloc(), shape, &rows, &TWO_HELPERS_WORDS);
+    let wanted: [&[u64]; 2] = [&[1, 167_772_161, 0], &[50_331_648, 1, 0, 7, 107]];
+    expect_words(&rt, rt.alloc(), words, &wanted, 0)
 }
 
 #[test]
 fn a_slot_is_reborn_with_values(rt: HostRuntime) -> Result<(), Fail> {
     let shape = Shape::new(3, 1, 10)?.with_values();
     let rows = with_values(rt.alloc(), &REBORN_SLOT)?;
-    let Some(words) = words_with_values_after(&rt, rt.alloc(), shape, &rows, &REBORN_SLOT_WORDS)
-    else {
-        panic!(rt; "no words")
-    };
-    assert_eq!(rt;
-        words.as_slice(),
-        [
-            2,
-            167_772_163,
-            67_108_866,
-            33_554_432,
-            1,
-            0,
-            30,
-            130,
-            67_108_865,
-            2,
-            1,
-            10,
-            110,
-            33_554_433,
-            1,
-            0,
-            25,
-            125,
-            0,
-        ]
-        .as_slice()
-    );
-    Ok(())
+    let words = words_with_values_after(&rt, rt.alloc(), shape, &rows, &REBORN_SLOT_WORDS);
+    let wanted: [&[u64]; 4] = [
+        &[2, 167_772_163, 67_108_866],
+        &[33_554_432, 1, 0, 30, 130],
+        &[67_108_865, 2, 1, 10, 110],
+        &[33_554_433, 1, 0, 25, 125],
+    ];
+    expect_words(&rt, rt.alloc(), words, &wanted, 0)
 }
 
 #[test]
 fn a_word_comes_back_with_values(rt: HostRuntime) -> Result<(), Fail> {
     let shape = Shape::new(3, 1, 10)?.with_values();
     let rows = with_values(rt.alloc(), &SAME_WORD)?;
-    let Some(words) = words_with_values_after(&rt, rt.alloc(), shape, &rows, &SAME_WORD_WORDS)
-    else {
-        panic!(rt; "no words")
-    };
-    assert_eq!(rt;
-        words.as_slice(),
-        [
-            5,
-            167_772_163,
-            67_108_866,
-            67_108_864,
-            2,
-            0,
-            30,
-            130,
-            67_108_865,
-            2,
-            0,
-            20,
-            120,
-            184_549_377,
-            5,
-            0,
-            10,
-            110,
-            0,
-        ]
-        .as_slice()
-    );
-    Ok(())
+    let words = words_with_values_after(&rt, rt.alloc(), shape, &rows, &SAME_WORD_WORDS);
+    let wanted: [&[u64]; 4] = [
+        &[5, 167_772_163, 67_108_866],
+        &[67_108_864, 2, 0, 30, 130],
+        &[67_108_865, 2, 0, 20, 120],
+        &[184_549_377, 5, 0, 10, 110],
+    ];
+    expect_words(&rt, rt.alloc(), words, &wanted, 0)
 }
 
 #[test]
 fn a_stored_value_is_read_back(rt: HostRuntime) -> Result<(), Fail> {
     let shape = Shape::new(1, 1, 10)?.with_values();
-    let Some(words) = words_with_values_after(
-        &rt,
-        rt.alloc(),
-        shape,
-        &STORED_VALUE,
-        &STORED_VALUE_WORDS,
-    ) else {
-        panic!(rt; "no words")
-    };
-    assert_eq!(rt;
-        words.as_slice(),
-        [1, 167_772_161, 33_554_433, 50_331_648, 1, 0, 7, 107, 0,].as_slice()
-    );
-    Ok(())
+    let words = words_with_values_after(&rt, rt.alloc(), shape, &STORED_VALUE, &STORED_VALUE_WORDS);
+    let wanted: [&[u64]; 2] = [&[1, 167_772_161, 33_554_433], &[50_331_648, 1, 0, 7, 107]];
+    expect_words(&rt, rt.alloc(), words, &wanted, 0)
 }
 
 #[test]
 fn a_value_is_replaced_twice(rt: HostRuntime) -> Result<(), Fail> {
     let shape = Shape::new(3, 1, 10_000)?.with_values();
-    let Some(words) = words_with_values_after(
+    let words = words_with_values_after(
         &rt,
         rt.alloc(),
         shape,
         &REPLACED_VALUE,
         &REPLACED_VALUE_WORDS,
-    ) else {
-        panic!(rt; "no words")
-    };
-    assert_eq!(rt;
-        words.as_slice(),
-        [
-            1,
-            167_772_160_003,
-            33_554_434,
-            50_331_650,
-            1,
-            1,
-            7,
-            107,
-            50_331_651,
-            1,
-            0,
-            7,
-            207,
-            33_554_432,
-            1,
-            0,
-            7,
-            307,
-            0,
-        ]
-        .as_slice()
     );
-    Ok(())
+    let wanted: [&[u64]; 4] = [
+        &[1, 167_772_160_003, 33_554_434],
+        &[50_331_650, 1, 1, 7, 107],
+        &[50_331_651, 1, 0, 7, 207],
+        &[33_554_432, 1, 0, 7, 307],
+    ];
+    expect_words(&rt, rt.alloc(), words, &wanted, 0)
 }
 
 #[test]
 fn a_step_of_each_kind_with_values(rt: HostRuntime) -> Result<(), Fail> {
     let shape = Shape::new(3, 1, 10_000)?.with_values();
-    let Some(words) = words_with_values_after(
+    let words = words_with_values_after(
         &rt,
         rt.alloc(),
         shape,
         &STANDING_WITH_VALUES,
         &STANDING_WORDS,
-    ) else {
-        panic!(rt; "no words")
-    };
-    assert_eq!(rt;
-        words.as_slice(),
-        [
-            2,
-            167_772_160_003,
-            33_554_434,
-            50_331_650,
-            1,
-            1,
-            7,
-            107,
-            33_554_432,
-            1,
-            0,
-            8,
-            108,
-            16_777_216,
-            0,
-            0,
-            0,
-            0,
-            5,
-        ]
-        .as_slice()
     );
-    Ok(())
+    let wanted: [&[u64]; 4] = [
+        &[2, 167_772_160_003, 33_554_434],
+        &[50_331_650, 1, 1, 7, 107],
+        &[33_554_432, 1, 0, 8, 108],
+        &[16_777_216, 0, 0, 0, 0],
+    ];
+    expect_words(&rt, rt.alloc(), words, &wanted, 5)
 }

@@ -3,8 +3,8 @@
 ghost use Rattle.std.specs.Prelude.{◌≡◌, true, false, IfOk};
 
 use crate::world::{
-    ABSENT, call, events_of, expect, expect_stamp, expect_stop, expect_whole, follow, look,
-    look_up_behind, make, stop_of, word_at,
+    ABSENT, FRESH, OPENED, REBORN_PLACES, SAME_WORD_PLACES, call, events_of, expect, expect_stamp,
+    expect_stop, expect_whole, follow, look, look_up_behind, make, stop_of, word_at,
 };
 use std::alloc::{AllocError, Global};
 use std::process::Abort;
@@ -116,12 +116,7 @@ fn a_reborn_slot(rt: HostRuntime) -> Result<(), Fail> {
         valued(0, Op::Remove, 20, 120),
         valued(0, Op::Insert, 10, 110),
     ];
-    let places = [
-        SlotPlace::Listed(0),
-        SlotPlace::Listed(0),
-        SlotPlace::Hand(1),
-    ];
-    expect(&rt, &world, shape.with_values(), &calls, &places, 4);
+    expect(&rt, &world, shape.with_values(), &calls, &REBORN_PLACES, 4);
     Ok(expect_map(&rt, rt.alloc(), &[], &calls)?)
 }
 
@@ -135,12 +130,14 @@ fn a_word_that_comes_back(rt: HostRuntime) -> Result<(), Fail> {
         valued(0, Op::Remove, 10, 110),
         valued(1, Op::Insert, 20, 120),
     ];
-    let places = [
-        SlotPlace::Listed(0),
-        SlotPlace::Listed(0),
-        SlotPlace::Own(0),
-    ];
-    expect(&rt, &world, shape.with_values(), &calls, &places, 3);
+    expect(
+        &rt,
+        &world,
+        shape.with_values(),
+        &calls,
+        &SAME_WORD_PLACES,
+        3,
+    );
     Ok(expect_map(&rt, rt.alloc(), &[], &calls)?)
 }
 
@@ -196,19 +193,9 @@ fn replays_a_list_with_values(rt: HostRuntime) -> Result<(), Fail> {
 
 #[test]
 fn opens_fresh_with_values(rt: HostRuntime) -> Result<(), Fail> {
-    let looks = [
-        (0, Place::Epoch, 1),
-        (0, Place::ShapeWord, 167_772_161),
-        (0, Place::Head(0), 0),
-        (0, Place::LinkOf(0), 16_777_216),
-        (0, Place::Birth(0), 0),
-        (0, Place::Stamp(0), 0),
-        (0, Place::Key(0), 0),
-        (0, Place::Value(0), 0),
-        (0, Place::Flags(0), 1),
-    ];
     let shape = Shape::new(1, 1, 10)?.with_values();
-    follow(&rt, rt.alloc(), shape, &[], &looks)?;
+    let world = follow(&rt, rt.alloc(), shape, &[], &FRESH)?;
+    assert_eq!(rt; word_at(&world, shape, Place::Value(0)), Some(0));
     Ok(())
 }
 
@@ -455,34 +442,14 @@ fn a_set_has_no_values(rt: HostRuntime) -> Result<(), Fail> {
 fn opens_with_entries(rt: HostRuntime) -> Result<(), Fail> {
     let shape = Shape::new(4, 2, 10)?.with_values();
     let world = World::open_with_entries(rt.alloc(), shape, 2, &[(2, 102), (5, 105), (9, 109)])?;
-    let looks = [
-        (0, Place::Epoch, 1),
-        (0, Place::ShapeWord, 167_772_164),
-        (0, Place::Head(0), 33_554_433),
-        (0, Place::Head(1), 33_554_434),
-        (0, Place::LinkOf(0), 33_554_432),
-        (0, Place::Birth(0), 1),
-        (0, Place::Stamp(0), 0),
-        (0, Place::Key(0), 2),
+    let values = [
         (0, Place::Value(0), 102),
-        (0, Place::LinkOf(1), 33_554_435),
-        (0, Place::Birth(1), 1),
-        (0, Place::Stamp(1), 0),
-        (0, Place::Key(1), 5),
         (0, Place::Value(1), 105),
-        (0, Place::LinkOf(2), 33_554_432),
-        (0, Place::Birth(2), 1),
-        (0, Place::Stamp(2), 0),
-        (0, Place::Key(2), 9),
         (0, Place::Value(2), 109),
-        (0, Place::LinkOf(3), 16_777_216),
-        (0, Place::Birth(3), 0),
-        (0, Place::Stamp(3), 0),
-        (0, Place::Key(3), 0),
         (0, Place::Value(3), 0),
-        (0, Place::Flags(0), 8),
     ];
-    assert_eq!(rt; look(&rt, &world, shape, 0, &looks), 25);
+    assert_eq!(rt; look(&rt, &world, shape, 0, &OPENED), 21);
+    assert_eq!(rt; look(&rt, &world, shape, 0, &values), 4);
     assert_eq!(rt; world.incarnations(), 3);
     Ok(())
 }
@@ -528,12 +495,8 @@ const GOT_AND_TAKEN: [Row; 9] = [
 
 // Makes the steps of rows, and compares their effects.
 fn make_rows(rt: &impl Abort, world: &mut World, rows: &[Row]) {
-    for (pass, step, effect) in rows {
-        let event = Event {
-            pass: *pass,
-            step: *step,
-        };
-        make(rt, world, event, *effect);
+    for row in rows {
+        make(rt, world, *row);
     }
 }
 

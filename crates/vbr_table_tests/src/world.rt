@@ -55,11 +55,13 @@ pub(crate) fn look(
     looked
 }
 
-// Makes a step, and compares its effect. A step that found no memory left the world as it was, so it
+// Makes the step of a row, and compares its effect. A step that found no memory left the world as it was, so it
 // is made again.
-pub(crate) fn make(rt: &impl Abort, world: &mut World, event: Event, effect: Effect)
+pub(crate) fn make(rt: &impl Abort, world: &mut World, row: Row)
     ensures { world.new.start ≡ world.old.start }
 {
+    let (pass, step, effect) = row;
+    let event = Event { pass, step };
     let mut answer = world.step(event);
     if answer == Err(CoreRefusal::NoMemory) {
         answer = world.step(event);
@@ -81,12 +83,8 @@ pub(crate) fn follow(
     let mut world = World::open(alloc, shape, 2)?;
     let mut made = 0usize;
     let mut looked = look(rt, &world, shape, made, looks);
-    for (pass, step, effect) in rows {
-        let event = Event {
-            pass: *pass,
-            step: *step,
-        };
-        make(rt, &mut world, event, *effect);
+    for row in rows {
+        make(rt, &mut world, *row);
         made = made.saturating_add(1);
         looked = looked.saturating_add(look(rt, &world, shape, made, looks));
     }
@@ -130,6 +128,19 @@ pub(crate) fn call(who: u32, op: Op, key: u64) -> Call {
     }
 }
 
+// Where the slots are behind the list of a reborn slot, and behind that of a word that comes back.
+pub(crate) const REBORN_PLACES: [SlotPlace; 3] = [
+    SlotPlace::Listed(0),
+    SlotPlace::Listed(0),
+    SlotPlace::Hand(1),
+];
+
+pub(crate) const SAME_WORD_PLACES: [SlotPlace; 3] = [
+    SlotPlace::Listed(0),
+    SlotPlace::Listed(0),
+    SlotPlace::Own(0),
+];
+
 #[test]
 fn follows_a_reborn_slot(rt: HostRuntime) -> Result<(), Fail> {
     let shape = Shape::new(3, 1, 10)?;
@@ -149,12 +160,7 @@ fn follows_a_reborn_slot(rt: HostRuntime) -> Result<(), Fail> {
         call(0, Op::Remove, 20),
         call(0, Op::Insert, 10),
     ];
-    let places = [
-        SlotPlace::Listed(0),
-        SlotPlace::Listed(0),
-        SlotPlace::Hand(1),
-    ];
-    expect(&rt, &world, shape, &calls, &places, 4);
+    expect(&rt, &world, shape, &calls, &REBORN_PLACES, 4);
     Ok(())
 }
 
@@ -177,12 +183,7 @@ fn follows_a_word_that_comes_back(rt: HostRuntime) -> Result<(), Fail> {
         call(0, Op::Remove, 10),
         call(1, Op::Insert, 20),
     ];
-    let places = [
-        SlotPlace::Listed(0),
-        SlotPlace::Listed(0),
-        SlotPlace::Own(0),
-    ];
-    expect(&rt, &world, shape, &calls, &places, 3);
+    expect(&rt, &world, shape, &calls, &SAME_WORD_PLACES, 3);
     Ok(())
 }
 
@@ -413,52 +414,57 @@ fn takes_a_slot_once(rt: HostRuntime) -> Result<(), Fail> {
     Ok(())
 }
 
+// The words of a fresh world of one slot and one bucket; where nodes have values there is one more.
+pub(crate) const FRESH: [Look; 8] = [
+    (0, Place::Epoch, 1),
+    (0, Place::ShapeWord, 167_772_161),
+    (0, Place::Head(0), 0),
+    (0, Place::LinkOf(0), 16_777_216),
+    (0, Place::Birth(0), 0),
+    (0, Place::Stamp(0), 0),
+    (0, Place::Key(0), 0),
+    (0, Place::Flags(0), 1),
+];
+
 #[test]
 fn opens_fresh(rt: HostRuntime) -> Result<(), Fail> {
-    let looks = [
-        (0, Place::Epoch, 1),
-        (0, Place::ShapeWord, 167_772_161),
-        (0, Place::Head(0), 0),
-        (0, Place::LinkOf(0), 16_777_216),
-        (0, Place::Birth(0), 0),
-        (0, Place::Stamp(0), 0),
-        (0, Place::Key(0), 0),
-        (0, Place::Flags(0), 1),
-    ];
     let rows = [(0, Step::ReadEpoch, Effect::Value(1))];
-    follow(&rt, rt.alloc(), Shape::new(1, 1, 10)?, &rows, &looks)?;
+    follow(&rt, rt.alloc(), Shape::new(1, 1, 10)?, &rows, &FRESH)?;
     Ok(())
 }
+
+// The words of a world of four slots and two buckets that opens with the keys 2, 5 and 9, and has any
+// values beside them.
+pub(crate) const OPENED: [Look; 21] = [
+    (0, Place::Epoch, 1),
+    (0, Place::ShapeWord, 167_772_164),
+    (0, Place::Head(0), 33_554_433),
+    (0, Place::Head(1), 33_554_434),
+    (0, Place::LinkOf(0), 33_554_432),
+    (0, Place::Birth(0), 1),
+    (0, Place::Stamp(0), 0),
+    (0, Place::Key(0), 2),
+    (0, Place::LinkOf(1), 33_554_435),
+    (0, Place::Birth(1), 1),
+    (0, Place::Stamp(1), 0),
+    (0, Place::Key(1), 5),
+    (0, Place::LinkOf(2), 33_554_432),
+    (0, Place::Birth(2), 1),
+    (0, Place::Stamp(2), 0),
+    (0, Place::Key(2), 9),
+    (0, Place::LinkOf(3), 16_777_216),
+    (0, Place::Birth(3), 0),
+    (0, Place::Stamp(3), 0),
+    (0, Place::Key(3), 0),
+    (0, Place::Flags(0), 8),
+];
 
 /// Key number i stands in slot i, linked in its bucket's list. The other slots are in the shared pool.
 #[test]
 fn opens_with_keys(rt: HostRuntime) -> Result<(), Fail> {
     let shape = Shape::new(4, 2, 10)?;
     let world = World::open_with(rt.alloc(), shape, 2, &[2, 5, 9])?;
-    let looks = [
-        (0, Place::Epoch, 1),
-        (0, Place::ShapeWord, 167_772_164),
-        (0, Place::Head(0), 33_554_433),
-        (0, Place::Head(1), 33_554_434),
-        (0, Place::LinkOf(0), 33_554_432),
-        (0, Place::Birth(0), 1),
-        (0, Place::Stamp(0), 0),
-        (0, Place::Key(0), 2),
-        (0, Place::LinkOf(1), 33_554_435),
-        (0, Place::Birth(1), 1),
-        (0, Place::Stamp(1), 0),
-        (0, Place::Key(1), 5),
-        (0, Place::LinkOf(2), 33_554_432),
-        (0, Place::Birth(2), 1),
-        (0, Place::Stamp(2), 0),
-        (0, Place::Key(2), 9),
-        (0, Place::LinkOf(3), 16_777_216),
-        (0, Place::Birth(3), 0),
-        (0, Place::Stamp(3), 0),
-        (0, Place::Key(3), 0),
-        (0, Place::Flags(0), 8),
-    ];
-    assert_eq!(rt; look(&rt, &world, shape, 0, &looks), 21);
+    assert_eq!(rt; look(&rt, &world, shape, 0, &OPENED), 21);
     assert_eq!(rt; world.incarnations(), 3);
     Ok(())
 }

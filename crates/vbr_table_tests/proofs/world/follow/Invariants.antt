@@ -2,5 +2,5 @@
 use Rattle.std.proofs.Common.{◌≡◌}
 use Rattle.vbr_table_tests.proofs.world.follow.Given as goal
 
-abbrev pub invariant-loop-pass : goal.invariant-loop-pass
-invariant-loop-pass g l = l.world.start.shape ≡ l.shape
+abbrev pub invariant-loop-row : goal.invariant-loop-row
+invariant-loop-row g l = l.world.start.shape ≡ l.shape
