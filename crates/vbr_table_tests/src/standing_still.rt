@@ -99,13 +99,8 @@ fn stand_behind(rt: &impl Abort, alloc: Global, steps: usize) -> Result<(), Fail
     requires { steps ≤ 29 }
 {
     let shape = Shape::new(3, 1, 10_000)?;
-    let Some((slots, mut a, mut b)) = table_after(
-        rt,
-        alloc,
-        shape,
-        &STANDING[..steps],
-        &STANDING_WORDS,
-    ) else {
+    let rows = &STANDING[..steps];
+    let Some((slots, mut a, mut b)) = table_after(rt, alloc, shape, rows, &STANDING_WORDS) else {
         panic!(rt; "no memory")
     };
     assert!(rt; a.in_hand() == None);
@@ -114,44 +109,37 @@ fn stand_behind(rt: &impl Abort, alloc: Global, steps: usize) -> Result<(), Fail
     Ok(())
 }
 
-// The same in a map.
+// Pass 1 of a map stands still where it is, pass 0 makes its rounds, and then pass 1 goes on.
+fn go_on_in_a_map(rt: &impl Abort, table: Option<(Slots<Entries>, Pass, Pass)>)
+    requires own { IfSome table (λ r. IsOf r.1.trace r.0 × IsOf r.2.trace r.0) }
+    requires bucket { IfSome table (λ r. 0 < r.0.start.shape.buckets) }
+{
+    let Some((slots, mut a, mut b)) = table else {
+        panic!(rt; "no memory")
+    };
+    assert!(rt; a.in_hand() == None);
+    make_rounds_with_values(rt, &slots, &mut a);
+    expect_moved(rt, &slots, &a, &mut b);
+}
+
+// Pass 1 stands still behind the first steps of the same list in a map.
 fn stand_behind_in_a_map(rt: &impl Abort, alloc: Global, steps: usize) -> Result<(), Fail>
     requires { steps ≤ 32 }
 {
     let shape = Shape::new(3, 1, 10_000)?.with_values();
-    let Some((slots, mut a, mut b)) = map_after(
-        rt,
-        alloc,
-        shape,
-        &STANDING_WITH_VALUES[..steps],
-        &STANDING_WORDS,
-    ) else {
-        panic!(rt; "no memory")
-    };
-    assert!(rt; a.in_hand() == None);
-    make_rounds_with_values(rt, &slots, &mut a);
-    expect_moved(rt, &slots, &a, &mut b);
+    let rows = &STANDING_WITH_VALUES[..steps];
+    go_on_in_a_map(rt, map_after(rt, alloc, shape, rows, &STANDING_WORDS));
     Ok(())
 }
 
-// The same behind the first steps of the list in which pass 1 has a node in hand, or has put it in the
-// place of another.
+// It stands still behind the first steps of the list in which it has a node in hand, or has put it in
+// the place of another.
 fn stand_behind_replacing(rt: &impl Abort, alloc: Global, steps: usize) -> Result<(), Fail>
     requires { steps ≤ 43 }
 {
     let shape = Shape::new(3, 1, 10_000)?.with_values();
-    let Some((slots, mut a, mut b)) = map_after(
-        rt,
-        alloc,
-        shape,
-        &REPLACED_VALUE[..steps],
-        &REPLACED_VALUE_WORDS,
-    ) else {
-        panic!(rt; "no memory")
-    };
-    assert!(rt; a.in_hand() == None);
-    make_rounds_with_values(rt, &slots, &mut a);
-    expect_moved(rt, &slots, &a, &mut b);
+    let rows = &REPLACED_VALUE[..steps];
+    go_on_in_a_map(rt, map_after(rt, alloc, shape, rows, &REPLACED_VALUE_WORDS));
     Ok(())
 }
 
