@@ -9,7 +9,7 @@ mod Standing
 mod Phasing
 mod NewWorkers
 mod PlayedWhole
-mod Ends
 mod Finishing
+mod Printing
 mod Spans
 mod Zips

@@ -21,7 +21,7 @@ use Rattle.vbr_at_table.specs.declared.refusal.Refusal.{Refusal}
 use Rattle.vbr_at_table.specs.declared.refusal.Refusal.TheVariants.{OutOfSteps, NoSlot, EpochSpent}
 use Rattle.vbr_set.specs.Answers.{Answers}
 use Rattle.vbr_set.specs.MapCalls.{InsertsEntry, MapAnswers}
-use Rattle.vbr_set.specs.Members.{MemberView, Called}
+use Rattle.vbr_set.specs.Members.{MemberView, Called, CalledBy}
 use Rattle.vbr_set.specs.Names.{TookWithin}
 use Rattle.vbr_script.specs.declared.script.Kind.{Kind}
 use Rattle.vbr_script.specs.declared.script.Kind.TheVariants.{Set, Map}

@@ -16,9 +16,7 @@ use Rattle.vbr_transcript.specs.Runs.{AreExplained}
 use Rattle.vbr_transcript.specs.declared.reply.Reply.{Reply}
 use Rattle.vbr_transcript.proofs.Lemmas.{all_lines, ascend_lower, last_set, one_more_set, zip-append}
 use Rattle.vbr_player.specs.Calling.{ArePlayed}
-use Rattle.vbr_player.specs.Opened.{epoch_of, listed_as}
 use Rattle.vbr_player.specs.Spans.{HasPlayedSpan, IsFollowed, IsSpan}
-use Rattle.vbr_player.specs.declared.opened.Ended.{Ended}
 use Rattle.vbr_player.proofs.Phasing.{rest_of, slice_of}
 use Rattle.vbr_player.proofs.Slices.{all_from, next_phase}
 
@@ -168,13 +166,28 @@ all_sets {kind} workers start budget script renewals phases set first phase i re
       so_far.goes more listed epoch (subst (λ (some : List ℕ). AreExplained kind (ArePlayed kind set.passes budget) set.start set.passes phase phases some (zip (drop first script) more) listed epoch) (sym none) last),
     )
 
--- ---- a span's kind, budget and lines by other names
+-- ---- a span's budget and lines by other names
 
-pub played_as : {k kind : Kind} (set : TableView) (b budget : ℕ) (some lines : List Line) (phases : ℕ) (replies : List Reply) (ended : Ended) → k ≡ kind → b ≡ budget → some ≡ lines → HasPlayedSpan k set b some phases replies (listed_as k ended) (epoch_of ended) → HasPlayedSpan kind set budget lines phases replies (listed_as kind ended) (epoch_of ended)
-played_as set b budget some lines phases replies ended is same are played = subst (λ (k : Kind × ℕ × List Line). HasPlayedSpan k.0 set k.1 k.2 phases replies (listed_as k.0 ended) (epoch_of ended)) (λ i. (is i, same i, are i)) played
+pub played_as : {kind : Kind} (set : TableView) (b budget : ℕ) (some lines : List Line) (phases : ℕ) (replies : List Reply) (listed : List (Item kind)) (epoch : ℕ) → b ≡ budget → some ≡ lines → HasPlayedSpan kind set b some phases replies listed epoch → HasPlayedSpan kind set budget lines phases replies listed epoch
+played_as {kind} set b budget some lines phases replies listed epoch same are played = subst (λ (k : ℕ × List Line). HasPlayedSpan kind set k.0 k.1 phases replies listed epoch) (λ i. (same i, are i)) played
 
-pub followed_as : {k kind : Kind} (set : TableView) (b budget : ℕ) (some lines : List Line) (phases : ℕ) (replies : List Reply) (next : TableView) → k ≡ kind → b ≡ budget → some ≡ lines → IsFollowed k set b some phases replies next → IsFollowed kind set budget lines phases replies next
-followed_as set b budget some lines phases replies next is same are followed = subst (λ (k : Kind × ℕ × List Line). IsFollowed k.0 set k.1 k.2 phases replies next) (λ i. (is i, same i, are i)) followed
+pub followed_as : {kind : Kind} (set : TableView) (b budget : ℕ) (some lines : List Line) (phases : ℕ) (replies : List Reply) (next : TableView) → b ≡ budget → some ≡ lines → IsFollowed kind set b some phases replies next → IsFollowed kind set budget lines phases replies next
+followed_as {kind} set b budget some lines phases replies next same are followed = subst (λ (k : ℕ × List Line). IsFollowed kind set k.0 k.1 phases replies next) (λ i. (same i, are i)) followed
 
 pub span_as : {k kind : Kind} (workers from to : ℕ) (some lines : List Line) → kind ≡ k → some ≡ lines → IsSpan k workers from to lines → IsSpan kind workers from to some
 span_as workers from to some lines is are span = subst (λ (k : Kind × List Line). IsSpan k.0 workers from to k.1) (λ i. (sym is i, sym are i)) span
+
+-- ---- the next span of a script
+
+-- the lines up to the next renewal are one
+pub next_span : {kind : Kind} (workers : ℕ) (start : Start) (budget : ℕ) (script : List Line) (renewals lent : List ℕ) (phases : ℕ) (set : TableView) (first phase i n : ℕ) (replies : List Reply) → ArePhased kind workers phases script → lent ≡ renewals → i < length lent → n ≡ prefix_len (λ line. nat_le line.phase (get_or lent i 0)) (take (length script - first) (drop first script)) → HavePlayedSets kind workers start budget script renewals phases set first phase i replies → IsSpan kind set.passes phase (get_or lent i 0 + 1) (take (first + n - first) (drop first script))
+next_span {kind} workers start budget script renewals lent phases set first phase i n replies phased same inside count so_far =
+    let here = renewal_here renewals lent i same inside in
+    let next = renewal_in workers start budget script renewals phases set first phase i (get_or lent i 0) replies here so_far in
+    let cut = next_cut script first n phase (get_or lent i 0) count so_far.later in
+    is_span set.passes phases script first n phase (get_or lent i 0) (phased_here workers start budget script renewals phases set first phase i replies phased so_far) so_far.later cut next.0
+
+-- and those behind all renewals are one
+pub last_span : {kind : Kind} (workers : ℕ) (start : Start) (budget : ℕ) (script : List Line) (renewals : List ℕ) (phases : ℕ) (set : TableView) (first phase i : ℕ) (replies : List Reply) → ArePhased kind workers phases script → HavePlayedSets kind workers start budget script renewals phases set first phase i replies → IsSpan kind set.passes phase phases (take (length script - first) (drop first script))
+last_span {kind} workers start budget script renewals phases set first phase i replies phased so_far =
+    is_last_span set.passes phases script first phase (phased_here workers start budget script renewals phases set first phase i replies phased so_far) so_far.later so_far.order

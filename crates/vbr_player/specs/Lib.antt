@@ -8,3 +8,4 @@ pub mod Closing
 pub mod Opened
 pub mod Spans
 pub mod Playing
+pub mod EndLaws

@@ -36,13 +36,17 @@ IsWant error.Memory = Unit {0}
 IsWant error.Worker = Unit {0}
 IsWant _ = ⊥
 
--- The player's answer to a script of this kind, by the bytes that the reader had left and those that the writer held before and after.
+-- The player's answer to a script of this kind, by the bytes that the reader had left and those that the writer held before and after, and by what the totals of the answer are.
 -- Done: the layout of a run of the script that was read is appended. A script fault is the first of the text.
 -- A write fault leaves a beginning of a run's layout, and any other fault leaves the writer as it was.
+abbrev pub PlaysBy : (kind : Kind) {T : Type 0} → (T → TotalsOf kind) → Settings → Option (List ℕ) → Option (List ℕ) → Option (List ℕ) → Result T RunError → Type 0
+PlaysBy kind totals_are settings left old new (Ok totals) = (text : List ℕ) × IsInput left text × (output : List ℕ) × Prints kind settings text (totals_are totals) output × Appends old new output
+PlaysBy kind totals_are settings left old new (Err error.Write) = (text : List ℕ) × IsInput left text × (totals : TotalsOf kind) × (output : List ℕ) × Prints kind settings text totals output × AppendsSome old new output
+PlaysBy kind totals_are settings left old new (Err (error.Script line fault)) = (text : List ℕ) × IsInput left text × (first_fault kind settings.workers text ≡ Some (line, fault)) × Keeps old new
+PlaysBy kind totals_are settings left old new (Err error.Read) = Keeps old new
+PlaysBy kind totals_are settings left old new (Err error.Memory) = Keeps old new
+PlaysBy kind totals_are settings left old new (Err error.Worker) = Keeps old new
+
+-- it is answered with the totals themselves
 abbrev pub Plays : (kind : Kind) → Settings → Option (List ℕ) → Option (List ℕ) → Option (List ℕ) → Result (TotalsOf kind) RunError → Type 0
-Plays kind settings left old new (Ok totals) = (text : List ℕ) × IsInput left text × (output : List ℕ) × Prints kind settings text totals output × Appends old new output
-Plays kind settings left old new (Err error.Write) = (text : List ℕ) × IsInput left text × (totals : TotalsOf kind) × (output : List ℕ) × Prints kind settings text totals output × AppendsSome old new output
-Plays kind settings left old new (Err (error.Script line fault)) = (text : List ℕ) × IsInput left text × (first_fault kind settings.workers text ≡ Some (line, fault)) × Keeps old new
-Plays kind settings left old new (Err error.Read) = Keeps old new
-Plays kind settings left old new (Err error.Memory) = Keeps old new
-Plays kind settings left old new (Err error.Worker) = Keeps old new
+Plays kind = PlaysBy kind (λ totals. totals)

@@ -16,6 +16,7 @@ mod opening;
 mod part;
 mod phase;
 mod phases;
+mod playable;
 pub mod playing;
 mod sets;
 mod turn;

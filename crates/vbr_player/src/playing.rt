@@ -1,20 +1,18 @@
 //! The player.
 ghost use Rattle.vbr_script.specs.declared.script.Kind.TheVariants.{Set, Map};
-ghost use Rattle.vbr_player.specs.Playing.{Plays};
+ghost use Rattle.vbr_player.specs.Playing.{Plays, PlaysBy};
 
 use crate::gate::Gate;
-use crate::opened::Ended;
+use crate::playable::Playable;
 use crate::sets::play_sets;
 use std::alloc::Global;
 use std::io::{Read, Write};
 use std::sync::Wait;
 use std::thread::Threads;
-use vbr_script::{Kind, parse_map_script, parse_script};
+use vbr_script::parse;
 use vbr_settings::Config;
-use vbr_transcript::{
-    MapTotals, RunError, Totals, WriteFault, layout, map_layout, map_totals_of, read_text,
-    totals_of, write_whole,
-};
+use vbr_transcript::{MapTotals, RunError, Totals, WriteFault, read_text, tally_of, write_whole};
+use vbr_words::{Entries, Keys};
 
 /// Reads a script to its end, plays it, and writes the replies and the totals.
 ///
@@ -57,18 +55,7 @@ pub fn play<RT: Threads + Wait, R: Read, W: Write, G: Gate + Sync>(
     ensures { Plays Set config (R.remaining reader.old)
         (W.contents writer.old) (W.contents writer.new) result }
 {
-    let text = read_text(alloc, reader)?;
-    let script = parse_script(alloc, &text, config.workers())?;
-    let ended = play_sets(rt, alloc, Kind::Set, &config, &script, gate)?;
-    let (replies, Ended::Set(report)) = ended else {
-        unreachable!()
-    };
-    let totals = totals_of(&script.lines, &replies, report.keys, report.epoch);
-    let output = layout(alloc, config.epoch(), &replies, &totals)?;
-    match write_whole(writer, &output) {
-        Ok(()) => Ok(totals),
-        Err(WriteFault) => Err(RunError::Write),
-    }
+    play_on::<Keys, RT, R, W, G>(rt, alloc, config, reader, writer, gate)
 }
 
 /// Reads a script of a map to its end, plays it, and writes the replies and the totals, as [`play`] does
@@ -92,14 +79,27 @@ pub fn play_map<RT: Threads + Wait, R: Read, W: Write, G: Gate + Sync>(
     ensures { Plays Map config (R.remaining reader.old)
         (W.contents writer.old) (W.contents writer.new) result }
 {
+    play_on::<Entries, RT, R, W, G>(rt, alloc, config, reader, writer, gate)
+}
+
+// Reads a script of a kind to its end, plays it, and writes the replies and the totals.
+fn play_on<N: Playable + Sync, RT: Threads + Wait, R: Read, W: Write, G: Gate + Sync>(
+    rt: &RT,
+    alloc: Global,
+    config: Config,
+    reader: &mut R,
+    writer: &mut W,
+    gate: &G,
+) -> Result<N::Totals, RunError>
+    ensures { PlaysBy N.script N.totals config (R.remaining reader.old)
+        (W.contents writer.old) (W.contents writer.new) result }
+{
     let text = read_text(alloc, reader)?;
-    let script = parse_map_script(alloc, &text, config.workers())?;
-    let ended = play_sets(rt, alloc, Kind::Map, &config, &script, gate)?;
-    let (replies, Ended::Map(report)) = ended else {
-        unreachable!()
-    };
-    let totals = map_totals_of(&script.lines, &replies, report.entries, report.epoch);
-    let output = map_layout(alloc, config.epoch(), &replies, &totals)?;
+    let script = parse(alloc, N::script(), &text, config.workers())?;
+    let (replies, report) = play_sets::<N, RT, G>(rt, alloc, &config, &script, gate)?;
+    let tally = tally_of(&script.lines, &replies);
+    let output = N::layout(alloc, config.epoch(), &replies, tally, &report)?;
+    let totals = N::totals(tally, report);
     match write_whole(writer, &output) {
         Ok(()) => Ok(totals),
         Err(WriteFault) => Err(RunError::Write),

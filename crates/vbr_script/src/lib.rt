@@ -10,7 +10,7 @@ pub mod parser;
 pub mod script;
 mod text;
 
-pub use parser::{parse_map_script, parse_script};
+pub use parser::{parse, parse_map_script, parse_script};
 pub use script::{
     Kind, Line, MAX_OPERATIONS, MAX_SYNCS, Meaning, Script, ScriptError, ScriptFault,
 };

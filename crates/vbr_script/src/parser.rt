@@ -27,8 +27,8 @@ use vbr_machine::Op;
 ///
 /// # Example
 ///
-/// ```rattle file=crates/vbr_player/src/playing.rt
-/// let script = parse_script(alloc, &text, config.workers())?;
+/// ```rattle file=crates/vbr_run_tests/src/scripts.rt
+/// parse_script(alloc, text, workers)
 /// ```
 pub fn parse_script(alloc: Global, text: &[u8], workers: u32) -> Result<Script, ScriptError>
     ensures script { IfOk result (IsScriptOf Set workers text.now) }
@@ -56,8 +56,8 @@ pub fn parse_map_script(alloc: Global, text: &[u8], workers: u32) -> Result<Scri
     parse(alloc, Kind::Map, text, workers)
 }
 
-// Reads a script of this kind.
-fn parse(alloc: Global, kind: Kind, text: &[u8], workers: u32) -> Result<Script, ScriptError>
+/// Reads a script of this kind, as [`parse_script`] does of a set, and [`parse_map_script`] of a map.
+pub fn parse(alloc: Global, kind: Kind, text: &[u8], workers: u32) -> Result<Script, ScriptError>
     ensures script { IfOk result (IsScriptOf kind workers text.now) }
     ensures fault { (line : ℕ) (fault : ScriptFault) →
         IsErrOf result (ScriptError.Fault line fault) →

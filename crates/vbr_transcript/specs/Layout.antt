@@ -30,22 +30,18 @@ reply_text Tired = codes "tired"
 abbrev pub replies_text : List Reply → List ℕ
 replies_text replies = flat_map (λ reply. line (reply_text reply)) replies
 
--- the line of the keys
-abbrev pub keys_text : List ℕ → List ℕ
-keys_text keys = line (codes "keys" ++ flat_map spaced keys)
-
 -- a space, and a key with its value
 abbrev pub spaced_entry : ℕ × ℕ → List ℕ
 spaced_entry entry = spaced entry.0 ++ 61 ∷ decimal entry.1
 
--- the line of the entries
-abbrev pub entries_text : List (ℕ × ℕ) → List ℕ
-entries_text entries = line (codes "entries" ++ flat_map spaced_entry entries)
+-- a line with a name, and how each of some items is printed
+abbrev pub items_text : {I : Type 0} → List ℕ → (I → List ℕ) → List I → List ℕ
+items_text name print items = line (name ++ flat_map print items)
 
 -- the line of what is there in the end
 abbrev pub listed_text : (kind : Kind) → List (Item kind) → List ℕ
-listed_text Set keys = keys_text keys
-listed_text Map entries = entries_text entries
+listed_text Set keys = items_text (codes "keys") spaced keys
+listed_text Map entries = items_text (codes "entries") spaced_entry entries
 
 -- a line for each count
 abbrev pub tally_text : Tally → List ℕ
@@ -55,14 +51,14 @@ tally_text tally =
     ++ line (codes "found" ++ spaced tally.found)
     ++ line (codes "refused" ++ spaced tally.refused)
 
--- a line for each total, the keys or entries last
-abbrev pub totals_text : (kind : Kind) → TotalsOf kind → List ℕ
-totals_text kind totals = tally_text (tally_in kind totals) ++ listed_text kind (listed_in kind totals)
-
 -- the line of the epoch, where it is asked for
 abbrev pub epoch_text : Bool → ℕ → List ℕ
 epoch_text asked epoch = if asked then line (codes "epoch" ++ spaced epoch) else []
 
--- the whole text: the replies, the totals, and the epoch where it is asked for
+-- the whole text: the replies, a line for each total, what is there in the end last, and the epoch where it is asked for
+abbrev pub text_of : Bool → List Reply → Tally → List ℕ → ℕ → List ℕ
+text_of asked replies tally listed epoch = replies_text replies ++ (tally_text tally ++ listed) ++ epoch_text asked epoch
+
+-- that of a run on a set or on a map
 abbrev pub layout_of : (kind : Kind) → Bool → List Reply → TotalsOf kind → List ℕ
-layout_of kind asked replies totals = replies_text replies ++ totals_text kind totals ++ epoch_text asked (epoch_in kind totals)
+layout_of kind asked replies totals = text_of asked replies (tally_in kind totals) (listed_text kind (listed_in kind totals)) (epoch_in kind totals)

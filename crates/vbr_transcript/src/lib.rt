@@ -2,7 +2,7 @@
 //! and how they are put together, printed, and written.
 //!
 //! The way of the data: the text of a script is read ([`read_text`]), and the replies that each
-//! worker was given are merged into script order ([`merge`]), counted ([`totals_of`]), laid out as a
+//! worker was given are merged into script order ([`merge`]), counted ([`tally_of`]), laid out as a
 //! text ([`layout`]) and written ([`write_whole`]).
 #![tactic(auto)]
 
@@ -16,8 +16,8 @@ pub mod writing;
 
 pub use error::RunError;
 pub use merging::merge;
-pub use printing::{layout, map_layout};
+pub use printing::{Printed, layout};
 pub use reading::{MAX_SCRIPT_LEN, read_text};
 pub use reply::Reply;
-pub use totals::{MapTotals, Tally, Totals, map_totals_of, totals_of};
+pub use totals::{MapTotals, Tally, Totals, tally_of};
 pub use writing::{WriteFault, write_pieces, write_whole};

@@ -1,45 +1,72 @@
 //! The text of a run.
-ghost use Rattle.std.specs.Prelude.{◌≡◌, ◌++◌, OnOk, IfOk};
-ghost use Rattle.std.specs.List.{flat_map};
-ghost use Rattle.vbr_script.specs.declared.script.Kind.TheVariants.{Set, Map};
-ghost use Rattle.vbr_transcript.specs.Totals.{tally_in};
-ghost use Rattle.vbr_transcript.specs.Layout.{line, spaced, spaced_entry, reply_text, replies_text, tally_text, keys_text, entries_text, totals_text, epoch_text, layout_of};
+ghost use Rattle.std.specs.Prelude.{◌≡◌, ℕ, ◌++◌, List, OnOk, IfOk, codes};
+ghost use Rattle.vbr_transcript.specs.Layout.{epoch_text, items_text, line, replies_text, reply_text, spaced, spaced_entry, tally_text, text_of};
 
 use crate::reply::Reply;
-use crate::totals::{MapTotals, Tally, Totals};
+use crate::totals::Tally;
 use std::alloc::{AllocError, Global};
 
-/// The text of a run on a set: a line for each reply, then the totals, and the epoch if it is asked
-/// for.
-pub fn layout(
-    alloc: Global,
-    epoch: bool,
-    replies: &[Reply],
-    totals: &Totals,
-) -> Result<Vec<u8>, AllocError>
-    ensures { IfOk result (λ text. text.items ≡ layout_of Set epoch replies.now totals.now) }
-{
-    let mut text = Vec::new(alloc);
-    push_replies(&mut text, replies)?;
-    push_totals(&mut text, totals)?;
-    push_epoch(&mut text, epoch, totals.epoch)?;
-    Ok(text)
+/// What is printed of a node that is there in the end: its key, or its key with its value.
+pub trait Printed: Copy {
+    ghost name: { List ℕ };
+
+    ghost print: { Self → List ℕ };
+
+    /// The name of the line that lists all of them.
+    fn name() -> &'static [u8]
+        ensures { result.now ≡ name };
+
+    /// Appends a space and this.
+    fn push(self, text: &mut Vec<u8>) -> Result<(), AllocError>
+        ensures { OnOk result (text.new.items ≡ text.old.items ++ print self) };
 }
 
-/// The text of a run on a map, as [`layout`] gives that of one on a set: a value stands behind the
-/// `yes` of each remove and get, and behind each key.
-pub fn map_layout(
+impl Printed for u64 {
+    ghost name = { codes "keys" };
+
+    ghost print = { spaced };
+
+    fn name() -> &'static [u8] {
+        b"keys"
+    }
+
+    fn push(self, text: &mut Vec<u8>) -> Result<(), AllocError> {
+        push_spaced(text, self)
+    }
+}
+
+impl Printed for (u64, u64) {
+    ghost name = { codes "entries" };
+
+    ghost print = { spaced_entry };
+
+    fn name() -> &'static [u8] {
+        b"entries"
+    }
+
+    fn push(self, text: &mut Vec<u8>) -> Result<(), AllocError> {
+        push_entry(text, self)
+    }
+}
+
+/// The text of a run: a line for each reply, then the counts, what is there in the end, and the epoch if
+/// it is asked for. Of a map a value stands after the `yes` of each remove and get, and after each key.
+pub fn layout<I: Printed>(
     alloc: Global,
-    epoch: bool,
+    asked: bool,
     replies: &[Reply],
-    totals: &MapTotals,
+    tally: Tally,
+    items: &[I],
+    epoch: u64,
 ) -> Result<Vec<u8>, AllocError>
-    ensures { IfOk result (λ text. text.items ≡ layout_of Map epoch replies.now totals.now) }
+    ensures { IfOk result (λ text. text.items
+        ≡ text_of asked replies.now tally (items_text I.name I.print items.now) epoch) }
 {
     let mut text = Vec::new(alloc);
     push_replies(&mut text, replies)?;
-    push_map_totals(&mut text, totals)?;
-    push_epoch(&mut text, epoch, totals.epoch)?;
+    push_tally(&mut text, tally)?;
+    push_items(&mut text, items)?;
+    push_epoch(&mut text, asked, epoch)?;
     Ok(text)
 }
 
@@ -63,32 +90,6 @@ fn push_reply(text: &mut Vec<u8>, reply: Reply) -> Result<(), AllocError>
         Reply::Spent => push_line(text, b"spent"),
         Reply::Tired => push_line(text, b"tired"),
     }
-}
-
-fn push_totals(text: &mut Vec<u8>, totals: &Totals) -> Result<(), AllocError>
-    ensures { OnOk result (text.new.items ≡ text.old.items ++ totals_text Set totals.now) }
-{
-    let tally = Tally {
-        inserted: totals.inserted,
-        removed: totals.removed,
-        found: totals.found,
-        refused: totals.refused,
-    };
-    push_tally(text, tally)?;
-    push_keys(text, &totals.keys)
-}
-
-fn push_map_totals(text: &mut Vec<u8>, totals: &MapTotals) -> Result<(), AllocError>
-    ensures { OnOk result (text.new.items ≡ text.old.items ++ totals_text Map totals.now) }
-{
-    let tally = Tally {
-        inserted: totals.inserted,
-        removed: totals.removed,
-        found: totals.found,
-        refused: totals.refused,
-    };
-    push_tally(text, tally)?;
-    push_entries(text, &totals.entries)
 }
 
 // A line for each count.
@@ -121,25 +122,14 @@ fn push_count(text: &mut Vec<u8>, name: &[u8], count: u64) -> Result<(), AllocEr
     Ok(())
 }
 
-// The line of the keys.
-fn push_keys(text: &mut Vec<u8>, keys: &[u64]) -> Result<(), AllocError>
-    ensures { OnOk result (text.new.items ≡ text.old.items ++ keys_text keys.now) }
+// The line of what is there in the end.
+fn push_items<I: Printed>(text: &mut Vec<u8>, items: &[I]) -> Result<(), AllocError>
+    ensures { OnOk result
+        (text.new.items ≡ text.old.items ++ items_text I.name I.print items.now) }
 {
-    text.extend_from_slice(b"keys")?;
-    for key in keys {
-        push_spaced(text, *key)?;
-    }
-    text.push(b'\n')?;
-    Ok(())
-}
-
-// The line of the entries.
-fn push_entries(text: &mut Vec<u8>, entries: &[(u64, u64)]) -> Result<(), AllocError>
-    ensures { OnOk result (text.new.items ≡ text.old.items ++ entries_text entries.now) }
-{
-    text.extend_from_slice(b"entries")?;
-    for entry in entries {
-        push_entry(text, *entry)?;
+    text.extend_from_slice(I::name())?;
+    for item in items {
+        item.push(text)?;
     }
     text.push(b'\n')?;
     Ok(())

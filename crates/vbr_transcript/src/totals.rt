@@ -55,48 +55,44 @@ pub struct Tally {
     pub refused: u64,
 }
 
-/// The totals of lines with their replies, and of a set that has these keys and this epoch in the end.
-pub fn totals_of(lines: &[Line], replies: &[Reply], keys: Vec<u64>, epoch: u64) -> Totals
-    ensures counts { Counts (tally_in Set result) (zip lines.now replies.now) }
-    ensures keys { result.keys.items ≡ keys.items }
-    ensures epoch { result.epoch ≡ epoch }
-{
-    let tally = tally_of(lines, replies);
-    Totals {
-        inserted: tally.inserted,
-        removed: tally.removed,
-        found: tally.found,
-        refused: tally.refused,
-        keys,
-        epoch,
+impl Totals {
+    /// Those of a run of these counts, and of a set that has these keys and this epoch in the end.
+    pub fn new(tally: Tally, keys: Vec<u64>, epoch: u64) -> Totals
+        ensures tally { tally_in Set result ≡ tally }
+        ensures keys { result.keys.items ≡ keys.items }
+        ensures epoch { result.epoch ≡ epoch }
+    {
+        Totals {
+            inserted: tally.inserted,
+            removed: tally.removed,
+            found: tally.found,
+            refused: tally.refused,
+            keys,
+            epoch,
+        }
     }
 }
 
-/// The totals of lines with their replies, and of a map that has these entries and this epoch in the
-/// end.
-pub fn map_totals_of(
-    lines: &[Line],
-    replies: &[Reply],
-    entries: Vec<(u64, u64)>,
-    epoch: u64,
-) -> MapTotals
-    ensures counts { Counts (tally_in Map result) (zip lines.now replies.now) }
-    ensures entries { result.entries.items ≡ entries.items }
-    ensures epoch { result.epoch ≡ epoch }
-{
-    let tally = tally_of(lines, replies);
-    MapTotals {
-        inserted: tally.inserted,
-        removed: tally.removed,
-        found: tally.found,
-        refused: tally.refused,
-        entries,
-        epoch,
+impl MapTotals {
+    /// Those of a run of these counts, and of a map that has these entries and this epoch in the end.
+    pub fn new(tally: Tally, entries: Vec<(u64, u64)>, epoch: u64) -> MapTotals
+        ensures tally { tally_in Map result ≡ tally }
+        ensures entries { result.entries.items ≡ entries.items }
+        ensures epoch { result.epoch ≡ epoch }
+    {
+        MapTotals {
+            inserted: tally.inserted,
+            removed: tally.removed,
+            found: tally.found,
+            refused: tally.refused,
+            entries,
+            epoch,
+        }
     }
 }
 
-// The counts of lines with their replies.
-fn tally_of(lines: &[Line], replies: &[Reply]) -> Tally
+/// The counts of lines with their replies.
+pub fn tally_of(lines: &[Line], replies: &[Reply]) -> Tally
     ensures { Counts result (zip lines.now replies.now) }
 {
     Tally {

@@ -1,7 +1,7 @@
--- How a set and a map end, in the words for either kind.
-use Rattle.std.proofs.Common.{◌≡◌, ℕ, true, List, ◌∙◌}
+-- How a set and a map end, in the words for either kind. No contract cites this: the impls of `Playable` give it as their laws.
+use Rattle.std.proofs.Common.{◌≡◌, ℕ, true, false, List, refl, ◌∙◌}
 use Rattle.vbr_words.specs.Dimensions.{Dimensions}
-use Rattle.vbr_machine.specs.Start.{start_with}
+use Rattle.vbr_machine.specs.Start.{Start, start_with}
 use Rattle.vbr_machine.specs.Maps.{entries_in, keys_listed, map_start, opening_entries, values_listed}
 use Rattle.vbr_machine.specs.Runs.{world_after}
 use Rattle.vbr_slots.specs.Views.{PassView, TableView}
@@ -9,10 +9,27 @@ use Rattle.vbr_set.specs.Closing.{Closes, MapCloses}
 use Rattle.vbr_set.specs.Renewing.{MapRenews, Renews}
 use Rattle.vbr_set.specs.declared.report.MapReport.{MapReport}
 use Rattle.vbr_set.specs.declared.report.Report.{Report}
+use Rattle.vbr_script.specs.Grammar.{is_map}
+use Rattle.vbr_script.specs.declared.script.Kind.{Kind}
 use Rattle.vbr_script.specs.declared.script.Kind.TheVariants.{Set, Map}
-use Rattle.vbr_transcript.specs.Contents.{opening_contents, opened_with, contents_after}
-use Rattle.vbr_transcript.proofs.Lemmas.{set_opens}
+use Rattle.vbr_transcript.specs.Contents.{Item, opening_contents, opened_with, contents_after}
 use Rattle.vbr_player.specs.Closing.{ClosesAs, RenewsAs}
+use Rattle.vbr_player.specs.Playing.{start_of}
+
+-- ---- of either
+
+-- what opens with entries has each key with its value
+abbrev pub OpensAsListed : Type 0
+OpensAsListed = (shape : Dimensions) (entries : List (ℕ × ℕ)) (key : ℕ) → opening_entries (map_start shape entries) key ≡ entries_in entries key
+
+-- nodes have values in a map alone, where it opens and where another follows it
+pub start_values : (kind : Kind) (shape : Dimensions) → (start_of kind shape).shape.values ≡ is_map kind
+start_values Set shape = refl
+start_values Map shape = refl
+
+pub opened_values : (kind : Kind) (start : Start) (listed : List (Item kind)) → (opened_with kind start listed).shape.values ≡ start.shape.values
+opened_values Set start listed = refl
+opened_values Map start listed = refl
 
 -- ---- a set
 
@@ -27,14 +44,14 @@ set_closes set passes report closes = record {
   last = closes.reports.epoch;
 }
 
-pub set_renews : (set : TableView) (passes : List PassView) (next : TableView) → Renews set passes next → RenewsAs Set set passes next
+pub set_renews : (set : TableView) (passes : List PassView) (next : TableView) → OpensAsListed → set.start.shape.values ≡ false → Renews set passes next → RenewsAs Set set passes next
 unfolding set_closes
-set_renews set passes next renews = record {
+set_renews set passes next opens_as values renews = record {
   listed = renews.report.keys.items;
   epoch = renews.report.epoch;
   closes = set_closes set passes renews.report renews.closes;
   start = renews.start;
-  opens = set_opens set.start renews.report.keys.items _ renews.closes.reports.listed;
+  opens = λ i key. renews.closes.reports.listed.same key i;
   count = renews.count;
 }
 
@@ -50,10 +67,6 @@ map_closes map passes report closes = record {
   contents = (closes.reports.listed.ascending, closes.reports.listed.same);
   last = closes.reports.epoch;
 }
-
--- what opens with entries has each key with its value
-abbrev OpensAsListed : Type 0
-OpensAsListed = (shape : Dimensions) (entries : List (ℕ × ℕ)) (key : ℕ) → opening_entries (map_start shape entries) key ≡ entries_in entries key
 
 pub map_renews : (map : TableView) (passes : List PassView) (next : TableView) → OpensAsListed → map.start.shape.values ≡ true → MapRenews map passes next → RenewsAs Map map passes next
 unfolding map_closes
