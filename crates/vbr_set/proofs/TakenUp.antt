@@ -17,7 +17,7 @@ use Rattle.vbr_at_table.specs.Counts.{flags_raised}
 use Rattle.vbr_at_table.specs.KeptSlots.{SharesWhereFull}
 use Rattle.vbr_list.specs.Refusals.{FoundNoSlot}
 use Rattle.vbr_at_table.specs.declared.refusal.Refusal.TheVariants.{NoSlot}
-use Rattle.vbr_list.specs.declared.refusal.Refusal.{Refusal}
+use Rattle.vbr_at_table.specs.declared.refusal.Refusal.{Refusal}
 use Rattle.vbr_set.specs.Histories.{calls_of}
 use Rattle.vbr_set.specs.MapCalls.{InsertRefused}
 use Rattle.vbr_set.specs.Members.{Called, MemberView}
