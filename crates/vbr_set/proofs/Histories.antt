@@ -1,22 +1,24 @@
 -- What a pass has seen is a safe run, so its calls are one legal history.
-use Rattle.std.proofs.Common.{◌≡◌, ℕ, Bool, List, Result, Ok, Err, refl, sym, ap, ◌∙◌, subst}
+use Rattle.std.proofs.Common.{◌≡◌, ℕ, List, Result, Ok, Err, refl, sym, ap, ◌∙◌, subst}
 use Rattle.std.specs.Prelude.{IfOk}
 use Rattle.vbr_machine.specs.Start.{Start, IsStart}
-use Rattle.vbr_machine.specs.History.{set_call}
 use Rattle.vbr_machine.specs.Calls.{own_calls}
 use Rattle.vbr_machine.specs.Runs.{IsRun, BeginsFor}
 use Rattle.vbr_machine.specs.declared.event.Event.{Event}
 use Rattle.vbr_machine.specs.declared.event.Step.TheVariants.{ReadEpoch}
 use Rattle.vbr_machine.specs.declared.history.Call.{Call}
-use Rattle.vbr_machine.specs.declared.history.Op.{Op}
 use Rattle.vbr_machine.proofs.Lemmas.{every_run, is_run_before, others_leave_calls}
 use Rattle.vbr_slots.specs.Calls.{Made}
-use Rattle.vbr_slots.specs.Views.{Trace, Did}
+use Rattle.vbr_slots.specs.PassLaw.{PassLaw}
+use Rattle.vbr_slots.specs.Views.{PassView, TableView, Trace, Did}
 use Rattle.vbr_slots.proofs.Lemmas.{did_quiet, did_run}
 use Rattle.vbr_at_table.specs.Soundness.{HasSafeRun}
+use Rattle.vbr_at_table.specs.declared.refusal.Refusal.{Refusal}
+use Rattle.vbr_list.specs.Sparing.{CallsAs}
 use Rattle.vbr_set.specs.Answers.{Answers}
 use Rattle.vbr_set.specs.Histories.{ReadsAreRight}
 use Rattle.vbr_set.specs.Meetings.{Shares}
+use Rattle.vbr_set.specs.Members.{CalledBy, as_member}
 
 pub start_of : (p q : Start) → q ≡ p → IsStart p → IsStart q
 start_of p q is start = let P : Start → Type 0 = IsStart in subst P (sym is) start
@@ -36,22 +38,21 @@ pub answers : {call : Call} {p q : Trace} → IsStart p.start → Made call p q 
 answers {call} {p} {q} is made =
     let start = start_of p.start q.start made.same.start is in
     let safe = every_run q.start q.passes q.seen start made.is_run in
-    record {
-      same = made.same;
-      begins = made.seen;
-      is_run = made.is_run;
-      legal = safe.legal;
-      once = made.calls;
-      exchanges = safe.exchanges;
-      reads = reads_right q.start q.passes q.seen start made.is_run;
-      safe = safe;
-    }
+    record { same = made.same; begins = made.seen; is_run = made.is_run; legal = safe.legal; once = made.calls; exchanges = safe.exchanges; reads = reads_right q.start q.passes q.seen start made.is_run; safe = safe }
 
 -- an answer, if there is one
-pub each_answers : {E : Type 0} (p q : Trace) (op : Op) (key : ℕ) (answer : Result Bool E) → IsStart p.start → IfOk answer (λ reply. Made (set_call p.who op key reply) p q)
-    → IfOk answer (λ reply. Answers (set_call p.who op key reply) p q)
-each_answers p q op key (Ok reply) is made = answers is made
-each_answers p q op key (Err refusal) is made = tt
+pub each_answers : {A E : Type 0} (told : A → Call) (p q : Trace) (answer : Result A E) → IsStart p.start → IfOk answer (λ reply. Made (told reply) p q) → IfOk answer (λ reply. Answers (told reply) p q)
+each_answers told p q (Ok reply) is made = answers is made
+each_answers told p q (Err refusal) is made = tt
+
+-- a call by a pass of a set is one by that member, once it is known what its answer leaves
+pub called_by : {A : Type 0} {told : A → Call} {SparesSo : Result A Refusal → Type 0} (Leaves : Call → Trace → Trace → Type 0) (set : TableView) (p q : PassView) (budget : ℕ) (answer : Result A Refusal) → PassLaw q → CallsAs told SparesSo p q budget answer
+    → IfOk answer (λ reply. Leaves (told reply) p.trace q.trace) → CalledBy Leaves told SparesSo (as_member set p) (as_member set q) budget answer
+called_by Leaves set p q budget answer law e leaves = record { set = refl; same = e.same; answers = leaves; alone = e.alone; quiet = e.quiet; safe = record { is_run = law.is_run; safe = law.safe }; hand = e.hand; steps = e.steps; spares = e.spares }
+
+-- so it is of a call of a set
+pub called : {A : Type 0} {told : A → Call} {SparesSo : Result A Refusal → Type 0} (set : TableView) (p q : PassView) (budget : ℕ) (answer : Result A Refusal) → PassLaw p → PassLaw q → CallsAs told SparesSo p q budget answer → CalledBy Answers told SparesSo (as_member set p) (as_member set q) budget answer
+called {A} {told} set p q budget answer before after e = called_by Answers set p q budget answer after e (each_answers told p.trace q.trace answer before.start e.made)
 
 -- and what stands there was made
 pub made_of : {call : Call} {p q : Trace} → Answers call p q → Made call p q

@@ -45,26 +45,17 @@ pub stands_state : {a : Incarnations} {s c : ℕ} → Stands a s c → state_in 
 stands_state {a} n = ap (state_shown a) n.last
 
 -- its link names the slot of its successor, and has the mark once the node is marked
-next_named : (a : Incarnations) (c : ℕ) (st : State) → IsListed st → (link_in_state a c st).slot ≡ slot_shown a (a.next c)
-next_named a c Linked l = refl
-next_named a c Marked l = refl
-next_named a c Unborn l = absurd l
-next_named a c (InHand p) l = absurd l
-next_named a c GivenUp l = absurd l
-next_named a c (Unlinked p at) l = absurd l
-next_named a c (Stamped at stamp) l = absurd l
-
-mark_shown : (a : Incarnations) (c : ℕ) (st : State) → IsListed st → (link_in_state a c st).mark ≡ is_marked st
-mark_shown a c Linked l = refl
-mark_shown a c Marked l = refl
-mark_shown a c Unborn l = absurd l
-mark_shown a c (InHand p) l = absurd l
-mark_shown a c GivenUp l = absurd l
-mark_shown a c (Unlinked p at) l = absurd l
-mark_shown a c (Stamped at stamp) l = absurd l
+link_named : (a : Incarnations) (c : ℕ) (st : State) → IsListed st → ((link_in_state a c st).slot ≡ slot_shown a (a.next c)) × ((link_in_state a c st).mark ≡ is_marked st)
+link_named a c Linked l = (refl, refl)
+link_named a c Marked l = (refl, refl)
+link_named a c Unborn l = absurd l
+link_named a c (InHand p) l = absurd l
+link_named a c GivenUp l = absurd l
+link_named a c (Unlinked p at) l = absurd l
+link_named a c (Stamped at stamp) l = absurd l
 
 pub next_of_node : {a : Incarnations} {s c : ℕ} → Stands a s c → (link_shown a (a.last s)).slot ≡ slot_shown a (a.next c)
-next_of_node {a} {s} {c} n = ap (λ (l : Option ℕ). (link_shown a l).slot) n.last ∙ next_named a c (a.state c) n.listed
+next_of_node {a} {s} {c} n = ap (λ (l : Option ℕ). (link_shown a l).slot) n.last ∙ (link_named a c (a.state c) n.listed).0
 
 pub mark_of_node : {a : Incarnations} {s c : ℕ} → Stands a s c → (link_shown a (a.last s)).mark ≡ is_marked (state_in a s)
-mark_of_node {a} {s} {c} n = ap (λ (l : Option ℕ). (link_shown a l).mark) n.last ∙ mark_shown a c (a.state c) n.listed ∙ sym (ap is_marked (stands_state n))
+mark_of_node {a} {s} {c} n = ap (λ (l : Option ℕ). (link_shown a l).mark) n.last ∙ (link_named a c (a.state c) n.listed).1 ∙ sym (ap is_marked (stands_state n))

@@ -70,12 +70,7 @@ impl<N: Nodes> Member<N> {
 /// that is closed is still told a report. It needs no memory, and makes no step.
 impl<N: Nodes> Drop for Member<N> {
     fn drop(self) {
-        let Member {
-            before: _,
-            share,
-            pass,
-            after: _,
-        } = self;
+        let (share, pass) = self.into_parts();
         if let Share::Among(common, seat) = share {
             drop(leave(common, seat, pass));
         }

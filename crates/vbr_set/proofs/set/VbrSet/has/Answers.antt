@@ -1,9 +1,5 @@
-use Rattle.std.proofs.Common.{refl}
-use Rattle.vbr_set.proofs.Histories.{each_answers}
+use Rattle.vbr_set.proofs.Histories.{called}
 use Rattle.vbr_set.proofs.set.VbrSet.has.Goals as goal
 
 pub returns : goal.returns
-returns g c =
-    let e = c.has-answer.ensures in
-    let law = c.law-2.ensures in
-    record { set = refl; same = e.same; answers = each_answers _ _ _ _ c.has-answer.result c.law.ensures.start e.made; alone = e.alone; quiet = e.quiet; safe = record { is_run = law.is_run; safe = law.safe }; hand = e.hand; steps = e.steps; spares = e.spares }
+returns g c = called c.args.self.now c.args.pass.now c.has-answer.new.pass c.args.budget c.has-answer.result c.law.ensures c.law-2.ensures c.has-answer.ensures
