@@ -52,6 +52,19 @@ module _ (p : PassView) (sound : PassLaw p) where
   pub slot_found : (s : ℕ) → IsHeldSlot (knows p.trace) s → IsTrue (holds (knows p.trace).checked s)
   slot_found s h = (known_accepts p.trace.start p.trace.passes p.trace.seen sound.start sound.is_run p.trace.who (LoadBirth s) (record { in_shape = slot_in s h; owned = tt; known = h; in_range = tt; below_last = tt })).held
 
+  -- so it is of the slot that a link names, and of the slot of a node
+  pub named_in : {t : TableView} (held : Held) (s : ℕ) → IsOf p.trace t → IsHeld (knows p.trace) held → Names held s → s < t.start.shape.slots
+  named_in held s own h names = subst (λ (start : Start). s < start.shape.slots) own.1 (slot_in s (named_slot held s h names))
+
+  pub named_found : (held : Held) (s : ℕ) → IsHeld (knows p.trace) held → Names held s → IsTrue (holds (knows p.trace).checked s)
+  named_found held s h names = slot_found s (named_slot held s h names)
+
+  pub node_in : {t : TableView} (held : Held) (s : ℕ) → IsOf p.trace t → IsHeld (knows p.trace) held → held.at ≡ Slot s → s < t.start.shape.slots
+  node_in held s own h at = let Q : At → Type 0 = IsAtIn p.trace.start in subst (λ (start : Start). s < start.shape.slots) own.1 (subst Q at (place_in held h))
+
+  pub node_found : (held : Held) (s : ℕ) → IsHeld (knows p.trace) held → held.at ≡ Slot s → IsTrue (holds (knows p.trace).checked s)
+  node_found held s h at = let Q : At → Type 0 = IsHeldPlace (knows p.trace) in slot_found s (subst Q at (place_held held h))
+
   -- a node is one of the shape, its link is known, and its key
   node : (held : Held) (s : ℕ) → IsHeld (knows p.trace) held → held.at ≡ Slot s → ((key : ℕ) × KeyAt (knows p.trace) held.at key) → (s < p.trace.start.shape.slots) × Knows (knows p.trace) (LinkAt (Slot s) (link_of held.word)) × ((key : ℕ) × Knows (knows p.trace) (KeyOf s key))
   node held s h at k =

@@ -2,6 +2,7 @@
 use Rattle.std.proofs.Common.{◌≡◌, ◌≢◌, ℕ, ◌+◌, ◌++◌, Bool, true, false, [], Option, Some, None, refl, sym, ap, ◌∙◌, subst, cond}
 use Rattle.std.specs.Prelude.{◌==◌}
 use Rattle.vbr_machine.specs.Start.{Start, IsStart}
+use Rattle.vbr_words.specs.Words.{link_of}
 use Rattle.vbr_words.specs.declared.place.At.{At}
 use Rattle.vbr_words.specs.declared.place.At.TheVariants.{Head, Slot}
 use Rattle.vbr_machine.specs.Acceptance.{IsInHand}
@@ -12,7 +13,7 @@ use Rattle.vbr_machine.specs.Learning.{call_of, read_epoch, reread}
 use Rattle.vbr_machine.specs.Loads.{IsLoad}
 use Rattle.vbr_machine.specs.Machine.{World}
 use Rattle.vbr_machine.specs.declared.event.Step.{Step}
-use Rattle.vbr_machine.specs.declared.event.Step.TheVariants.{ReadEpoch, LoadLink, LoadKey, LoadValue}
+use Rattle.vbr_machine.specs.declared.event.Step.TheVariants.{ReadEpoch, LoadBirth, LoadLink, LoadKey, LoadValue}
 use Rattle.vbr_machine.specs.declared.knowledge.Holding.{Holding}
 use Rattle.vbr_machine.specs.declared.knowledge.Read.{Read}
 use Rattle.vbr_machine.specs.declared.knowledge.Holding.TheVariants.{Free, InHand, Unlinked}
@@ -22,6 +23,7 @@ use Rattle.vbr_slots.specs.Reads.{Reads, ReadsNode}
 use Rattle.vbr_slots.specs.Views.{Trace, PassView, Did, KeepsPool, knows}
 use Rattle.vbr_slots.proofs.Lemmas.{adds_on, adds_refl, alone_first, alone_then, did_adds_none, did_loads, did_quiet}
 use Rattle.vbr_slots.proofs.Lemmas.{did_took, fresh_read, loads_on, loads_refl, looks, quiet_on, quiet_refl, took_none, took_on}
+use Rattle.vbr_at_table.specs.CallSteps.{birth_steps, steps_to_birth}
 use Rattle.vbr_at_table.specs.Counts.{advances_or_gives}
 use Rattle.vbr_at_table.proofs.Advancing.{did_none, none_on, none_refl}
 use Rattle.vbr_at_table.specs.Held.{IsHeld, Names}
@@ -61,15 +63,7 @@ fit_on {p} {q} f x =
 -- ---- one after another
 
 pub reads_none : (p : PassView) → PassLaw p → ReadsIn p p 0
-reads_none p law = record {
-  took = took_none p.trace;
-  quiet = quiet_refl p.trace;
-  own = record { pool = refl; hand = refl; in_hand = λ s is. refl };
-  takes_no_slot = none_refl p;
-  adds_none = adds_refl p.trace;
-  only_loads = loads_refl p.trace;
-  looks = λ alone. refl;
-}
+reads_none p law = record { took = took_none p.trace; quiet = quiet_refl p.trace; own = record { pool = refl; hand = refl; in_hand = λ s is. refl }; takes_no_slot = none_refl p; adds_none = adds_refl p.trace; only_loads = loads_refl p.trace; looks = λ alone. refl }
 
 pub reads_on : {p q r : PassView} {m n : ℕ} → ReadsIn p q m → ReadsIn q r n → ReadsIn p r (m + n)
 reads_on {p} {q} {r} {m} {n} x y = record {
@@ -136,6 +130,12 @@ module _ {p q : PassView} {word epoch : ℕ} (law : PassLaw p) where
       let fits = fit_on (fit p law) first in
       let second = load_in_one (loads_link (Slot s) word) fits x.reads.loaded x.reads.pool_loaded in
       reads_on first (reads_on second (epoch_in_one (fit_on fits second) x.reads.read x.reads.pool_read))
+
+-- the birth that a link names, where it names a slot
+pub birth_in_two : (p between q : PassView) {s birth epoch : ℕ} (word : ℕ) → (link_of word).slot ≡ Some s → PassLaw p → Did (LoadBirth s) p.trace between.trace birth → KeepsPool p between → Did ReadEpoch between.trace q.trace epoch → KeepsPool between q → ReadsIn p q (steps_to_birth word)
+birth_in_two p between q {s} {birth} word names law load pool_loaded read pool_read =
+    let two : steps_to_birth word ≡ 2 = ap birth_steps names in
+    subst (ReadsIn p q) (sym two) (load_in_two law (loads_birth s birth) (record { between = between; loaded = load; pool_loaded = pool_loaded; read = read; pool_read = pool_read }))
 
 -- ---- an epoch that hasn't moved confirms what was loaded
 

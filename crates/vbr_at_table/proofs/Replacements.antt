@@ -1,8 +1,7 @@
 -- A node that is replaced by the one in hand.
-use Rattle.std.proofs.Common.{◌≡◌, ◌≢◌, ℕ, ◌<◌, true, false, List, [], ◌∷◌, ◌++◌, Option, Some, None, refl, sym, ap, ◌∙◌, subst, cond, option_to_list, append_assoc, eq-eqb, inl, inr, ⊎_elim, arith}
+use Rattle.std.proofs.Common.{◌≡◌, ◌≢◌, ℕ, ◌<◌, true, false, List, [], ◌∷◌, ◌++◌, Option, Some, None, refl, sym, ap, ◌∙◌, subst, cond, option_to_list, append_assoc, eq-eqb, inl, arith}
 use Rattle.std.specs.Prelude.{unwrap_or}
 use Rattle.std.specs.List.{Contains}
-use Rattle.std.proofs.lemmas.Bool.{cases_eq}
 use Rattle.vbr_machine.specs.Start.{Start, IsStart}
 use Rattle.vbr_words.specs.Words.{link_of}
 use Rattle.vbr_words.specs.declared.link.Link.{Link}
@@ -16,7 +15,7 @@ use Rattle.vbr_machine.specs.Incarnations.{Incarnations, last_in}
 use Rattle.vbr_machine.specs.Removals.{ReplacedAt}
 use Rattle.vbr_machine.specs.Sound.{IsRemoved}
 use Rattle.vbr_machine.specs.declared.event.Event.{Event}
-use Rattle.vbr_machine.specs.Acceptance.{IsAtIn, IsInHand, MayBear, Accepts}
+use Rattle.vbr_machine.specs.Acceptance.{IsAtIn, IsInHand, Accepts}
 use Rattle.vbr_machine.specs.Images.{link_shown_at}
 use Rattle.vbr_machine.specs.Knowledge.{Know}
 use Rattle.vbr_machine.specs.Learning.{call_ahead, call_of, key_in_hand, link_in_hand, link_written, birth_in_hand, reads_won, value_in_hand, value_read, with_checked, with_own}
@@ -24,14 +23,13 @@ use Rattle.vbr_machine.specs.Links.{link_to, marked}
 use Rattle.vbr_machine.specs.Machine.{found}
 use Rattle.vbr_machine.specs.Membership.{BirthAt, BirthNamed, KeyAt, Knows, MayReplaceKnown}
 use Rattle.vbr_machine.specs.Opened.{payload_kept}
-use Rattle.vbr_machine.specs.Put.{put}
 use Rattle.vbr_machine.specs.Runs.{IsRun, know_after, world_after}
 use Rattle.vbr_machine.specs.declared.event.Step.TheVariants.{Replace}
 use Rattle.vbr_machine.specs.declared.history.Call.{Call}
 use Rattle.vbr_machine.specs.declared.history.Op.TheVariants.{Insert, Remove}
 use Rattle.vbr_machine.specs.declared.knowledge.Holding.{Holding}
 use Rattle.vbr_machine.specs.declared.knowledge.Read.TheVariants.{BirthOf, KeyOf, LinkAt, ValueOf}
-use Rattle.vbr_machine.proofs.Lemmas.{begins_trans, calls-snoc, calls_since, is_run_before, is_run_last, known_accepts, marked_call_is, others_leave_know, put_here, put_other, replaced_earlier, replaced_entry, replaced_out, written_is}
+use Rattle.vbr_machine.proofs.Lemmas.{begins_trans, calls-snoc, calls_since, is_run_before, is_run_last, known_accepts, marked_call_is, others_leave_know, replaced_earlier, replaced_entry, replaced_out, written_is}
 use Rattle.vbr_slots.specs.Alone.{IsAlone, nodes}
 use Rattle.vbr_slots.specs.Calls.{Quiet, entries_of, made_by}
 use Rattle.vbr_slots.specs.PassLaw.{PassLaw}
@@ -42,7 +40,7 @@ use Rattle.vbr_at_table.specs.Counts.{ChangesNone}
 use Rattle.vbr_at_table.specs.Exchanges.{LosesExchange}
 use Rattle.vbr_at_table.specs.Held.{IsFilled, IsHeld}
 use Rattle.vbr_at_table.specs.Keeping.{Keeps}
-use Rattle.vbr_at_table.specs.KeptSlots.{HasFree, HasSlot, TakesNoSlot}
+use Rattle.vbr_at_table.specs.KeptSlots.{TakesNoSlot}
 use Rattle.vbr_at_table.specs.Moments.{WasFound}
 use Rattle.vbr_at_table.specs.Replacing.{MadeTwo, ReplacesEntry}
 use Rattle.vbr_at_table.specs.Values.{ValueAt, entry_call}
@@ -51,6 +49,7 @@ use Rattle.vbr_at_table.specs.declared.rollback.Rollback.TheVariants.{LostExchan
 use Rattle.vbr_at_table.proofs.Accepted.{place_in}
 use Rattle.vbr_at_table.proofs.Advancing.{did_stamps, grows_same, same_advances, same_flags}
 use Rattle.vbr_at_table.proofs.InTurn.{did_turn}
+use Rattle.vbr_at_table.proofs.KeptSlots.{spent_kept}
 use Rattle.vbr_at_table.proofs.Keeping.{held_kept, keeps_on, keeps_refl}
 use Rattle.vbr_at_table.proofs.ExchangeCalls.{run_after}
 use Rattle.vbr_at_table.proofs.MarkedLinks.{leaves_since, replaced_leaves}
@@ -195,18 +194,8 @@ module _ {p q : Trace} {s expected t : ℕ} (d : Did (Replace s expected t) p q 
 -- ---- the slots of the pass
 
 -- the slot that takes the place goes out of the hand, and the others stay
-free_kept : (p q : PassView) {s expected slot : ℕ} → Did (Replace s expected slot) p.trace q.trace expected → p.hand ≡ Some slot → q.pool ≡ p.pool → HasFree p q
-free_kept p q {s} {expected} {slot} d hand pool i h =
-    let may : MayBear (put (knows p.trace).own slot None i) = subst (λ (k : Know). MayBear (k.own i)) (replace_learned d) h.0 in
-    ⊎_elim (λ (is : i ≡ slot). absurd (subst MayBear (ap (put (knows p.trace).own slot None) is ∙ put_here (knows p.trace).own slot None) may))
-    (λ (other : i ≢ slot). stays other (h.1 (subst MayBear (put_other (knows p.trace).own slot None i other) may))) (cases_eq i slot)
-  where
-    stays : i ≢ slot → HasSlot p i → HasSlot q i
-    stays other (inl c) = inl (subst (λ (l : List ℕ). Contains l i) (sym pool) c)
-    stays other (inr e) = let same : i ≡ slot = cc in absurd (other same)
-
 pub replace_none : (p q : PassView) {s expected slot : ℕ} → Did (Replace s expected slot) p.trace q.trace expected → p.hand ≡ Some slot → q.pool ≡ p.pool → TakesNoSlot p q
-replace_none p q d hand pool = record { count = same_advances d refl; kept = record { free = free_kept p q d hand pool; stamped = did_stamps d refl; turn = did_turn d }; grows = grows_same p q pool; shared = inl (same_flags d refl) }
+replace_none p q {slot = slot} d hand pool = record { count = same_advances d refl; kept = record { free = spent_kept p q slot (λ i. ap (λ (k : Know). k.own i) (replace_learned d)) hand pool; stamped = did_stamps d refl; turn = did_turn d }; grows = grows_same p q pool; shared = inl (same_flags d refl) }
 
 -- ---- a lost one
 

@@ -19,3 +19,7 @@ stores_on m n x y = record {
   pool = y.pool ∙ x.pool;
   takes_no_slot = none_on x.takes_no_slot y.takes_no_slot;
 }
+
+-- one more step, the last
+pub stores_last : {p q r : PassView} {m : ℕ} {step : Step} {found : ℕ} → StoresIn p q m → Did step q.trace r.trace found → Keeps (knows q.trace) (knows r.trace) → r.pool ≡ q.pool → TakesNoSlot q r → StoresIn p r (m + 1)
+stores_last {m = m} x d keeps pool none = stores_on m 1 x (stores_one d keeps pool none)

@@ -2,10 +2,9 @@
 use Rattle.std.proofs.Common.{◌≡◌, ◌⊎◌, ℕ, ◌==◌, Bool, true, false, cond, List, [], ◌∷◌, ◌++◌, length, refl, sym, ap, ◌∙◌, inl, inr, append_assoc, append-nil, arith}
 use Rattle.std.proofs.lemmas.List.{append_cancel_left}
 use Rattle.vbr_machine.specs.Start.{Start, IsStart}
-use Rattle.vbr_machine.specs.Calls.{calls_added, own_calls}
+use Rattle.vbr_machine.specs.Calls.{own_calls}
 use Rattle.vbr_machine.specs.History.{calls_by}
-use Rattle.vbr_machine.specs.Machine.{World, after}
-use Rattle.vbr_machine.specs.Runs.{Begins, IsRun, world_after, world_from}
+use Rattle.vbr_machine.specs.Runs.{Begins, IsRun}
 use Rattle.vbr_machine.specs.declared.event.Event.{Event}
 use Rattle.vbr_machine.specs.declared.history.Call.{Call}
 use Rattle.vbr_machine.proofs.Lemmas.{begins_trans, calls_by-append, calls_since, every_run, others_leave_calls}

@@ -12,7 +12,6 @@ use Rattle.vbr_slots.specs.Tokens.{SeenView}
 use Rattle.vbr_slots.specs.Views.{Did, KeepsPool, PassView, TableView, Trace, new_trace}
 use Rattle.vbr_at_table.specs.KeptSlots.{HasSlot, KeepsSlots, UnlinkedInTurn}
 use Rattle.vbr_at_table.proofs.Lemmas.{did_none, did_stay_turn, turn_others}
-use Rattle.vbr_at_table.specs.declared.refusal.Refusal.{Refusal}
 use Rattle.vbr_set.specs.Members.{MemberView}
 use Rattle.vbr_set.specs.MapCalls.{IsCall, IsMapCall, IsSetCall}
 use Rattle.vbr_set.specs.Room.{HasAllSlots}

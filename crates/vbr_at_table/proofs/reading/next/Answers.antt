@@ -1,25 +1,22 @@
-use Rattle.std.proofs.Common.{ℕ, Option, ◌<◌, sym, ap, ◌∙◌, subst}
-use Rattle.vbr_machine.specs.Start.{Start}
+use Rattle.std.proofs.Common.{ℕ, Option, sym, ap, ◌∙◌, subst}
 use Rattle.vbr_words.specs.declared.link.Link.{Link}
 use Rattle.vbr_at_table.specs.Reading.{ReadsIn}
 use Rattle.vbr_at_table.specs.CallSteps.{next_steps}
-use Rattle.vbr_at_table.proofs.Accepted.{named_slot, slot_in, slot_found}
+use Rattle.vbr_at_table.proofs.Accepted.{named_in, named_found}
 use Rattle.vbr_at_table.proofs.ReadCalls.{apart, node_in_three, node_rolls, node_told, reads_none}
 use Rattle.vbr_at_table.proofs.reading.next.Goals as goal
-
-pub read_node-birth-requires-clause-slot : goal.read_node-birth-requires-clause-slot
-read_node-birth-requires-clause-slot g c =
-    let P : Start → Type 0 = λ start. c.in-Some.slot < start.shape.slots in
-    subst P c.args.at.now.own.1 (slot_in c.args.at.now.stepper.now c.law.ensures c.in-Some.slot (named_slot c.args.held.now c.in-Some.slot c.requires.held (ap (λ (l : Link). l.slot) (sym c.decode.ensures.link) ∙ c.in-Some.is)))
-
-pub read_node-birth-requires-clause-held : goal.read_node-birth-requires-clause-held
-read_node-birth-requires-clause-held g c = slot_found c.args.at.now.stepper.now c.law.ensures c.in-Some.slot (named_slot c.args.held.now c.in-Some.slot c.requires.held (ap (λ (l : Link). l.slot) (sym c.decode.ensures.link) ∙ c.in-Some.is))
 
 pub returns-in_default-clause-reads : goal.returns-in_default-clause-reads
 returns-in_default-clause-reads g c =
     let names = ap (λ (l : Link). l.slot) (sym c.decode.ensures.link) ∙ c.in_default.is in
     let P : Option ℕ → Type 0 = λ slot. ReadsIn c.args.at.now.stepper.now c.args.at.now.stepper.now (next_steps slot) in
     subst P (sym names) (reads_none c.args.at.now.stepper.now c.law.ensures)
+
+pub read_node-birth-requires-clause-slot : goal.read_node-birth-requires-clause-slot
+read_node-birth-requires-clause-slot g c = named_in c.args.at.now.stepper.now c.law.ensures c.args.held.now c.in-Some.slot c.args.at.now.own c.requires.held (ap (λ (l : Link). l.slot) (sym c.decode.ensures.link) ∙ c.in-Some.is)
+
+pub read_node-birth-requires-clause-held : goal.read_node-birth-requires-clause-held
+read_node-birth-requires-clause-held g c = named_found c.args.at.now.stepper.now c.law.ensures c.args.held.now c.in-Some.slot c.requires.held (ap (λ (l : Link). l.slot) (sym c.decode.ensures.link) ∙ c.in-Some.is)
 
 pub returns-then-now-before-clause-reads : goal.returns-then-now-before-clause-reads
 returns-then-now-before-clause-reads g c =

@@ -1,4 +1,4 @@
-use Rattle.std.proofs.Common.{◌≡◌, ℕ, ◌+◌, Some, arith, sym, ap, ◌∙◌, subst, refl, rules}
+use Rattle.std.proofs.Common.{◌≡◌, ℕ, Some, arith, sym, ap, ◌∙◌, subst, refl, rules}
 use Rattle.vbr_machine.specs.Start.{Start, IsStart}
 use Rattle.vbr_words.specs.Words.{link_of, word_of}
 use Rattle.vbr_machine.specs.Acceptance.{IsAtIn}
@@ -8,13 +8,12 @@ use Rattle.vbr_machine.specs.Learning.{value_in_hand}
 use Rattle.vbr_slots.specs.Views.{knows}
 use Rattle.vbr_at_table.proofs.Advancing.{did_none}
 use Rattle.vbr_at_table.specs.Held.{IsFilled}
-use Rattle.vbr_at_table.specs.Values.{steps_to_value}
 use Rattle.vbr_at_table.proofs.Keeping.{held_kept, birth_named_kept}
 use Rattle.vbr_at_table.proofs.WrittenLinks.{fits, birth_in_hand_low, birth_at_low}
 use Rattle.vbr_at_table.proofs.Accepted.{accepted_checked, place_in}
 use Rattle.vbr_at_table.proofs.Filled.{hand_filled, hand_at}
 use Rattle.vbr_at_table.proofs.Replacements.{replace_accepted, replace_keeps, replace_lost, replace_lost_keeps, replace_none, replace_told, replace_writes, key_on, value_on}
-use Rattle.vbr_at_table.proofs.Storing.{stores_on, stores_one}
+use Rattle.vbr_at_table.proofs.Storing.{stores_last}
 use Rattle.vbr_at_table.proofs.replacing.replace.Goals as goal
 
 pub marked_link_to-word-requires : goal.marked_link_to-word-requires
@@ -60,19 +59,8 @@ replace-requires-clause-word g c =
     c.marked_link_to-word.ensures.word ∙ ap (λ (b : ℕ). word_of (marked (link_to (Some c.slot-new.result) c.args.held.now.birth b))) c.birth.ensures ∙ ap word_of (sym w)
 
 pub returns-in-Ok-clause-stores : goal.returns-in-Ok-clause-stores
-returns-in-Ok-clause-stores g c =
-    let d = c.in-Ok.ensures.found.did in
-    let pool = c.in-Ok.ensures.found.pool in
-    let hand = c.fill.ensures.fills.fills.hand ∙ c.requires.hand.slot ∙ ap Some (sym c.slot-new.ensures) in
-    stores_on (1 + steps_to_value c.args.at.now.stepper.now.trace.start.shape.values + 1) 1 c.fill.ensures.stores
-    (stores_one d (replace_keeps d) pool (replace_none c.fill.new.at.stepper.now c.replace.new.self.stepper.now d hand pool))
-
-pub returns-in-Err-clause-stores : goal.returns-in-Err-clause-stores
-returns-in-Err-clause-stores g c =
-    let d = c.in-Err.ensures.other.did in
-    let pool = c.in-Err.ensures.other.keeps in
-    stores_on (1 + steps_to_value c.args.at.now.stepper.now.trace.start.shape.values + 1) 1 c.fill.ensures.stores
-    (stores_one d (replace_lost_keeps d c.in-Err.ensures.other.unexpected) pool.0 (did_none d refl pool))
+returns-in-Ok-clause-stores g c = stores_last c.fill.ensures.stores c.in-Ok.ensures.found.did (replace_keeps c.in-Ok.ensures.found.did) c.in-Ok.ensures.found.pool
+    (replace_none c.fill.new.at.stepper.now c.replace.new.self.stepper.now c.in-Ok.ensures.found.did (c.fill.ensures.fills.fills.hand ∙ c.requires.hand.slot ∙ ap Some (sym c.slot-new.ensures)) c.in-Ok.ensures.found.pool)
 
 pub returns-in-Ok-clause-replaced : goal.returns-in-Ok-clause-replaced
 returns-in-Ok-clause-replaced g c =
@@ -83,6 +71,9 @@ returns-in-Ok-clause-replaced g c =
     let has = ap (λ (d : Start). d.shape.values) c.fill.ensures.fills.fills.quiet.same.start ∙ c.requires.node.has_values in
     replace_told c.args.at.now.stepper.now p c.replace.new.self.stepper.now c.args.held.now c.in-Slot.slot c.slot-new.result c.args.key c.args.hand.birth c.args.next_birth c.args.value c.marked_link_to-word.result (subst IsStart c.fill.ensures.fills.fills.quiet.same.start c.law.ensures.start) c.law.ensures c.fill.ensures.fills.fills.quiet k (held_kept c.args.held.now k c.requires.node.present.held) c.in-Slot.is (subst Q (sym c.slot-new.ensures) c.fill.ensures.fills.fills.filled)
     c.fill.ensures.fills.fills.unchanged has (subst V (sym c.slot-new.ensures) (c.fill.ensures.fills.valued c.requires.node.has_values)) c.requires.node.key_is (c.marked_link_to-word.ensures.link ∙ ap (λ (b : ℕ). marked (link_to (Some c.slot-new.result) c.args.held.now.birth b)) c.birth.ensures) c.in-Ok.ensures.found.did (search rules)
+
+pub returns-in-Err-clause-stores : goal.returns-in-Err-clause-stores
+returns-in-Err-clause-stores g c = stores_last c.fill.ensures.stores c.in-Err.ensures.other.did (replace_lost_keeps c.in-Err.ensures.other.did c.in-Err.ensures.other.unexpected) c.in-Err.ensures.other.keeps.0 (did_none c.in-Err.ensures.other.did refl c.in-Err.ensures.other.keeps)
 
 pub returns-in-Err-clause-lost : goal.returns-in-Err-clause-lost
 returns-in-Err-clause-lost g c = record {

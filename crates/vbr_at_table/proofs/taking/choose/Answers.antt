@@ -58,8 +58,7 @@ returns-then-epoch-last_epoch-clause-none g c =
 pub advance-requires-clause-some : goal.advance-requires-clause-some
 advance-requires-clause-some g c =
     let q = c.read_epoch-epoch.new.self.stepper.now.trace in
-    let shapes : c.scan.new.at.slots.now.start ≡ q.start = sym c.scan.new.at.own.1 ∙ c.scan.ensures.scans.quiet.same.start in
-    let is : IsStart q.start = subst IsStart shapes c.shape.ensures.is_start in
+    let is : IsStart q.start = subst IsStart (sym c.scan.new.at.own.1 ∙ c.scan.ensures.scans.quiet.same.start) c.shape.ensures.is_start in
     let told = epoch_told c.read_epoch-epoch.ensures.step in
     let some = read_some q.start q.passes q.seen q.who is (did_run c.read_epoch-epoch.ensures.step) in
     omega arith

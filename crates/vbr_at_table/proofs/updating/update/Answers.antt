@@ -1,4 +1,4 @@
-use Rattle.std.proofs.Common.{◌≡◌, ℕ, ◌+◌, Some, arith, sym, ap, ◌∙◌, subst, refl, rules}
+use Rattle.std.proofs.Common.{◌≡◌, ℕ, Some, arith, sym, ap, ◌∙◌, subst, refl, rules}
 use Rattle.vbr_machine.specs.Start.{Start}
 use Rattle.vbr_words.specs.Words.{link_of, word_of}
 use Rattle.vbr_machine.specs.Acceptance.{IsAtIn}
@@ -8,7 +8,6 @@ use Rattle.vbr_machine.specs.Learning.{value_in_hand}
 use Rattle.vbr_slots.specs.Views.{knows}
 use Rattle.vbr_at_table.proofs.Advancing.{did_none}
 use Rattle.vbr_at_table.specs.Held.{IsFilled}
-use Rattle.vbr_at_table.specs.Values.{steps_to_value}
 use Rattle.vbr_at_table.proofs.Keeping.{held_kept, birth_named_kept, behind_kept, before_kept}
 use Rattle.vbr_at_table.proofs.WrittenLinks.{fits, birth_in_hand_low, birth_at_low}
 use Rattle.vbr_at_table.proofs.WonExchanges.{publish_keeps, publish_lost_keeps}
@@ -16,7 +15,7 @@ use Rattle.vbr_at_table.proofs.Accepted.{accepted_checked, place_in}
 use Rattle.vbr_at_table.proofs.Filled.{hand_filled, hand_at, publish_accepted, publish_writes, publish_made}
 use Rattle.vbr_at_table.proofs.KeptSlots.{publish_none}
 use Rattle.vbr_at_table.proofs.ExchangeCalls.{entry_told, publish_lost}
-use Rattle.vbr_at_table.proofs.Storing.{stores_on, stores_one}
+use Rattle.vbr_at_table.proofs.Storing.{stores_last}
 use Rattle.vbr_at_table.proofs.updating.update.Goals as goal
 
 pub link_to-new-requires : goal.link_to-new-requires
@@ -55,19 +54,11 @@ publish-requires-clause-new g c =
     c.link_to-new.ensures.word ∙ ap (λ (b : ℕ). word_of (link_to (Some c.slot-slot.result) c.args.pred.now.birth b)) c.birth.ensures ∙ ap word_of (sym w)
 
 pub returns-in-Ok-clause-stores : goal.returns-in-Ok-clause-stores
-returns-in-Ok-clause-stores g c =
-    let d = c.in-Ok.ensures.found.did in
-    let pool = c.in-Ok.ensures.found.pool in
-    let hand = c.fill.ensures.fills.fills.hand ∙ c.requires.hand.slot ∙ ap Some (sym c.slot-slot.ensures) in
-    stores_on (1 + steps_to_value c.args.at.now.stepper.now.trace.start.shape.values + 1) 1 c.fill.ensures.stores
-    (stores_one d (publish_keeps d) pool (publish_none c.fill.new.at.stepper.now c.publish.new.self.stepper.now d hand pool))
+returns-in-Ok-clause-stores g c = stores_last c.fill.ensures.stores c.in-Ok.ensures.found.did (publish_keeps c.in-Ok.ensures.found.did) c.in-Ok.ensures.found.pool
+    (publish_none c.fill.new.at.stepper.now c.publish.new.self.stepper.now c.in-Ok.ensures.found.did (c.fill.ensures.fills.fills.hand ∙ c.requires.hand.slot ∙ ap Some (sym c.slot-slot.ensures)) c.in-Ok.ensures.found.pool)
 
 pub returns-in-Err-clause-stores : goal.returns-in-Err-clause-stores
-returns-in-Err-clause-stores g c =
-    let d = c.in-Err.ensures.other.did in
-    let pool = c.in-Err.ensures.other.keeps in
-    stores_on (1 + steps_to_value c.args.at.now.stepper.now.trace.start.shape.values + 1) 1 c.fill.ensures.stores
-    (stores_one d (publish_lost_keeps d c.in-Err.ensures.other.unexpected) pool.0 (did_none d refl pool))
+returns-in-Err-clause-stores g c = stores_last c.fill.ensures.stores c.in-Err.ensures.other.did (publish_lost_keeps c.in-Err.ensures.other.did c.in-Err.ensures.other.unexpected) c.in-Err.ensures.other.keeps.0 (did_none c.in-Err.ensures.other.did refl c.in-Err.ensures.other.keeps)
 
 pub returns-in-Ok-clause-inserted : goal.returns-in-Ok-clause-inserted
 returns-in-Ok-clause-inserted g c =

@@ -51,25 +51,22 @@ invariant_of-runner g c =
 
 pub invariant_of-other : goal.invariant_of-other
 invariant_of-other g c =
-    let w = c.args.runner.now in
-    let o = c.args.other.now in
-    let both = together _ _ c.runner.inside.seat.me c.other.inside.seat.me c.split_seat-theirs.result.me c.join_seat.new.seat.me (known c.runner.inside w c.runner.invariant c.runner.view_is) (known c.other.inside o c.other.invariant c.other.view_is) c.split_seat-theirs.ensures.4 c.join_seat.ensures.2 in
-    let end = done w c.args.self.now c.requires.own c.join_seat.new.seat.me c.load-found.new.seat.me (witness (opened_of o.start) o.who o.seen ∷ []) both ReadEpoch _ _ c.requires.named _ c.load-found.ensures.2 in
+    let both = together _ _ c.runner.inside.seat.me c.other.inside.seat.me c.split_seat-theirs.result.me c.join_seat.new.seat.me (known c.runner.inside c.args.runner.now c.runner.invariant c.runner.view_is) (known c.other.inside c.args.other.now c.other.invariant c.other.view_is) c.split_seat-theirs.ensures.4 c.join_seat.ensures.2 in
+    let end = done c.args.runner.now c.args.self.now c.requires.own c.join_seat.new.seat.me c.load-found.new.seat.me (witness (opened_of c.args.other.now.start) c.args.other.now.who c.args.other.now.seen ∷ []) both ReadEpoch _ _ c.requires.named _ c.load-found.ensures.2 in
     let table = c.split_seat.ensures.3 ∙ c.load-found.ensures.0 ∙ c.join_seat.ensures.0 ∙ ap (λ (v : Trace). v.table) c.runner.view_is ∙ c.requires.own.0 ∙ sym c.requires.other.0 in
-    (same_again c.other.inside o c.other.invariant c.other.view_is (record c.other.inside { seat = c.split_seat.result }) (right_rest c.load-found.new.seat.me _ _ _ end.now c.split_seat.ensures.4) (refl, refl, refl) table).0
+    (same_again c.other.inside c.args.other.now c.other.invariant c.other.view_is (record c.other.inside { seat = c.split_seat.result }) (right_rest c.load-found.new.seat.me _ _ _ end.now c.split_seat.ensures.4) (refl, refl, refl) table).0
 
 pub returns : goal.returns
 returns g c =
     let w = c.args.runner.now in
-    let o = c.args.other.now in
-    let both = together _ _ c.runner.inside.seat.me c.other.inside.seat.me c.split_seat-theirs.result.me c.join_seat.new.seat.me (known c.runner.inside w c.runner.invariant c.runner.view_is) (known c.other.inside o c.other.invariant c.other.view_is) c.split_seat-theirs.ensures.4 c.join_seat.ensures.2 in
-    let end = done w c.args.self.now c.requires.own c.join_seat.new.seat.me c.load-found.new.seat.me (witness (opened_of o.start) o.who o.seen ∷ []) both ReadEpoch _ _ c.requires.named _ c.load-found.ensures.2 in
+    let both = together _ _ c.runner.inside.seat.me c.other.inside.seat.me c.split_seat-theirs.result.me c.join_seat.new.seat.me (known c.runner.inside w c.runner.invariant c.runner.view_is) (known c.other.inside c.args.other.now c.other.invariant c.other.view_is) c.split_seat-theirs.ensures.4 c.join_seat.ensures.2 in
+    let end = done w c.args.self.now c.requires.own c.join_seat.new.seat.me c.load-found.new.seat.me (witness (opened_of c.args.other.now.start) c.args.other.now.who c.args.other.now.seen ∷ []) both ReadEpoch _ _ c.requires.named _ c.load-found.ensures.2 in
     let table = c.load-found.ensures.0 ∙ c.join_seat.ensures.0 in
     let back = c.split_seat.ensures.3 ∙ table ∙ ap (λ (v : Trace). v.table) c.runner.view_is ∙ c.requires.own.0 ∙ sym c.requires.other.0 in
     let mine = left_alone c.load-found.new.seat.me c.split_seat.new.seat.me _ _ end.now c.split_seat.ensures.2 in
     record {
       step = did c.runner.inside w c.runner.invariant c.runner.view_is ReadEpoch _ _ _ end (record c.runner.inside { seat = c.split_seat.new.seat; epoch = c.keep_epoch.new.epoch })
           mine (refl, refl, c.keep_epoch.ensures) (c.split_seat.ensures.0 ∙ table);
-      same = (same_again c.other.inside o c.other.invariant c.other.view_is (record c.other.inside { seat = c.split_seat.result }) (right_rest c.load-found.new.seat.me _ _ _ end.now c.split_seat.ensures.4) (refl, refl, refl) back).1;
-      met = subst (λ es. BeginsFor o.who o.seen es) (sym (seen_in c.split_seat.new.seat.me _ [] mine)) end.mates.0;
+      same = (same_again c.other.inside c.args.other.now c.other.invariant c.other.view_is (record c.other.inside { seat = c.split_seat.result }) (right_rest c.load-found.new.seat.me _ _ _ end.now c.split_seat.ensures.4) (refl, refl, refl) back).1;
+      met = subst (λ es. BeginsFor c.args.other.now.who c.args.other.now.seen es) (sym (seen_in c.split_seat.new.seat.me _ [] mine)) end.mates.0;
     }
