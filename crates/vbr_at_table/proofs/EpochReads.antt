@@ -36,7 +36,8 @@ stamp_reread (Some (Free stamp)) = refl
 stamp_reread (Some (Unlinked seen)) = refl
 stamp_reread (Some (InHand known)) = refl
 
-own_read : (know : Know) (epoch s : ℕ) → (read_epoch know epoch).own s ≡ reread (know.own s)
+-- whether it moved or not
+pub own_read : (know : Know) (epoch s : ℕ) → (read_epoch know epoch).own s ≡ reread (know.own s)
 own_read know epoch s = either (epoch == know.epoch)
   where
     either : (b : Bool) → (cond {A = Know} b (record { epoch = know.epoch; pending = []; checked = know.checked ++ know.pending; own = λ v. reread (know.own v) }) (record { epoch = epoch; pending = []; checked = []; own = λ v. reread (know.own v) })).own s ≡ reread (know.own s)

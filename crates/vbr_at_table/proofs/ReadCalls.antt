@@ -1,6 +1,5 @@
 -- Steps that read, one after another, as what a call tells that reads.
-use Rattle.std.proofs.Common.{◌≡◌, ◌≢◌, ℕ, ◌+◌, ◌++◌, Bool, true, false, [], Option, Some, None, refl, sym, ap, ◌∙◌, subst, cond}
-use Rattle.std.specs.Prelude.{◌==◌}
+use Rattle.std.proofs.Common.{◌≡◌, ◌≢◌, ℕ, ◌+◌, false, [], Option, Some, None, refl, sym, ap, ◌∙◌, subst}
 use Rattle.vbr_machine.specs.Start.{Start, IsStart}
 use Rattle.vbr_words.specs.Words.{link_of}
 use Rattle.vbr_words.specs.declared.place.At.{At}
@@ -9,7 +8,7 @@ use Rattle.vbr_machine.specs.Acceptance.{IsInHand}
 use Rattle.vbr_machine.specs.Accounts.{happens}
 use Rattle.vbr_machine.specs.Incarnations.{Incarnations}
 use Rattle.vbr_machine.specs.Knowledge.{Know}
-use Rattle.vbr_machine.specs.Learning.{call_of, read_epoch, reread}
+use Rattle.vbr_machine.specs.Learning.{call_of, reread}
 use Rattle.vbr_machine.specs.Loads.{IsLoad}
 use Rattle.vbr_machine.specs.Machine.{World}
 use Rattle.vbr_machine.specs.declared.event.Step.{Step}
@@ -36,6 +35,7 @@ use Rattle.vbr_at_table.specs.declared.rollback.Rollback.TheVariants.{EpochMoved
 use Rattle.vbr_at_table.proofs.Accepted.{named_slot}
 use Rattle.vbr_at_table.proofs.AloneReads.{checked_still, head_stands, node_stands, node_still, shape_on}
 use Rattle.vbr_at_table.proofs.CheckedReads.{checked, checked_keeps, head_is_unmarked, head_keeps, head_read, key_of_bucket, node_keeps, node_read}
+use Rattle.vbr_at_table.proofs.EpochReads.{own_read}
 use Rattle.vbr_at_table.proofs.Keeping.{keeps_on}
 use Rattle.vbr_at_table.proofs.ReadSteps.{Loads, learned, loaded_keeps, loads_birth, loads_key, loads_link, loads_value, moved}
 
@@ -92,18 +92,6 @@ module _ {step : Step} {p q : PassView} {r : ℕ} (f : IsFit p) (d : Did step p.
         looks = λ alone. looks d alone nothing;
       }
 
-reread_own : (b : Bool) (x y : Know) (s : ℕ) (h : Option Holding) → x.own s ≡ h → y.own s ≡ h → (let k : Know = cond b x y in k.own s) ≡ h
-reread_own true x y s h a b = a
-reread_own false x y s h a b = b
-
--- a read of the epoch, whether it moved or not
-read_own : (know : Know) (epoch s : ℕ) → (let k : Know = read_epoch know epoch in k.own s) ≡ reread (know.own s)
-read_own know epoch s =
-    reread_own (epoch == know.epoch)
-    (record { epoch = know.epoch; pending = []; checked = know.checked ++ know.pending; own = λ s. reread (know.own s) })
-    (record { epoch = epoch; pending = []; checked = []; own = λ s. reread (know.own s) })
-    s (reread (know.own s)) refl refl
-
 still_in_hand : (holding : Option Holding) → IsInHand holding → reread holding ≡ holding
 still_in_hand None is = refl
 still_in_hand (Some (Free stamp)) is = refl
@@ -113,7 +101,7 @@ still_in_hand (Some (InHand known)) is = refl
 module _ {p q : PassView} {r : ℕ} where
   pub epoch_in_one : IsFit p → Did ReadEpoch p.trace q.trace r → KeepsPool p q → ReadsIn p q 1
   epoch_in_one f d pool = one f d pool (λ know. refl) (λ know. refl) (λ w a. refl) refl
-      (λ s is. ap (λ (k : Know). k.own s) d.know ∙ read_own (knows p.trace) r s ∙ still_in_hand ((knows p.trace).own s) (f.hand s is))
+      (λ s is. ap (λ (k : Know). k.own s) d.know ∙ own_read (knows p.trace) r s ∙ still_in_hand ((knows p.trace).own s) (f.hand s is))
 
   pub load_in_one : {step : Step} {read : Read} → Loads step r read → IsFit p → Did step p.trace q.trace r → KeepsPool p q → ReadsIn p q 1
   load_in_one loads f d pool = one f d pool loads.is_load (loads.no_call p.trace.start p.trace.who) (loads.no_entry p.trace.start p.trace.who) loads.no_gift (λ s is. ap (λ (k : Know). k.own s) (learned loads d))
