@@ -19,7 +19,7 @@ end_with-requires g t c =
     let same = moved member c.args.members.items c.push.new.self.items c.in-Some-take_out.member first others handles c.in-Ok.ensures.items split c.in-Some-take_out.ensures.is in
     let full = All-rest (λ h. IsSome (member h)) first others handles split c.requires.full in
     let one_set = subst AreOfOneSet (sym same) c.requires.one_set in
-    λ κs within. (omega arith, (within.0, (within.1.0, (within.1.1.0, (within.1.1.1, (full, (one_set, (let room = c.requires.room in let more = c.in-Ok.ensures.capacity in omega arith))))))))
+    λ κs within. (omega arith, (within.0, (within.1.0, (within.1.1.0, (within.1.1.1.0, (within.1.1.1.1, (full, (one_set, (let room = c.requires.room in let more = c.in-Ok.ensures.capacity in omega arith)))))))))
 
 pub returns-in-Ok-end_with-clause-ends : goal.returns-in-Ok-end_with-clause-ends
 returns-in-Ok-end_with-clause-ends g t c =
