@@ -20,6 +20,7 @@ mod ComingBy
 mod Preparing
 mod Sufficing
 mod Tiring
+mod Linking
 mod LonePasses
 mod Told
 mod Marks

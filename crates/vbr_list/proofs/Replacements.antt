@@ -1,5 +1,5 @@
 -- The steps of a replacement, and what its refusals say.
-use Rattle.vbr_list.proofs.Names.{◌≡◌, ℕ, ◌+◌, ◌*◌, ◌≤◌, true, [], Option, Some, None, Result, Ok, Err, sym, ap, ◌∙◌, arith, mul-le}
+use Rattle.vbr_list.proofs.Names.{◌≡◌, ℕ, ◌+◌, ◌*◌, ◌≤◌, true, Option, Some, None, Result, Ok, Err, sym, ap, ◌∙◌, arith, mul-le}
 use Rattle.vbr_list.proofs.Names.{Begins, begins_trans, birth_in_hand, counts_on, grows_same, had_grown, HandView, HasAllButOne, HasStill, incarnations_after, IsAlone, IsRun, IsSame, IsStart, knows, PassView, Quiet, Start, took_all, TookWithin, Trace}
 use Rattle.vbr_list.specs.Budgets.{LacksSteps, enough_to_insert, listed_for, replace_costs}
 use Rattle.vbr_list.specs.Disturbed.{disturbed, enough_to_replace_among, replace_costs_among, steps_for_slot}
