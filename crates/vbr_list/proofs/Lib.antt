@@ -20,12 +20,12 @@ mod ComingBy
 mod Preparing
 mod Sufficing
 mod Tiring
-mod Linking
 mod LonePasses
 mod Told
 mod Marks
 mod ValueReads
 mod Replacements
+mod Linking
 mod LateSearches
 mod ReplacedValues
 pub mod Lemmas

@@ -1,19 +1,18 @@
-use Rattle.std.proofs.Common.{rules, inl, ◌≡◌, ℕ, Bool, true, false, Ok, Some, ◌+◌, ◌∙◌, ap, sym, subst, arith}
-use Rattle.vbr_machine.specs.History.{set_call}
+use Rattle.std.proofs.Common.{rules, inl, refl, ◌≡◌, ℕ, true, false, Ok, Some, ◌+◌, ◌∙◌, ap, sym, subst, arith}
 use Rattle.vbr_machine.specs.Start.{Start}
 use Rattle.vbr_machine.specs.declared.history.Op.TheVariants.{Insert}
-use Rattle.vbr_slots.specs.Calls.{Made, Quiet, Took}
+use Rattle.vbr_slots.specs.Calls.{Quiet}
 use Rattle.vbr_slots.specs.Views.{Trace, knows}
 use Rattle.vbr_at_table.specs.Hands.{HandView}
 use Rattle.vbr_at_table.specs.Values.{steps_to_update}
 use Rattle.vbr_at_table.specs.declared.refusal.Refusal.{Refusal}
-use Rattle.vbr_at_table.proofs.Lemmas.{had_back, had_grown, had_on, had_spent, had_then, none_back, none_on}
-use Rattle.vbr_list.specs.Inserting.{denied, SearchesFor}
+use Rattle.vbr_at_table.proofs.Lemmas.{had_grown, had_spent, had_then}
+use Rattle.vbr_list.specs.Inserting.{SearchesFor}
 use Rattle.vbr_list.proofs.Disturbing.{lost_place}
 use Rattle.vbr_list.proofs.KeptHands.{own_kept}
-use Rattle.vbr_list.proofs.Linking.{counts_until, gap_found, had_until, links_hand, links_then, lost_then, none_until, quiet_until, succ_found, takes_on}
+use Rattle.vbr_list.proofs.Linking.{counts_until, denied_then, gap_found, had_denied, had_tired, links_tired, made_denied, takes_back, had_until, links_hand, links_then, lost_then, quiet_until, succ_found, takes_on}
 use Rattle.vbr_list.proofs.LostWalks.{search_ends}
-use Rattle.vbr_list.proofs.Preparing.{if_failed, if_went, within_same}
+use Rattle.vbr_list.proofs.Preparing.{if_failed, within_same}
 use Rattle.vbr_list.proofs.Replacements.{hand_kept}
 use Rattle.vbr_list.proofs.Told.{told_as, told_bare}
 use Rattle.vbr_list.proofs.ValueReads.{few_to_update}
@@ -40,14 +39,7 @@ give_back-requires-then-found-clause-hand g c =
 pub loop-found-preserved-then-is_err : goal.loop-found-preserved-then-is_err
 loop-found-preserved-then-is_err g c =
     let d = c.answer_no.ensures in
-    let p = c.reach.new.self.at.stepper.now in
-    let q = c.answer_no.new.self.at.stepper.now in
-    let hand = c.loop-found.hand in
-    let lost = if_failed c.answer_no.result (sym c.is_err.ensures.value ∙ c.if-is_err.true) d.rolls in
-    lost_then 4 {b = c.args.self.now} c.law.ensures c.loop-found.invariant c.reach.ensures.goes (takes_on 1 d.call d.used d.keeps.took d.keeps.takes_no_slot) (let used = d.used in omega (arith, used)) lost.quiet
-    (hand_kept hand (own_kept d.keeps.own d.keeps.takes_no_slot) (hand_kept hand c.reach.ensures.goes.goes.hand c.loop-found.invariant.4))
-    (had_grown p q d.keeps.takes_no_slot.grows d.keeps.own.hand)
-    c.in-Some.found c.in-Some.ensures.found lost.loses
+    denied_then 4 (omega arith) {b = c.args.self.now} c.law.ensures c.loop-found.invariant c.reach.ensures.goes d.call d.used d.keeps c.in-Some.found c.in-Some.ensures.found (if_failed c.answer_no.result (sym c.is_err.ensures.value ∙ c.if-is_err.true) d.rolls)
 
 pub loop-found-preserved : goal.loop-found-preserved
 loop-found-preserved g c =
@@ -69,20 +61,10 @@ pub returns-then-found-clause-links : goal.returns-then-found-clause-links
 returns-then-found-clause-links g c =
     let d = c.answer_no.ensures in
     let back = c.give_back-then-found.ensures.back in
-    let p = c.reach.new.self in
-    let took = subst (λ (t : Trace). Took p.at.stepper.now.trace t 1) (sym back.trace) d.keeps.took in
-    links_then c.loop-found.invariant c.reach.ensures.goes (takes_on 1 (search rules) d.used took
-    (none_on d.keeps.takes_no_slot (none_back c.answer_no.new.self.at.stepper.now c.give_back-then-found.new.at.stepper.now c.loop-found.hand.slot back.trace back.pool back.kept))) back.hand
+    links_then c.loop-found.invariant c.reach.ensures.goes (takes_back c.loop-found.hand.slot (search rules) d.used d.keeps back) back.hand
 
 pub returns-then-found-clause-had : goal.returns-then-found-clause-had
-returns-then-found-clause-had g c =
-    let p = c.args.self.now.at.stepper.now in
-    let q = c.reach.new.self.at.stepper.now in
-    let r = c.answer_no.new.self.at.stepper.now in
-    let s = c.give_back-then-found.new.at.stepper.now in
-    let d = c.answer_no.ensures.keeps in
-    had_on p q s (had_until c.loop-found.invariant c.reach.ensures.goes)
-    (had_on q r s (had_grown q r d.takes_no_slot.grows d.own.hand) (had_back r s c.loop-found.hand.slot (d.own.hand ∙ c.reach.ensures.goes.goes.hand.hand ∙ c.loop-found.invariant.4.is.slot) c.give_back-then-found.ensures.back.pool))
+returns-then-found-clause-had g c = had_denied c.loop-found.invariant c.reach.ensures.goes c.answer_no.ensures.keeps c.give_back-then-found.ensures.back
 
 pub returns-in-Ok-clause-links : goal.returns-in-Ok-clause-links
 returns-in-Ok-clause-links g c =
@@ -108,31 +90,17 @@ returns-in-Ok-clause-linked g c =
 pub returns-then-found-clause-linked : goal.returns-then-found-clause-linked
 returns-then-found-clause-linked g c =
     let p = c.reach.new.self.at.stepper.now.trace in
-    let q = c.answer_no.new.self.at.stepper.now.trace in
-    let key = c.reach.new.self.key in
-    let made = (if_went {P = λ _. Made (set_call p.who (denied c.in-Some.found.present) key false) p q} c.answer_no.result (sym c.is_err.ensures.value ∙ c.if-is_err.false) c.answer_no.ensures.made).1 in
-    let M : Bool → Type 0 = λ present. Made (set_call p.who (denied present) key false) p q in
-    let T : Trace → Type 0 = Made (set_call p.who Insert key false) p in
+    let d = c.answer_no.ensures in
+    let made = made_denied c.reach.new.self.at.stepper.now.trace c.reach.new.self.key c.in-Some.found true c.if-found.true c.answer_no.result (sym c.is_err.ensures.value ∙ c.if-is_err.false) d.made c.give_back-then-found.ensures.back in
     let some = (few_to_update p.start).0 in
-    let used = c.answer_no.ensures.used in
-    links_hand {b = c.args.self.now} c.law.ensures c.loop-found.invariant c.reach.ensures.goes c.in-Some.found c.in-Some.ensures.found c.args.value false (omega (arith, some, used))
-    (told_as (told_bare p.start p.who Insert key false) (subst T (sym c.give_back-then-found.ensures.back.trace) (subst M c.if-found.true made)))
+    let used = d.used in
+    links_hand {b = c.args.self.now} c.law.ensures c.loop-found.invariant c.reach.ensures.goes c.in-Some.found c.in-Some.ensures.found c.args.value false (omega (arith, some, used)) (told_as (told_bare p.start p.who Insert c.reach.new.self.key false) made)
 
 pub returns-in_default-clause-links : goal.returns-in_default-clause-links
-returns-in_default-clause-links g c =
-    let back = c.give_back.ensures.back in
-    let q = c.reach.new.self.at.stepper.now in
-    record {
-      call = search rules;
-      counts = within_same back.trace (counts_until c.loop-found.invariant c.reach.ensures.goes);
-      takes_no_slot = none_on (none_until c.loop-found.invariant c.reach.ensures.goes) (none_back q c.give_back.new.at.stepper.now c.loop-found.hand.slot back.trace back.pool back.kept);
-      spent = back.hand;
-    }
+returns-in_default-clause-links g c = links_tired c.loop-found.invariant c.reach.ensures.goes (search rules) refl c.give_back.ensures.back
 
 pub returns-in_default-clause-had : goal.returns-in_default-clause-had
-returns-in_default-clause-had g c =
-    let q = c.reach.new.self.at.stepper.now in
-    had_on c.args.self.now.at.stepper.now q c.give_back.new.at.stepper.now (had_until c.loop-found.invariant c.reach.ensures.goes) (had_back q c.give_back.new.at.stepper.now c.loop-found.hand.slot (c.reach.ensures.goes.goes.hand.hand ∙ c.loop-found.invariant.4.is.slot) c.give_back.ensures.back.pool)
+returns-in_default-clause-had g c = had_tired c.loop-found.invariant c.reach.ensures.goes c.give_back.ensures.back
 
 pub returns-in_default-clause-refused : goal.returns-in_default-clause-refused
 returns-in_default-clause-refused g c =
