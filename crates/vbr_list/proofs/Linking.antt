@@ -1,13 +1,6 @@
 -- A slot in hand: search after search for the key, until the call is answered or its budget has no room.
-use Rattle.vbr_list.proofs.Names.{CountsSteps, Ghosts, had_grown, had_on, HandView, HasStill, Held, Know, knows, Made, none_on, PassLaw, PassView, Quiet, quiet_on, set_call, steps_to_update, TakesNoSlot, Took, Trace}
-use Rattle.vbr_list.proofs.Names.{◌≡◌, ℕ, ◌+◌, ◌≤◌, Bool, false, is_err, Option, Result, IfOk, None, Some, sym, ap, ◌∙◌, subst, arith}
-use Rattle.std.specs.Borrow.{Bor}
-use Rattle.std.specs.Option.{option_copied}
-use Rattle.vbr_at_table.specs.Answering.{KeepsIn}
-use Rattle.vbr_at_table.specs.Exchanges.{IsGap}
-use Rattle.vbr_at_table.specs.GivingBack.{PutsBack}
-use Rattle.vbr_at_table.specs.Held.{IsSucc}
-use Rattle.vbr_at_table.proofs.Lemmas.{had_back, none_back}
+use Rattle.vbr_list.proofs.Names.{◌≡◌, ℕ, ◌+◌, ◌≤◌, Bool, false, is_err, Option, Result, IfOk, None, Some, sym, ap, ◌∙◌, subst, arith, Bor, option_copied}
+use Rattle.vbr_list.proofs.Names.{CountsSteps, Ghosts, had_back, had_grown, had_on, HandView, HasStill, Held, IsGap, IsSucc, KeepsIn, Know, knows, Made, none_back, none_on, PassLaw, PassView, PutsBack, Quiet, quiet_on, set_call, steps_to_update, TakesNoSlot, Took, Trace}
 use Rattle.vbr_list.specs.Inserting.{CountsWithin, denied, DeniesNone, HasHandAndRoom, Links, LinksHand}
 use Rattle.vbr_list.specs.Pieces.{GoesOn, IsSameCall, Stores, pass_in, trace_in}
 use Rattle.vbr_list.specs.Places.{IsCur, IsEnd, Locates}

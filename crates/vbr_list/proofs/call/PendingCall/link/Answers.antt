@@ -1,12 +1,5 @@
-use Rattle.std.proofs.Common.{rules, inl, refl, ◌≡◌, ℕ, true, false, Ok, Some, ◌+◌, ◌∙◌, ap, sym, subst, arith}
-use Rattle.vbr_machine.specs.Start.{Start}
-use Rattle.vbr_machine.specs.declared.history.Op.TheVariants.{Insert}
-use Rattle.vbr_slots.specs.Calls.{Quiet}
-use Rattle.vbr_slots.specs.Views.{Trace, knows}
-use Rattle.vbr_at_table.specs.Hands.{HandView}
-use Rattle.vbr_at_table.specs.Values.{steps_to_update}
-use Rattle.vbr_at_table.specs.declared.refusal.Refusal.{Refusal}
-use Rattle.vbr_at_table.proofs.Lemmas.{had_grown, had_spent, had_then}
+use Rattle.vbr_list.proofs.Names.{rules, inl, refl, ◌≡◌, ℕ, true, false, Ok, Some, ◌+◌, ◌∙◌, ap, sym, subst, arith}
+use Rattle.vbr_list.proofs.Names.{had_grown, had_spent, had_then, HandView, Insert, knows, Quiet, Refusal, Start, steps_to_update, Trace}
 use Rattle.vbr_list.specs.Inserting.{SearchesFor}
 use Rattle.vbr_list.proofs.Disturbing.{lost_place}
 use Rattle.vbr_list.proofs.KeptHands.{own_kept}

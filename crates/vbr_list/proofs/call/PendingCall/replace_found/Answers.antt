@@ -1,20 +1,6 @@
-use Rattle.std.proofs.Common.{◌≡◌, ℕ, ◌+◌, ◌<◌, Bool, true, List, Option, Some, length, rules, arith, inl, inr, sym, ap, ◌∙◌, subst}
-use Rattle.vbr_words.specs.declared.place.At.{At}
-use Rattle.vbr_machine.specs.Membership.{KeyAt}
-use Rattle.vbr_machine.specs.Runs.{IsRun}
-use Rattle.vbr_machine.specs.Start.{Start}
-use Rattle.vbr_machine.specs.declared.history.Op.TheVariants.{Insert, Remove}
-use Rattle.vbr_slots.specs.Views.{knows}
-use Rattle.vbr_slots.specs.declared.pass.TheConstants.{POOL}
-use Rattle.vbr_slots.proofs.Lemmas.{adds_on, quiet_on}
-use Rattle.vbr_at_table.specs.CallSteps.{steps_to_birth}
-use Rattle.vbr_at_table.specs.Held.{Names}
-use Rattle.vbr_at_table.specs.Hands.{HandView}
-use Rattle.vbr_at_table.specs.Replacing.{MadeTwo}
-use Rattle.vbr_at_table.specs.Values.{entry_call, steps_to_update, steps_to_value}
-use Rattle.vbr_at_table.proofs.Lemmas.{counts_on, had_spent, held_kept, keeps_on, key_on, none_on, replaced_since, two_on, unchanged_by_none, value_on}
+use Rattle.vbr_list.proofs.Names.{◌≡◌, ℕ, ◌+◌, ◌<◌, Bool, true, List, Option, Some, length, rules, arith, inl, inr, sym, ap, ◌∙◌, subst}
+use Rattle.vbr_list.proofs.Names.{adds_on, At, counts_on, entry_call, had_spent, HandView, Held, held_kept, Insert, IsRun, keeps_on, key_on, KeyAt, knows, MadeTwo, Names, none_on, POOL, quiet_on, Remove, replaced_since, Start, steps_to_birth, steps_to_update, steps_to_value, two_on, unchanged_by_none, value_on}
 use Rattle.vbr_list.proofs.Going.{counts_step, goes_counted, goes_on, goes_read, took_same}
-use Rattle.vbr_at_table.specs.declared.held.Held.{Held}
 use Rattle.vbr_list.specs.Walking.{LosesNext}
 use Rattle.vbr_list.proofs.Disturbing.{lost_place_later, moves_epoch, moves_on, run_at}
 use Rattle.vbr_list.proofs.Marks.{apart, marks_behind}

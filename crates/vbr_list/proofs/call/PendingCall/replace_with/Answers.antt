@@ -1,19 +1,5 @@
-use Rattle.std.proofs.Common.{◌≡◌, ◌≤◌, ℕ, Ok, refl, true, false, rules, Option, Some, None, ap, sym, subst, ◌∙◌, ◌+◌, inl, inr, arith}
-use Rattle.vbr_words.specs.declared.nodes.Nodes.{Ghosts}
-use Rattle.vbr_machine.specs.History.{set_call}
-use Rattle.vbr_machine.specs.Runs.{Begins}
-use Rattle.vbr_machine.specs.Start.{Start, IsStart}
-use Rattle.vbr_machine.specs.declared.history.Op.TheVariants.{Insert, Remove}
-use Rattle.vbr_slots.proofs.Lemmas.{same_on}
-use Rattle.vbr_slots.specs.Calls.{Made, Quiet}
-use Rattle.vbr_slots.specs.PassLaw.{PassLaw}
-use Rattle.vbr_slots.specs.Views.{Trace}
-use Rattle.vbr_at_table.specs.Hands.{HandView}
-use Rattle.vbr_at_table.specs.Replacing.{MadeTwo}
-use Rattle.vbr_at_table.specs.Values.{entry_call}
-use Rattle.vbr_at_table.specs.declared.budget.TheConstants.{PIECE}
-use Rattle.vbr_at_table.specs.declared.refusal.Refusal.{Refusal}
-use Rattle.vbr_at_table.proofs.Lemmas.{two_on}
+use Rattle.vbr_list.proofs.Names.{◌≡◌, ◌≤◌, ℕ, Ok, refl, true, false, rules, Option, Some, None, ap, sym, subst, ◌∙◌, ◌+◌, inl, inr, arith}
+use Rattle.vbr_list.proofs.Names.{Begins, entry_call, Ghosts, HandView, Insert, IsStart, Made, MadeTwo, PassLaw, PIECE, Quiet, Refusal, Remove, same_on, set_call, Start, Trace, two_on}
 use Rattle.vbr_list.specs.Leaving.{LeavesReplaced}
 use Rattle.vbr_list.specs.Pieces.{GoesOn, pass_in, trace_in}
 use Rattle.vbr_list.specs.Removing.{MarksAndSearches}

@@ -1,4 +1,4 @@
-use Rattle.std.proofs.Common.{rules, arith, inl, inr, sym, ◌∙◌, ◌+◌}
+use Rattle.vbr_list.proofs.Names.{rules, arith, inl, inr, sym, ◌∙◌, ◌+◌}
 use Rattle.vbr_list.specs.Walking.{LosesPlace}
 use Rattle.vbr_list.proofs.Clearing.{clear_since}
 use Rattle.vbr_list.proofs.Going.{goes_on}

@@ -1,5 +1,5 @@
-use Rattle.std.proofs.Common.{rules, arith, inl, inr, sym, ◌∙◌, ◌+◌}
-use Rattle.vbr_at_table.proofs.Lemmas.{no_room}
+use Rattle.vbr_list.proofs.Names.{rules, arith, inl, inr, sym, ◌∙◌, ◌+◌}
+use Rattle.vbr_list.proofs.Names.{no_room}
 use Rattle.vbr_list.specs.Walking.{LosesPlace}
 use Rattle.vbr_list.proofs.Going.{call_refl, goes_on, goes_refl}
 use Rattle.vbr_list.proofs.Preparing.{if_failed, if_went}
