@@ -56,6 +56,12 @@ module _ {N : Type 0} {kind : Ghosts N} {each : ℕ} {b c d : PendingCall N kind
   pub had_until : HasStill (pass_in b) (pass_in d)
   had_until = had_on (pass_in b) (pass_in c) (pass_in d) so.5 (had_grown (pass_in c) (pass_in d) went.goes.hand.takes_no_slot.grows went.goes.hand.hand)
 
+  pub has_until : HasHandAndRoom (pass_in d) hand
+  has_until = hand_kept hand went.goes.hand so.4
+
+  pub has_denied : {q : PassView} → KeepsIn (pass_in d) q 1 → HasHandAndRoom q hand
+  has_denied keeps = hand_kept hand (own_kept keeps.own keeps.takes_no_slot) has_until
+
   -- a piece that leaves no slot in hand
   pub links_then : {e : PendingCall N kind} → TakesOn d e → (pass_in e).hand ≡ None → Links b e
   links_then x spent =
@@ -82,9 +88,9 @@ lost_then each {b} {c} {d} {e} law so went x few quiet has had found finds loses
 
 -- the answer was lost: the slot is in hand again
 pub denied_then : {N : Type 0} {kind : Ghosts N} → (each : ℕ) → 1 ≤ each → {b c d e : PendingCall N kind} {hand : HandView} → PassLaw (pass_in b) → IsLinking (3 + each) b c hand → GoesOn c d → IsSameCall d e → e.used ≡ d.used + 1 → KeepsIn (pass_in d) (pass_in e) 1 → (found : Found) → Finds c d found → DeniesNone d e found → IsLinking (3 + each) b e hand
-denied_then each one {d = d} {e = e} {hand = hand} law so went same used keeps found finds lost =
+denied_then each one {d = d} {e = e} law so went same used keeps found finds lost =
     lost_then each law so went (takes_on 1 same used keeps.took keeps.takes_no_slot) (omega (arith, used, one)) lost.quiet
-    (hand_kept hand (own_kept keeps.own keeps.takes_no_slot) (hand_kept hand went.goes.hand so.4))
+    (has_denied so went keeps)
     (had_grown (pass_in d) (pass_in e) keeps.takes_no_slot.grows keeps.own.hand) found finds lost.loses
 
 -- one step, and the hand is given back

@@ -2,8 +2,7 @@ use Rattle.vbr_list.proofs.Names.{rules, inl, refl, ◌≡◌, ℕ, true, false,
 use Rattle.vbr_list.proofs.Names.{had_grown, had_spent, had_then, HandView, Insert, knows, Quiet, Refusal, Start, steps_to_update, Trace}
 use Rattle.vbr_list.specs.Inserting.{SearchesFor}
 use Rattle.vbr_list.proofs.Disturbing.{lost_place}
-use Rattle.vbr_list.proofs.KeptHands.{own_kept}
-use Rattle.vbr_list.proofs.Linking.{counts_until, denied_then, gap_found, had_denied, had_tired, links_tired, made_denied, takes_back, had_until, links_hand, links_then, lost_then, quiet_until, succ_found, takes_on}
+use Rattle.vbr_list.proofs.Linking.{counts_until, denied_then, gap_found, had_denied, has_denied, had_tired, links_tired, made_denied, takes_back, had_until, links_hand, links_then, lost_then, quiet_until, succ_found, takes_on}
 use Rattle.vbr_list.proofs.LostWalks.{search_ends}
 use Rattle.vbr_list.proofs.Preparing.{if_failed, within_same}
 use Rattle.vbr_list.proofs.Replacements.{hand_kept}
@@ -25,9 +24,7 @@ pub update-requires-clause-succ : goal.update-requires-clause-succ
 update-requires-clause-succ g c = succ_found (knows c.reach.new.self.at.stepper.now.trace) c.loop-found.self.key c.in-Some.found.pred c.as_ref.result c.in-Some.found.cur c.in-Some.found.present c.as_ref.ensures.value c.in-Some.ensures.found.found.locates.end
 
 pub give_back-requires-then-found-clause-hand : goal.give_back-requires-then-found-clause-hand
-give_back-requires-then-found-clause-hand g c =
-    let d = c.answer_no.ensures.keeps in
-    (hand_kept c.loop-found.hand (own_kept d.own d.takes_no_slot) (hand_kept c.loop-found.hand c.reach.ensures.goes.goes.hand c.loop-found.invariant.4)).is
+give_back-requires-then-found-clause-hand g c = (has_denied c.loop-found.invariant c.reach.ensures.goes c.answer_no.ensures.keeps).is
 
 pub loop-found-preserved-then-is_err : goal.loop-found-preserved-then-is_err
 loop-found-preserved-then-is_err g c =

@@ -10,9 +10,8 @@ use Rattle.vbr_list.specs.declared.call.PendingCall.{PendingCall}
 use Rattle.vbr_list.specs.declared.found.Found.{Found}
 use Rattle.vbr_list.proofs.Disturbing.{run_at}
 use Rattle.vbr_list.proofs.Going.{by_either}
-use Rattle.vbr_list.proofs.KeptHands.{own_kept}
 use Rattle.vbr_list.proofs.LateSearches.{late_searched}
-use Rattle.vbr_list.proofs.Linking.{begun, counts_until, denied_then, had_denied, had_tired, had_until, IsLinking, links_then, links_tired, located, lost_then, made_denied, quiet_until, takes_back, TakesOn}
+use Rattle.vbr_list.proofs.Linking.{begun, counts_until, denied_then, had_denied, has_denied, had_tired, had_until, IsLinking, links_then, links_tired, located, lost_then, made_denied, quiet_until, takes_back, TakesOn}
 use Rattle.vbr_list.proofs.Preparing.{if_failed, made_since, within_same}
 use Rattle.vbr_list.proofs.Replacements.{had_since, hand_kept, searches_with_end}
 use Rattle.vbr_list.proofs.Sweeping.{leaves_replaced_since}
@@ -71,9 +70,7 @@ pub replace_and_unlink-requires-clause-has : goal.replace_and_unlink-requires-cl
 replace_and_unlink-requires-clause-has g c = record { values = ap (λ (d : Start). d.shape.values) (quiet_until c.loop-found.invariant c.reach.ensures.goes).same.start ∙ c.requires.values; hand = hand_kept c.loop-found.hand c.reach.ensures.goes.goes.hand c.loop-found.invariant.4 }
 
 pub give_back-requires-then-not-found-clause-hand : goal.give_back-requires-then-not-found-clause-hand
-give_back-requires-then-not-found-clause-hand g c =
-    let d = c.answer_no.ensures.keeps in
-    (hand_kept c.loop-found.hand (own_kept d.own d.takes_no_slot) (hand_kept c.loop-found.hand c.reach.ensures.goes.goes.hand c.loop-found.invariant.4)).is
+give_back-requires-then-not-found-clause-hand g c = (has_denied c.loop-found.invariant c.reach.ensures.goes c.answer_no.ensures.keeps).is
 
 pub loop-found-preserved-then-is_err : goal.loop-found-preserved-then-is_err
 loop-found-preserved-then-is_err g c =
