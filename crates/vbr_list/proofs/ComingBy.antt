@@ -1,6 +1,6 @@
 -- An iteration goes from bucket to bucket.
 use Rattle.vbr_list.proofs.Names.{◌≡◌, ℕ, suc, ◌+◌, ◌-◌, ◌<◌, ◌≤◌, Bool, true, false, Some, None, Ok, Err, refl, sym, ap, ◌∙◌, subst, arith, inl, inr}
-use Rattle.vbr_list.proofs.Names.{bucket_of, IsAlone, IsRun, PassLaw, PassView, Quiet, quiet_adds_none, Start, took_all, Trace}
+use Rattle.vbr_list.proofs.Names.{bucket_of, IsAlone, IsRun, OutOfSteps, PassLaw, PassView, Quiet, quiet_adds_none, Start, took_all, Trace}
 use Rattle.vbr_list.specs.Budgets.{steps_to_value_of}
 use Rattle.vbr_list.specs.Cursors.{HasStayedOrMoved, IsBehindKey, IsPastKey, IteratesWhere, PassesBy, SeesMore, costs_over, entered_by, next_bucket}
 use Rattle.vbr_list.specs.Next.{HasNoNext, enough_to_seek, listed_in, seek_costs}
@@ -8,7 +8,6 @@ use Rattle.vbr_list.specs.Pieces.{Goes, Observes}
 use Rattle.vbr_list.specs.Seeking.{Sought}
 use Rattle.vbr_list.specs.declared.cursor.Cursor.{Cursor}
 use Rattle.vbr_list.specs.declared.seeking.NextNode.{NextNode}
-use Rattle.vbr_at_table.specs.declared.refusal.Refusal.TheVariants.{OutOfSteps}
 use Rattle.vbr_list.proofs.Cursors.{entry_since, passes_bucket, passes_key, passes_last, passes_on, passes_still}
 use Rattle.vbr_list.proofs.Going.{goes_on, goes_refl, within_of}
 use Rattle.vbr_list.proofs.Nearing.{first_of, then_of}

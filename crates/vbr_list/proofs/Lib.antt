@@ -25,6 +25,7 @@ mod Told
 mod Marks
 mod ValueReads
 mod Replacements
+mod Linking
 mod LateSearches
 mod ReplacedValues
 pub mod Lemmas

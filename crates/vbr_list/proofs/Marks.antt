@@ -1,20 +1,35 @@
 -- A remove after its mark: the place before the node stands as it stood, or the pass was disturbed; and what the answer costs.
-use Rattle.vbr_list.proofs.Names.{◌≡◌, ◌≢◌, ℕ, ◌+◌, ◌*◌, ◌<◌, ◌≤◌, false, Option, refl, sym, ap, ◌∙◌, subst, inl, inr, arith, ◌⊎◌, IfNone, IfSome, cases_lt, mul-le}
-use Rattle.vbr_list.proofs.Names.{AddsNone, advances, ahead, At, Begins, begins_refl, begins_run, begins_trans, bucket_of, Call, disturbances_grow, Ghosts, Head, Held, HeldIn, incarnations_after, inserts_in, inserts_in-remove, IsAlone, IsHeld, IsOpenIn, IsRun, IsSame, IsStart, KeyAt, known_open, knows, LeavesOthers, link_of, link_shown_at, Made, marked_fewer, met_bound_uninserted, one_key, own_calls, own_changes, Quiet, Remove, same_on, since, Slot, StandsBehind, Start, Trace, undisturbed_shown}
+use Rattle.vbr_list.proofs.Names.{◌≡◌, ◌≢◌, ℕ, ◌+◌, ◌*◌, ◌<◌, ◌≤◌, true, false, Option, Result, is_err, IfErr, refl, sym, ap, ◌∙◌, subst, inl, inr, arith, ◌⊎◌, IfNone, IfSome, cases_lt, mul-le}
+use Rattle.vbr_list.proofs.Names.{AddsNone, advances, ahead, At, Begins, begins_refl, begins_run, begins_trans, bucket_of, Call, disturbances_grow, Ghosts, Head, Held, HeldIn, incarnations_after, inserts_in, inserts_in-remove, IsAlone, IsHeld, IsOpenIn, IsRun, IsSame, IsStart, KeyAt, known_open, knows, LeavesOthers, link_of, link_shown_at, Made, marked_fewer, met_bound_uninserted, one_key, own_calls, own_changes, PassView, Quiet, Remove, same_on, since, Slot, StandsBehind, Start, Trace, undisturbed_shown}
 use Rattle.vbr_list.specs.Budgets.{listed_for, steps_to_value_of}
 use Rattle.vbr_list.specs.Disturbed.{changed_after, disturbed, disturbed_after, remove_costs_among}
 use Rattle.vbr_list.specs.Leaving.{Leaves}
 use Rattle.vbr_list.specs.Pieces.{trace_in}
-use Rattle.vbr_list.specs.Removing.{MarksAndSearches, MarksBehind}
+use Rattle.vbr_list.specs.Removing.{MarksAndSearches, MarksBehind, SearchesOn}
+use Rattle.vbr_list.specs.Helping.{GoesIn}
 use Rattle.vbr_list.specs.Traversing.{Finds, LastWalk, SearchTires}
 use Rattle.vbr_list.specs.Walking.{KnowsEpoch, LosesPlace, StandsStill, WalksAgain, met_since, nodes_after}
 use Rattle.vbr_list.specs.declared.call.PendingCall.{PendingCall}
 use Rattle.vbr_list.specs.declared.found.Found.{Found}
 use Rattle.vbr_list.proofs.Disturbing.{alone_undisturbed, changed_same, disturbed_same, grows_disturbed, loses_place_disturb, met_before, met_less, run_at, run_to, same_between, unchanged_at, undisturbed}
 use Rattle.vbr_list.proofs.Going.{by_either}
+use Rattle.vbr_list.proofs.Preparing.{if_failed}
 use Rattle.vbr_list.proofs.Walking.{HasRepeated}
 
 -- ---- a search
+
+-- an unlinking was lost, and the call searched on
+pub lost_unlinking : {T E : Type 0} {p q : PassView} {r : Trace} {steps key since : ℕ} {pred : Held} (before : ℕ) (tried : Result T E) → is_err tried ≡ true → IfErr tried (λ _. LosesPlace p.trace q.trace pred) → GoesIn p q steps → steps ≤ 6 → Quiet q.trace r → WalksAgain 9 q.trace r key (before + steps) since → SearchesOn p.trace r key before since pred
+lost_unlinking {p = p} {q = q} {steps = steps} {pred = pred} before tried failed lost goes few then walks = record {
+  ended = q.trace;
+  quiet = (goes 0).quiet;
+  count = (goes 0).hand.takes_no_slot.count;
+  loses = if_failed {P = LosesPlace p.trace q.trace pred} tried failed lost;
+  used = before + steps;
+  few = omega (arith, few);
+  then = then;
+  walks = walks;
+}
 
 -- whatever it came to
 pub walked : {N : Type 0} {kind : Ghosts N} (c d : PendingCall N kind) (found : Option Found) → IfSome found (Finds c d) → IfNone found (SearchTires c d) → WalksAgain 9 (trace_in c) (trace_in d) c.key c.used d.used

@@ -1,14 +1,17 @@
 -- What proofs of this crate name of std and of the crates below it, from one place.
+pub use mathlib.Core.Bool.{beq}
+pub use Rattle.std.specs.Borrow.{Bor}
 pub use Rattle.std.specs.List.{AllByRecursion}
-pub use Rattle.std.specs.Option.{is_none, is_some}
-pub use Rattle.std.specs.Prelude.{Contains, count_by, IfErr, IfNone, IfOk, IfSome, if◌then◌else◌, IsSome, ◌&&◌, ◌==◌, ◌⊎◌}
+pub use Rattle.std.specs.Option.{is_none, is_some, option_copied}
+pub use Rattle.std.specs.Prelude.{Contains, count_by, IfErr, IfNone, IfOk, IfSome, if◌then◌else◌, IsSome, OnOk, ◌&&◌, ◌==◌, ◌⊎◌}
 pub use Rattle.std.specs.Result.{is_err, is_ok}
-pub use Rattle.std.proofs.Common.{[], ap, append-nil, append_assoc, arith, Bool, cond, eq-eqb, Err, false, inl, inr, length, List, None, not, Ok, Option, option_to_list, refl, Result, Some, subst, suc, sym, true, ℕ, ◌*◌, ◌++◌, ◌+◌, ◌-◌, ◌<◌, ◌^◌, ◌∙◌, ◌∷◌, ◌≡◌, ◌≢◌, ◌≤◌}
+pub use Rattle.std.proofs.Common.{[], ap, append-nil, append_assoc, arith, Bool, cond, eq-eqb, Err, false, inl, inr, length, List, None, not, Ok, Option, option_to_list, refl, Result, rules, Some, subst, suc, sym, true, ℕ, ⊎_elim, ◌*◌, ◌++◌, ◌+◌, ◌-◌, ◌<◌, ◌^◌, ◌∙◌, ◌∷◌, ◌≡◌, ◌≢◌, ◌≤◌}
 pub use Rattle.std.proofs.lemmas.Bool.{cases_Bool, cases_lt}
 pub use Rattle.std.proofs.lemmas.Bool.Decides.{nat_tests}
 pub use Rattle.std.proofs.lemmas.List.Elements.{Contains-append_left, Contains-append_right, Contains-push, Contains-push_cases}
 pub use Rattle.std.proofs.lemmas.List.Sums.{sum_by-append}
 pub use Rattle.std.proofs.lemmas.Nat.{mul-le}
+pub use Rattle.std.proofs.lemmas.Result.{err_from_is_err_and}
 pub use Rattle.vbr_words.specs.Buckets.{bucket_of}
 pub use Rattle.vbr_words.specs.Dimensions.{Dimensions}
 pub use Rattle.vbr_words.specs.Words.{link_of, word_of}
@@ -41,7 +44,7 @@ pub use Rattle.vbr_machine.specs.declared.event.Step.{Step}
 pub use Rattle.vbr_machine.specs.declared.event.Step.TheVariants.{LoadLink}
 pub use Rattle.vbr_machine.specs.declared.history.Call.{Call}
 pub use Rattle.vbr_machine.specs.declared.history.Op.{Op}
-pub use Rattle.vbr_machine.specs.declared.history.Op.TheVariants.{Insert, Remove}
+pub use Rattle.vbr_machine.specs.declared.history.Op.TheVariants.{Get, Has, Insert, Remove}
 pub use Rattle.vbr_machine.specs.declared.knowledge.Holding.{Holding}
 pub use Rattle.vbr_machine.specs.declared.knowledge.Holding.TheVariants.{Free}
 pub use Rattle.vbr_machine.specs.declared.knowledge.Read.TheVariants.{KeyOf, LinkAt}
@@ -54,22 +57,25 @@ pub use Rattle.vbr_slots.specs.Pools.{OwnPool}
 pub use Rattle.vbr_slots.specs.Views.{IsOf, knows, PassView, TableView, Trace}
 pub use Rattle.vbr_slots.specs.declared.at_table.AtTable.{AtTable}
 pub use Rattle.vbr_slots.specs.declared.pass.TheConstants.{POOL}
-pub use Rattle.vbr_slots.proofs.Lemmas.{adds_on, adds_refl, alone_first, alone_then, loads_on, loads_refl, made_on, moment_after, moment_before, quiet_adds_none, quiet_on, quiet_refl, same_leaves, same_on, same_refl}
+pub use Rattle.vbr_slots.proofs.Lemmas.{adds_on, adds_refl, alone_first, alone_then, answer_on, loads_on, loads_refl, made_on, made_then, moment_after, moment_before, quiet_adds_none, quiet_on, quiet_refl, same_leaves, same_on, same_refl}
 pub use Rattle.vbr_at_table.specs.Advances.{AdvancesWhereNeeded}
 pub use Rattle.vbr_at_table.specs.Alone.{StandsNow}
+pub use Rattle.vbr_at_table.specs.Answering.{FindsAnother, KeepsIn}
 pub use Rattle.vbr_at_table.specs.Budgets.{most_to_take, most_to_take_among, steps_to_take_among}
-pub use Rattle.vbr_at_table.specs.CallSteps.{next_steps}
+pub use Rattle.vbr_at_table.specs.CallSteps.{next_steps, steps_to_birth}
 pub use Rattle.vbr_at_table.specs.Counts.{advances, ChangesNone, is_advance}
+pub use Rattle.vbr_at_table.specs.Exchanges.{IsGap, IsUnmarked}
 pub use Rattle.vbr_at_table.specs.Gained.{gained}
+pub use Rattle.vbr_at_table.specs.GivingBack.{PutsBack}
 pub use Rattle.vbr_at_table.specs.Hands.{HandView}
-pub use Rattle.vbr_at_table.specs.Held.{held_of, HoldsMarked, IsHeld, IsSlot, Names}
+pub use Rattle.vbr_at_table.specs.Held.{held_of, HoldsMarked, IsHeld, IsSlot, IsSucc, Names}
 pub use Rattle.vbr_at_table.specs.Keeping.{Keeps, KeepsOwn, KeepsUnlinked}
 pub use Rattle.vbr_at_table.specs.KeptSlots.{HasAllButOne, HasStill, KeepsSlots, SharesWhereFull, StaysInTurn, TakesNoSlot}
 pub use Rattle.vbr_at_table.specs.LookUps.{DecidesKey}
 pub use Rattle.vbr_at_table.specs.Marks.{LeavesOthers}
 pub use Rattle.vbr_at_table.specs.Moments.{IsNext, IsRead, Stood, WasEntry, WasSo}
 pub use Rattle.vbr_at_table.specs.Reading.{IsHeadRead, IsKeyRead, ReadsIn, RollsBack}
-pub use Rattle.vbr_at_table.specs.Refusals.{IsSpent, LeavesRoom}
+pub use Rattle.vbr_at_table.specs.Refusals.{IsSpent, LeavesRoom, RefusesTake}
 pub use Rattle.vbr_at_table.specs.Replacing.{MadeTwo}
 pub use Rattle.vbr_at_table.specs.Retiring.{is_kept, know_retired, pool_retired, StampsFreshly}
 pub use Rattle.vbr_at_table.specs.Rollbacks.{FreshIfMoved, IsLost, IsMovedOrLost}
@@ -78,6 +84,8 @@ pub use Rattle.vbr_at_table.specs.Values.{entry_call, steps_to_update, steps_to_
 pub use Rattle.vbr_at_table.specs.declared.budget.TheConstants.{PIECE}
 pub use Rattle.vbr_at_table.specs.declared.held.Held.{Held}
 pub use Rattle.vbr_at_table.specs.declared.held.Marked.{Marked}
+pub use Rattle.vbr_at_table.specs.declared.refusal.Refusal.{Refusal}
+pub use Rattle.vbr_at_table.specs.declared.refusal.Refusal.TheVariants.{EpochSpent, NoSlot, OutOfSteps}
 pub use Rattle.vbr_at_table.specs.declared.rollback.Rollback.{Rollback}
 pub use Rattle.vbr_at_table.specs.declared.rollback.Rollback.TheVariants.{EpochMoved, LostExchange}
-pub use Rattle.vbr_at_table.proofs.Lemmas.{alone_gained, behind_kept, counts_none, counts_on, fresh_kept, gained_on, gained_since, grows_same, had_grown, had_on, held_in_kept, held_in_next, held_kept, keeps_on, longer, missed_after, more_lost, needed_after, needed_before, none_lost, none_on, none_refl, reads_on, shared_on, shared_taken, shares_more, slots_kept_on, stood_after, stood_before, took_all, two_on, unchanged_by_none, unlinks_none, was_absent, was_absent_on, was_entry, was_present}
+pub use Rattle.vbr_at_table.proofs.Lemmas.{alone_gained, behind_kept, counts_none, counts_on, fresh_kept, gained_on, gained_since, grows_same, had_back, had_grown, had_on, had_spent, had_taken, had_then, held_in_kept, held_in_next, held_kept, keeps_on, key_on, longer, missed_after, more_lost, needed_after, needed_before, no_room, none_back, none_lost, none_on, none_refl, reads_on, replaced_since, shared_on, shared_taken, shares_more, slots_kept_on, some_grown, stood_after, stood_before, took_all, two_before, two_on, unchanged_by_none, unlinks_none, value_on, was_absent, was_absent_on, was_entry, was_present}

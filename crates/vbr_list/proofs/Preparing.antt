@@ -1,12 +1,10 @@
 -- The steps of an insert, and what its refusals say.
 use Rattle.vbr_list.proofs.Names.{◌≡◌, ◌≢◌, ℕ, ◌+◌, ◌-◌, ◌<◌, ◌≤◌, Bool, true, false, List, [], ◌∷◌, length, Result, Ok, Err, inl, refl, sym, ◌∙◌, subst, arith, IfOk, IfErr, is_err, is_ok}
-use Rattle.vbr_list.proofs.Names.{Begins, counts_on, CountsSteps, Ghosts, had_grown, had_on, IsRun, IsSame, IsSpent, LeavesRoom, Made, made_on, missed_after, needed_after, none_on, Op, PassView, Quiet, set_call, shared_taken, shares_more, slots_kept_on, Start, TakesNoSlot, Took, took_all, TookWithin, Trace, WasSo}
+use Rattle.vbr_list.proofs.Names.{Begins, counts_on, CountsSteps, EpochSpent, Ghosts, had_grown, had_on, IsRun, IsSame, IsSpent, LeavesRoom, Made, made_on, missed_after, needed_after, none_on, NoSlot, Op, OutOfSteps, PassView, Quiet, Refusal, set_call, shared_taken, shares_more, slots_kept_on, Start, TakesNoSlot, Took, took_all, TookWithin, Trace, WasSo}
 use Rattle.vbr_machine.specs.declared.history.Call.{Call as ListedCall}
 use Rattle.vbr_list.specs.Inserting.{CountsWithin, InsertIsShort, InsertShowsSpent, Prepares, TakesNone, WasFoundFor}
 use Rattle.vbr_list.specs.Pieces.{GoesOn, HasRoom, IsSameCall, pass_in, trace_in}
 use Rattle.vbr_list.specs.Refusals.{IsRefusedInsert}
-use Rattle.vbr_at_table.specs.declared.refusal.Refusal.{Refusal}
-use Rattle.vbr_at_table.specs.declared.refusal.Refusal.TheVariants.{OutOfSteps, NoSlot, EpochSpent}
 use Rattle.vbr_list.specs.declared.call.PendingCall.{PendingCall}
 use Rattle.vbr_list.proofs.Going.{call_on, counts_step, within_call}
 

@@ -1,6 +1,6 @@
 -- The call that replaces a value, once it has a slot in hand: what it tells, answered or refused.
 use Rattle.vbr_list.proofs.Names.{◌≡◌, ℕ, ◌+◌, true, false, refl, inl, inr, ◌*◌, ◌≤◌, Option, Some, None, Result, Ok, Err, subst, arith, IfErr, IfOk, ◌⊎◌, is_some}
-use Rattle.vbr_list.proofs.Names.{AdvancesWhereNeeded, Begins, begins_trans, Call, entry_call, Ghosts, had_on, HasStill, Insert, IsAlone, IsRun, IsSame, IsStart, KeepsSlots, longer, Made, MadeTwo, needed_before, PassView, Quiet, quiet_on, Remove, set_call, shared_on, shares_more, SharesWhereFull, slots_kept_on, Start, TookWithin, Trace, two_on}
+use Rattle.vbr_list.proofs.Names.{AdvancesWhereNeeded, Begins, begins_trans, Call, entry_call, Ghosts, had_on, HasStill, Insert, IsAlone, IsRun, IsSame, IsStart, KeepsSlots, longer, Made, MadeTwo, needed_before, PassView, Quiet, quiet_on, Refusal, Remove, set_call, shared_on, shares_more, SharesWhereFull, slots_kept_on, Start, TookWithin, Trace, two_on}
 use Rattle.vbr_list.specs.Budgets.{enough_to_unlist, listed_for}
 use Rattle.vbr_list.specs.Disturbed.{disturbed, enough_to_replace_among, replace_costs_among, searches_more, steps_for_slot}
 use Rattle.vbr_list.specs.Inserting.{CountsWithin, InsertIsShort, Links, SearchedFor}
@@ -8,7 +8,6 @@ use Rattle.vbr_list.specs.Leaving.{LeavesReplaced}
 use Rattle.vbr_list.specs.Pieces.{pass_in, trace_in}
 use Rattle.vbr_list.specs.Replacing.{AnswersLate, AnswersPaid, AnswersSoon, CallsReplace, HasUnspent, ReplaceAnswers, ReplacesNone, SearchesWith}
 use Rattle.vbr_list.specs.declared.call.PendingCall.{PendingCall}
-use Rattle.vbr_at_table.specs.declared.refusal.Refusal.{Refusal}
 use Rattle.vbr_list.proofs.Disturbing.{alone_undisturbed, run_at}
 use Rattle.vbr_list.proofs.Going.{room_left}
 use Rattle.vbr_list.proofs.Preparing.{made_since, within_all, within_most, within_on}

@@ -1,14 +1,12 @@
 -- The steps of a replacement, and what its refusals say.
-use Rattle.vbr_list.proofs.Names.{◌≡◌, ℕ, ◌+◌, ◌*◌, ◌≤◌, true, [], Option, Some, None, Result, Ok, Err, sym, ap, ◌∙◌, arith, mul-le}
-use Rattle.vbr_list.proofs.Names.{Begins, begins_trans, birth_in_hand, counts_on, grows_same, had_grown, HandView, HasAllButOne, HasStill, incarnations_after, IsAlone, IsRun, IsSame, IsStart, knows, PassView, Quiet, Start, took_all, TookWithin, Trace}
+use Rattle.vbr_list.proofs.Names.{◌≡◌, ℕ, ◌+◌, ◌*◌, ◌≤◌, true, Option, Some, None, Result, Ok, Err, sym, ap, ◌∙◌, arith, mul-le}
+use Rattle.vbr_list.proofs.Names.{Begins, begins_trans, birth_in_hand, counts_on, EpochSpent, grows_same, had_grown, HandView, HasAllButOne, HasStill, incarnations_after, IsAlone, IsRun, IsSame, IsStart, knows, NoSlot, OutOfSteps, PassView, Quiet, Refusal, Start, took_all, TookWithin, Trace}
 use Rattle.vbr_list.specs.Budgets.{LacksSteps, enough_to_insert, listed_for, replace_costs}
 use Rattle.vbr_list.specs.Disturbed.{disturbed, enough_to_replace_among, replace_costs_among, steps_for_slot}
 use Rattle.vbr_list.specs.Inserting.{CountsWithin, HasHandAndRoom, InsertIsShort, SearchedFor, SearchesInVain, TakesNone, WasFoundFor}
 use Rattle.vbr_list.specs.Pieces.{KeepsHand}
 use Rattle.vbr_list.specs.Replacing.{HasUnspent, IsRefusedReplace, SearchesWith}
 use Rattle.vbr_list.specs.Walking.{MovesOn, WalksAgain}
-use Rattle.vbr_at_table.specs.declared.refusal.Refusal.{Refusal}
-use Rattle.vbr_at_table.specs.declared.refusal.Refusal.TheVariants.{OutOfSteps, NoSlot, EpochSpent}
 use Rattle.vbr_list.proofs.Sufficing.{lacks_more, lone, took_more}
 use Rattle.vbr_list.proofs.Walking.{HasRepeated, once_paid, searches_until, vain_lacks}
 

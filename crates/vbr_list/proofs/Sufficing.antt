@@ -1,12 +1,10 @@
 -- The steps of an insert: of a slot, and of a pass that was alone.
 use Rattle.vbr_list.proofs.Names.{◌≡◌, ◌≢◌, ℕ, ◌+◌, ◌*◌, ◌<◌, ◌≤◌, List, [], Result, sym, subst, arith, IfErr}
-use Rattle.vbr_list.proofs.Names.{alone_gained, Begins, gained, gained_on, gained_since, IsAlone, more_lost, most_to_take, most_to_take_among, none_lost, PassView, Quiet, Start, steps_to_take_among, steps_to_value, TookWithin, Trace}
+use Rattle.vbr_list.proofs.Names.{alone_gained, Begins, gained, gained_on, gained_since, IsAlone, more_lost, most_to_take, most_to_take_among, none_lost, NoSlot, PassView, Quiet, Refusal, Start, steps_to_take_among, steps_to_value, TookWithin, Trace}
 use Rattle.vbr_list.specs.Budgets.{IsAnsweredOrSpent, LacksSteps, enough_to_insert, insert_costs, listed_for}
 use Rattle.vbr_list.specs.Disturbed.{disturbed, enough_to_insert_among, insert_costs_among, steps_for_slot}
 use Rattle.vbr_list.specs.Inserting.{InsertIsShort, TakesNone}
 use Rattle.vbr_list.proofs.Disturbing.{undisturbed}
-use Rattle.vbr_at_table.specs.declared.refusal.Refusal.{Refusal}
-use Rattle.vbr_at_table.specs.declared.refusal.Refusal.TheVariants.{NoSlot}
 
 -- where an own pool with slots keeps some, a slot is taken in no more steps than were allowed for before
 take_later : (start : Start) (before now : List ℕ) (less more : ℕ) → less ≤ more → (before ≢ [] → now ≢ []) → steps_to_take_among start now less ≤ most_to_take_among start before more

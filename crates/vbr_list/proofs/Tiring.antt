@@ -1,6 +1,6 @@
 -- A remove and a look-up that are refused for want of steps: the budget was below what is enough, alone and disturbed.
 use Rattle.vbr_list.proofs.Names.{◌≡◌, ℕ, ◌+◌, ◌<◌, ◌≤◌, Bool, List, None, Result, Err, arith}
-use Rattle.vbr_list.proofs.Names.{Begins, Call, Event, IsRun, PassLaw, PassView, PIECE, same_refl, took_all}
+use Rattle.vbr_list.proofs.Names.{Begins, Call, Event, IsRun, OutOfSteps, PassLaw, PassView, PIECE, Refusal, same_refl, took_all}
 use Rattle.vbr_list.specs.Budgets.{listed_for}
 use Rattle.vbr_list.specs.Disturbed.{disturbed_after, enough_among, enough_to_search_among}
 use Rattle.vbr_list.specs.Leaving.{SparesRemove}
@@ -8,8 +8,6 @@ use Rattle.vbr_list.specs.Pieces.{Goes, Observes, Tries}
 use Rattle.vbr_list.specs.Refusals.{IsTired}
 use Rattle.vbr_list.specs.Sparing.{CallsAs, SparesLookUp}
 use Rattle.vbr_list.specs.Walking.{Repeats, WalksAgain}
-use Rattle.vbr_at_table.specs.declared.refusal.Refusal.{Refusal}
-use Rattle.vbr_at_table.specs.declared.refusal.Refusal.TheVariants.{OutOfSteps}
 use Rattle.vbr_list.proofs.Disturbing.{own_at, run_at, undisturbed}
 use Rattle.vbr_list.proofs.Going.{goes_on, within_of}
 use Rattle.vbr_list.proofs.Observing.{observes_on}

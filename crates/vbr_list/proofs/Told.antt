@@ -1,11 +1,10 @@
 -- The calls that answers tell, at tables of both kinds, and the same record of a call with another answer.
 use Rattle.vbr_list.proofs.Names.{◌≡◌, ℕ, Bool, true, false, Option, Some, None, Result, Ok, Err, refl, sym, ap, subst, is_some, if◌then◌else◌, arith}
-use Rattle.vbr_list.proofs.Names.{AddsAnswer, Call, Insert, IsSame, Made, made_on, Op, PassLaw, PassView, payload_kept, Quiet, set_call, Start, Trace}
+use Rattle.vbr_list.proofs.Names.{AddsAnswer, Call, Insert, IsSame, Made, made_on, Op, PassLaw, PassView, payload_kept, Quiet, Refusal, set_call, Start, Trace}
 use Rattle.vbr_list.specs.Alone.{AnswersAlone}
 use Rattle.vbr_list.specs.Sparing.{CallsAs, CallsEntry, SparesLookUp}
 use Rattle.vbr_list.specs.Leaving.{SparesRemove}
 use Rattle.vbr_list.specs.Told.{given_call, given_in, is_yes, kept_call, stored_call, stored_in}
-use Rattle.vbr_at_table.specs.declared.refusal.Refusal.{Refusal}
 use Rattle.vbr_list.proofs.LonePasses.{gives_alone}
 
 -- ---- what is kept

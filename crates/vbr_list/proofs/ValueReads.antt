@@ -2,10 +2,9 @@
 use Rattle.vbr_list.proofs.Names.{◌≡◌, ℕ, ◌+◌, ◌<◌, ◌≤◌, Bool, true, Option, Some, arith, refl, sym, ap, ◌∙◌, subst}
 use Rattle.vbr_list.proofs.Names.{adds_refl, At, counts_none, counts_on, CountsSteps, Ghosts, Held, IsSame, IsSlot, KeepsOwn, Know, loads_refl, none_refl, PassView, quiet_refl, ReadsIn, Start, steps_to_update, TakesNoSlot, Took, took_all, Trace}
 use Rattle.vbr_list.specs.Budgets.{steps_to_value_of}
-use Rattle.vbr_list.specs.Inserting.{Publishes}
 use Rattle.vbr_list.specs.Pieces.{Goes, IsSameCall, KeepsHand, Settles, pass_in, trace_in}
 use Rattle.vbr_list.specs.declared.call.PendingCall.{PendingCall}
-use Rattle.vbr_list.proofs.Going.{counts_step, goes_counted, took_same}
+use Rattle.vbr_list.proofs.Going.{counts_step, goes_counted}
 use Rattle.vbr_list.proofs.KeptHands.{hand_on, own_kept}
 use Rattle.vbr_list.specs.Places.{IsCur, IsEnd}
 
@@ -52,16 +51,3 @@ cur_is know key pred cur o present y e = let P : Option Held → Type 0 = λ o. 
 
 pub slot_at : {know : Know} {key : ℕ} {pred cur : Held} {present : Bool} → IsCur know key pred cur present → IsSlot cur.at
 slot_at x = let P : At → Type 0 = IsSlot in subst P (sym x.at) tt
-
--- a node is published, in the steps that the table's shape asks
-pub publishes_stored : {N : Type 0} {kind : Ghosts N} → {c d : PendingCall N kind} {steps : ℕ} → IsSameCall c d → d.used ≡ c.used + steps → steps ≡ steps_to_update (trace_in c).start → Took (trace_in c) (trace_in d) (steps_to_update (trace_in c).start) → TakesNoSlot (pass_in c) (pass_in d) → Publishes c d
-publishes_stored {c = c} {d = d} {steps = steps} same used e took none =
-    let some = (few_to_update (trace_in c).start).0 in
-    let few = (few_to_update (trace_in c).start).1 in
-    record {
-      call = same;
-      counts = subst (CountsSteps (trace_in c) (trace_in d) c.used) (sym used) (counts_step c.used steps (took_same steps (steps_to_update (trace_in c).start) e took));
-      used = (omega (arith, used, e, some), omega (arith, used, e, few));
-      few = omega (arith, used, e);
-      takes_no_slot = none;
-    }

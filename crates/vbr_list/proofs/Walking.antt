@@ -1,14 +1,12 @@
 -- A walk goes on from place to place, whatever others do meanwhile; and it begins again only where it was disturbed.
 use Rattle.vbr_list.proofs.Names.{◌≡◌, ℕ, suc, ◌+◌, ◌*◌, ◌<◌, ◌≤◌, true, false, List, Option, Some, None, refl, sym, ap, ◌∙◌, subst, arith, is_some, mul-le}
-use Rattle.vbr_list.proofs.Names.{advances, ahead_few, At, Begins, begins_refl, begins_run, begins_trans, bucket_of, disturbances_grow, Event, HasVisited, Head, head_visited, Held, held_of, HeldIn, incarnations_after, IsAhead, IsFresh, IsOpenIn, IsRun, IsSame, IsStart, knows, link_at, link_of, link_shown_at, Marked, next_visited, own_between, own_changes, own_entries, Quiet, quiet_on, same_on, same_refl, shown_there, since, Slot, Start, steps_to_update, Trace, unmarked_open, visited_few, visited_on, world_after}
+use Rattle.vbr_list.proofs.Names.{advances, ahead_few, At, Begins, begins_refl, begins_run, begins_trans, bucket_of, disturbances_grow, EpochSpent, Event, HasVisited, Head, head_visited, Held, held_of, HeldIn, incarnations_after, IsAhead, IsFresh, IsOpenIn, IsRun, IsSame, IsStart, knows, link_at, link_of, link_shown_at, Marked, next_visited, NoSlot, OutOfSteps, own_between, own_changes, own_entries, Quiet, quiet_on, Refusal, same_on, same_refl, shown_there, since, Slot, Start, Trace, unmarked_open, visited_few, visited_on, world_after}
 use Rattle.vbr_list.specs.Helping.{OpensPlace}
 use Rattle.vbr_list.specs.Budgets.{listed_for}
 use Rattle.vbr_list.specs.declared.found.Found.{Found}
 use Rattle.vbr_list.specs.Disturbed.{changed_after, costs_among, disturbed_after, disturbed, enough_among, enough_to_search_among, find_costs_among}
 use Rattle.vbr_list.specs.Budgets.{LacksSteps, enough_past}
 use Rattle.vbr_list.specs.Disturbed.{enough_to_insert_among, searches_more}
-use Rattle.vbr_at_table.specs.declared.refusal.Refusal.{Refusal}
-use Rattle.vbr_at_table.specs.declared.refusal.Refusal.TheVariants.{OutOfSteps, NoSlot, EpochSpent}
 use Rattle.vbr_list.specs.Inserting.{SearchedFor, Searches, SearchesFor, SearchesInVain}
 use Rattle.vbr_list.specs.Traversing.{LastWalk}
 use Rattle.vbr_list.specs.Walking.{KnowsEpoch, LosesFound, LosesHeld, MovesSince, ReadsFresh, ReadsNext, Repeats, StandsStill, StoodOpen, Walks, WalksAgain, WalksOnce, met_since, nodes_after}
@@ -397,9 +395,6 @@ pub find_lacks : (p r : Trace) → IsStart p.start → IsRun p.start p.passes r.
 find_lacks p r is ok key quiet x budget short = remove_lacks p p r is ok key (same_refl p) (begins_refl p.seen) quiet.seen quiet (repeated_none 9 p key 6 0) x budget short
 
 -- ---- searches of an insert
-
-pub few_to_update_most : (start : Start) → steps_to_update start ≤ 4
-few_to_update_most start = grind arith
 
 more_searched : (before e each tries lost m1 m2 m a b now more all : ℕ) → (e ≤ each) × (3 ≤ each) → a ≤ before + tries * (9 * m1 + e) → b ≤ a + (lost + 1) * (9 * m2 + 3) → now ≤ b + more → more + 3 ≤ all → m1 ≤ m → m2 ≤ m → now ≤ before + 9 * m + (tries + lost) * (9 * m + each) + all
 more_searched before e each tries lost m1 m2 m a b now more all f x y z w l k =

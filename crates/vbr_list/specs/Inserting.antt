@@ -20,7 +20,7 @@ use Rattle.vbr_at_table.specs.Values.{steps_to_update}
 use Rattle.vbr_list.specs.Budgets.{LacksSteps}
 use Rattle.vbr_list.specs.Disturbed.{disturbed_after, steps_for_slot}
 use Rattle.vbr_list.specs.Walking.{LosesFound, met_since}
-use Rattle.vbr_list.specs.Pieces.{IsPiece, IsSameCall, Replies, Stores, pass_in, trace_in}
+use Rattle.vbr_list.specs.Pieces.{IsSameCall, Replies, Stores, pass_in, trace_in}
 use Rattle.vbr_list.specs.declared.call.PendingCall.{PendingCall}
 use Rattle.vbr_list.specs.declared.found.Found.{Found}
 use Rattle.vbr_at_table.specs.declared.refusal.Refusal.{Refusal}
@@ -150,26 +150,13 @@ pub record PreparesNone {N : Type 0} {kind : Ghosts N} (wanted : Bool) (c d : Pe
 
 -- ---- the slot is linked
 
--- a piece that may link it: its steps are counted, no more than those of linking a new node, and it takes no slot
-pub record Publishes {N : Type 0} {kind : Ghosts N} (c d : PendingCall N kind) : Type 0 where
-  pub call : IsSameCall c d
-  pub counts : CountsSteps (trace_in c) (trace_in d) c.used d.used
-  pub used : IsPiece c.used d.used
-  pub few : d.used ≤ c.used + steps_to_update (trace_in c).start
-  pub takes_no_slot : TakesNoSlot (pass_in c) (pass_in d)
-
--- the insert is answered, and its hand is empty
-pub record InsertAnswers {N : Type 0} {kind : Ghosts N} (value : ℕ) (c d : PendingCall N kind) (reply : Bool) : Type 0 where
-  pub made : Stores value c d reply
-  pub spent : (pass_in d).hand ≡ None
-
 -- it isn't answered, and the hand comes back, as what was found is lost
 pub record GivesHandBack {N : Type 0} {kind : Ghosts N} (c d : PendingCall N kind) (found : Found) (back : HandView) : Type 0 where
   pub quiet : Quiet (trace_in c) (trace_in d)
   pub hand : HasHandAndRoom (pass_in d) back
   pub loses : LosesFound (trace_in c) (trace_in d) found
 
--- all its pieces: the steps are within the budget, it takes no slot, and the hand is empty then
+-- the pieces that link it: the steps are within the budget, it takes no slot, and the hand is empty then
 pub record Links {N : Type 0} {kind : Ghosts N} (c d : PendingCall N kind) : Type 0 where
   pub call : IsSameCall c d
   pub counts : CountsWithin (trace_in c) (trace_in d) c.used d.used c.budget

@@ -89,10 +89,9 @@ pub record SettlesSoon {N : Type 0} {kind : Ghosts N} (c d : PendingCall N kind)
   pub few : d.used ≤ c.used + 14
   pub leaves : is_some answer ≡ true → c.used + 16 ≤ c.budget → LeavesReplaced (trace_in c) (trace_in d) c.key
 
--- the one or, of a value that was replaced, the other
-abbrev pub SettlesPaid : {N : Type 0} {kind : Ghosts N} → PendingCall N kind → PendingCall N kind → Found → Option ℕ → Type 0
-SettlesPaid c d found None = SettlesSoon c d None
-SettlesPaid c d found (Some old) = SettlesSoon c d (Some old) ⊎ MarksAndSearches PIECE (trace_in c) (trace_in d) c.key c.used d.used found.pred
+-- so it is of a value that was replaced, or the place before the node was lost, and searches follow
+abbrev pub SettlesPaid : {N : Type 0} {kind : Ghosts N} → PendingCall N kind → PendingCall N kind → Found → ℕ → Type 0
+SettlesPaid c d found old = SettlesSoon c d (Some old) ⊎ MarksAndSearches PIECE (trace_in c) (trace_in d) c.key c.used d.used found.pred
 
 -- a call that may have replaced a value: its steps are counted, and it takes no slot
 pub record MaySettleReplace {N : Type 0} {kind : Ghosts N} (c d : PendingCall N kind) : Type 0 where

@@ -5,52 +5,17 @@ ghost use Rattle.vbr_at_table.specs.KeptSlots.{HasUnpublished};
 ghost use Rattle.vbr_slots.specs.Calls.{Took};
 ghost use Rattle.vbr_slots.specs.Views.{IsOf};
 ghost use Rattle.vbr_list.specs.Sparing.{Calls, CallsAs, CallsInsert, SparesInsert};
-ghost use Rattle.vbr_list.specs.Inserting.{GivesHandBack, HasHandAndRoom, InsertAnswers, Links, LinksHand, LinksNone, Publishes};
-ghost use Rattle.vbr_list.specs.Pieces.{HasRoom, pass_in};
+ghost use Rattle.vbr_list.specs.Inserting.{HasHandAndRoom, Links, LinksHand, LinksNone};
+ghost use Rattle.vbr_list.specs.Pieces.{pass_in};
 ghost use Rattle.vbr_list.specs.Told.{stored_in};
-ghost use Rattle.vbr_list.specs.Traversing.{LocatesFor};
 
 use crate::call::{PendingCall, begin};
-use crate::found::Found;
 use crate::valuing::steps_to_update;
 use vbr_at_table::{Hand, Refusal, give_back, update};
 use vbr_slots::{Pass, Slots, Stepper};
 use vbr_words::{Entries, Nodes};
 
 impl<N: Nodes> PendingCall<'_, N> {
-    // Answers an insert by what was found, with a slot in hand, which gets the value where nodes have
-    // values; else the hand comes back.
-    #[inline]
-    fn settle_insert(&mut self, found: &Found, value: u64, hand: Hand) -> Result<bool, Hand>
-        requires locates { LocatesFor self.old found.now }
-        requires hand { HasHandAndRoom (pass_in self.old) hand }
-        requires room { HasRoom self.old }
-        ensures publishes { Publishes self.old self.new }
-        ensures had { HasUnpublished (pass_in self.old) (pass_in self.new) result }
-        ensures answers { IfOk result (InsertAnswers value self.old self.new) }
-        ensures back { IfErr result (GivesHandBack self.old self.new found.now) }
-    {
-        if found.present {
-            if self.answer_no(found).is_err() {
-                return Err(hand);
-            }
-            give_back(&mut self.at, hand);
-            return Ok(false);
-        }
-        self.used += steps_to_update(self.at.slots);
-        match update(
-            &mut self.at,
-            &found.pred,
-            found.cur.as_ref(),
-            self.key,
-            value,
-            hand,
-        ) {
-            Ok(()) => Ok(true),
-            Err((hand, _)) => Err(hand),
-        }
-    }
-
     // Links the slot in hand, or answers no where the key has come meanwhile. The hand is spent.
     fn link(&mut self, value: u64, mut hand: Hand) -> Result<bool, Refusal>
         requires hand { HasHandAndRoom (pass_in self.old) hand }
@@ -65,9 +30,24 @@ impl<N: Nodes> PendingCall<'_, N> {
                 give_back(&mut self.at, hand);
                 return Err(Refusal::OutOfSteps { used: self.used });
             };
-            match self.settle_insert(&found, value, hand) {
-                Ok(reply) => return Ok(reply),
-                Err(back) => hand = back,
+            if found.present {
+                if self.answer_no(&found).is_err() {
+                    continue;
+                }
+                give_back(&mut self.at, hand);
+                return Ok(false);
+            }
+            self.used += steps_to_update(self.at.slots);
+            match update(
+                &mut self.at,
+                &found.pred,
+                found.cur.as_ref(),
+                self.key,
+                value,
+                hand,
+            ) {
+                Ok(()) => return Ok(true),
+                Err((back, _)) => hand = back,
             }
         }
     }

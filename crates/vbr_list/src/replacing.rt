@@ -1,13 +1,12 @@
 //! Replacing the value of a key.
-ghost use Rattle.std.specs.Prelude.{◌≡◌, ◌+◌, ◌≤◌, true, false, None, Some, IfOk, IfErr};
+ghost use Rattle.std.specs.Prelude.{◌≡◌, ◌+◌, ◌≤◌, true, None, IfOk, IfErr};
 ghost use Rattle.vbr_slots.specs.Calls.{Took};
 ghost use Rattle.vbr_slots.specs.Views.{IsOf};
 ghost use Rattle.vbr_at_table.specs.CallSteps.{steps_to_birth};
 ghost use Rattle.vbr_list.specs.Inserting.{GivesHandBack, HasHandAndRoom, Links};
 ghost use Rattle.vbr_list.specs.Leaving.{LeavesAt};
-ghost use Rattle.vbr_list.specs.Pieces.{GoesOn, HasRoom, IsSameCall, Replies, pass_in, trace_in};
+ghost use Rattle.vbr_list.specs.Pieces.{GoesOn, HasRoom, pass_in, trace_in};
 ghost use Rattle.vbr_list.specs.Replacing.{AnswersPaid, CallsReplace, FindsPresent, HasHandForValue, HasUnspent, HasUnused, IsOldNode, MayReplaceNode, MaySettleReplace, ReplaceAnswers, Replaces, ReplacesAndLeaves, ReplacesNone, SettlesNone, SettlesPaid, UnlinksReplaced};
-ghost use Rattle.vbr_list.specs.Traversing.{LocatesFor};
 
 use crate::call::{PendingCall, begin};
 use crate::found::Found;
@@ -98,7 +97,7 @@ impl<N: Nodes> PendingCall<'_, N> {
         ensures settles { MaySettleReplace self.old self.new }
         ensures had { HasUnused (pass_in self.old) (pass_in self.new) result }
         ensures replaced { IfOk result (ReplacesAndLeaves value self.old self.new) }
-        ensures paid { IfOk result (λ old. SettlesPaid self.old self.new found.now (Some old)) }
+        ensures paid { IfOk result (SettlesPaid self.old self.new found.now) }
         ensures back { IfErr result (SettlesNone self.old self.new found.now) }
     {
         self.at.law();
@@ -108,36 +107,6 @@ impl<N: Nodes> PendingCall<'_, N> {
         };
         self.unlink_replaced(&found.pred, marked);
         Ok(old)
-    }
-
-    // Answers by what was found, with a slot in hand; else the hand comes back.
-    #[inline]
-    fn settle_replace(
-        &mut self,
-        found: &Found,
-        value: u64,
-        spare: Hand,
-    ) -> Result<Option<u64>, Hand>
-        requires locates { LocatesFor self.old found.now }
-        requires has { HasHandForValue self.old spare }
-        requires room { HasRoom self.old }
-        ensures settles { MaySettleReplace self.old self.new }
-        ensures had { HasUnspent (pass_in self.old) (pass_in self.new) result }
-        ensures answers { IfOk result (ReplaceAnswers value self.old self.new) }
-        ensures paid { IfOk result (SettlesPaid self.old self.new found.now) }
-        ensures back { IfErr result (SettlesNone self.old self.new found.now) }
-    {
-        if found.present {
-            return match self.replace_and_unlink(found, value, spare) {
-                Ok(old) => Ok(Some(old)),
-                Err(back) => Err(back),
-            };
-        }
-        if self.answer_no(found).is_err() {
-            return Err(spare);
-        }
-        give_back(&mut self.at, spare);
-        Ok(None)
     }
 
     // Replaces the value of the key by the slot in hand, or answers no where the key has gone
@@ -157,8 +126,15 @@ impl<N: Nodes> PendingCall<'_, N> {
                 give_back(&mut self.at, hand);
                 return Err(Refusal::OutOfSteps { used: self.used });
             };
-            match self.settle_replace(&found, value, hand) {
-                Ok(answer) => return Ok(answer),
+            if !found.present {
+                if self.answer_no(&found).is_err() {
+                    continue;
+                }
+                give_back(&mut self.at, hand);
+                return Ok(None);
+            }
+            match self.replace_and_unlink(&found, value, hand) {
+                Ok(old) => return Ok(Some(old)),
                 Err(back) => hand = back,
             }
         }

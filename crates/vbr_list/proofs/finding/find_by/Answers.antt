@@ -1,5 +1,5 @@
-use Rattle.std.proofs.Common.{rules, ◌≡◌, ◌<◌, ◌≤◌, arith}
-use Rattle.vbr_at_table.proofs.Lemmas.{took_all}
+use Rattle.vbr_list.proofs.Names.{rules, ◌≡◌, ◌<◌, ◌≤◌, arith}
+use Rattle.vbr_list.proofs.Names.{took_all}
 use Rattle.vbr_list.specs.Budgets.{listed_for}
 use Rattle.vbr_list.specs.Disturbed.{enough_to_search_among, find_costs_among}
 use Rattle.vbr_list.proofs.Clearing.{clear_found}

@@ -1,4 +1,4 @@
-use Rattle.std.proofs.Common.{rules, ◌≡◌}
+use Rattle.vbr_list.proofs.Names.{rules, ◌≡◌}
 use Rattle.vbr_list.proofs.helping.help_apart.Goals as goal
 
 pub returns-clause-goes : goal.returns-clause-goes

@@ -1,5 +1,5 @@
-use Rattle.std.proofs.Common.{ap, rules, ◌∙◌}
-use Rattle.vbr_machine.specs.Start.{Start}
+use Rattle.vbr_list.proofs.Names.{ap, rules, ◌∙◌}
+use Rattle.vbr_list.proofs.Names.{Start}
 use Rattle.vbr_list.specs.Sparing.{CallsAs, SparesInsert}
 use Rattle.vbr_list.specs.Told.{stored_in}
 use Rattle.vbr_list.proofs.Told.{calls_as, stored_bare}

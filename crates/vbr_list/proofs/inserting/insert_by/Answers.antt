@@ -1,18 +1,10 @@
-use Rattle.std.proofs.Common.{rules, ap, Bool, false, ℕ, Err, subst, ◌≡◌, ◌+◌, [], arith}
-use Rattle.std.specs.Prelude.{IfOk}
-use Rattle.vbr_machine.specs.declared.history.Op.TheVariants.{Insert}
-use Rattle.vbr_slots.specs.Alone.{IsAlone}
-use Rattle.vbr_slots.specs.Calls.{Made, Quiet}
-use Rattle.vbr_slots.proofs.Lemmas.{quiet_on, same_on}
-use Rattle.vbr_at_table.specs.Steps.{TookWithin}
-use Rattle.vbr_at_table.specs.Values.{steps_to_update, steps_to_value}
-use Rattle.vbr_at_table.proofs.Lemmas.{counts_on, had_then, longer, needed_before, shared_on, shares_more, slots_kept_on, took_all}
+use Rattle.vbr_list.proofs.Names.{rules, ap, Bool, false, ℕ, Err, subst, ◌≡◌, ◌+◌, [], arith, IfOk}
+use Rattle.vbr_list.proofs.Names.{counts_on, had_then, Insert, IsAlone, longer, Made, needed_before, NoSlot, Quiet, quiet_on, same_on, shared_on, shares_more, slots_kept_on, steps_to_update, steps_to_value, took_all, TookWithin}
 use Rattle.vbr_list.specs.Budgets.{LacksSteps, enough_to_insert, listed_for}
 use Rattle.vbr_list.specs.Disturbed.{disturbed, enough_to_insert_among, insert_costs_among, steps_for_slot}
 use Rattle.vbr_list.specs.Inserting.{InsertIsShort, LinksNone, SearchedFor, SearchesFor}
 use Rattle.vbr_list.specs.Refusals.{IsRefusedInsert}
 use Rattle.vbr_list.specs.Told.{stored_in}
-use Rattle.vbr_at_table.specs.declared.refusal.Refusal.TheVariants.{NoSlot}
 use Rattle.vbr_list.proofs.Disturbing.{run_at}
 use Rattle.vbr_list.proofs.Going.{ok_as}
 use Rattle.vbr_list.proofs.LonePasses.{alone, each_alone}

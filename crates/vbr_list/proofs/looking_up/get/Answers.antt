@@ -1,6 +1,5 @@
-use Rattle.std.proofs.Common.{ap, rules, ◌∙◌}
-use Rattle.vbr_machine.specs.Start.{Start}
-use Rattle.vbr_machine.specs.declared.history.Op.TheVariants.{Get}
+use Rattle.vbr_list.proofs.Names.{ap, rules, ◌∙◌}
+use Rattle.vbr_list.proofs.Names.{Get, Start}
 use Rattle.vbr_list.specs.Sparing.{CallsAs, SparesLookUp}
 use Rattle.vbr_list.specs.Told.{given_in}
 use Rattle.vbr_list.proofs.Told.{calls_as, calls_entry, given_kept, look_up_as}

@@ -1,10 +1,7 @@
-use Rattle.std.proofs.Common.{◌≡◌, rules, sym, Bool, Option, ℕ, Result, subst}
-use Rattle.std.specs.Prelude.{is_some}
-use Rattle.vbr_machine.specs.History.{set_call}
-use Rattle.vbr_machine.specs.declared.history.Op.TheVariants.{Has}
+use Rattle.vbr_list.proofs.Names.{◌≡◌, rules, sym, Bool, Option, ℕ, Result, subst, is_some}
+use Rattle.vbr_list.proofs.Names.{Has, Refusal, set_call}
 use Rattle.vbr_list.specs.Sparing.{Calls, CallsAs, SparesLookUp}
 use Rattle.vbr_list.specs.Told.{given_in}
-use Rattle.vbr_at_table.specs.declared.refusal.Refusal.{Refusal}
 use Rattle.vbr_list.proofs.Told.{calls_yes, look_up_yes, told_bare}
 use Rattle.vbr_list.proofs.looking_up.has.Goals as goal
 

@@ -1,8 +1,5 @@
-use Rattle.std.proofs.Common.{rules, ◌≡◌, ◌+◌, ◌≤◌, refl, ◌∙◌, arith, ap, subst}
-use Rattle.vbr_machine.proofs.Lemmas.{begins_refl}
-use Rattle.vbr_slots.proofs.Lemmas.{adds_on, answer_on, loads_on, quiet_on, same_on, same_refl}
-use Rattle.vbr_at_table.proofs.Lemmas.{counts_on, no_room, none_on, took_all}
-use Rattle.vbr_machine.specs.Start.{Start}
+use Rattle.vbr_list.proofs.Names.{rules, ◌≡◌, ◌+◌, ◌≤◌, refl, ◌∙◌, arith, ap, subst}
+use Rattle.vbr_list.proofs.Names.{adds_on, AddsAnswer, answer_on, begins_refl, counts_on, loads_on, no_room, none_on, quiet_on, same_on, same_refl, Start, took_all}
 use Rattle.vbr_list.proofs.Going.{call_on, call_refl, goes_on, within_call, within_of}
 use Rattle.vbr_list.proofs.Observing.{observed, observes_on}
 use Rattle.vbr_list.specs.Budgets.{listed_for, look_up_costs, steps_where}
@@ -10,7 +7,6 @@ use Rattle.vbr_list.specs.Disturbed.{costs_among, disturbed}
 use Rattle.vbr_list.specs.LookingUp.{steps_to_answer}
 use Rattle.vbr_list.specs.Places.{sighted}
 use Rattle.vbr_list.specs.Told.{given_call, kept_call, look_up_op}
-use Rattle.vbr_slots.specs.Calls.{AddsAnswer}
 use Rattle.vbr_list.proofs.Disturbing.{own_at, run_at, unchanged_at, undisturbed}
 use Rattle.vbr_list.proofs.Walking.{paid_answer, repeated_none, round_on}
 use Rattle.vbr_list.proofs.Passing.{peeks_on, peeks_refl}

@@ -1,11 +1,8 @@
-use Rattle.std.proofs.Common.{ap, rules, sym, ◌∙◌, Bool, Result, subst}
-use Rattle.std.specs.Prelude.{is_some}
-use Rattle.vbr_machine.specs.Start.{Start}
-use Rattle.vbr_machine.specs.declared.history.Op.TheVariants.{Remove}
+use Rattle.vbr_list.proofs.Names.{ap, rules, sym, ◌∙◌, Bool, Result, subst, is_some}
+use Rattle.vbr_list.proofs.Names.{Refusal, Remove, Start}
 use Rattle.vbr_list.specs.Leaving.{SparesRemove}
 use Rattle.vbr_list.specs.Sparing.{Calls, CallsAs}
 use Rattle.vbr_list.specs.Told.{given_in}
-use Rattle.vbr_at_table.specs.declared.refusal.Refusal.{Refusal}
 use Rattle.vbr_list.proofs.Told.{calls_yes, given_bare, remove_yes}
 use Rattle.vbr_list.proofs.removing.remove.Goals as goal
 

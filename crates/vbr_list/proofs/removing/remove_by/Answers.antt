@@ -1,19 +1,15 @@
-use Rattle.std.proofs.Common.{rules, refl, ◌∙◌, arith, ap}
-use Rattle.vbr_slots.proofs.Lemmas.{quiet_on, same_on}
-use Rattle.vbr_at_table.proofs.Lemmas.{counts_on, none_on, took_all}
+use Rattle.vbr_list.proofs.Names.{rules, refl, ◌∙◌, arith, ap, ◌≡◌, ℕ, ◌+◌, ◌≤◌, subst, ◌⊎◌}
+use Rattle.vbr_list.proofs.Names.{counts_on, none_on, quiet_on, Remove, same_on, took_all}
 use Rattle.vbr_list.proofs.Going.{call_on, goes_on, room_left, tries_on, within_call, within_of}
 use Rattle.vbr_list.proofs.Clearing.{leaves_since}
 use Rattle.vbr_list.proofs.Disturbing.{run_at, undisturbed}
 use Rattle.vbr_list.proofs.Walking.{search_round_on}
 use Rattle.vbr_list.proofs.LonePasses.{alone}
-use Rattle.std.proofs.Common.{◌≡◌, ℕ, ◌+◌, ◌≤◌, subst}
 use Rattle.vbr_list.specs.Disturbed.{disturbed, remove_costs_among}
 use Rattle.vbr_list.specs.Budgets.{listed_for, remove_costs, steps_to_value_of}
-use Rattle.std.specs.Prelude.{◌⊎◌}
 use Rattle.vbr_list.specs.Leaving.{Leaves}
 use Rattle.vbr_list.specs.Removing.{MarksAndSearches, RemovesSoon}
 use Rattle.vbr_list.proofs.Marks.{left_fewer, remove_alone, remove_paid}
-use Rattle.vbr_machine.specs.declared.history.Op.TheVariants.{Remove}
 use Rattle.vbr_list.proofs.Tiring.{remove_tires}
 use Rattle.vbr_list.proofs.Told.{given_same, told_since}
 use Rattle.vbr_list.proofs.removing.remove_by.Goals as goal

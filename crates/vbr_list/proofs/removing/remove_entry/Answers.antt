@@ -1,7 +1,5 @@
-use Rattle.std.proofs.Common.{ap, rules, ◌∙◌}
-use Rattle.std.specs.Prelude.{is_some}
-use Rattle.vbr_machine.specs.Start.{Start}
-use Rattle.vbr_machine.specs.declared.history.Op.TheVariants.{Remove}
+use Rattle.vbr_list.proofs.Names.{ap, rules, ◌∙◌, is_some}
+use Rattle.vbr_list.proofs.Names.{Remove, Start}
 use Rattle.vbr_list.specs.Leaving.{SparesRemove}
 use Rattle.vbr_list.specs.Sparing.{CallsAs}
 use Rattle.vbr_list.specs.Told.{given_in}

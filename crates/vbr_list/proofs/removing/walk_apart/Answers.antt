@@ -1,4 +1,4 @@
-use Rattle.std.proofs.Common.{rules, ◌≡◌}
+use Rattle.vbr_list.proofs.Names.{rules, ◌≡◌}
 use Rattle.vbr_list.proofs.Clearing.{clear_walked}
 use Rattle.vbr_list.proofs.Marks.{walked}
 use Rattle.vbr_list.proofs.Sweeping.{swept_walked}

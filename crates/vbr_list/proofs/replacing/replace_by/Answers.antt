@@ -1,5 +1,5 @@
-use Rattle.std.proofs.Common.{◌≡◌, Option, Err, ℕ, rules}
-use Rattle.vbr_at_table.proofs.Lemmas.{took_all}
+use Rattle.vbr_list.proofs.Names.{◌≡◌, Option, Err, ℕ, rules}
+use Rattle.vbr_list.proofs.Names.{took_all}
 use Rattle.vbr_list.specs.Budgets.{listed_for}
 use Rattle.vbr_list.specs.Disturbed.{steps_for_slot}
 use Rattle.vbr_list.proofs.Disturbing.{run_at}

@@ -1,12 +1,5 @@
-use Rattle.std.proofs.Common.{rules, refl, Bool, sym, subst}
-use Rattle.vbr_machine.specs.History.{set_call}
-use Rattle.vbr_machine.specs.declared.history.Call.{Call}
-use Rattle.vbr_machine.specs.declared.history.Op.TheVariants.{Has}
-use Rattle.vbr_slots.specs.Calls.{AddsAnswer, Made}
-use Rattle.vbr_slots.specs.Views.{knows}
-use Rattle.vbr_at_table.specs.Exchanges.{IsUnmarked}
-use Rattle.vbr_at_table.specs.LookUps.{DecidesKey}
-use Rattle.vbr_at_table.specs.declared.held.Held.{Held}
+use Rattle.vbr_list.proofs.Names.{rules, refl, Bool, sym, subst}
+use Rattle.vbr_list.proofs.Names.{AddsAnswer, Call, DecidesKey, Has, Held, IsUnmarked, knows, Made, set_call}
 use Rattle.vbr_list.specs.Told.{kept_call}
 use Rattle.vbr_list.specs.Walking.{LosesHeld}
 use Rattle.vbr_list.proofs.Disturbing.{loses_link}

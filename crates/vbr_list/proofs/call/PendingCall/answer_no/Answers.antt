@@ -1,11 +1,5 @@
-use Rattle.std.proofs.Common.{rules, inl, inr, false, Bool, Option, subst, sym}
-use Rattle.std.specs.Prelude.{Result, Ok, Err, IfOk, OnOk}
-use Rattle.vbr_machine.specs.History.{set_call}
-use Rattle.vbr_slots.specs.Calls.{Made}
-use Rattle.vbr_slots.specs.Views.{knows}
-use Rattle.vbr_at_table.specs.Answering.{FindsAnother}
-use Rattle.vbr_at_table.specs.declared.held.Held.{Held}
-use Rattle.vbr_at_table.proofs.Lemmas.{unchanged_by_none}
+use Rattle.vbr_list.proofs.Names.{rules, inl, inr, false, Bool, Option, subst, sym, Result, Ok, Err, IfOk, OnOk}
+use Rattle.vbr_list.proofs.Names.{FindsAnother, Held, knows, Made, set_call, unchanged_by_none}
 use Rattle.vbr_list.specs.Inserting.{denied}
 use Rattle.vbr_list.specs.Walking.{LosesNext}
 use Rattle.vbr_list.proofs.Disturbing.{lost_place, run_at}

@@ -1,7 +1,5 @@
-use Rattle.std.proofs.Common.{rules, refl, false, subst}
-use Rattle.vbr_machine.specs.declared.history.Call.{Call}
-use Rattle.vbr_machine.specs.declared.history.Op.TheVariants.{Get}
-use Rattle.vbr_slots.specs.Calls.{AddsAnswer, Made}
+use Rattle.vbr_list.proofs.Names.{rules, refl, false, subst}
+use Rattle.vbr_list.proofs.Names.{AddsAnswer, Call, Get, Made}
 use Rattle.vbr_list.proofs.Disturbing.{loses_link}
 use Rattle.vbr_list.proofs.Going.{settles_step}
 use Rattle.vbr_list.proofs.Told.{told_bare}

@@ -1,11 +1,5 @@
-use Rattle.std.proofs.Common.{refl, ◌≡◌, Some, rules, arith, sym, ap, ◌∙◌, subst}
-use Rattle.vbr_machine.specs.Start.{Start}
-use Rattle.vbr_machine.specs.declared.history.Call.{Call}
-use Rattle.vbr_machine.specs.declared.history.Op.TheVariants.{Get}
-use Rattle.vbr_slots.specs.Calls.{AddsAnswer}
-use Rattle.vbr_slots.specs.Views.{knows}
-use Rattle.vbr_slots.proofs.Lemmas.{adds_on, answer_on, loads_on, quiet_on}
-use Rattle.vbr_at_table.proofs.Lemmas.{held_kept}
+use Rattle.vbr_list.proofs.Names.{refl, ◌≡◌, Some, rules, arith, sym, ap, ◌∙◌, subst}
+use Rattle.vbr_list.proofs.Names.{adds_on, AddsAnswer, answer_on, Call, Get, held_kept, knows, loads_on, quiet_on, Start}
 use Rattle.vbr_list.specs.Told.{given_call, given_in}
 use Rattle.vbr_list.specs.Budgets.{steps_to_value_of, steps_where}
 use Rattle.vbr_list.proofs.Going.{goes_counted}

@@ -1,4 +1,4 @@
-use Rattle.std.proofs.Common.{rules, arith}
+use Rattle.vbr_list.proofs.Names.{rules, arith}
 use Rattle.vbr_list.specs.Walking.{LosesPlace}
 use Rattle.vbr_list.proofs.Sufficing.{any_error}
 use Rattle.vbr_list.proofs.call.PendingCall.help.Goals as goal

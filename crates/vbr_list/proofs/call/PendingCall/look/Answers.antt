@@ -1,5 +1,4 @@
-use Rattle.vbr_words.specs.Buckets.{bucket_of}
-use Rattle.vbr_machine.proofs.Lemmas.{begins_run, disturbances_grow, since}
+use Rattle.vbr_list.proofs.Names.{begins_run, bucket_of, disturbances_grow, since}
 use Rattle.vbr_list.specs.Disturbed.{disturbed_after}
 use Rattle.vbr_list.specs.Places.{sighted}
 use Rattle.vbr_list.proofs.Walking.{repeated_none, stood_from}

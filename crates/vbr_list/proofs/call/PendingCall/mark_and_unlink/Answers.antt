@@ -1,13 +1,5 @@
-use Rattle.std.proofs.Common.{refl, ◌≡◌, ◌+◌, ℕ, true, false, Option, Some, rules, arith, sym, ap, ◌∙◌, subst, inl, inr}
-use Rattle.std.specs.Prelude.{◌⊎◌}
-use Rattle.vbr_words.specs.declared.place.At.{At}
-use Rattle.vbr_machine.specs.Membership.{KeyAt}
-use Rattle.vbr_machine.specs.declared.history.Op.TheVariants.{Remove}
-use Rattle.vbr_slots.specs.Views.{knows}
-use Rattle.vbr_slots.proofs.Lemmas.{made_then, quiet_on}
-use Rattle.vbr_at_table.proofs.Lemmas.{counts_on, no_room, held_kept, unchanged_by_none}
-use Rattle.vbr_at_table.specs.Held.{Names}
-use Rattle.vbr_at_table.specs.declared.held.Held.{Held}
+use Rattle.vbr_list.proofs.Names.{refl, ◌≡◌, ◌+◌, ℕ, true, false, Option, Some, rules, arith, sym, ap, ◌∙◌, subst, inl, inr, ◌⊎◌}
+use Rattle.vbr_list.proofs.Names.{At, counts_on, Held, held_kept, KeyAt, knows, made_then, Names, no_room, quiet_on, Remove, unchanged_by_none}
 use Rattle.vbr_list.specs.Pieces.{Goes}
 use Rattle.vbr_list.specs.Removing.{MarksAndSearches, RemovesSoon}
 use Rattle.vbr_list.specs.Walking.{LosesNext}

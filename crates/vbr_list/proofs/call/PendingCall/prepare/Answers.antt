@@ -1,14 +1,5 @@
-use mathlib.Core.Bool.{beq}
-use Rattle.std.proofs.Common.{◌≡◌, ◌+◌, Bool, true, false, refl, sym, ◌∙◌, subst, arith}
-use Rattle.std.specs.Prelude.{not}
-use Rattle.std.proofs.lemmas.Result.{err_from_is_err_and}
-use Rattle.vbr_machine.specs.History.{set_call}
-use Rattle.vbr_slots.specs.Calls.{Made}
-use Rattle.vbr_slots.proofs.Lemmas.{quiet_on}
-use Rattle.vbr_at_table.specs.Budgets.{steps_to_take_among}
-use Rattle.vbr_at_table.specs.Gained.{gained}
-use Rattle.vbr_at_table.proofs.Lemmas.{no_room, some_grown}
-use Rattle.vbr_at_table.specs.Moments.{WasSo}
+use Rattle.vbr_list.proofs.Names.{◌≡◌, ◌+◌, Bool, true, false, refl, sym, ◌∙◌, subst, arith, not, err_from_is_err_and}
+use Rattle.vbr_list.proofs.Names.{beq, gained, Made, no_room, quiet_on, set_call, some_grown, steps_to_take_among, WasSo}
 use Rattle.vbr_list.specs.Disturbed.{steps_for_slot}
 use Rattle.vbr_list.specs.Inserting.{denied}
 use Rattle.vbr_list.proofs.Going.{call_on, goes_further, goes_step, tries_on, within_call}

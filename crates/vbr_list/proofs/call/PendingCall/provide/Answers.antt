@@ -1,9 +1,5 @@
-use Rattle.std.proofs.Common.{rules, ◌-◌, ◌∙◌, Result, Err, ap, subst}
-use Rattle.std.specs.Prelude.{IfErr}
-use Rattle.vbr_at_table.specs.Hands.{HandView}
-use Rattle.vbr_at_table.specs.Refusals.{RefusesTake}
-use Rattle.vbr_at_table.specs.declared.refusal.Refusal.{Refusal}
-use Rattle.vbr_at_table.proofs.Lemmas.{had_taken}
+use Rattle.vbr_list.proofs.Names.{rules, ◌-◌, ◌∙◌, Result, Err, ap, subst, IfErr}
+use Rattle.vbr_list.proofs.Names.{had_taken, HandView, Refusal, RefusesTake}
 use Rattle.vbr_list.proofs.Preparing.{spent_rest}
 use Rattle.vbr_list.proofs.call.PendingCall.provide.Goals as goal
 

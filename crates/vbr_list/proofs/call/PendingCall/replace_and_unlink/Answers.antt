@@ -1,5 +1,5 @@
-use Rattle.std.proofs.Common.{ℕ, inl, inr, subst, ⊎_elim, arith, ◌∙◌}
-use Rattle.vbr_at_table.proofs.Lemmas.{counts_on, had_grown, none_on, two_before}
+use Rattle.vbr_list.proofs.Names.{ℕ, inl, inr, subst, ⊎_elim, arith, ◌∙◌}
+use Rattle.vbr_list.proofs.Names.{counts_on, had_grown, none_on, two_before}
 use Rattle.vbr_list.specs.Removing.{SearchesOn}
 use Rattle.vbr_list.specs.Replacing.{UnlinksAtOnce}
 use Rattle.vbr_list.proofs.Going.{call_on}

@@ -1,20 +1,10 @@
-use Rattle.std.proofs.Common.{◌≡◌, ℕ, ◌+◌, ◌<◌, Bool, true, List, Option, Some, length, rules, arith, inl, inr, sym, ap, ◌∙◌, subst}
-use Rattle.vbr_words.specs.declared.place.At.{At}
-use Rattle.vbr_machine.specs.Membership.{KeyAt}
-use Rattle.vbr_machine.specs.Runs.{IsRun}
-use Rattle.vbr_machine.specs.Start.{Start}
-use Rattle.vbr_machine.specs.declared.history.Op.TheVariants.{Insert, Remove}
-use Rattle.vbr_slots.specs.Views.{knows}
-use Rattle.vbr_slots.specs.declared.pass.TheConstants.{POOL}
-use Rattle.vbr_slots.proofs.Lemmas.{adds_on, quiet_on}
-use Rattle.vbr_at_table.specs.CallSteps.{steps_to_birth}
-use Rattle.vbr_at_table.specs.Held.{Names}
-use Rattle.vbr_at_table.specs.Hands.{HandView}
-use Rattle.vbr_at_table.specs.Replacing.{MadeTwo}
-use Rattle.vbr_at_table.specs.Values.{entry_call, steps_to_update, steps_to_value}
-use Rattle.vbr_at_table.proofs.Lemmas.{counts_on, had_spent, held_kept, keeps_on, key_on, none_on, replaced_since, two_on, unchanged_by_none, value_on}
+use Rattle.vbr_list.proofs.Names.{◌≡◌, ℕ, ◌+◌, ◌<◌, ◌≤◌, refl, Bool, true, List, Option, Some, length, rules, arith, inl, inr, sym, ap, ◌∙◌, subst}
+use Rattle.vbr_list.proofs.Names.{adds_on, At, counts_on, CountsSteps, entry_call, Ghosts, had_spent, HandView, Held, held_kept, Insert, IsRun, keeps_on, key_on, KeyAt, knows, MadeTwo, Names, none_on, PassView, POOL, quiet_on, ReadsIn, Remove, replaced_since, Start, steps_to_birth, steps_to_update, steps_to_value, two_on, unchanged_by_none, value_on}
 use Rattle.vbr_list.proofs.Going.{counts_step, goes_counted, goes_on, goes_read, took_same}
-use Rattle.vbr_at_table.specs.declared.held.Held.{Held}
+use Rattle.vbr_at_table.specs.Exchanges.{StoresIn}
+use Rattle.vbr_list.specs.Pieces.{IsSameCall, pass_in, trace_in}
+use Rattle.vbr_list.specs.Replacing.{MayReplaceNode}
+use Rattle.vbr_list.specs.declared.call.PendingCall.{PendingCall}
 use Rattle.vbr_list.specs.Walking.{LosesNext}
 use Rattle.vbr_list.proofs.Disturbing.{lost_place_later, moves_epoch, moves_on, run_at}
 use Rattle.vbr_list.proofs.Marks.{apart, marks_behind}
@@ -88,41 +78,24 @@ returns-in_default-named-clause-back g c =
     let both = goes_on one two in
     record { quiet = both.quiet; hand = hand_kept c.args.hand both.hand c.requires.has.hand; loses = inl (inl (moves_later one.quiet c.in-Ok.ensures.value.keeps.epoch (moves_on q r two.quiet.same two.quiet.seen (moves_epoch _ c.in_default-named.ensures.moved.rolls)))) }
 
-pub returns-in-Ok-replace-clause-tries : goal.returns-in-Ok-replace-clause-tries
-returns-in-Ok-replace-clause-tries g c =
-    let used = c.args.self.now.used in
-    let n = c.steps_to_birth.result in
-    let one = goes_read used c.value_of-read.ensures.reads in
-    let two = goes_counted (used + 2) n (steps_to_birth c.in-Some.cur.word) c.steps_to_birth.ensures.is c.birth_after-named.ensures.reads in
-    let both = goes_on one two in
-    let few = c.steps_to_birth.ensures.few in
-    let start = c.birth_after-named.new.at.stepper.now.trace.start in
-    let has : start.shape.values ≡ true = ap (λ (d : Start). d.shape.values) both.quiet.same.start ∙ c.requires.has.values in
-    let four : 4 ≡ steps_to_update start = ap (λ (b : Bool). 1 + steps_to_value b + 1 + 1) (sym has) in
+-- the value and a birth were read, and four steps came then
+tried_replace : {N : Type 0} {kind : Ghosts N} {c d : PendingCall N kind} {q r : PassView} (n steps : ℕ) → IsSameCall c d → d.used ≡ c.used + 2 + n + 4 → n ≡ steps → n ≤ 2 → ReadsIn (pass_in c) q 2 → ReadsIn q r steps → (trace_in c).start.shape.values ≡ true → StoresIn r (pass_in d) (steps_to_update r.trace.start) → MayReplaceNode c d
+tried_replace {c = c} {d = d} {r = r} n steps same used counted few value birth values stores =
+    let both = goes_on (goes_read c.used value) (goes_counted (c.used + 2) n steps counted birth) in
+    let has : r.trace.start.shape.values ≡ true = ap (λ (d : Start). d.shape.values) both.quiet.same.start ∙ values in
+    let four : 4 ≡ steps_to_update r.trace.start = ap (λ (b : Bool). 1 + steps_to_value b + 1 + 1) (sym has) in
     record {
-      call = search rules;
-      counts = counts_on both.counts (counts_step (used + 2 + n) 4 (took_same 4 (steps_to_update start) four c.replace.ensures.stores.took));
-      used = (omega arith, omega (arith, few));
-      takes_no_slot = none_on both.hand.takes_no_slot c.replace.ensures.stores.takes_no_slot;
+      call = same;
+      counts = subst (CountsSteps (trace_in c) (trace_in d) c.used) (sym used) (counts_on both.counts (counts_step (c.used + 2 + n) 4 (took_same 4 (steps_to_update r.trace.start) four stores.took)));
+      used = (omega (arith, used), omega (arith, used, few));
+      takes_no_slot = none_on both.hand.takes_no_slot stores.takes_no_slot;
     }
 
+pub returns-in-Ok-replace-clause-tries : goal.returns-in-Ok-replace-clause-tries
+returns-in-Ok-replace-clause-tries g c = tried_replace c.steps_to_birth.result (steps_to_birth c.in-Some.cur.word) (search rules) refl c.steps_to_birth.ensures.is c.steps_to_birth.ensures.few c.value_of-read.ensures.reads c.birth_after-named.ensures.reads c.requires.has.values c.replace.ensures.stores
+
 pub returns-in-Err-clause-tries : goal.returns-in-Err-clause-tries
-returns-in-Err-clause-tries g c =
-    let used = c.args.self.now.used in
-    let n = c.steps_to_birth.result in
-    let one = goes_read used c.value_of-read.ensures.reads in
-    let two = goes_counted (used + 2) n (steps_to_birth c.in-Some.cur.word) c.steps_to_birth.ensures.is c.birth_after-named.ensures.reads in
-    let both = goes_on one two in
-    let few = c.steps_to_birth.ensures.few in
-    let start = c.birth_after-named.new.at.stepper.now.trace.start in
-    let has : start.shape.values ≡ true = ap (λ (d : Start). d.shape.values) both.quiet.same.start ∙ c.requires.has.values in
-    let four : 4 ≡ steps_to_update start = ap (λ (b : Bool). 1 + steps_to_value b + 1 + 1) (sym has) in
-    record {
-      call = search rules;
-      counts = counts_on both.counts (counts_step (used + 2 + n) 4 (took_same 4 (steps_to_update start) four c.replace.ensures.stores.took));
-      used = (omega arith, omega (arith, few));
-      takes_no_slot = none_on both.hand.takes_no_slot c.replace.ensures.stores.takes_no_slot;
-    }
+returns-in-Err-clause-tries g c = tried_replace c.steps_to_birth.result (steps_to_birth c.in-Some.cur.word) (search rules) refl c.steps_to_birth.ensures.is c.steps_to_birth.ensures.few c.value_of-read.ensures.reads c.birth_after-named.ensures.reads c.requires.has.values c.replace.ensures.stores
 
 pub returns-in-Ok-replace-clause-replaced : goal.returns-in-Ok-replace-clause-replaced
 returns-in-Ok-replace-clause-replaced g c =

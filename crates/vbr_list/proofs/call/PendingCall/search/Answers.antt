@@ -1,4 +1,4 @@
-use Rattle.std.proofs.Common.{arith}
+use Rattle.vbr_list.proofs.Names.{arith}
 use Rattle.vbr_list.specs.Disturbed.{disturbed_after}
 use Rattle.vbr_list.proofs.Going.{call_on, call_refl, goes_further, tries_on, tries_refl, within_call}
 use Rattle.vbr_list.proofs.Moments.{found_since}

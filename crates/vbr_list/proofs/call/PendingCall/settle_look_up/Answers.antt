@@ -1,5 +1,4 @@
-use Rattle.std.proofs.Common.{◌+◌, ◌≤◌, Bool, arith, sym, subst}
-use Rattle.std.specs.Prelude.{IfOk, IfErr}
+use Rattle.vbr_list.proofs.Names.{◌+◌, ◌≤◌, Bool, arith, sym, subst, IfOk, IfErr}
 use Rattle.vbr_list.specs.LookingUp.{IsSightFor, LookUpAnswers, LookUpRollsBack, steps_to_answer}
 use Rattle.vbr_list.specs.declared.looking.Sight.{Sight}
 use Rattle.vbr_list.proofs.call.PendingCall.settle_look_up.Goals as goal

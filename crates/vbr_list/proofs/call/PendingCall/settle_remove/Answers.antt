@@ -1,7 +1,5 @@
-use Rattle.std.proofs.Common.{false, Bool, arith, inl, subst}
-use Rattle.vbr_machine.specs.History.{set_call}
-use Rattle.vbr_machine.specs.declared.history.Op.TheVariants.{Remove}
-use Rattle.vbr_slots.specs.Calls.{Made}
+use Rattle.vbr_list.proofs.Names.{false, Bool, arith, inl, subst}
+use Rattle.vbr_list.proofs.Names.{Made, Remove, set_call}
 use Rattle.vbr_list.specs.Inserting.{denied}
 use Rattle.vbr_list.proofs.Going.{settles_step}
 use Rattle.vbr_list.proofs.Sufficing.{any_error}

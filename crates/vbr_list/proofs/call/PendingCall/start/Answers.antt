@@ -1,4 +1,4 @@
-use Rattle.std.proofs.Common.{rules, arith}
+use Rattle.vbr_list.proofs.Names.{rules, arith}
 use Rattle.vbr_list.proofs.Going.{goes_read, ok_as}
 use Rattle.vbr_list.proofs.Observing.{reads_observe}
 use Rattle.vbr_list.proofs.Reaching.{come_to, head_before}

@@ -1,15 +1,5 @@
-use Rattle.std.proofs.Common.{rules, ◌≡◌, ◌+◌, ◌≤◌, true, false, sym, ap, ◌∙◌, refl, subst, arith}
-use Rattle.std.specs.Prelude.{◌==◌}
-use Rattle.std.specs.Option.{is_some}
-use Rattle.vbr_words.specs.Buckets.{bucket_of}
-use Rattle.vbr_words.specs.Words.{link_of}
-use Rattle.vbr_words.specs.declared.link.Link.{Link}
-use Rattle.vbr_machine.specs.Start.{Start}
-use Rattle.vbr_machine.specs.Membership.{HeldIn}
-use Rattle.vbr_slots.specs.Views.{knows}
-use Rattle.vbr_slots.proofs.Lemmas.{quiet_on}
-use Rattle.vbr_at_table.specs.Held.{held_of}
-use Rattle.vbr_at_table.specs.declared.budget.TheConstants.{PIECE}
+use Rattle.vbr_list.proofs.Names.{rules, ◌≡◌, ◌+◌, ◌≤◌, true, false, sym, ap, ◌∙◌, refl, subst, arith, ◌==◌, is_some}
+use Rattle.vbr_list.proofs.Names.{bucket_of, held_of, HeldIn, knows, Link, link_of, PIECE, quiet_on, Start}
 use Rattle.vbr_list.specs.Walking.{Walks}
 use Rattle.vbr_list.proofs.Disturbing.{loses_place_disturb, moves_on, moves_on_disturb, run_at}
 use Rattle.vbr_list.proofs.Going.{call_on, goes_further, goes_on, tries_on, within_call}

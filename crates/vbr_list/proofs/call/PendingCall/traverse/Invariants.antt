@@ -1,7 +1,7 @@
-use Rattle.std.proofs.Common.{◌-◌}
+use Rattle.vbr_list.proofs.Names.{◌-◌}
 use Rattle.vbr_list.specs.Pieces.{IsSameCall}
-use Rattle.vbr_list.proofs.call.PendingCall.traverse.Given as goal
 use Rattle.vbr_list.proofs.Traversals.{Traverses}
+use Rattle.vbr_list.proofs.call.PendingCall.traverse.Given as goal
 
 abbrev pub invariant-loop-pred : goal.invariant-loop-pred
 invariant-loop-pred g l = IsSameCall l.fn.self l.self × Traverses l.fn.self.at.stepper.now l.self.at.stepper.now l.fn.self.key l.fn.self.used l.self.used l.fn.self.budget l.pred

@@ -1,8 +1,8 @@
-use Rattle.std.proofs.Common.{rules, arith, inl, inr, sym, ◌∙◌, ◌+◌}
-use Rattle.vbr_list.specs.Walking.{LosesPlace}
+use Rattle.vbr_list.proofs.Names.{rules, arith, inl, inr, sym, ◌∙◌}
 use Rattle.vbr_list.proofs.Clearing.{clear_since}
 use Rattle.vbr_list.proofs.Going.{goes_on}
-use Rattle.vbr_list.proofs.Preparing.{if_failed, if_went}
+use Rattle.vbr_list.proofs.Marks.{lost_unlinking}
+use Rattle.vbr_list.proofs.Preparing.{if_went}
 use Rattle.vbr_list.proofs.call.PendingCall.unlink_marked.Goals as goal
 
 pub returns-then-is_err-clause-goes : goal.returns-then-is_err-clause-goes
@@ -17,18 +17,7 @@ returns-else-is_err-clause-goes g c = record { call = search rules; goes = c.unl
 pub returns-then-is_err-clause-paid : goal.returns-then-is_err-clause-paid
 returns-then-is_err-clause-paid g c =
     let tried = c.unlink_and_retire-outcome in
-    let lost : LosesPlace c.args.self.now.at.stepper.now.trace tried.new.at.stepper.now.trace c.args.pred.now = if_failed {P = LosesPlace c.args.self.now.at.stepper.now.trace tried.new.at.stepper.now.trace c.args.pred.now} tried.result.0 (sym c.is_err.ensures.value ∙ c.if-is_err.true) tried.ensures.lost in
-    let few = tried.ensures.few in
-    inr (record {
-      ended = tried.new.at.stepper.now.trace;
-      quiet = (tried.ensures.goes 0).quiet;
-      count = (tried.ensures.goes 0).hand.takes_no_slot.count;
-      loses = lost;
-      used = c.args.self.now.used + tried.result.1;
-      few = omega (arith, few);
-      then = c.walk_on-self.ensures.goes.quiet;
-      walks = c.walk_on-self.ensures.walks;
-    })
+    inr (lost_unlinking c.args.self.now.used tried.result.0 (sym c.is_err.ensures.value ∙ c.if-is_err.true) tried.ensures.lost tried.ensures.goes tried.ensures.few c.walk_on-self.ensures.goes.quiet c.walk_on-self.ensures.walks)
 
 pub returns-else-is_err-clause-paid : goal.returns-else-is_err-clause-paid
 returns-else-is_err-clause-paid g c =

@@ -1,11 +1,6 @@
-use Rattle.std.proofs.Common.{rules, ◌≡◌, refl, sym, ap, ◌∙◌, subst, arith, eq-eqb, true, false, Option, ℕ, Some, None}
-use Rattle.std.specs.Prelude.{◌==◌}
-use Rattle.std.proofs.lemmas.Bool.Decides.{nat_tests}
-use Rattle.std.specs.Option.{is_some}
-use Rattle.vbr_words.specs.declared.link.Link.{Link}
-use Rattle.vbr_at_table.specs.declared.held.Held.{Held}
+use Rattle.vbr_list.proofs.Names.{rules, ◌≡◌, refl, sym, ap, ◌∙◌, subst, arith, eq-eqb, true, false, Option, ℕ, Some, None, ◌==◌, nat_tests, is_some}
+use Rattle.vbr_list.proofs.Names.{Held, Link, link_of}
 use Rattle.vbr_list.proofs.Going.{call_on, goes_further}
-use Rattle.vbr_words.specs.Words.{link_of}
 use Rattle.vbr_list.proofs.Disturbing.{grows_disturbed, run_at}
 use Rattle.vbr_list.proofs.Walking.{stood_on}
 use Rattle.vbr_list.proofs.Visits.{met_open, met_paid, met_past, met_to, paid_so_far, starts_none, starts_walk, visit_moved, visit_paid}

@@ -1,7 +1,7 @@
-use Rattle.std.proofs.Common.{◌-◌}
+use Rattle.vbr_list.proofs.Names.{◌-◌}
 use Rattle.vbr_list.specs.Pieces.{IsSameCall}
-use Rattle.vbr_list.proofs.call.PendingCall.walk.Given as goal
 use Rattle.vbr_list.proofs.Traversals.{Looks}
+use Rattle.vbr_list.proofs.call.PendingCall.walk.Given as goal
 
 abbrev pub invariant-loop-here : goal.invariant-loop-here
 invariant-loop-here g l = IsSameCall l.fn.self l.self × Looks l.fn.self.at.stepper.now l.self.at.stepper.now l.fn.self.key l.fn.self.used l.self.used l.fn.self.budget l.pred l.here
