@@ -38,7 +38,12 @@ key_call p op key value bare = ap (λ (v : Option ℕ). record { who = p.who; op
 pub key_removed : (p q : Trace) (node : Held) (result : Result Marked Rollback) → p.start.shape.values ≡ false → IfOk result (RemovesEntry p q node) → IfOk result (RemovesKey p q node)
 key_removed p q node (Ok now) bare removed = record {
   made = λ key k. subst (λ (call : Call). Made call p q) (key_call p Remove key 0 bare) (removed.made key 0 k (λ has. not_valued bare has));
-  at = removed.at; link = removed.link; held = removed.held; out = removed.out; leaves = removed.leaves; alone = removed.alone;
+  at = removed.at;
+  link = removed.link;
+  held = removed.held;
+  out = removed.out;
+  leaves = removed.leaves;
+  alone = removed.alone;
 }
 key_removed p q node (Err rollback) bare removed = tt
 

@@ -101,8 +101,11 @@ module _ {m n : MemberView} (o : MemberView) {c d : Cursor} {entries : List (ℕ
       let count : length (entries ++ (key, value) ∷ []) ≡ length entries + 1 = length-append entries ((key, value) ∷ []) in
       let P : List ℕ → Type 0 = HasGiven m.pass.trace o.pass.trace d in
       record {
-        goes = goes_on_safe x.goes y.goes; quiet = quiet_on x.quiet y.iterates.quiet; takes_no_slot = none_on x.takes_no_slot y.iterates.takes_no_slot;
-        only_loads = loads_on x.only_loads y.iterates.only_loads; adds_none = adds_on x.adds_none y.iterates.adds_none;
+        goes = goes_on_safe x.goes y.goes;
+        quiet = quiet_on x.quiet y.iterates.quiet;
+        takes_no_slot = none_on x.takes_no_slot y.iterates.takes_no_slot;
+        only_loads = loads_on x.only_loads y.iterates.only_loads;
+        adds_none = adds_on x.adds_none y.iterates.adds_none;
         given = subst P (sym keys) (given_on x.goes.sees sees x.given gives.0.0);
         values = λ values. were_and m.pass.trace o.pass.trace entries (key, value) (were_more m.pass.trace entries (x.values values) sees) (entry_since x.goes.sees (gives.1 (ap (λ (s : Start). s.shape.values) x.goes.sees.same.start ∙ values)));
         refused = x.refused;
@@ -127,8 +130,11 @@ module _ {m n : MemberView} (o : MemberView) {c d : Cursor} {entries : List (ℕ
       let stops = y.iterates.refused in
       let P : List ℕ → Type 0 = HasGiven m.pass.trace o.pass.trace d in
       record {
-        goes = goes_on_safe x.goes y.goes; quiet = quiet_on x.quiet y.iterates.quiet; takes_no_slot = none_on x.takes_no_slot y.iterates.takes_no_slot;
-        only_loads = loads_on x.only_loads y.iterates.only_loads; adds_none = adds_on x.adds_none y.iterates.adds_none;
+        goes = goes_on_safe x.goes y.goes;
+        quiet = quiet_on x.quiet y.iterates.quiet;
+        takes_no_slot = none_on x.takes_no_slot y.iterates.takes_no_slot;
+        only_loads = loads_on x.only_loads y.iterates.only_loads;
+        adds_none = adds_on x.adds_none y.iterates.adds_none;
         given = subst P (append-nil (keys_of entries)) (given_on x.goes.sees sees x.given stops.passed);
         values = λ values. were_more m.pass.trace entries (x.values values) sees;
         refused = x.refused + 1;

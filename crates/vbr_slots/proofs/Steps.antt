@@ -149,7 +149,12 @@ module _ (p : RunnerInside) (w : Trace) (sound : IsSoundRunner p) (p_is : trace_
 
   pub did : q.seat.table_id ≡ p.seat.table_id → Did step w (trace_of q) r
   did table = subst (λ (t : Trace). Did step w t r) (sym (trace_is p w p_is end.run q is fields.0 fields.1 (table ∙ ap (λ (v : Trace). v.table) p_is))) (record {
-    rest = end.rest; none = end.none; seen = end.run_is; is_run = end.is_run; shows = end.shows; know = end.know;
+    rest = end.rest;
+    none = end.none;
+    seen = end.run_is;
+    is_run = end.is_run;
+    shows = end.shows;
+    know = end.know;
     same = (refl, refl, refl, refl);
     steps = ap (steps_in w.who) end.run_is ∙ steps_next w.who w.seen end.rest step end.none;
   })
