@@ -221,12 +221,14 @@ typedef enum vbr_answer : int32_t {
 typedef enum vbr_answer {
 #endif
     VBR_NO = 0,            /* the answer is no; of vbr_open: done; of vbr_close: others are open;
-                              of vbr_next: the walk is at its end; put, get_or_insert: the key was absent, and is inserted; replace, compare_exchange, remove_if: it is
-                              absent, and nothing was changed */
+                              of vbr_next: the walk is at its end;
+                              put, get_or_insert: the key was absent, and is inserted;
+                              replace, compare_exchange, remove_if: the key is absent, and nothing was changed */
     VBR_YES = 1,           /* the answer is yes; of vbr_close: it was the last, the set is closed;
-                              of vbr_next: the next key is given; replace, put: the key was there, and has the new value; get_or_insert: it is there;
-                              compare_exchange: it had the value that is expected, and has the new one;
-                              remove_if: it had the value that is expected, and is taken out */
+                              of vbr_next: the next key is given;
+                              replace, put: the key was there, and has the new value; get_or_insert: the key is there;
+                              compare_exchange: the key had the value that is expected, and has the new one;
+                              remove_if: the key had the value that is expected, and is taken out */
     VBR_OTHER = 2,         /* compare_exchange, remove_if: the key is there with another value; nothing was changed */
     VBR_OUT_OF_STEPS = -1, /* the budget is spent; no call was made; a greater budget may help;
                               next: the cursor keeps how far it has come */
