@@ -36,8 +36,9 @@
 //! [`Map`] has a value beside each key. It is opened, used and closed as a [`Set`], and what is said here of sets and their
 //! handles is so of maps and theirs. [`MapHandle::get`] and [`MapHandle::remove`] give the value of a key. [`MapHandle::insert`]
 //! leaves the value of a key that is there; [`MapHandle::replace`], [`MapHandle::put`], [`MapHandle::compare_exchange`] and
-//! [`MapHandle::fetch_update`] change it at one moment, so nobody finds the key absent. [`Table`] and [`HandleOf`] have the
-//! calls of both, for either [`Kind`].
+//! [`MapHandle::fetch_update`] change it at one moment, so nobody finds the key absent. [`MapHandle::get_or_insert`] and
+//! [`MapHandle::remove_if`] do one thing or another by what is there. [`Table`] and [`HandleOf`] have the calls of both, for
+//! either [`Kind`].
 //!
 //! ```
 //! use vbr::{Entry, Map, Shape};
