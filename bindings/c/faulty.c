@@ -22,11 +22,14 @@
    19 a look-up now and then begins anew, though nothing moved: it takes twice the steps
    20 a remove now and then begins anew, though nothing moved
    21 an insert now and then begins anew twice, though nothing moved
+   22 a `has` now and then answers as the last one of its thread did, if that was of the same key and the thread has neither
+      inserted nor removed it since
 
    One thread alone can't see the seventh and the twelfth, and four threads don't look for the eighth, ninth and tenth. The
-   twelfth leaves each thread's own answers right: it shows only where the program orders calls of several. The thirteenth
-   leaves all answers right while there are slots, and the last three leave right whatever is answered: they show only in what
-   is refused for want of steps. What can be wrong with values alone is in map_faulty.c. */
+   twelfth leaves each thread's own answers right: it shows only where the program orders calls of several. So does the
+   twenty-second, of what is inserted and removed. The thirteenth leaves all answers right while there are slots, and the
+   nineteenth to twenty-first leave right whatever is answered: they show only in what is refused for want of steps. What can be
+   wrong with values alone is in map_faulty.c. */
 #include "faulty.h"
 #include "vbr.h"
 
@@ -70,6 +73,19 @@ static void make_late(void) {
     late.handle = NULL;
 }
 
+/* What the last `has` of this thread told, for the twenty-second fault; of none where it has changed the key since. */
+static _Thread_local struct {
+    void *of; /* the handle's */
+    uint64_t key;
+    vbr_answer answer;
+} looked;
+
+static int is_looked(const a_handle *handle, uint64_t key) { return looked.of && looked.of == handle->owned && looked.key == key; }
+
+static void forget_look(uint64_t key) {
+    if (looked.key == key) looked.of = NULL;
+}
+
 vbr_answer WRAP(open)(a_handle *handles, size_t count, uint32_t slots, uint32_t buckets, uint64_t last_epoch) {
     static void *kept;
     if (fault() == 9 && (count < 1 || count > VBR_MAX_HANDLES)) return VBR_BAD_COUNT;
@@ -87,6 +103,7 @@ vbr_answer WRAP(open_with)(a_handle *handles, size_t count, uint32_t slots, uint
 vbr_answer WRAP(insert)(a_handle *handle, uint64_t key WITH(uint64_t value), uint32_t budget) {
     if (fault() == 8 && budget < 100 && budget >= 8 && handle->owned) return VBR_OUT_OF_STEPS;
     make_late();
+    forget_look(key);
     if (fault() == 12 && REAL(has)(handle, key, budget) == VBR_NO) {
         late = (struct an_insert){handle, key WITH(value)};
         return VBR_YES;
@@ -109,6 +126,7 @@ static vbr_answer remove_after_look_up(a_handle *handle, uint64_t key, uint32_t 
 
 vbr_answer WRAP(remove)(a_handle *handle, uint64_t key, uint32_t budget WITH(uint64_t *value)) {
     make_late();
+    forget_look(key);
     if (now(2)) return LOOK_UP(handle, key, budget WITH(value));
     if (now(13)) { /* the least budget that is answered leaves no step to unlink */
         for (uint32_t least = 0; least < budget; least++) {
@@ -122,7 +140,11 @@ vbr_answer WRAP(remove)(a_handle *handle, uint64_t key, uint32_t budget WITH(uin
 
 vbr_answer WRAP(has)(a_handle *handle, uint64_t key, uint32_t budget) {
     make_late();
+    if (is_looked(handle, key) && now(22)) return looked.answer;
     vbr_answer answer = REAL(has)(handle, key, now(19) ? budget / 2 : budget);
+    looked.of = answer < 0 ? NULL : handle->owned;
+    looked.key = key;
+    looked.answer = answer;
     return answer == VBR_YES && now(4) ? VBR_NO : answer;
 }
 
