@@ -23,6 +23,9 @@ template <class N> struct Twin {
     bool remove(Handle &h, uint64_t key, uint64_t &value) { return answer(table.remove(h.pass, key, BUDGET, value)); }
     bool get(Handle &h, uint64_t key, uint64_t &value) { return answer(table.get(h.pass, key, BUDGET, value)); }
     bool has(Handle &h, uint64_t key) { return answer(table.has(h.pass, key, BUDGET)); }
+    bool replace(Handle &h, uint64_t key, uint64_t value, uint64_t &old) {
+        return answer(table.replace(h.pass, key, value, BUDGET, old));
+    }
     bool insert(Handle &h, uint64_t key) { return insert(h, key, 0); }
     bool remove(Handle &h, uint64_t key) {
         uint64_t none;
@@ -39,9 +42,10 @@ private:
 const bool singles_of_map = add_singles_of_map<Twin<twin::Entries>>("twin");
 const bool singles_of_set = add_singles_of_set<Twin<twin::Keys>>("twin set");
 
-// The library's calls, of a set and of a map. What has no value leaves `value` as it is.
+// The library's calls, of a set and of a map, which has one kind more. What has no value leaves `value` as it is.
 struct Set {
     using Nodes = twin::Keys;
+    static constexpr unsigned KINDS = 4;
     vbr_handle handles[2] = {};
 
     Set(uint32_t slots, uint32_t buckets, uint64_t last_epoch) {
@@ -54,11 +58,13 @@ struct Set {
     int remove(int by, uint64_t key, uint32_t budget, uint64_t &) { return vbr_remove(&handles[by], key, budget); }
     int get(int by, uint64_t key, uint32_t budget, uint64_t &) { return has(by, key, budget); }
     int has(int by, uint64_t key, uint32_t budget) { return vbr_has(&handles[by], key, budget); }
+    int replace(int, uint64_t, uint64_t, uint32_t, uint64_t &) { return VBR_EMPTY; } // never called
     uint64_t epoch(int by) { return vbr_epoch(&handles[by]); }
 };
 
 struct Map {
     using Nodes = twin::Entries;
+    static constexpr unsigned KINDS = 5;
     vbr_map_handle handles[2] = {};
 
     Map(uint32_t slots, uint32_t buckets, uint64_t last_epoch) {
@@ -71,6 +77,9 @@ struct Map {
     int remove(int by, uint64_t key, uint32_t budget, uint64_t &value) { return vbr_map_remove(&handles[by], key, budget, &value); }
     int get(int by, uint64_t key, uint32_t budget, uint64_t &value) { return vbr_map_get(&handles[by], key, budget, &value); }
     int has(int by, uint64_t key, uint32_t budget) { return vbr_map_has(&handles[by], key, budget); }
+    int replace(int by, uint64_t key, uint64_t value, uint32_t budget, uint64_t &old) {
+        return vbr_map_replace(&handles[by], key, value, &old, budget);
+    }
     uint64_t epoch(int by) { return vbr_map_epoch(&handles[by]); }
 };
 
@@ -84,6 +93,9 @@ template <class N> struct Plain {
     int remove(int by, uint64_t key, uint32_t budget, uint64_t &value) { return table.remove(passes[by], key, budget, value); }
     int get(int by, uint64_t key, uint32_t budget, uint64_t &value) { return table.get(passes[by], key, budget, value); }
     int has(int by, uint64_t key, uint32_t budget) { return table.has(passes[by], key, budget); }
+    int replace(int by, uint64_t key, uint64_t value, uint32_t budget, uint64_t &old) {
+        return table.replace(passes[by], key, value, budget, old);
+    }
     uint64_t epoch(int by) { return passes[by].epoch; }
 };
 
@@ -106,7 +118,8 @@ template <class T> Told told(T &of, const Call &call) {
     int answer = call.kind == 0   ? of.insert(call.by, call.key, call.value, call.budget)
                  : call.kind == 1 ? of.remove(call.by, call.key, call.budget, value)
                  : call.kind == 2 ? of.get(call.by, call.key, call.budget, value)
-                                  : of.has(call.by, call.key, call.budget);
+                 : call.kind == 3 ? of.has(call.by, call.key, call.budget)
+                                  : of.replace(call.by, call.key, call.value, call.budget, value);
     return {answer, value, of.epoch(call.by)};
 }
 
@@ -119,7 +132,8 @@ template <class L> bool answers_as(uint32_t slots, uint32_t buckets, uint64_t la
     for (uint64_t i = 0; i < 200000; i++) {
         uint64_t x = random.next();
         uint32_t budget = x >> 60 < 6 ? static_cast<uint32_t>(x >> 40) % 64 : 10000;
-        Call call{static_cast<unsigned>(x & 3), static_cast<int>(x >> 2 & 1), key_of((x >> 8 & 0xffffffff) % keys), i, budget};
+        unsigned kind = (x & 0x7f) % L::KINDS;
+        Call call{kind, static_cast<int>(x >> 7 & 1), key_of((x >> 8 & 0xffffffff) % keys), i, budget};
         if (told(library, call) == told(plain, call)) continue;
         std::fprintf(stderr, "compare: the twin answers call %llu of %u slots otherwise than the library\n",
                      static_cast<unsigned long long>(i), slots);

@@ -145,6 +145,10 @@ public:
         uint64_t none;
         return Call<N>(*this, pass, key, budget).template look_up<false>(none);
     }
+    // Where nodes have values: gives a key that is there this value, and the one that it had.
+    [[gnu::noinline, gnu::aligned(64)]] Answer replace(Pass &pass, uint64_t key, uint64_t value, uint32_t budget, uint64_t &old) {
+        return Call<N>(*this, pass, key, budget).replace(value, old);
+    }
 
 private:
     // As bindings/large_pages.c does it for the library.
@@ -331,10 +335,20 @@ public:
             if (!is_affordable()) return OUT_OF_STEPS;
             if (stands(found.cur)) return NO;
         }
-        Taken hand = table.take(pass, budget - used);
-        used += hand.made;
-        epoch = pass.epoch;
+        Taken hand = take();
         return hand.answer == YES ? link(value, hand) : hand.answer;
+    }
+
+    [[gnu::always_inline]] Answer replace(uint64_t value, uint64_t &old) {
+        for (;;) {
+            Found found;
+            if (!search(found)) return OUT_OF_STEPS;
+            if (found.present) break;
+            if (!is_affordable()) return OUT_OF_STEPS;
+            if (stands(found.pred)) return NO;
+        }
+        Taken hand = take();
+        return hand.answer == YES ? replace_by(value, hand, old) : hand.answer;
     }
 
 private:
@@ -359,6 +373,14 @@ private:
     bool exchange(uint64_t at, uint64_t expected, uint64_t word) {
         used++;
         return words[at].compare_exchange_strong(expected, word);
+    }
+
+    // Takes a slot with what is left of the budget.
+    [[gnu::always_inline]] Taken take() {
+        Taken hand = table.take(pass, budget - used);
+        used += hand.made;
+        epoch = pass.epoch;
+        return hand;
     }
 
     // Reads the epoch and the head of the bucket: whether the epoch stayed.
@@ -475,6 +497,43 @@ private:
             used += N::VALUES ? 3 : 2;
             if (exchange(found.pred.at, found.pred.word, link_to(named, found.pred.birth, hand.birth))) return YES;
         }
+    }
+
+    // Replaces the node of the key by the slot in hand, or answers no where the key has gone meanwhile.
+    [[gnu::always_inline]] Answer replace_by(uint64_t value, const Taken &hand, uint64_t &old) {
+        for (;;) {
+            Found found;
+            if (!search(found) || !is_affordable()) return given_back(hand, OUT_OF_STEPS);
+            if (!found.present) {
+                if (stands(found.pred)) return given_back(hand, NO);
+                continue;
+            }
+            uint64_t here = load(found.cur.at + Words::VALUE);
+            used += 2;
+            if (!epoch_stays() || !take_place(value, hand, found.cur)) continue;
+            old = here;
+            if (is_affordable()) unlink_marked(found);
+            return YES;
+        }
+    }
+
+    // Marks the node of the key and links the slot in hand behind it; whether nothing came between. Its link is then the marked one.
+    [[gnu::always_inline]] bool take_place(uint64_t value, const Taken &hand, Held &node) {
+        const uint64_t named = hand.slot + uint64_t{1}, at = link_of(named), next = named_by(node.word);
+        uint64_t birth = 0;
+        if (next) {
+            birth = load(link_of(next) + Words::BIRTH);
+            used += 2;
+            if (!epoch_stays()) return false;
+        }
+        words[at + Words::KEY] = key;
+        words[at + Words::VALUE] = value;
+        words[at] = link_to(next, hand.birth, birth);
+        used += 3;
+        uint64_t marked = MARK | link_to(named, node.birth, hand.birth);
+        if (!exchange(node.at, node.word, marked)) return false;
+        node.word = marked;
+        return true;
     }
 
     Answer given_back(const Taken &hand, Answer answer) {

@@ -40,6 +40,14 @@ template <class N> struct Beside {
         HOLDS(given == (at != plain.end() ? at->second : 0));
         if (at != plain.end()) plain.erase(at);
     }
+    void replace(uint64_t key, uint64_t value) {
+        uint64_t given = 0;
+        auto at = plain.find(key);
+        bool is_there = at != plain.end(), has_room = plain.size() < slots;
+        HOLDS(table.replace(pass, key, value, AMPLE, given) == (!is_there ? NO : has_room ? YES : NO_SLOT));
+        HOLDS(given == (is_there && has_room ? at->second : 0));
+        if (is_there && has_room) at->second = value;
+    }
     void look_up(uint64_t key) {
         uint64_t given = 0;
         auto at = plain.find(key);
@@ -55,10 +63,11 @@ template <class N> void answers_as_a_plain_map(uint32_t slots, uint32_t buckets,
     for (uint64_t i = 1; i <= 200000; i++) {
         state ^= state << 13, state ^= state >> 7, state ^= state << 17;
         uint64_t key = (state >> 32) % keys * 4096;
-        switch (state % 3) {
+        switch (state % (N::VALUES ? 4 : 3)) {
         case 0: beside.insert(key, i); break;
         case 1: beside.remove(key); break;
         case 2: beside.look_up(key); break;
+        case 3: beside.replace(key, i); break;
         }
     }
     HOLDS(beside.pass.epoch > 1);
@@ -90,6 +99,27 @@ template <class N> void makes_these_steps() {
     // the mark, the unlinking, the epoch and the stamp
     HOLDS(steps_of(pass, [&] { HOLDS(table.remove(pass, 5, AMPLE, given) == YES); }) == 3 + 5 + 2 * VALUE + 4);
     HOLDS(steps_of(pass, [&] { HOLDS(table.remove(pass, 5, AMPLE, given) == NO); }) == 3 + 1);
+}
+
+// A replacement searches twice, and takes a slot between.
+void replaces_by_these_steps() {
+    Table<Entries> table(3, 1, 10);
+    Pass pass;
+    uint64_t given = 0;
+    HOLDS(steps_of(pass, [&] { HOLDS(table.replace(pass, 5, 50, AMPLE, given) == NO); }) == 3 + 1);
+    HOLDS(table.insert(pass, 5, 50, AMPLE) == YES);
+    // two searches; two flags, the epoch, a stamp and a birth; the value, three words of the node and the exchange; the birth behind
+    // the marked node, the unlinking, the epoch and the stamp
+    uint64_t taking = 2 + 3, around = 2 * (3 + 5) + (2 + 3 + 1) + (2 + 1 + 2);
+    HOLDS(steps_of(pass, [&] { HOLDS(table.replace(pass, 5, 51, AMPLE, given) == YES); }) == around + taking);
+    HOLDS(given == 50 && table.get(pass, 5, AMPLE, given) == YES && given == 51);
+    HOLDS(table.insert(pass, 6, 60, AMPLE) == YES && pass.epoch == 2);
+    around += 2; // the birth of the node behind
+    HOLDS(steps_of(pass, [&] { HOLDS(table.replace(pass, 5, 52, AMPLE, given) == YES); }) == around + taking);
+    taking = 1 + 1 + 2 + 1; // its own slot has the epoch as its stamp, so that is advanced
+    HOLDS(steps_of(pass, [&] { HOLDS(table.replace(pass, 5, 53, AMPLE, given) == YES); }) == around + taking);
+    HOLDS(given == 52);
+    HOLDS(steps_of(pass, [&] { HOLDS(table.replace(pass, 7, 70, AMPLE, given) == NO); }) == 3 + 5 + 5 + 1);
 }
 
 template <class N> void refuses() {
@@ -134,5 +164,6 @@ template <class N> void test() {
 int main() {
     test<Keys>();
     test<Entries>();
+    replaces_by_these_steps();
     std::puts("twin: passed");
 }
