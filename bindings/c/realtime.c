@@ -21,6 +21,7 @@
 #define _POSIX_C_SOURCE 200809L
 #include "vbr.h"
 
+#include <errno.h>
 #include <pthread.h>
 #include <sched.h>
 #include <signal.h>
@@ -91,7 +92,7 @@ static struct call calls[THREADS * CALLS];        /* those of one thread are nex
 static uint32_t events[2 * THREADS * CALLS];      /* of each stamp: the number of its call, doubled, and 1 where the call ends */
 static _Alignas(128) atomic_uint stamps;          /* how many were drawn */
 static _Alignas(128) atomic_int missing, working; /* threads that haven't come to the start, and that haven't done */
-static volatile sig_atomic_t pause_us;
+static atomic_int pause_us; /* how long a thread that is stopped stands still */
 static long rounds, stops, refused, seed = 1;
 
 static uint64_t next(uint64_t *random) {
@@ -257,8 +258,10 @@ static int failed(const char *what, uint32_t key) {
 /* Stops the thread where it is, often in the middle of a call. */
 static void stand_still(int signal_number) {
     (void)signal_number;
-    struct timespec time = {0, pause_us * 1000L};
+    int kept = errno;
+    struct timespec time = {0, atomic_load(&pause_us) * 1000L};
     nanosleep(&time, NULL);
+    errno = kept;
 }
 
 static vbr_answer call_set(vbr_handle *handle, struct call *c) {
@@ -389,7 +392,7 @@ static void stop_threads(uint64_t *random, pthread_t *threads) {
         struct timespec time = {0, 50000 + (long)(x % 200000)};
         nanosleep(&time, NULL);
         if (atomic_load(&working) < THREADS) continue;
-        pause_us = 20 + (sig_atomic_t)(x >> 32 & 255);
+        atomic_store(&pause_us, 20 + (int)(x >> 32 & 255));
         pthread_kill(threads[x >> 40 & 3], SIGUSR1);
         stops++;
     }
