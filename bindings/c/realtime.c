@@ -2,11 +2,12 @@
    explains each answer, or says that there is none.
 
        realtime sets|maps [CALLS [SEED]]
+       realtime histories [HISTORIES [SEED]]
 
-   makes at least that many calls. A thread draws a stamp from one counter right before a call, and another right after it. The
-   call has to take effect at a point between the two: so of two calls the one that ended before the other began stands first.
-   In the order of these points each answer has to be that of a plain map. As a call is on one key, it is enough that each key
-   has such an order. A refused call has to leave all as it was, and is left out of the search.
+   The first makes at least that many calls. A thread draws a stamp from one counter right before a call, and another right after
+   it. The call has to take effect at a point between the two: so of two calls the one that ended before the other began stands
+   first. In the order of these points each answer has to be that of a plain map. As a call is on one key, it is enough that each
+   key has such an order. A refused call has to leave all as it was, and is left out of the search.
 
    The search goes once over the stamps. For each key it keeps every way in which its calls can have gone so far: which of those
    that are open, so begun and not ended, have taken effect, and what the key then has. Before a call ends, any open call may
@@ -17,7 +18,10 @@
 
    Each round has a set or a map of its own, of up to eight keys in few buckets, opened with some of them or with none. At its
    end the report has to say of each key what the search says. In some rounds budgets are too small, slots are short, the epochs
-   run out, threads are stopped in the middle of calls, or values come back; in the others each is stored once. */
+   run out, threads are stopped in the middle of calls, or values come back; in the others each is stored once.
+
+   The second makes no call: it sees that of so many short histories, drawn at random with true and false answers, the search
+   explains just those for which a trial of all orders finds one. */
 #define _POSIX_C_SOURCE 200809L
 #include "vbr.h"
 
@@ -36,6 +40,7 @@ enum {
     CALLS = 8192,    /* of each thread in a round */
     MAX_KEYS = 8,    /* the keys are the numbers below those of a round */
     ABSENT = 0,      /* in place of a value: the key isn't there */
+    SHORT = 8,       /* the most calls of a short history */
     SHOWN = 12,      /* how many calls are told of that ended before the one that can't be explained */
     AMPLE = 1 << 20, /* a budget that no call runs out of */
     WAYS = 1 << THREADS
@@ -457,24 +462,96 @@ static int play(uint64_t *random) {
     return 0;
 }
 
-static int usage(void) {
-    fputs("usage: realtime sets|maps [CALLS [SEED]]\n", stderr);
-    return 2;
+/* Gives a call the answer of a plain map that has this, and what that then has. */
+static uint64_t answered(struct call *c, uint64_t has) {
+    struct outcome told = plain(c, has);
+    c->answer = told.answer;
+    c->found = told.found;
+    return told.after;
 }
 
-int main(int count, char **words) {
-    if (count < 2 || (strcmp(words[1], "sets") && strcmp(words[1], "maps"))) return usage();
-    of_maps = !strcmp(words[1], "maps");
-    long wanted = count > 2 ? atol(words[2]) : 2000000, made = 0;
-    if (count > 3) seed = atol(words[3]);
-    if (wanted < 1 || seed < 0) return usage();
-    uint64_t random = ((uint64_t)seed + 1) * 0x9e3779b97f4a7c15u | 1;
+static void note_stamp(uint32_t *stamp, const struct call *c, uint32_t is_end) {
+    events[(*stamp)++] = 2 * (uint32_t)(c - calls) + is_end;
+}
+
+/* Draws a short history on one key: each call is answered as it begins or as it ends, and at last one perhaps otherwise. Gives
+   how many calls it has. */
+static uint32_t draw_history(const struct round *r, uint64_t *random) {
+    struct worker workers[THREADS];
+    struct call *open[THREADS] = {NULL};
+    uint64_t has = r->opening ? opening_value(0) : ABSENT;
+    uint32_t count = 0, stamp = 0;
+    for (int i = 0; i < THREADS; i++) workers[i] = (struct worker){.round = r, .random = next(random) | 1, .number = i};
+    for (int turn = 0; turn < 2 * SHORT + THREADS; turn++) {
+        int by = turn < 2 * SHORT ? (int)below(random, THREADS) : turn - 2 * SHORT, is_early = next(random) & 1;
+        if (open[by]) {
+            if (open[by]->answer == VBR_EMPTY) has = answered(open[by], has);
+            open[by]->end = stamp;
+            note_stamp(&stamp, open[by], 1);
+            open[by] = NULL;
+        } else if (turn < 2 * SHORT && count < SHORT) {
+            open[by] = &calls[count++];
+            *open[by] = drawn(&workers[by], 0);
+            open[by]->expected = value_of(1 + below(random, 3));
+            open[by]->begin = stamp;
+            open[by]->answer = VBR_EMPTY;
+            note_stamp(&stamp, open[by], 0);
+            if (is_early) has = answered(open[by], has);
+        }
+    }
+    if (next(random) & 1) answered(&calls[below(random, count)], below(random, 4) ? value_of(below(random, 4)) : has);
+    return count;
+}
+
+/* Whether the calls of a history that are left have an order that explains them: tries each one that may come first. */
+static int is_explained(uint32_t count, uint32_t done, uint64_t has) {
+    uint32_t first_end = UINT32_MAX;
+    for (uint32_t i = 0; i < count; i++)
+        if (!(done >> i & 1) && calls[i].end < first_end) first_end = calls[i].end;
+    for (uint32_t i = 0; i < count; i++) {
+        struct outcome told = plain(&calls[i], has);
+        if (done >> i & 1 || calls[i].begin > first_end || told.answer != calls[i].answer || told.found != calls[i].found) continue;
+        if (is_explained(count, done | 1u << i, told.after)) return 1;
+    }
+    return done == (1u << count) - 1;
+}
+
+/* Compares the search with a trial of all orders. */
+static int compare(long histories, uint64_t *random) {
+    static struct history found[MAX_KEYS];
+    long explained = 0;
+    of_maps = 1;
+    for (rounds = 1; rounds <= histories; rounds++) {
+        struct round r = {.keys = 1, .values = 3, .look_ups = 85, .opening = next(random) & 1};
+        uint32_t count = draw_history(&r, random);
+        int is_so = is_explained(count, 0, r.opening ? opening_value(0) : ABSENT);
+        if (is_so != !search(&r, found, 2 * count)) return failed("the search differs from a trial of all orders", 0);
+        explained += is_so;
+    }
+    printf("order in real time, a trial of all orders: passed, %ld of %ld short histories are explained\n", explained, histories);
+    return 0;
+}
+
+/* Lets threads make calls. */
+static int play_all(long wanted, uint64_t *random) {
+    long made = 0;
     struct sigaction action = {0};
     action.sa_handler = stand_still;
     if (sigaction(SIGUSR1, &action, NULL)) return 1;
     for (; made < wanted; made += THREADS * CALLS)
-        if (play(&random)) return 1;
-    printf("order in real time, %s in C: passed, %ld calls in %ld rounds, %ld of them refused, %ld stops\n", words[1], made, rounds,
-           refused, stops);
+        if (play(random)) return 1;
+    printf("order in real time, %s in C: passed, %ld calls in %ld rounds, %ld of them refused, %ld stops\n",
+           of_maps ? "maps" : "sets", made, rounds, refused, stops);
     return 0;
+}
+
+int main(int count, char **words) {
+    const char *what = count > 1 ? words[1] : "";
+    long wanted = count > 2 ? atol(words[2]) : 1000000;
+    if (count > 3) seed = atol(words[3]);
+    uint64_t random = ((uint64_t)seed + 1) * 0x9e3779b97f4a7c15u | 1;
+    of_maps = !strcmp(what, "maps");
+    if (wanted > 0 && seed >= 0 && !strcmp(what, "histories")) return compare(wanted, &random);
+    if (wanted > 0 && seed >= 0 && (of_maps || !strcmp(what, "sets"))) return play_all(wanted, &random);
+    return fputs("usage: realtime sets|maps [CALLS [SEED]]\n       realtime histories [HISTORIES [SEED]]\n", stderr), 2;
 }
