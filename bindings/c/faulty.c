@@ -33,6 +33,8 @@
 #include "faulty.h"
 #include "vbr.h"
 
+#include <sched.h>
+
 /* WITH names what only calls on maps have, and GIVE writes a value; LOOK_UP tells of a key, and in a map its value too. */
 #ifdef OF_MAPS
 typedef vbr_map_handle a_handle;
@@ -69,7 +71,9 @@ static _Thread_local struct an_insert {
 } late;
 
 static void make_late(void) {
-    if (late.handle) (void)!REAL(insert)(late.handle, late.key WITH(late.value), 1 << 20);
+    if (!late.handle) return;
+    sched_yield(); /* so that others look meanwhile, also where processors are few */
+    (void)!REAL(insert)(late.handle, late.key WITH(late.value), 1 << 20);
     late.handle = NULL;
 }
 
