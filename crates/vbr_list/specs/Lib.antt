@@ -14,6 +14,7 @@ pub mod Visiting
 pub mod Traversing
 pub mod Helping
 pub mod Valuing
+pub mod Telling
 pub mod LookingUp
 pub mod Next
 pub mod Cursors

@@ -23,6 +23,7 @@ pub mod removing;
 mod replacing;
 mod seeking;
 mod taking;
+mod telling;
 mod traversal;
 mod valuing;
 mod visiting;
