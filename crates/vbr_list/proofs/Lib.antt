@@ -24,8 +24,9 @@ mod LonePasses
 mod Told
 mod Marks
 mod ValueReads
-mod Replacements
+mod FoundValues
+mod Stores
 mod Linking
 mod LateSearches
-mod ReplacedValues
+mod StoredValues
 pub mod Lemmas

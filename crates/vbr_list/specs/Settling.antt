@@ -99,9 +99,9 @@ pub record MeetTires {N : Type 0} {kind : Ghosts N} (c d : PendingCall N kind) :
 -- ---- a slot is taken
 
 -- the pass has a slot in hand, and has made no call
-pub record HasPrepared {N : Type 0} {kind : Ghosts N} (wanted : Wanted) (c d : PendingCall N kind) (hand : HandView) : Type 0 where
+pub record HasPrepared {N : Type 0} {kind : Ghosts N} (wanted : Wanted) (c d : PendingCall N kind) (given : HandView) : Type 0 where
   pub quiet : Quiet (trace_in c) (trace_in d)
-  pub hand : HasHandAndRoom (pass_in d) hand
+  pub hand : HasHandAndRoom (pass_in d) given
   pub searched : SearchedFor (trace_in c) (trace_in d) c.key c.used d.used (steps_to_prepare wanted (pass_in c) (trace_in d) + 3)
 
 -- it was answered without one
@@ -155,7 +155,7 @@ had_node (Some old) = true
 
 -- a node that was replaced has left its list, unless the budget has no room for one more piece
 abbrev pub LeavesIf : {N : Type 0} {kind : Ghosts N} → Bool → PendingCall N kind → PendingCall N kind → Type 0
-LeavesIf yes c d = yes ≡ true → HasRoom d → LeavesReplaced (trace_in c) (trace_in d) c.key
+LeavesIf stored c d = stored ≡ true → HasRoom d → LeavesReplaced (trace_in c) (trace_in d) c.key
 
 -- so it is, and the value is stored
 pub record StoresAndLeaves {N : Type 0} {kind : Ghosts N} (value : ℕ) (c d : PendingCall N kind) (there : Option ℕ) : Type 0 where
@@ -168,9 +168,9 @@ pub record SettlesNone {N : Type 0} {kind : Ghosts N} (most : ℕ) (c d : Pendin
   pub few : d.used ≤ c.used + most
 
 -- it is answered in so many steps and six; with a piece more left of the budget than so many, a replaced node has then left its list
-pub record SettlesSoon {N : Type 0} {kind : Ghosts N} (most : ℕ) (yes : Bool) (c d : PendingCall N kind) : Type 0 where
+pub record SettlesSoon {N : Type 0} {kind : Ghosts N} (most : ℕ) (stored : Bool) (c d : PendingCall N kind) : Type 0 where
   pub few : d.used ≤ c.used + most + 6
-  pub leaves : yes ≡ true → c.used + most + PIECE ≤ c.budget → LeavesReplaced (trace_in c) (trace_in d) c.key
+  pub leaves : stored ≡ true → c.used + most + PIECE ≤ c.budget → LeavesReplaced (trace_in c) (trace_in d) c.key
 
 -- so it is; or, of a node that was replaced, the place before it was lost, and searches follow
 abbrev pub SettlesIn : {N : Type 0} {kind : Ghosts N} → ℕ → Bool → PendingCall N kind → PendingCall N kind → Found → Type 0
@@ -198,14 +198,14 @@ abbrev pub SearchesWith : Trace → Trace → ℕ → ℕ → ℕ → ℕ → Ty
 SearchesWith p q key before since more = Searches 12 p q key before since more
 
 -- it is answered soon after its last search; with sixteen steps left of the budget then a replaced node has left its list
-pub record AnswersSoon {N : Type 0} {kind : Ghosts N} (yes : Bool) (c d : PendingCall N kind) : Type 0 where
+pub record AnswersSoon {N : Type 0} {kind : Ghosts N} (stored : Bool) (c d : PendingCall N kind) : Type 0 where
   pub ended : Trace
   pub quiet : Quiet (trace_in c) ended
   pub to : Begins ended.seen (trace_in d).seen
   pub used : ℕ
   pub searches : SearchesWith (trace_in c) ended c.key c.used used 3
   pub few : d.used ≤ used + 14
-  pub leaves : yes ≡ true → used + 16 ≤ c.budget → LeavesReplaced (trace_in c) (trace_in d) c.key
+  pub leaves : stored ≡ true → used + 16 ≤ c.budget → LeavesReplaced (trace_in c) (trace_in d) c.key
 
 -- it replaced a node after some searches, lost the place before it, and searched on: for that it was disturbed once, and once for each search but the last
 pub record AnswersLate (p q : Trace) (key before since : ℕ) : Type 0 where

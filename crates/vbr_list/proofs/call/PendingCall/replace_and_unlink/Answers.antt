@@ -3,7 +3,7 @@ use Rattle.vbr_list.proofs.Names.{counts_on, had_grown, none_on, two_before}
 use Rattle.vbr_list.specs.Removing.{SearchesOn}
 use Rattle.vbr_list.specs.Replacing.{UnlinksAtOnce}
 use Rattle.vbr_list.proofs.Going.{call_on}
-use Rattle.vbr_list.proofs.Replacements.{all_but_then}
+use Rattle.vbr_list.proofs.Stores.{all_but_then}
 use Rattle.vbr_list.proofs.Sweeping.{leaves_replaced}
 use Rattle.vbr_list.proofs.call.PendingCall.replace_and_unlink.Goals as goal
 

@@ -10,7 +10,7 @@ use Rattle.vbr_list.proofs.Disturbing.{lost_place_later, moves_epoch, moves_on, 
 use Rattle.vbr_list.proofs.Marks.{apart, marks_behind}
 use Rattle.vbr_list.proofs.Moments.{key_found}
 use Rattle.vbr_list.proofs.Reaching.{key_kept, pred_on, slot_same}
-use Rattle.vbr_list.proofs.Replacements.{had_same, hand_kept, moves_later}
+use Rattle.vbr_list.proofs.Stores.{had_same, hand_kept, moves_later}
 use Rattle.vbr_list.proofs.ValueReads.{cur_is, slot_at}
 use Rattle.vbr_list.proofs.call.PendingCall.replace_found.Goals as goal
 

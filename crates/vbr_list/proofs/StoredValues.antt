@@ -11,7 +11,7 @@ use Rattle.vbr_list.specs.declared.call.PendingCall.{PendingCall}
 use Rattle.vbr_list.proofs.Disturbing.{alone_undisturbed, run_at}
 use Rattle.vbr_list.proofs.Going.{room_left}
 use Rattle.vbr_list.proofs.Preparing.{made_since, within_all, within_most, within_on}
-use Rattle.vbr_list.proofs.Replacements.{had_since, replace_lone, replace_lone_costs, replace_refused_second}
+use Rattle.vbr_list.proofs.Stores.{had_since, replace_lone, replace_lone_costs, replace_refused_second}
 use Rattle.vbr_list.proofs.LateSearches.{late_disturbs, late_paid}
 use Rattle.vbr_list.proofs.Sufficing.{answered_or_spent, lacks, lone, never_refused, slot_later}
 use Rattle.vbr_list.proofs.Sweeping.{leaves_replaced_since}

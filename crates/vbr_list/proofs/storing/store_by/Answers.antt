@@ -4,8 +4,8 @@ use Rattle.vbr_list.specs.Budgets.{listed_for}
 use Rattle.vbr_list.specs.Disturbed.{steps_for_slot}
 use Rattle.vbr_list.proofs.Disturbing.{run_at}
 use Rattle.vbr_list.proofs.Preparing.{within_all, within_most, within_on}
-use Rattle.vbr_list.proofs.Replacements.{absent_paid, replace_lone, replace_lone_costs, replace_refused_first, replace_vain}
-use Rattle.vbr_list.proofs.ReplacedValues.{calls_with}
+use Rattle.vbr_list.proofs.Stores.{absent_paid, replace_lone, replace_lone_costs, replace_refused_first, replace_vain}
+use Rattle.vbr_list.proofs.StoredValues.{calls_with}
 use Rattle.vbr_list.proofs.Sufficing.{answered_or_spent, had_no_slot}
 use Rattle.vbr_list.proofs.replacing.replace_by.Goals as goal
 

@@ -13,7 +13,7 @@ use Rattle.vbr_list.proofs.Going.{by_either}
 use Rattle.vbr_list.proofs.LateSearches.{late_searched}
 use Rattle.vbr_list.proofs.Linking.{begun, counts_until, denied_then, had_denied, has_denied, had_tired, had_until, IsLinking, links_then, links_tired, located, lost_then, made_denied, quiet_until, takes_back, TakesOn}
 use Rattle.vbr_list.proofs.Preparing.{if_failed, made_since, within_same}
-use Rattle.vbr_list.proofs.Replacements.{had_since, hand_kept, searches_with_end}
+use Rattle.vbr_list.proofs.Stores.{had_since, hand_kept, searches_with_end}
 use Rattle.vbr_list.proofs.Sweeping.{leaves_replaced_since}
 use Rattle.vbr_list.proofs.call.PendingCall.replace_with.Goals as goal
 
