@@ -1,16 +1,19 @@
 -- What a search found is read, and answers a get.
-use Rattle.vbr_list.proofs.Names.{◌≡◌, ℕ, ◌+◌, ◌≤◌, Bool, true, false, Option, Some, None, arith, refl, sym, ap, ◌∙◌, subst, is_some}
-use Rattle.vbr_list.proofs.Names.{adds_on, counts_on, CountsSteps, Ghosts, Held, held_kept, IsRun, IsSame, IsStart, Keeps, KeepsIn, Know, knows, Quiet, ReadsIn, Start, Trace, unchanged_by_none, ValueAt}
+use Rattle.vbr_list.proofs.Names.{◌≡◌, ℕ, ◌+◌, ◌<◌, ◌≤◌, Bool, true, false, Option, Some, None, arith, refl, sym, subst, is_some, IsSome}
+use Rattle.vbr_list.proofs.Names.{counts_on, CountsSteps, entry_call, Get, Ghosts, Held, held_kept, Insert, IsSame, Keeps, KeepsIn, Know, knows, link_of, Made, made_on, MadeTwo, payload_kept, Quiet, ReadsIn, Remove, Start, steps_to_birth, Trace, ValueAt}
+use Rattle.vbr_at_table.specs.CallSteps.{birth_steps}
 use Rattle.vbr_list.specs.Budgets.{steps_where}
 use Rattle.vbr_list.specs.Pieces.{GoesOn, IsSameCall, pass_in, trace_in}
 use Rattle.vbr_list.specs.Places.{IsEnd, Locates}
 use Rattle.vbr_list.specs.Settling.{Asks}
-use Rattle.vbr_list.specs.Telling.{IsFoundValue, IsThere}
+use Rattle.vbr_list.specs.Telling.{IsFoundValue, IsThere, TellsThere}
+use Rattle.vbr_list.specs.Told.{given_call, stored_call}
 use Rattle.vbr_list.specs.declared.call.PendingCall.{PendingCall}
 use Rattle.vbr_list.specs.declared.found.Found.{Found}
 use Rattle.vbr_list.proofs.Going.{call_on, counts_step, goes_read}
 use Rattle.vbr_list.proofs.KeptHands.{hand_on, own_kept}
 use Rattle.vbr_list.proofs.Reaching.{key_kept, pred_on}
+use Rattle.vbr_list.proofs.Told.{kept_all}
 
 -- ---- what was found is known later
 
@@ -61,6 +64,14 @@ pub few_where : (yes : Bool) → steps_where yes ≤ 2
 few_where true = omega arith
 few_where false = omega arith
 
+some_steps : (named : Option ℕ) → IsSome named → 0 < birth_steps named
+some_steps None some = let no : false ≡ true = some in absurd (cc)
+some_steps (Some slot) some = omega arith
+
+-- the birth of a node takes some
+pub some_birth : (word : ℕ) → IsSome (link_of word).slot → 0 < steps_to_birth word
+some_birth word some = some_steps (link_of word).slot some
+
 -- a value was read
 pub read_goes : {N : Type 0} {kind : Ghosts N} {c d : PendingCall N kind} (steps : ℕ) → IsSameCall c d → d.used ≡ c.used + steps → ReadsIn (pass_in c) (pass_in d) steps → GoesOn c d
 read_goes {c = c} {d = d} steps same used reads =
@@ -80,3 +91,26 @@ asks_then {c = c} {d = d} {e = e} present same used reads then one keeps =
     let few = few_where present in
     let last = subst (CountsSteps (trace_in d) (trace_in e) d.used) (sym one) (counts_step d.used 1 keeps.took) in
     record { call = call_on same then; counts = counts_on first.counts last; hand = hand_on first.hand (own_kept keeps.own keeps.takes_no_slot); more = omega (arith, used, one); few = omega (arith, used, one, few) }
+
+-- a get that was answered after what made no call
+pub tells_since : {N : Type 0} {kind : Ghosts N} (c d e : PendingCall N kind) (there : Option ℕ) → d.key ≡ c.key → Quiet (trace_in c) (trace_in d) → TellsThere d e there → TellsThere c e there
+tells_since c d e there key quiet made =
+    let K : ℕ → Type 0 = λ k. Made (given_call (trace_in d).who Get k there) (trace_in c) (trace_in e) in
+    let W : ℕ → Type 0 = λ who. Made (given_call who Get c.key there) (trace_in c) (trace_in e) in
+    subst W quiet.same.who (subst K key (made_on quiet made))
+
+-- ---- calls as a table of entries keeps them
+
+-- where nodes have values, an insert is that of its value
+pub insert_told : {p q : Trace} (start : Start) (who key value : ℕ) → start.shape.values ≡ true → Made (entry_call start who Insert key true value) p q → Made (stored_call who key value true) p q
+insert_told {p} {q} start who key value has made =
+    let M : Option ℕ → Type 0 = λ kept. Made (record { who = who; op = Insert; key = key; reply = true; value = kept }) p q in
+    subst M (kept_all start (Some value) has) made
+
+-- and so are a remove and the insert next to it
+pub two_told : {p q : Trace} (start : Start) (who key old value : ℕ) → start.shape.values ≡ true → MadeTwo (entry_call start who Remove key true old) (entry_call start who Insert key true value) p q → MadeTwo (given_call who Remove key (Some old)) (stored_call who key value true) p q
+two_told {p} {q} start who key old value has made =
+    let M : Option ℕ → Option ℕ → Type 0 = λ gone kept. MadeTwo (record { who = who; op = Remove; key = key; reply = true; value = gone }) (record { who = who; op = Insert; key = key; reply = true; value = kept }) p q in
+    let L : Option ℕ → Type 0 = λ kept. M (payload_kept start (Some old)) kept in
+    let F : Option ℕ → Type 0 = λ gone. M gone (Some value) in
+    subst F (kept_all start (Some old) has) (subst L (kept_all start (Some value) has) made)

@@ -26,6 +26,8 @@ mod Marks
 mod ValueReads
 mod FoundValues
 mod Stores
+mod Wants
+mod Settled
 mod Linking
 mod LateSearches
 mod StoredValues

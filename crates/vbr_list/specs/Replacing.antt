@@ -1,5 +1,5 @@
 -- The pieces of a replacement: a node that was found is replaced by the one in hand, and leaves its list. Only contracts of private functions cite this.
-use Rattle.std.specs.Prelude.{◌≡◌, ◌⊎◌, ℕ, ◌+◌, ◌≤◌, true, Option, Some, None, Result, Ok, Err}
+use Rattle.std.specs.Prelude.{◌⊎◌, ℕ, ◌+◌, ◌<◌, ◌≤◌, true, Some, Result, Ok, Err}
 use Rattle.vbr_words.specs.declared.nodes.Nodes.{Ghosts}
 use Rattle.vbr_words.specs.declared.place.At.TheVariants.{Slot}
 use Rattle.vbr_machine.specs.Membership.{KeyAt, StandsBehind}
@@ -10,10 +10,10 @@ use Rattle.vbr_at_table.specs.Steps.{CountsSteps}
 use Rattle.vbr_at_table.specs.declared.held.Held.{Held}
 use Rattle.vbr_at_table.specs.declared.held.Marked.{Marked}
 use Rattle.vbr_list.specs.Helping.{MayHelp}
-use Rattle.vbr_list.specs.Leaving.{LeavesAt, LeavesReplaced}
+use Rattle.vbr_list.specs.Leaving.{LeavesAt}
 use Rattle.vbr_list.specs.Pieces.{HasRoom, IsSameCall, pass_in, trace_in}
 use Rattle.vbr_list.specs.Removing.{MarksBehind, SearchesOn}
-use Rattle.vbr_list.specs.Settling.{ChangePaid, Stores, StoresAndLeaves}
+use Rattle.vbr_list.specs.Settling.{SettlesIn, Stores, StoresAndLeaves}
 use Rattle.vbr_list.specs.Telling.{KnowsThere}
 use Rattle.vbr_list.specs.declared.call.PendingCall.{PendingCall}
 use Rattle.vbr_list.specs.declared.found.Found.{Found}
@@ -26,7 +26,7 @@ KnowsValue c found = (old : ℕ) × KnowsThere c found (Some old)
 pub record MayStoreNode {N : Type 0} {kind : Ghosts N} (c d : PendingCall N kind) : Type 0 where
   pub call : IsSameCall c d
   pub counts : CountsSteps (trace_in c) (trace_in d) c.used d.used
-  pub more : c.used ≤ d.used
+  pub more : c.used < d.used
   pub few : d.used ≤ c.used + 6
   pub takes_no_slot : TakesNoSlot (pass_in c) (pass_in d)
 
@@ -46,6 +46,10 @@ pub record Replaces {N : Type 0} {kind : Ghosts N} (value : ℕ) (c d : PendingC
 -- so it is, and the replaced node has left its list, unless the budget has no room for one more piece
 abbrev pub ReplacesAndLeaves : {N : Type 0} {kind : Ghosts N} → ℕ → PendingCall N kind → PendingCall N kind → Found → Type 0
 ReplacesAndLeaves value c d found = (old : ℕ) → KnowsThere c found (Some old) → StoresAndLeaves value c d (Some old)
+
+-- and it is paid as a change of a node that was there
+abbrev pub ReplacesPaid : {N : Type 0} {kind : Ghosts N} → PendingCall N kind → PendingCall N kind → Found → Type 0
+ReplacesPaid c d found = SettlesIn 6 true c d found
 
 -- the old node is unlinked in six steps at most, if the budget has room for a piece
 pub record UnlinksAtOnce {N : Type 0} {kind : Ghosts N} (c d : PendingCall N kind) (slot : ℕ) : Type 0 where

@@ -62,6 +62,7 @@ impl<N: Nodes> PendingCall<'_, N> {
         ensures met { IfOk result (AsksMet wanted self.old self.new found.now) }
         ensures lost { IfErr result (λ _. AskLoses self.old self.new found.now) }
     {
+        self.at.law();
         let there = self.read_found(found)?;
         if wanted.wants(there) {
             return Ok(Met::AsWanted);
@@ -112,11 +113,13 @@ impl<N: Nodes> PendingCall<'_, N> {
         let Some(met) = self.meet(wanted) else {
             return Err(Refusal::OutOfSteps { used: self.used });
         };
-        if let Met::Told(there) = met {
-            return Ok(Prepared::Told(there));
+        match met {
+            Met::Told(there) => Ok(Prepared::Told(there)),
+            Met::AsWanted => {
+                let hand = self.provide()?;
+                Ok(Prepared::Ready(hand))
+            }
         }
-        let hand = self.provide()?;
-        Ok(Prepared::Ready(hand))
     }
 }
 
@@ -195,6 +198,7 @@ impl<N: Nodes> PendingCall<'_, N> {
         ensures paid { IfOk result (SettlesPaid wanted self.old self.new found.now) }
         ensures back { IfErr result (SettlesNone 8 self.old self.new found.now) }
     {
+        self.at.law();
         let Ok(there) = self.read_found(found) else {
             return Err(hand);
         };

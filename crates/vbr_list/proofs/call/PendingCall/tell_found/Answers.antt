@@ -1,4 +1,4 @@
-use Rattle.vbr_list.proofs.Names.{◌≡◌, ℕ, inl, inr, false, true, Option, Some, IfOk, subst, sym, ◌∙◌, rules}
+use Rattle.vbr_list.proofs.Names.{ℕ, inl, inr, Option, IfOk, subst, sym}
 use Rattle.vbr_list.proofs.Names.{FindsAnother, Get, Held, knows, Made, unchanged_by_none}
 use Rattle.vbr_list.specs.Told.{given_call}
 use Rattle.vbr_list.specs.Walking.{LosesNext}
