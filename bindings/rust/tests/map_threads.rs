@@ -3,7 +3,7 @@
 use std::collections::HashSet;
 use std::sync::atomic::{AtomicBool, Ordering};
 use std::thread;
-use vbr::{Entry, Map, MapHandle, Refusal, Shape, MAX_EPOCH};
+use vbr::{Entry, Map, MapHandle, MapPass, Refusal, Shape, MAX_EPOCH};
 
 const THREADS: u64 = 4;
 const KEYS: u64 = 64;
@@ -45,7 +45,7 @@ impl Worker {
         }
     }
 
-    fn call(&mut self, handle: &mut MapHandle, key: u64, kind: u64, is_spent: &AtomicBool) {
+    fn call(&mut self, handle: &mut MapPass, key: u64, kind: u64, is_spent: &AtomicBool) {
         match kind {
             0 | 1 => match handle.insert(key, self.value_of(key), BUDGET) {
                 Ok(true) => self.stored.push(self.value_of(key)),
