@@ -14,7 +14,8 @@
        if (opened != vbr::open_answer::done) return 1;
        vbr::answer added = handles[0].insert(5, 70, 100000); // yes: 5 was absent, and now has the value 70
        vbr::found there = handles[1].get(5, 100000);         // yes: there.value is 70
-       vbr::found taken = handles[1].remove(5, 100000);      // yes: taken.value is 70
+       vbr::found was = handles[0].replace(5, 71, 100000);   // yes: was.value is 70, and 5 has 71
+       vbr::found taken = handles[1].remove(5, 100000);      // yes: taken.value is 71
 
    All keys, one after another, while other threads make calls; vbr.h says under "Walks" which are given, and how often:
 
@@ -29,7 +30,7 @@
 
    A handle may go to another thread by whatever orders the two. Where a thread ends, or an exception leaves a function, the
    handles that it owned end too, which closes them; nothing is lost. What vbr.h says of cancelled threads, signals and forks
-   holds here as well: a signal handler inserts, removes, looks up and walks, and opens, closes and ends no handle. */
+   holds here as well: a signal handler inserts, removes, changes values, looks up and walks, and opens, closes and ends no handle. */
 #ifndef VBR_HPP
 #define VBR_HPP
 
@@ -91,9 +92,10 @@ struct shape {
 enum class [[nodiscard]] answer : std::int32_t {
     no = VBR_NO,
     yes = VBR_YES,
+    other = VBR_OTHER,               /* compare_exchange, remove_if: the key is there with another value; nothing was changed */
     out_of_steps = VBR_OUT_OF_STEPS, /* the budget is spent; no call was made; a greater budget may help; a cursor keeps how far it has come */
-    no_slot = VBR_NO_SLOT,           /* insert: the key is absent, and the handle found no slot; no call was made */
-    epoch_spent = VBR_EPOCH_SPENT,   /* insert: the key is absent and the last epoch is spent; no call was made; renew the set */
+    no_slot = VBR_NO_SLOT,           /* the handle found no slot for a node; no call was made; insert, get_or_insert: the key is absent */
+    epoch_spent = VBR_EPOCH_SPENT,   /* a node is wanted and the last epoch is spent; no call was made; renew the set */
     empty = VBR_EMPTY                /* the handle is empty */
 };
 
@@ -103,7 +105,7 @@ enum class [[nodiscard]] answer : std::int32_t {
        if (got.value) sum += *got.value; // got.answer is yes */
 struct [[nodiscard]] found {
     vbr::answer answer;
-    std::optional<std::uint64_t> value; /* there where the answer is yes */
+    std::optional<std::uint64_t> value; /* there where the answer is yes or other: what the key had */
 };
 
 /* Where a walk stands: before the first key, or after the one that was given last. A copy keeps the place. With another handle, or
@@ -159,6 +161,7 @@ constexpr const char *to_string(answer told) noexcept {
     switch (told) {
     case answer::no: return "no";
     case answer::yes: return "yes";
+    case answer::other: return "another value";
     case answer::out_of_steps: return "out of steps";
     case answer::no_slot: return "no slot was found";
     case answer::epoch_spent: return "the last epoch is spent";
@@ -509,6 +512,74 @@ public:
         return found_by(told, value);
     }
 
+    /* Gives a key that is there another value: yes with the one that it had; no if it was absent, and then nothing was changed.
+       No call finds the key absent meanwhile.
+
+           vbr::found was = mine.replace(6, 61, budget); // yes: 6 had was.value, and has 61 */
+    found replace(std::uint64_t key, std::uint64_t value, std::uint32_t budget) noexcept {
+        std::uint64_t had = 0;
+        vbr_answer told = vbr_map_replace(&raw, key, value, &had, budget);
+        return found_by(told, had);
+    }
+
+    /* Gives a key this value: yes with the one that it had; no if it was absent, and it is then inserted.
+
+           if (!vbr::is_refusal(mine.put(7, 70, budget).answer)) puts++; // 7 has 70, whether it was there or not */
+    found put(std::uint64_t key, std::uint64_t value, std::uint32_t budget) noexcept {
+        std::uint64_t had = 0;
+        vbr_answer told = vbr_map_put(&raw, key, value, &had, budget);
+        return found_by(told, had);
+    }
+
+    /* The value of a key, which is inserted with this one where it is absent: yes with the value that it has; no if it was
+       absent, and it is then inserted.
+
+           std::uint64_t has = mine.get_or_insert(8, 80, budget).value.value_or(80); // but for a refusal */
+    found get_or_insert(std::uint64_t key, std::uint64_t value, std::uint32_t budget) noexcept {
+        std::uint64_t has = 0;
+        vbr_answer told = vbr_map_get_or_insert(&raw, key, value, &has, budget);
+        return found_by(told, has);
+    }
+
+    /* Gives a key another value if it has the one that is expected: yes, with that one; other, with the one that it has; or no
+       if it is absent. But for yes nothing was changed.
+
+           if (mine.compare_exchange(6, 61, 62, budget).answer == vbr::answer::yes) changed++; // 6 had 61, and has 62 */
+    found compare_exchange(std::uint64_t key, std::uint64_t expected, std::uint64_t value, std::uint32_t budget) noexcept {
+        std::uint64_t had = 0;
+        vbr_answer told = vbr_map_compare_exchange(&raw, key, expected, value, &had, budget);
+        return found_by(told, had);
+    }
+
+    /* Takes a key out if it has the value that is expected: yes, with that one; other, with the one that it has; or no if it is
+       absent. But for yes nothing was changed.
+
+           vbr::found left = mine.remove_if(6, 60, budget); // other: 6 has left.value, and is still there */
+    found remove_if(std::uint64_t key, std::uint64_t expected, std::uint32_t budget) noexcept {
+        std::uint64_t had = 0;
+        vbr_answer told = vbr_map_remove_if(&raw, key, expected, &had, budget);
+        return found_by(told, had);
+    }
+
+    /* Gives a key the value that `update` makes of the one that it has, as std::optional<std::uint64_t>: yes with the value before;
+       no, and nothing is changed, if the key is absent or `update` makes none. No update of another thread is lost: where one comes
+       in between, `update` is asked again, with the value that it left. Each call that it takes has this budget.
+
+           auto half = [](std::uint64_t value) { return value % 2 ? std::nullopt : std::optional(value / 2); };
+           vbr::found before = mine.fetch_update(6, half, budget); // yes: 6 had before.value, and has half of it */
+    template <class Update>
+    found fetch_update(std::uint64_t key, Update &&update, std::uint32_t budget) {
+        found seen = get(key, budget);
+        while (seen.value) {
+            std::optional<std::uint64_t> next = update(*seen.value);
+            if (!next) return {answer::no, std::nullopt};
+            found told = compare_exchange(key, *seen.value, *next, budget);
+            if (told.answer != answer::other) return told;
+            seen = told;
+        }
+        return seen;
+    }
+
     /* All entries, one after another, each call in at most `budget` steps. What the last call answered is then in `told`.
 
            for (auto [key, value] : mine.entries(budget, told)) sum += key * value; */
@@ -521,7 +592,7 @@ public:
 
 private:
     static found found_by(vbr_answer told, std::uint64_t value) noexcept {
-        return {answer{static_cast<std::int32_t>(told)}, told == VBR_YES ? std::optional(value) : std::nullopt};
+        return {answer{static_cast<std::int32_t>(told)}, told > VBR_NO ? std::optional(value) : std::nullopt};
     }
 };
 

@@ -36,13 +36,13 @@ pub enum Refusal {
     /// [`ample_budget`](crate::ample_budget) is enough in short buckets. A look-up or a remove with steps enough alone runs out
     /// of them only where others inserted or removed in the key's bucket meanwhile, or advanced the epoch.
     OutOfSteps,
-    /// An insert of an absent key found no slot: its handle had none of its own, and none was found in the shared pool.
-    /// Other handles may keep free ones. Remove keys, let a handle that has free slots make the insert, or make it again;
-    /// a greater budget alone doesn't help.
+    /// An insert of an absent key, or a call that gives a key another value, found no slot: its handle had none of its own, and
+    /// none was found in the shared pool. Other handles may keep free ones. Remove keys, let a handle that has free slots make the
+    /// call, or make it again; a greater budget alone doesn't help.
     NoSlot,
-    /// An insert of an absent key would have needed an epoch beyond the last one. Renew the set or the map, as
-    /// [`Set::open_with`](crate::Set::open_with) and [`Map::open_with`](crate::Map::open_with) show; until then look-ups and
-    /// removes are answered as ever.
+    /// An insert of an absent key, or a call that gives a key another value, would have needed an epoch beyond the last one.
+    /// Renew the set or the map, as [`Set::open_with`](crate::Set::open_with) and [`Map::open_with`](crate::Map::open_with)
+    /// show; until then look-ups and removes are answered as ever.
     EpochSpent,
 }
 

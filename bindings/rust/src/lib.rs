@@ -34,8 +34,10 @@
 //! # Maps
 //!
 //! [`Map`] has a value beside each key. It is opened, used and closed as a [`Set`], and what is said here of sets and their
-//! handles is so of maps and theirs. A key keeps the value that it was inserted with until it is removed; [`MapPass::get`]
-//! and [`MapPass::remove`] give it. [`Table`], [`HandleOf`] and [`PassOf`] have the calls of both, for either [`Kind`].
+//! handles is so of maps and theirs. [`MapPass::get`] and [`MapPass::remove`] give the value of a key. [`MapPass::insert`]
+//! leaves the value of a key that is there; [`MapPass::replace`], [`MapPass::put`], [`MapPass::compare_exchange`] and
+//! [`MapPass::fetch_update`] change it at one moment, so nobody finds the key absent. [`Table`], [`HandleOf`] and [`PassOf`]
+//! have the calls of both, for either [`Kind`].
 //!
 //! ```
 //! use vbr::{Entry, Map, Shape};
@@ -46,7 +48,8 @@
 //! assert!(first.insert(5, 70, 100_000)?);
 //! assert!(!first.insert(5, 71, 100_000)?); // 5 keeps its value
 //! assert_eq!(second.get(5, 100_000)?, Some(70));
-//! assert_eq!(first.remove(5, 100_000)?, Some(70));
+//! assert_eq!(first.replace(5, 71, 100_000)?, Some(70));
+//! assert_eq!(first.remove(5, 100_000)?, Some(71));
 //! assert!(first.insert(7, 72, 100_000)?);
 //! assert!(first.close()?.is_none());
 //! assert_eq!(second.close()?.expect("the last handle").entries, [Entry { key: 7, value: 72 }]);
@@ -113,8 +116,8 @@
 //! ```
 //!
 //! No call is a point of cancellation; but Rust doesn't say what becomes of a thread that is cancelled (`pthread_cancel`),
-//! so cancel none that has a handle. A call in which a signal comes goes on afterwards. The handler may insert, remove and
-//! look up with a handle that nothing else uses; it opens, closes and drops none, since these take memory or free it.
+//! so cancel none that has a handle. A call in which a signal comes goes on afterwards. The handler may insert, remove, change
+//! values and look up with a handle that nothing else uses; it opens, closes and drops none, since these take memory or free it.
 //!
 //! How many keys are in the set at one moment isn't told while threads run. Count the inserts and removes that are answered
 //! yes, count the keys that a walk gives, or read the report of the last close.
@@ -125,6 +128,7 @@
 
 extern crate alloc;
 
+mod changing;
 mod errors;
 mod handle;
 mod iterating;
@@ -137,6 +141,7 @@ mod shape;
 mod table;
 mod waiting;
 
+pub use changing::Compared;
 pub use errors::{CloseError, OpenError, Refusal, Unclosed};
 pub use handle::{HandleOf, PassOf};
 pub use iterating::{Cursor, Iter};

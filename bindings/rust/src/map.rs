@@ -6,8 +6,8 @@ use alloc::vec::Vec;
 /// A map from keys to values. It is used through its handles: [`Map::open`] gives them, and [`Map::lending`] keeps them and
 /// lends them. Its calls are those of a [`Table`].
 ///
-/// A key keeps the value that it was inserted with until it is removed. To change it, remove the key and insert it again:
-/// another thread may find it absent in between, or insert it first.
+/// A key keeps its value until it is removed or gets another one: [`MapPass::insert`] leaves the value of a key that is there,
+/// and [`MapPass::replace`] and [`MapPass::put`] change it at one moment.
 ///
 /// Slots, buckets, budgets and refusals are those of a set; a slot takes 40 bytes in place of 32.
 ///
@@ -40,7 +40,8 @@ pub type Map = Table<Entries>;
 /// ```
 pub type MapHandle = HandleOf<Entries>;
 
-/// The pass of a handle to a map: the calls of [`PassOf`], and [`MapPass::get`], and those that insert and remove an entry.
+/// The pass of a handle to a map: the calls of [`PassOf`], and [`MapPass::get`], and those that insert, remove and
+/// change an entry.
 ///
 /// ```
 /// # use vbr::{MapPass, Refusal};
@@ -81,8 +82,8 @@ impl PassOf<Entries> {
         answer(unsafe { vbr_map_insert(self.raw(), key, value, budget) })
     }
 
-    /// Takes a key out, in at most `budget` steps, and gives the value that it was inserted with, if it was there: that of
-    /// the entry that this call took, and no other one. While the other handles stand still, 9n + 11 are enough, with n nodes
+    /// Takes a key out, in at most `budget` steps, and gives the value that it had, if it was there: that of the entry that this
+    /// call took, and no other one. While the other handles stand still, 9n + 11 are enough, with n nodes
     /// in the bucket of the key.
     ///
     /// Where it was there, its node has left its list, unless the budget ended first: then the next insert or remove that
@@ -105,8 +106,8 @@ impl PassOf<Entries> {
         answer_with(|value| unsafe { vbr_map_remove(self.raw(), key, budget, value) })
     }
 
-    /// The value that a key was inserted with, if the key is in the map, in at most `budget` steps, all of them loads. While
-    /// the other handles stand still, 5n + 11 are enough, with n nodes in the bucket of the key.
+    /// The value of a key, if the key is in the map, in at most `budget` steps, all of them loads. While the other handles stand
+    /// still, 5n + 11 are enough, with n nodes in the bucket of the key.
     ///
     /// It takes `&self`, as [`MapPass::has`] does.
     ///
@@ -163,7 +164,7 @@ pub struct MapReport {
 pub struct Entry {
     /// The key.
     pub key: u64,
-    /// The value that it was inserted with.
+    /// The value that it has.
     pub value: u64,
 }
 
