@@ -157,6 +157,59 @@ static int waits() {
     return 0;
 }
 
+// A number that one thread tells another.
+class step {
+public:
+    void tell(int number) { told.store(number); }
+    void await(int number) const {
+        for (int turns = 0; told.load(std::memory_order_acquire) < number; turns++)
+            if (turns % 256 == 255) std::this_thread::yield();
+    }
+
+private:
+    alignas(128) std::atomic<int> told{0};
+};
+
+// A handle is given back just as another thread begins to wait for it: either that one sees it, or it is woken. What is written before
+// the return, to lines that the other thread wrote, makes the return come late.
+static int woken_in_time() {
+    struct alignas(64) line {
+        std::atomic<int> written{0};
+    };
+    static line lines[128];
+    static step lent, waits, done;
+    auto lender = lending<of_sets>(1);
+    auto write_all = [](int round) {
+        for (line &each : lines) each.written.store(round, std::memory_order_relaxed);
+    };
+    std::thread other([&] {
+        for (int round = 1; round <= 60000; round++) {
+            {
+                auto mine = lender.lend_wait();
+                lent.tell(round);
+                waits.await(round);
+                for (int delay = round * 37 % 6000; delay > 0; delay--) std::atomic_signal_fence(std::memory_order_seq_cst);
+                write_all(round);
+            }
+            done.await(round);
+        }
+    });
+    bool late = false;
+    for (int round = 1; round <= 60000; round++) {
+        lent.await(round);
+        write_all(-round);
+        auto begun = std::chrono::steady_clock::now();
+        waits.tell(round);
+        auto mine = late ? lender.lend_for(1ms) : lender.lend_for(1min);
+        late = late || std::chrono::steady_clock::now() - begun > 50s;
+        mine = {};
+        done.tell(round);
+    }
+    other.join();
+    CHECK(!late);
+    return 0;
+}
+
 // Waits that are over: by their time and not before, by a return, and by the close of the lender.
 template <class Of>
 static int ends_of_waits() {
@@ -223,7 +276,7 @@ static int all() {
 }
 
 int main() {
-    if (example() || all<of_sets>() || all<of_maps>()) return 1;
+    if (example() || woken_in_time() || all<of_sets>() || all<of_maps>()) return 1;
     std::puts("lent handles in C++: passed");
     return 0;
 }

@@ -5,13 +5,13 @@ use both::Both;
 use std::cell::Cell;
 use std::collections::BTreeMap;
 use std::mem;
-use std::sync::atomic::{AtomicBool, AtomicU64, Ordering};
+use std::sync::atomic::{compiler_fence, AtomicBool, AtomicU64, Ordering};
 use std::sync::Arc;
 use std::thread;
 use std::time::{Duration, Instant};
-use vbr::{ample_budget, Lent, OpenError, OwnedLent, Pass, Set, Shape, Table, MAX_EPOCH};
+use vbr::{ample_budget, Keys, Lent, OpenError, OwnedLent, Pass, Set, Shape, Table, MAX_EPOCH};
 
-const KEYS: u64 = 64;
+const SOME: u64 = 64;
 const BUDGET: u32 = 100_000;
 const AT_LAST: Duration = Duration::from_secs(600);
 
@@ -133,6 +133,62 @@ fn a_loan_that_is_waited_for<K: Both>() {
     assert!(set.lend().is_some() && keys_of(set).is_empty());
 }
 
+/// A number that one thread tells another.
+#[repr(align(128))]
+struct Step(AtomicU64);
+
+impl Step {
+    fn tell(&self, number: u64) {
+        self.0.store(number, Ordering::Release);
+    }
+
+    fn wait_for(&self, number: u64) {
+        for turns in 0.. {
+            if self.0.load(Ordering::Acquire) >= number {
+                break;
+            }
+            if turns % 256 == 255 {
+                thread::yield_now();
+            }
+        }
+    }
+}
+
+/// A handle is given back just as another thread begins to wait for it: either that one sees it, or it is woken. What is written
+/// before the return, to lines that the other thread wrote, makes the return come late.
+#[test]
+fn a_return_as_another_begins_to_wait() {
+    const ROUNDS: u64 = 5_000;
+    let set = lending::<Keys>(1, &[]);
+    let [lent, waits, done] = [(); 3].map(|_| Step(AtomicU64::new(0)));
+    let lines: Vec<Step> = (0..128).map(|_| Step(AtomicU64::new(0))).collect();
+    let write_all = |round| lines.iter().for_each(|it| it.0.store(round, Ordering::Relaxed));
+    thread::scope(|scope| {
+        scope.spawn(|| {
+            for round in 1..=ROUNDS {
+                let mine = set.lend_wait();
+                lent.tell(round);
+                waits.wait_for(round);
+                (0..round * 37 % 2_000).for_each(|_| compiler_fence(Ordering::SeqCst));
+                write_all(round);
+                drop(mine);
+                done.wait_for(round);
+            }
+        });
+        let mut is_late = false;
+        for round in 1..=ROUNDS {
+            lent.wait_for(round);
+            write_all(0);
+            waits.tell(round);
+            let begun = Instant::now();
+            drop(set.lend_timeout(Duration::from_millis(if is_late { 1 } else { 60_000 })));
+            is_late |= begun.elapsed() > Duration::from_secs(50);
+            done.tell(round);
+        }
+        assert!(!is_late);
+    });
+}
+
 /// Threads that wait in vain leave nothing behind, and a wait isn't over before its time.
 fn a_wait_that_is_over<K: Both>() {
     let (set, limit) = (lending::<K>(1, &[]), Duration::from_millis(30));
@@ -207,7 +263,7 @@ fn loans_are_sent() {
 
 #[test]
 fn the_answers_of_many_borrowers_balance() {
-    let shape = Shape::for_keys(KEYS as u32, 3);
+    let shape = Shape::for_keys(SOME as u32, 3);
     let (set, budget) = (Set::lending(shape, 3).expect("a set"), ample_budget(shape.slots));
     let mut sum = BTreeMap::new();
     thread::scope(|scope| {
@@ -222,7 +278,7 @@ fn the_answers_of_many_borrowers_balance() {
                         random ^= random << 13;
                         random ^= random >> 7;
                         random ^= random << 17;
-                        let key = (random >> 32) % KEYS;
+                        let key = (random >> 32) % SOME;
                         if random >> 40 & 1 == 0 {
                             *balance.entry(key).or_insert(0) += i32::from(handle.insert(key, budget).expect("room"));
                         } else {
