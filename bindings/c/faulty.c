@@ -40,6 +40,8 @@ typedef vbr_entry an_item;
 #define WITH(value) , value
 #define GIVE(to, value) (*(to) = (value))
 vbr_answer __real_vbr_map_get(vbr_map_handle *handle, uint64_t key, uint32_t budget, uint64_t *value);
+vbr_answer __real_vbr_map_get_or_insert(vbr_map_handle *handle, uint64_t key, uint64_t value, uint64_t *found, uint32_t budget);
+vbr_answer __real_vbr_map_remove_if(vbr_map_handle *handle, uint64_t key, uint64_t expected, uint64_t *found, uint32_t budget);
 #else
 typedef vbr_handle a_handle;
 typedef uint64_t an_item;
@@ -132,6 +134,21 @@ vbr_answer __wrap_vbr_map_get(vbr_map_handle *handle, uint64_t key, uint32_t bud
     make_late();
     vbr_answer answer = __real_vbr_map_get(handle, key, now(19) ? budget / 2 : budget, value);
     return answer == VBR_YES && now(4) ? *value = old, VBR_NO : answer;
+}
+
+/* It is an insert, too, for the twelfth fault, and a remove_if is the next call after one. */
+vbr_answer __wrap_vbr_map_get_or_insert(vbr_map_handle *handle, uint64_t key, uint64_t value, uint64_t *found, uint32_t budget) {
+    make_late();
+    if (fault() == 12 && REAL(has)(handle, key, budget) == VBR_NO) {
+        late = (struct an_insert){handle, key, value};
+        return VBR_NO;
+    }
+    return __real_vbr_map_get_or_insert(handle, key, value, found, budget);
+}
+
+vbr_answer __wrap_vbr_map_remove_if(vbr_map_handle *handle, uint64_t key, uint64_t expected, uint64_t *found, uint32_t budget) {
+    make_late();
+    return __real_vbr_map_remove_if(handle, key, expected, found, budget);
 }
 #endif
 

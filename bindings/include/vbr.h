@@ -19,12 +19,12 @@
 
        vbr_map_handle map[2] = {{0}};
        vbr_entry entries[8] = {{0}};
-       uint64_t value = 0;
+       uint64_t value = 0, before = 0;
        if (vbr_map_open(map, 2, 1024 + 2 * 64, 1024, VBR_MAX_EPOCH) != VBR_NO) return 1;
        vbr_answer added = vbr_map_insert(&map[0], 5, 70, 100000);  // VBR_YES: 5 was absent, and now has the value 70
        vbr_answer again = vbr_map_insert(&map[1], 5, 71, 100000);  // VBR_NO: 5 keeps its value
        vbr_answer there = vbr_map_get(&map[1], 5, 100000, &value); // VBR_YES: value is 70
-       vbr_answer changed = vbr_map_replace(&map[1], 5, 72, &value, 100000); // VBR_YES: value is 70, and 5 has 72
+       vbr_answer changed = vbr_map_replace(&map[1], 5, 72, &before, 100000); // VBR_YES: before is 70, and 5 has 72
        vbr_answer closed = vbr_map_close_all(map, 2, entries, 8, &report); // VBR_YES: entries[0] is {5, 72}
 
    Compare what a call answers with VBR_YES: a refusal is no 0, and so is true where a program asks `if (vbr_has(..))`.
@@ -104,25 +104,26 @@
    How many keys are in the set is told by no call while threads run. Count the inserts and removes that are answered
    VBR_YES, in a counter for each thread, or read the report of a close.
 
-   Budgets. A call makes at most `budget` steps, each one atomic operation on a word that the
-   threads share, and never waits for another thread. A look-up makes loads alone, and so does a call of a walk: it
-   writes nothing that another thread can see. While the other handles make no step, wherever they stand still, a call
-   does not run out of steps with a budget of 5n + 11 for has and get, 9n + 11 for remove and remove_if, and 18n + slots + 82
-   for insert, replace, put and get_or_insert, and two more for compare_exchange, where n nodes are in the bucket of the key as
-   it begins, removed ones that are still in a list among them. With 5n + 11 for the bucket at its cursor vbr_next gives a key, or comes to a later bucket at the
-   least. 100,000 is plenty for short buckets, with up to six million slots; with more, take slots / 64 besides, as
-   VBR_AMPLE_BUDGET(slots) does. A call that runs out of steps made no call: give it up, or make it again, with twice the
-   budget if that may have been too small. The same budget is enough later only if it was the other threads that cost the
-   steps.
+   Budgets. A call makes at most `budget` steps, each one atomic operation on a word that the threads share, and never waits
+   for another thread. A look-up makes loads alone, and so does a call of a walk: it writes nothing that another thread can
+   see. While the other handles make no step, wherever they stand still, a call does not run out of steps with a budget of
+   5n + 11 for has and get, 9n + 11 for remove and remove_if, and 18n + slots + 82 for insert, replace, put and
+   get_or_insert, and two more for compare_exchange, where n nodes are in the bucket of the key as it begins, removed ones
+   that are still in a list among them. With 5n + 11 for the bucket at its cursor vbr_next gives a key, or comes to a later
+   bucket at the least. 100,000 is plenty for short buckets, with up to six million slots; with more, take slots / 64
+   besides, as VBR_AMPLE_BUDGET(slots) does. A call that runs out of steps made no call: give it up, or make it again, with
+   twice the budget if that may have been too small. The same budget is enough later only if it was the other threads that
+   cost the steps.
    Others cost a call steps by what disturbs it: they insert, remove or unlink a node in its bucket, or advance the epoch.
-   Disturbed m times, it doesn't run out of steps with (m + 1) * (5 * (n + m) + 11) for has and get, (m + 1) *
-   (9 * (n + m) + 11) for remove, and (m + 2) * (9 * (n + m) + 7) + 68 for insert, if its handle has a slot of its own;
-   with none, 68 stands for the greater of it and slots / 64 + 7, and one more is needed for each slot that other handles take
-   meanwhile, an insert one at most. So VBR_OUT_OF_STEPS with the budget for some m is proof that others made progress, and
-   disturbed the call more than m times. They do so at most twice for each insert and remove of theirs that is answered VBR_YES
-   meanwhile, a replaced value being one of each, once for each advance of the epoch, of which an insert makes at most one, and once for each removed node that was
-   still in a list. Eight threads that update at once, one update of each other one during the call, are m = 21, three for
-   each: with four nodes in a bucket that is 2,992 for has, 5,192 for remove and 5,404 for insert.
+   Disturbed m times, it doesn't run out of steps with (m + 1) * (5 * (n + m) + 11) for has and get, (m + 1) * (9 * (n + m)
+   + 11) for remove and remove_if, (m + 2) * (9 * (n + m) + 7) + 68 for insert, and 5 * m + 2 more for the other calls that
+   may store a value, if the handle has a slot of its own; with none, 68 stands for the greater of it and slots / 64 + 7,
+   and one more is needed for each slot that other handles take meanwhile, one at most for each call of theirs. So
+   VBR_OUT_OF_STEPS with the budget for some m is proof that others made progress, and disturbed the call more than m times.
+   They do so at most twice for each insert and remove of theirs that is answered VBR_YES meanwhile, a replaced value being
+   one of each, once for each advance of the epoch, of which a call makes at most one, and once for each removed node that
+   was still in a list. Eight threads that update at once, one update of each other one during the call, are m = 21, three
+   for each: with four nodes in a bucket that is 2,992 for has, 5,192 for remove and 5,404 for insert.
 
    Memory and sizes. The words of a set take 8 * (2 + buckets + 4 * slots + slots / 64) bytes, the last part rounded
    up, in one block, and each handle about 1,200 bytes besides; opening and closing take as much as the words again
@@ -132,8 +133,8 @@
    about one node, and takes 8 bytes. Give keys that are there at the start to vbr_open_with, which lays them all in one go;
    by inserts a million took three times as long. Keys are spread over the buckets by a multiplication, so keys with a pattern (in
    sequence, multiples of a page, pointers) do no harm; keys that somebody chooses to fall into one bucket do, and
-   each call then passes them all. Only inserts advance the epoch, and once the last one is spent inserts of absent
-   keys may be refused: the greatest lasts fifteen hours at ten million inserts a second that advance it, as one in
+   each call then passes them all. Only calls that take a slot, for a key or a new value, advance the epoch, and once the last
+   one is spent they may be refused: the greatest lasts fifteen hours at ten million inserts a second that advance it, as one in
    sixteen does of a cache that takes sixteen keys out at a time. Before it is spent a set is renewed: close all its
    handles, and open one with the keys of the report by vbr_open_with, at epoch 1. The numbers are 1 to VBR_MAX_SLOTS
    slots, 1 to VBR_MAX_BUCKETS buckets, and 1 to VBR_MAX_EPOCH as the last epoch; the most slots and buckets take 673
@@ -219,13 +220,15 @@ typedef enum vbr_answer : int32_t {
 #else
 typedef enum vbr_answer {
 #endif
-    VBR_NO = 0,            /* the answer is no; of vbr_open: done; of vbr_close: others are open; of vbr_next: the walk is at its end;
-                              put, get_or_insert: the key was absent, and is inserted; replace, compare_exchange, remove_if: it is
-                              absent, and nothing was changed */
-    VBR_YES = 1,           /* the answer is yes; of vbr_close: it was the last, the set is closed; of vbr_next: the next key is given;
-                              replace, put: the key was there, and has the new value; get_or_insert: it is there;
-                              compare_exchange: it had the value that is expected, and has the new one;
-                              remove_if: it had the value that is expected, and is taken out */
+    VBR_NO = 0,            /* the answer is no; of vbr_open: done; of vbr_close: others are open;
+                              of vbr_next: the walk is at its end;
+                              put, get_or_insert: the key was absent, and is inserted;
+                              replace, compare_exchange, remove_if: the key is absent, and nothing was changed */
+    VBR_YES = 1,           /* the answer is yes; of vbr_close: it was the last, the set is closed;
+                              of vbr_next: the next key is given;
+                              replace, put: the key was there, and has the new value; get_or_insert: the key is there;
+                              compare_exchange: the key had the value that is expected, and has the new one;
+                              remove_if: the key had the value that is expected, and is taken out */
     VBR_OTHER = 2,         /* compare_exchange, remove_if: the key is there with another value; nothing was changed */
     VBR_OUT_OF_STEPS = -1, /* the budget is spent; no call was made; a greater budget may help;
                               next: the cursor keeps how far it has come */
