@@ -120,6 +120,7 @@ impl<K: Kind> AsMut<HandleOf<K>> for Place<K> {
 /// fn is_sync<T: Sync>() {}
 /// is_sync::<vbr::OwnedLent<vbr::Entries>>();
 /// ```
+#[must_use = "it goes back where it is dropped"]
 pub struct LentBy<K: Kind, T: Deref<Target = Table<K>>> {
     table: T,
     number: usize,
