@@ -253,6 +253,9 @@ static int exceptions() {
     return 0;
 }
 
+// A function that takes the pass of a handle, or of one on loan.
+static std::uint64_t got(vbr::map_pass &mine, std::uint64_t key) { return mine.get(key, 100000).value.value_or(0); }
+
 // Threads that borrow two handles: each stores keys of its own, and takes back what it stored.
 static int loans() {
     auto opened = vbr::open_map(vbr::shape::for_keys(1000, 2), 2);
@@ -260,7 +263,7 @@ static int loans() {
     vbr::map_lender lender(std::move(opened.handles));
     {
         vbr::map_loan mine = lender.lend();
-        CHECK(mine && mine->insert(1000, 1, 100000) == vbr::answer::yes);
+        CHECK(mine && mine->insert(1000, 1, 100000) == vbr::answer::yes && got(*mine, 1000) == 1);
     }
     std::atomic<int> wrong{0};
     std::vector<std::thread> threads;

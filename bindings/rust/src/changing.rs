@@ -2,14 +2,14 @@
 use crate::library::{
     answer_with, compared, vbr_map_compare_exchange, vbr_map_get_or_insert, vbr_map_put, vbr_map_remove_if, vbr_map_replace,
 };
-use crate::{Entries, HandleOf, Refusal};
+use crate::{Entries, PassOf, Refusal};
 
 /// What a call did that changes an entry only where it has an expected value.
 ///
 /// ```
-/// # use vbr::{Compared, MapHandle, Refusal};
+/// # use vbr::{Compared, MapPass, Refusal};
 /// /// Takes a page out of an index, unless it has come into another frame.
-/// fn evict(index: &mut MapHandle, page: u64, frame: u64) -> Result<bool, Refusal> {
+/// fn evict(index: &mut MapPass, page: u64, frame: u64) -> Result<bool, Refusal> {
 ///     Ok(match index.remove_if(page, frame, 100_000)? {
 ///         Compared::Equal => true,
 ///         Compared::Other(_) | Compared::Absent => false,
@@ -36,11 +36,11 @@ pub enum Compared {
 /// A call that gives a key another value is, in the history, a remove of the old value and an insert of the new one, next to
 /// each other: no call finds the key absent in between. One that changed nothing is a look-up. While the other handles stand
 /// still, 18n + slots + 82 steps are enough, with n nodes in the bucket of the key, and two more for a
-/// [`compare_exchange`](HandleOf::compare_exchange).
+/// [`compare_exchange`](PassOf::compare_exchange).
 ///
 /// A new value takes a slot before the slot of the old one is free, so these calls want one slot more than there are keys. The
 /// 64 of the handle in [`Shape`](crate::Shape) cover that.
-impl HandleOf<Entries> {
+impl PassOf<Entries> {
     /// Gives a key that is there another value, and gives the one that it had; `None` where it was absent, and then nothing was
     /// changed.
     ///
@@ -165,7 +165,7 @@ impl HandleOf<Entries> {
     ///
     /// # Errors
     ///
-    /// Those of [`compare_exchange`](HandleOf::compare_exchange). Nothing was changed then.
+    /// Those of [`compare_exchange`](PassOf::compare_exchange). Nothing was changed then.
     pub fn fetch_update(
         &mut self,
         key: u64,

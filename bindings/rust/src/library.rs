@@ -77,8 +77,8 @@ extern "C" {
 
 /// The calls of the library that sets and maps have alike, over what they open with, what a walk gives, and what a close tells.
 pub(crate) trait Calls<Item, Given, Told> {
-    /// The names of a table and of its handles.
-    const NAMES: (&'static str, &'static str);
+    /// The names of a table, of its handles and of their passes.
+    const NAMES: [&'static str; 3];
 
     const OPEN: unsafe extern "C" fn(*mut Raw, usize, u32, u32, u64) -> i32;
     const OPEN_WITH: unsafe extern "C" fn(*mut Raw, usize, u32, u32, u64, *const Item, usize) -> i32;
@@ -102,7 +102,7 @@ pub(crate) trait Calls<Item, Given, Told> {
 }
 
 impl Calls<u64, u64, Report> for Keys {
-    const NAMES: (&'static str, &'static str) = ("Set", "Handle");
+    const NAMES: [&'static str; 3] = ["Set", "Handle", "Pass"];
 
     const OPEN: unsafe extern "C" fn(*mut Raw, usize, u32, u32, u64) -> i32 = vbr_open;
     const OPEN_WITH: unsafe extern "C" fn(*mut Raw, usize, u32, u32, u64, *const u64, usize) -> i32 = vbr_open_with;
@@ -125,7 +125,7 @@ impl Calls<u64, u64, Report> for Keys {
 }
 
 impl Calls<Entry, (u64, u64), MapReport> for Entries {
-    const NAMES: (&'static str, &'static str) = ("Map", "MapHandle");
+    const NAMES: [&'static str; 3] = ["Map", "MapHandle", "MapPass"];
 
     const OPEN: unsafe extern "C" fn(*mut Raw, usize, u32, u32, u64) -> i32 = vbr_map_open;
     const OPEN_WITH: unsafe extern "C" fn(*mut Raw, usize, u32, u32, u64, *const Entry, usize) -> i32 = vbr_map_open_with;

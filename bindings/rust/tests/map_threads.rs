@@ -3,7 +3,7 @@
 use std::collections::HashSet;
 use std::sync::atomic::{AtomicBool, Ordering};
 use std::thread;
-use vbr::{Compared, Entry, Map, MapHandle, Refusal, Shape, MAX_EPOCH};
+use vbr::{Compared, Entry, Map, MapHandle, MapPass, Refusal, Shape, MAX_EPOCH};
 
 const THREADS: u64 = 4;
 const KEYS: u64 = 64;
@@ -45,7 +45,7 @@ impl Worker {
         }
     }
 
-    fn call(&mut self, handle: &mut MapHandle, key: u64, kind: u64, is_spent: &AtomicBool) {
+    fn call(&mut self, handle: &mut MapPass, key: u64, kind: u64, is_spent: &AtomicBool) {
         let made = match kind {
             0 => self.insert(handle, key),
             1 | 2 => self.remove(handle, key, kind == 1),
@@ -61,7 +61,7 @@ impl Worker {
         }
     }
 
-    fn insert(&mut self, handle: &mut MapHandle, key: u64) -> Result<(), Refusal> {
+    fn insert(&mut self, handle: &mut MapPass, key: u64) -> Result<(), Refusal> {
         let value = self.value_of(key);
         if handle.insert(key, value, BUDGET)? {
             self.stored.push(value);
@@ -70,13 +70,13 @@ impl Worker {
     }
 
     /// Takes a key out, or, if it is to compare, takes it out with the value that it found.
-    fn remove(&mut self, handle: &mut MapHandle, key: u64, compares: bool) -> Result<(), Refusal> {
+    fn remove(&mut self, handle: &mut MapPass, key: u64, compares: bool) -> Result<(), Refusal> {
         let removed = if compares { self.compared(handle, key)? } else { handle.remove(key, BUDGET)? };
         self.take(key, removed);
         Ok(())
     }
 
-    fn compared(&mut self, handle: &mut MapHandle, key: u64) -> Result<Option<u64>, Refusal> {
+    fn compared(&mut self, handle: &mut MapPass, key: u64) -> Result<Option<u64>, Refusal> {
         let Some(value) = self.find(handle, key)? else {
             return Ok(None);
         };
@@ -88,11 +88,11 @@ impl Worker {
         Ok(None)
     }
 
-    fn get(&mut self, handle: &mut MapHandle, key: u64) -> Result<(), Refusal> {
+    fn get(&mut self, handle: &mut MapPass, key: u64) -> Result<(), Refusal> {
         self.find(handle, key).map(|_| ())
     }
 
-    fn replace(&mut self, handle: &mut MapHandle, key: u64) -> Result<(), Refusal> {
+    fn replace(&mut self, handle: &mut MapPass, key: u64) -> Result<(), Refusal> {
         let value = self.value_of(key);
         let before = handle.replace(key, value, BUDGET)?;
         self.stored.extend(before.map(|_| value));
@@ -100,7 +100,7 @@ impl Worker {
         Ok(())
     }
 
-    fn put(&mut self, handle: &mut MapHandle, key: u64) -> Result<(), Refusal> {
+    fn put(&mut self, handle: &mut MapPass, key: u64) -> Result<(), Refusal> {
         let value = self.value_of(key);
         let before = handle.put(key, value, BUDGET)?;
         self.stored.push(value);
@@ -108,7 +108,7 @@ impl Worker {
         Ok(())
     }
 
-    fn get_or_insert(&mut self, handle: &mut MapHandle, key: u64) -> Result<(), Refusal> {
+    fn get_or_insert(&mut self, handle: &mut MapPass, key: u64) -> Result<(), Refusal> {
         let value = self.value_of(key);
         match handle.get_or_insert(key, value, BUDGET)? {
             Some(there) => self.found(key, there),
@@ -117,7 +117,7 @@ impl Worker {
         Ok(())
     }
 
-    fn exchange(&mut self, handle: &mut MapHandle, key: u64) -> Result<(), Refusal> {
+    fn exchange(&mut self, handle: &mut MapPass, key: u64) -> Result<(), Refusal> {
         let value = self.value_of(key);
         let before = handle.fetch_update(key, |_| Some(value), BUDGET)?;
         self.stored.extend(before.map(|_| value));
@@ -125,7 +125,7 @@ impl Worker {
         Ok(())
     }
 
-    fn find(&mut self, handle: &mut MapHandle, key: u64) -> Result<Option<u64>, Refusal> {
+    fn find(&mut self, handle: &mut MapPass, key: u64) -> Result<Option<u64>, Refusal> {
         let there = handle.get(key, BUDGET)?;
         if let Some(value) = there {
             self.found(key, value);
