@@ -11,9 +11,10 @@
    A thread is lent the handle that it had last, where that is free: a loan and its return are then one atomic exchange on a word
    that other threads don't write. What is done with a handle before it is given back comes before what the next borrower does.
    A lend that doesn't wait takes no lock and no memory. Who waits sleeps by a condition variable, which a return touches only
-   where a thread waits; threads that wait have no order, and one that has a loan itself may wait for ever.
+   where a thread waits; threads that wait have no order, and one that has a loan itself may wait for ever. So a signal handler
+   borrows nothing.
 
-   A lender may be moved while there are loans. A loan ends before its lender does, and an owned loan whenever it likes. */
+   A lender may be moved while there are loans. These end before the lender that then has the handles; an owned loan may outlive it. */
 #ifndef VBR_LEND_HPP
 #define VBR_LEND_HPP
 

@@ -118,7 +118,8 @@
 //!
 //! No call is a point of cancellation; but Rust doesn't say what becomes of a thread that is cancelled (`pthread_cancel`),
 //! so cancel none that has a handle. A call in which a signal comes goes on afterwards. The handler may insert, remove, change
-//! values and look up with a handle that nothing else uses; it opens, closes and drops none, since these take memory or free it.
+//! values and look up with a handle that nothing else uses; it opens, closes and drops none, since these take memory or free it,
+//! and borrows none, since a return takes a lock where threads wait.
 //!
 //! How many keys are in the set at one moment isn't told while threads run. Count the inserts and removes that are answered
 //! yes, count the keys that a walk gives, or read the report of the last close.
