@@ -26,6 +26,7 @@ mod Marks
 mod ValueReads
 mod Replacements
 mod Linking
+mod Inserts
 mod LateSearches
 mod ReplacedValues
 pub mod Lemmas
