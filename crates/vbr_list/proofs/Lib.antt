@@ -24,9 +24,12 @@ mod LonePasses
 mod Told
 mod Marks
 mod ValueReads
-mod Replacements
+mod FoundValues
+mod Stores
+mod Wants
+mod Settled
 mod Linking
 mod Inserts
 mod LateSearches
-mod ReplacedValues
+mod StoredValues
 pub mod Lemmas

@@ -10,7 +10,7 @@ use Rattle.vbr_list.proofs.Linking.{counts_until, denied_then, gap_found, had_de
 use Rattle.vbr_list.proofs.LonePasses.{alone}
 use Rattle.vbr_list.proofs.LostWalks.{search_ends}
 use Rattle.vbr_list.proofs.Preparing.{if_failed, refused_first, within_all, within_most, within_same}
-use Rattle.vbr_list.proofs.Replacements.{hand_kept}
+use Rattle.vbr_list.proofs.Stores.{hand_kept}
 use Rattle.vbr_list.proofs.Sufficing.{answered_or_spent, had_no_slot, lone_costs, lone_lacks}
 use Rattle.vbr_list.proofs.Told.{told_as, told_bare}
 use Rattle.vbr_list.proofs.ValueReads.{few_to_update}
