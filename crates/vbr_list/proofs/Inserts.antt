@@ -1,21 +1,53 @@
 -- An insert that has taken a slot: what it promises once the slot is linked, or given back.
 use Rattle.vbr_list.proofs.Names.{◌≡◌, ◌+◌, ◌<◌, ◌≤◌, ℕ, Bool, Bor, [], Result, IfErr, IfOk, refl, sym, ap, subst, arith}
-use Rattle.vbr_list.proofs.Names.{AtTable, Ghosts, HasUnpublished, had_then, IsAlone, IsSameTable, longer, Made, needed_before, NoSlot, PassLaw, Quiet, quiet_on, Refusal, same_on, shared_on, shares_more, slots_kept_on, steps_to_update, steps_to_value, TableView, TookWithin}
+use Rattle.vbr_list.proofs.Names.{AtTable, Ghosts, HandView, HasUnpublished, had_then, IsAlone, IsSameTable, longer, Made, needed_before, NoSlot, PassLaw, Quiet, quiet_on, Refusal, same_on, shared_on, shares_more, slots_kept_on, steps_to_update, steps_to_value, TableView, TookWithin}
 use Rattle.vbr_list.specs.Budgets.{LacksSteps, enough_to_insert, listed_for}
 use Rattle.vbr_list.specs.Disturbed.{disturbed, enough_to_insert_among, insert_costs_among, steps_for_slot}
-use Rattle.vbr_list.specs.Inserting.{CountsWithin, InsertIsShort, Links, LinksHand, LinksNone, Prepares, SearchedFor, SearchesFor}
-use Rattle.vbr_list.specs.Pieces.{IsSameCall, pass_in, trace_in}
+use Rattle.vbr_list.specs.Inserting.{CountsWithin, InsertIsShort, Links, Prepares, SearchedFor, SearchesFor}
+use Rattle.vbr_list.specs.Pieces.{GoesOn, IsSameCall, Stores, pass_in, trace_in}
 use Rattle.vbr_list.specs.Refusals.{IsRefusedInsert}
 use Rattle.vbr_list.specs.Sparing.{CallsAs, SparesInsert}
 use Rattle.vbr_list.specs.Told.{stored_in}
+use Rattle.vbr_list.specs.Traversing.{Finds}
 use Rattle.vbr_list.specs.declared.call.PendingCall.{PendingCall}
+use Rattle.vbr_list.specs.declared.found.Found.{Found}
 use Rattle.vbr_list.proofs.Disturbing.{run_at}
 use Rattle.vbr_list.proofs.Going.{bucket_is, ok_as}
+use Rattle.vbr_list.proofs.Linking.{IsLinking, begun, quiet_until}
 use Rattle.vbr_list.proofs.LonePasses.{each_alone}
+use Rattle.vbr_list.proofs.LostWalks.{search_ends}
 use Rattle.vbr_list.proofs.Preparing.{each_same, each_seen, each_since, refused_second, within_all, within_most, within_on}
 use Rattle.vbr_list.proofs.Sufficing.{answered_or_spent, each_error, lacks, lone_costs, lone_lacks, never_refused, slot_later}
-use Rattle.vbr_list.proofs.Told.{stored_same}
+use Rattle.vbr_list.proofs.Told.{stored_same, told_since}
 use Rattle.vbr_list.proofs.Walking.{insert_lacks, twice_paid}
+
+-- it is answered, once it has come to the key
+pub record LinksHand {N : Type 0} {kind : Ghosts N} (value : ℕ) (c d : PendingCall N kind) (reply : Bool) : Type 0 where
+  pub made : Stores value c d reply
+  pub searched : SearchedFor (trace_in c) (trace_in d) c.key c.used d.used (steps_to_update (trace_in c).start + 3)
+
+-- it isn't, for want of steps
+pub record LinksNone {N : Type 0} {kind : Ghosts N} (c d : PendingCall N kind) (refusal : Refusal) : Type 0 where
+  pub quiet : Quiet (trace_in c) (trace_in d)
+  pub says : InsertIsShort (pass_in c) (pass_in d) c.used c.budget refusal
+  pub searches : SearchesFor (trace_in c) (trace_in d) c.key c.used (c.budget + 1) 11
+
+-- its last search, and the call that it made
+pub links_hand : {N : Type 0} {kind : Ghosts N} {b c d e : PendingCall N kind} {hand : HandView} → PassLaw (pass_in b) → IsLinking 7 b c hand → GoesOn c d → (found : Found) → Finds c d found → (value : ℕ) (reply : Bool) → e.used ≤ d.used + steps_to_update (trace_in d).start → Stores value d e reply → LinksHand value b e reply
+links_hand {b = b} {d = d} {e = e} law so went found finds value reply few made =
+    let quiet = quiet_until so went in
+    let P : ℕ → Type 0 = λ key. Made (stored_in (trace_in d) key value reply) (trace_in d) (trace_in e) in
+    let steps = steps_to_update (trace_in b).start in
+    let start = ap steps_to_update quiet.same.start in
+    record {
+      made = told_since quiet (stored_same quiet.same b.key value reply) (subst P (begun so went).key made);
+      searched = record {
+        ended = trace_in d;
+        quiet = quiet;
+        to = made.seen;
+        searches = search_ends law so.0 so.1 went so.6 finds.walks e.used steps (steps + 3) (omega (arith, few, start)) (omega arith);
+      };
+    }
 
 -- a call whose pass is at the table still, once so many steps are used
 abbrev pub later : {N : Type 0} {kind : Ghosts N} (d : PendingCall N kind) (at : AtTable N kind) (used : ℕ) → IsSameTable d.at at → at.stepper.now.trace.start ≡ (trace_in d).start → used ≤ d.budget → PendingCall N kind

@@ -2,11 +2,11 @@ use Rattle.vbr_list.proofs.Names.{rules, inl, refl, ◌≡◌, ℕ, true, false,
 use Rattle.vbr_list.proofs.Names.{counts_none, counts_on, CountsSteps, had_grown, had_spent, had_then, HandView, Insert, knows, none_refl, OutOfSteps, Quiet, quiet_refl, Refusal, Start, steps_to_update, steps_to_value, Took, took_all, TookWithin, Trace}
 use Rattle.vbr_list.specs.Budgets.{listed_for}
 use Rattle.vbr_list.specs.Disturbed.{disturbed, insert_costs_among, steps_for_slot}
-use Rattle.vbr_list.specs.Inserting.{LinksNone, SearchesFor}
+use Rattle.vbr_list.specs.Inserting.{SearchesFor}
 use Rattle.vbr_list.proofs.Disturbing.{lost_place, run_at}
 use Rattle.vbr_list.proofs.Going.{call_on, call_refl, counts_step, took_same, within_call}
-use Rattle.vbr_list.proofs.Inserts.{insert_linked, later, same_later}
-use Rattle.vbr_list.proofs.Linking.{counts_until, denied_then, gap_found, had_denied, has_denied, has_until, had_tired, links_tired, made_denied, takes_back, had_until, links_hand, links_then, lost_then, quiet_until, succ_found, takes_on}
+use Rattle.vbr_list.proofs.Inserts.{LinksNone, insert_linked, later, links_hand, same_later}
+use Rattle.vbr_list.proofs.Linking.{counts_until, denied_then, gap_found, had_denied, has_denied, has_until, had_tired, links_tired, made_denied, takes_back, had_until, links_then, lost_then, quiet_until, succ_found, takes_on}
 use Rattle.vbr_list.proofs.LonePasses.{alone}
 use Rattle.vbr_list.proofs.LostWalks.{search_ends}
 use Rattle.vbr_list.proofs.Preparing.{if_failed, refused_first, within_all, within_most, within_same}
