@@ -121,7 +121,7 @@ fn insert_by<N: Nodes>(
 {
     let mut call = begin!(slots, stepper, key, budget, 0);
     call.at.law();
-    match call.prepare(false) {
+    match call.prepare() {
         Err(refusal) => (Err(refusal), call.used),
         Ok(None) => (Ok(false), call.used),
         Ok(Some(hand)) => (call.link(value, hand), call.used),
