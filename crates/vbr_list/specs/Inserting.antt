@@ -15,13 +15,12 @@ use Rattle.vbr_at_table.specs.KeptSlots.{HasStill, KeepsSlots, SharesWhereFull, 
 use Rattle.vbr_at_table.specs.Refusals.{HasNoSlot, IsSpent}
 use Rattle.vbr_at_table.specs.Steps.{CountsSteps}
 use Rattle.vbr_at_table.specs.declared.budget.TheConstants.{PIECE}
-use Rattle.vbr_at_table.specs.Values.{steps_to_update}
 use Rattle.vbr_list.specs.Budgets.{LacksSteps}
 use Rattle.vbr_list.specs.Disturbed.{disturbed_after, steps_for_slot}
 use Rattle.vbr_list.specs.Walking.{LosesFound, met_since}
 use Rattle.vbr_list.specs.Wanted.{WasWantedFor}
 use Rattle.vbr_list.specs.declared.wanted.Wanted.TheVariants.{Absent}
-use Rattle.vbr_list.specs.Pieces.{IsSameCall, Replies, Stores, pass_in, trace_in}
+use Rattle.vbr_list.specs.Pieces.{IsSameCall, Replies, pass_in, trace_in}
 use Rattle.vbr_list.specs.declared.call.PendingCall.{PendingCall}
 use Rattle.vbr_list.specs.declared.found.Found.{Found}
 use Rattle.vbr_at_table.specs.declared.refusal.Refusal.{Refusal}
@@ -157,14 +156,3 @@ pub record Links {N : Type 0} {kind : Ghosts N} (c d : PendingCall N kind) : Typ
   pub counts : CountsWithin (trace_in c) (trace_in d) c.used d.used c.budget
   pub takes_no_slot : TakesNoSlot (pass_in c) (pass_in d)
   pub spent : (pass_in d).hand ≡ None
-
--- the insert is answered, once it has come to the key
-pub record LinksHand {N : Type 0} {kind : Ghosts N} (value : ℕ) (c d : PendingCall N kind) (reply : Bool) : Type 0 where
-  pub made : Stores value c d reply
-  pub searched : SearchedFor (trace_in c) (trace_in d) c.key c.used d.used (steps_to_update (trace_in c).start + 3)
-
--- it isn't linked, for want of steps
-pub record LinksNone {N : Type 0} {kind : Ghosts N} (c d : PendingCall N kind) (refusal : Refusal) : Type 0 where
-  pub quiet : Quiet (trace_in c) (trace_in d)
-  pub says : InsertIsShort (pass_in c) (pass_in d) c.used c.budget refusal
-  pub searches : SearchesFor (trace_in c) (trace_in d) c.key c.used (c.budget + 1) 11
