@@ -112,6 +112,10 @@ peeks_value {p} {q} b n budget x y e fits =
     let few = few_to_value q.trace.start in
     peeks_on x (goes_counted b n (steps_to_value_of q.trace.start) e y) (reads_observe y) (omega arith) (omega (arith, e, few, fits))
 
+-- of the node that was visited
+pub peeks_behind : {p q r t : PassView} (bucket from a b c n budget : ℕ) (here : Held) → Follows p q bucket from a b budget here → LooksOn q r b c → IsVisit b c → b + PIECE ≤ budget → ReadsIn r t (steps_to_value_of r.trace.start) → n ≡ steps_to_value_of r.trace.start → Peeks p t a (c + n) budget
+peeks_behind bucket from a b c n budget here x looks few fits reads e = peeks_value c n budget (peeks_visit bucket from a b c budget here x looks few fits) reads e (omega (arith, few, fits))
+
 -- ---- what it tells
 
 -- each key of the bucket from the number on that stands before what the place names was absent at a moment

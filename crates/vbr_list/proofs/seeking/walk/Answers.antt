@@ -2,7 +2,7 @@ use Rattle.vbr_list.proofs.Names.{◌≡◌, sym, ap, ◌∙◌, subst, arith, B
 use Rattle.vbr_list.proofs.Names.{Held, Link, quiet_on}
 use Rattle.vbr_list.proofs.Going.{table_on}
 use Rattle.vbr_list.proofs.Nearing.{first_of, then_of}
-use Rattle.vbr_list.proofs.Following.{Follows, follows_head, follows_marked, follows_node, next_paid, peeks_value, peeks_visit, tells_next, tells_none}
+use Rattle.vbr_list.proofs.Following.{Follows, follows_head, follows_marked, follows_node, next_paid, peeks_behind, peeks_visit, tells_next, tells_none}
 use Rattle.vbr_list.proofs.ValueReads.{steps_read}
 use Rattle.vbr_list.proofs.seeking.walk.Goals as goal
 
@@ -54,11 +54,8 @@ returns-in-Err-clause-stopped g c =
 pub returns-in_default-read-clause-peeks : goal.returns-in_default-read-clause-peeks
 returns-in_default-read-clause-peeks g c =
     let v = c.visit_behind.ensures in
-    let w = c.value_if_any-read.ensures in
-    let few = v.used in
-    let fits = c.affords-in-loop-here.ensures.0 c.if-not-affords-2.false in
-    let steps = steps_read c.steps_to_value_of.ensures c.value_if_any-read.new.at.own.1 w.reads.quiet.same.start in
-    peeks_value c.visit_behind.new.used c.steps_to_value_of.result c.args.budget (peeks_visit c.args.bucket c.args.from c.args.used.now c.loop-here.used c.visit_behind.new.used c.args.budget c.loop-here.here c.loop-here.invariant.1 v.looks few fits) w.reads steps (omega (arith, few, fits))
+    let reads = c.value_if_any-read.ensures.reads in
+    peeks_behind c.args.bucket c.args.from c.args.used.now c.loop-here.used c.visit_behind.new.used c.steps_to_value_of.result c.args.budget c.loop-here.here c.loop-here.invariant.1 v.looks v.used (c.affords-in-loop-here.ensures.0 c.if-not-affords-2.false) reads (steps_read c.steps_to_value_of.ensures c.value_if_any-read.new.at.own.1 reads.quiet.same.start)
 
 pub returns-in_default-read-clause-stopped : goal.returns-in_default-read-clause-stopped
 returns-in_default-read-clause-stopped g c =
@@ -72,11 +69,8 @@ returns-in_default-read-clause-stopped g c =
 pub returns-in-Ok-Beyond-clause-peeks : goal.returns-in-Ok-Beyond-clause-peeks
 returns-in-Ok-Beyond-clause-peeks g c =
     let v = c.visit_behind.ensures in
-    let w = c.value_if_any-read.ensures in
-    let few = v.used in
-    let fits = c.affords-in-loop-here.ensures.0 c.if-not-affords-2.false in
-    let steps = steps_read c.steps_to_value_of.ensures c.value_if_any-read.new.at.own.1 w.reads.quiet.same.start in
-    peeks_value c.visit_behind.new.used c.steps_to_value_of.result c.args.budget (peeks_visit c.args.bucket c.args.from c.args.used.now c.loop-here.used c.visit_behind.new.used c.args.budget c.loop-here.here c.loop-here.invariant.1 v.looks few fits) w.reads steps (omega (arith, few, fits))
+    let reads = c.value_if_any-read.ensures.reads in
+    peeks_behind c.args.bucket c.args.from c.args.used.now c.loop-here.used c.visit_behind.new.used c.steps_to_value_of.result c.args.budget c.loop-here.here c.loop-here.invariant.1 v.looks v.used (c.affords-in-loop-here.ensures.0 c.if-not-affords-2.false) reads (steps_read c.steps_to_value_of.ensures c.value_if_any-read.new.at.own.1 reads.quiet.same.start)
 
 pub returns-in-Ok-Beyond-clause-next : goal.returns-in-Ok-Beyond-clause-next
 returns-in-Ok-Beyond-clause-next g c =
