@@ -1,4 +1,5 @@
 //! The laws of tokens, and of progress. Each function says its law in its contract, and does nothing.
+ghost use Rattle.vbr_set.specs.BalanceSums.{BalancesAddUp};
 ghost use Rattle.vbr_set.specs.Laws.{CallsStayInOrder, InsertsMakeProgress, LookUpsMakeProgress, RemovesMakeProgress, TokensHandOn};
 
 /// A law: who catches up with the last token of a chain catches up with the first, through any number
@@ -33,4 +34,10 @@ pub fn removes_make_progress()
 /// meanwhile the bound is one more.
 pub fn inserts_make_progress()
     ensures { InsertsMakeProgress }
+{}
+
+/// A law: while the members of a set or of a map stand still, the balances of all of them, each once, add up
+/// to how many keys it has.
+pub fn balances_add_up()
+    ensures { BalancesAddUp }
 {}

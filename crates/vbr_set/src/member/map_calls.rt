@@ -2,6 +2,7 @@
 ghost use Rattle.vbr_set.specs.MapCalls.{GetsEntry, InsertsEntry, RemovesEntry};
 
 use crate::member::Member;
+use crate::member::counting::{one_if_some, one_if_yes};
 use vbr_list::Refusal;
 use vbr_words::Entries;
 
@@ -20,7 +21,9 @@ impl Member<Entries> {
     pub fn insert(&mut self, key: u64, value: u64, budget: u32) -> Result<bool, Refusal>
         ensures { InsertsEntry self.old self.new key value budget result }
     {
-        self.share.set().insert(&mut self.pass, key, value, budget)
+        let answer = self.share.set().insert(&mut self.pass, key, value, budget);
+        self.balance = self.balance.wrapping_add(one_if_yes(&answer));
+        answer
     }
 
     /// Takes a key out, in at most `budget` steps, and gives the value that was stored with it, if it was
@@ -35,7 +38,9 @@ impl Member<Entries> {
     pub fn remove(&mut self, key: u64, budget: u32) -> Result<Option<u64>, Refusal>
         ensures { RemovesEntry self.old self.new key budget result }
     {
-        self.share.set().remove(&mut self.pass, key, budget)
+        let answer = self.share.set().remove(&mut self.pass, key, budget);
+        self.balance = self.balance.wrapping_sub(one_if_some(&answer));
+        answer
     }
 
     /// The value that is stored with a key, if the key is there, in at most `budget` steps:
