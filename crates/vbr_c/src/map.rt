@@ -9,9 +9,10 @@ ghost use Rattle.vbr_handles.specs.ValueCalls.{TellsGetEntry, TellsRemoveEntry};
 ghost use Rattle.vbr_handles.specs.Opening.{entries_start};
 ghost use Rattle.vbr_handles.specs.OpeningCodes.{TellsMapOpening, TellsMapOpeningWith};
 ghost use Rattle.vbr_handles.specs.AllHandles.{map_members_in};
-ghost use Rattle.vbr_handles.specs.Reports.{TellsMapClose, TellsMapCloseAll};
+ghost use Rattle.vbr_handles.specs.Renewals.{TellsMapRenewal};
+ghost use Rattle.vbr_handles.specs.Reports.{TellsMapClose, TellsMapCloseAll, TellsMapReport};
 ghost use Rattle.vbr_set.specs.AllMembers.{AreOfOneSet};
-ghost use Rattle.vbr_handles.specs.Shown.{buckets_of, epoch_of, last_epoch_of, slots_of};
+ghost use Rattle.vbr_handles.specs.Shown.{balance_shown, buckets_of, epoch_of, last_epoch_of, slots_of};
 
 use std::alloc::Global;
 use vbr_handles::numbers::{entries, iterating};
@@ -166,6 +167,20 @@ pub extern "C" fn vbr_map_buckets(handle: &mut MapHandle) -> u32
     shown::buckets(handle.owner_mut())
 }
 
+/// How many keys the calls of the handle have added, less those that they took out, as
+/// [`crate::set::vbr_balance`] tells of a set.
+///
+/// ```c file=bindings/c/balances.c
+/// int64_t entered = vbr_map_balance(&map[0]) + vbr_map_balance(&map[1]);
+/// ```
+#[unsafe(no_mangle)]
+pub extern "C" fn vbr_map_balance(handle: &mut MapHandle) -> i64
+    ensures same { handle.new.member ≡ handle.old.member }
+    ensures balance { result ≡ balance_shown handle.old.member }
+{
+    shown::balance(handle.owner_mut())
+}
+
 /// Gives a pass back, as [`crate::set::vbr_close`] does. The last handle ends the map: 1, and it writes
 /// what the map held and its entries, ascending by key, in front of `entries`.
 ///
@@ -203,6 +218,52 @@ pub extern "C" fn vbr_map_close_all(
         report.old report.new result }
 {
     numbers::close_all::<Entries, Entry, MapHandle>(alloc, handles, entries, report)
+}
+
+/// Tells what is in a map by all its handles at once, as [`crate::set::vbr_report_all`] tells it of a set: 1,
+/// and it writes what `vbr_map_close_all` would write. The handles stay as they are, and go on.
+///
+/// ```c file=bindings/c/balances.c
+/// CHECK(vbr_map_report_all(map, 2, entries, 8, &report) == VBR_YES);
+/// ```
+#[unsafe(no_mangle)]
+pub extern "C" fn vbr_map_report_all(
+    alloc: Global,
+    handles: &mut [MapHandle],
+    entries: &mut [Entry],
+    report: &mut ReportNumbers,
+) -> i32
+    requires { AreOfOneSet (map_members_in handles.old) }
+    ensures { TellsMapReport handles.old handles.new entries.old entries.new
+        report.old report.new result }
+{
+    numbers::report_all::<Entries, Entry, MapHandle>(alloc, handles, entries, report)
+}
+
+/// Lets all handles of a map go on over a fresh one of these numbers, as [`crate::set::vbr_renew_all`] does
+/// for a set: each key keeps its value.
+///
+/// ```c file=bindings/c/balances.c
+/// CHECK(vbr_map_renew_all(map, 2, 2 * SLOTS, 2 * BUCKETS, VBR_MAX_EPOCH) == VBR_NO);
+/// ```
+#[unsafe(no_mangle)]
+pub extern "C" fn vbr_map_renew_all(
+    alloc: Global,
+    handles: &mut [MapHandle],
+    slots: u32,
+    buckets: u32,
+    last_epoch: u64,
+) -> i32
+    requires { AreOfOneSet (map_members_in handles.old) }
+    ensures { TellsMapRenewal handles.old handles.new
+        (record { slots = slots; buckets = buckets; last_epoch = last_epoch }) result }
+{
+    let numbers = ShapeNumbers {
+        slots,
+        buckets,
+        last_epoch,
+    };
+    numbers::renew_all::<Entries, Entry, MapHandle>(alloc, handles, numbers)
 }
 
 /// Drops what the handle has, and leaves it empty, as [`crate::set::vbr_drop`] does.

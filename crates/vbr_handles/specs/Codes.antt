@@ -8,6 +8,8 @@ use Rattle.vbr_handles.specs.declared.closing_all.CloseAllRefusal.{CloseAllRefus
 use Rattle.vbr_handles.specs.declared.closing_all.CloseAllRefusal.TheVariants as closing_all
 use Rattle.vbr_handles.specs.declared.opening.OpenRefusal.{OpenRefusal}
 use Rattle.vbr_handles.specs.declared.opening.OpenRefusal.TheVariants as opening
+use Rattle.vbr_handles.specs.declared.renewing_all.RenewAllRefusal.{RenewAllRefusal}
+use Rattle.vbr_handles.specs.declared.renewing_all.RenewAllRefusal.TheVariants as renewing
 
 -- of a call: 1 yes, 0 no, -1 out of steps, -2 no slot, -3 the epoch is spent
 abbrev pub call_code : Result Bool Refusal → ℤ
@@ -39,7 +41,7 @@ close_code (Err closing.Memory) = negsuc 7
 close_code (Err closing.Lost) = negsuc 8
 close_code (Err (closing.Room report)) = negsuc 10
 
--- of a close of all: 1 ended, -4 one is empty, -8 no memory, -11 no room, -12 some are missing, -13 they are of several sets
+-- of a report or a close by all: 1 told, -4 one is empty, -8 no memory, -11 no room, -12 some are missing, -13 they are of several sets
 abbrev pub close_all_code : {R : Type 0} → Result R (CloseAllRefusal R) → ℤ
 close_all_code (Ok report) = pos 1
 close_all_code (Err closing_all.Empty) = negsuc 3
@@ -47,3 +49,13 @@ close_all_code (Err closing_all.Memory) = negsuc 7
 close_all_code (Err (closing_all.Room report)) = negsuc 10
 close_all_code (Err closing_all.Missing) = negsuc 11
 close_all_code (Err closing_all.Mixed) = negsuc 12
+
+-- of a renewal of all: 0 done, -4 one is empty, -6 a bad shape, -8 no memory, -11 fewer slots than keys, -12 some are missing, -13 they are of several sets
+abbrev pub renew_all_code : Result (Unit {0}) RenewAllRefusal → ℤ
+renew_all_code (Ok done) = pos 0
+renew_all_code (Err renewing.Empty) = negsuc 3
+renew_all_code (Err renewing.Shape) = negsuc 5
+renew_all_code (Err renewing.Memory) = negsuc 7
+renew_all_code (Err renewing.Room) = negsuc 10
+renew_all_code (Err renewing.Missing) = negsuc 11
+renew_all_code (Err renewing.Mixed) = negsuc 12
