@@ -22,10 +22,15 @@ mod Sufficing
 mod Tiring
 mod LonePasses
 mod Told
+mod Expected
 mod Marks
 mod ValueReads
-mod Replacements
+mod ReadFirst
+mod FoundValues
+mod Stores
+mod Wants
+mod Settled
 mod Linking
 mod LateSearches
-mod ReplacedValues
+mod StoredValues
 pub mod Lemmas
