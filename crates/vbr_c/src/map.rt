@@ -5,7 +5,7 @@ ghost use Rattle.std.specs.Prelude.{◌≡◌, None};
 ghost use Rattle.vbr_machine.specs.declared.history.Op.TheVariants.{Has};
 ghost use Rattle.vbr_handles.specs.Calls.{TellsCall, TellsInsertEntry};
 ghost use Rattle.vbr_handles.specs.Iterating.{TellsNextEntry};
-ghost use Rattle.vbr_handles.specs.ValueCalls.{TellsGetEntry, TellsRemoveEntry};
+ghost use Rattle.vbr_handles.specs.ValueCalls.{TellsExchange, TellsGetEntry, TellsGetOrInsert, TellsPut, TellsRemoveEntry, TellsRemoveIf, TellsReplace};
 ghost use Rattle.vbr_handles.specs.Opening.{entries_start};
 ghost use Rattle.vbr_handles.specs.OpeningCodes.{TellsMapOpening, TellsMapOpeningWith};
 ghost use Rattle.vbr_handles.specs.AllHandles.{map_members_in};
@@ -114,6 +114,115 @@ pub extern "C" fn vbr_map_get(handle: &mut MapHandle, key: u64, budget: u32, val
     entries::get(handle.owner_mut(), key, budget, value)
 }
 
+/// Gives a key that is there another value, in at most `budget` steps: 1, and the value that it had is written;
+/// 0 if it is absent, and then it stays so. It is one atomic step: no get finds the key absent in between. It
+/// takes a slot before it gives the old one back. While the other handles stand still, the budget that is
+/// enough for an insert is enough.
+///
+/// Refusals, after which no call was made and the handle can go on: -1, the steps leave no room in the budget;
+/// -2, the handle found no slot; -3, the last epoch is spent; -4, the handle is empty. With any answer but 1
+/// nothing is written.
+///
+/// ```c file=bindings/c/map_calls.c
+/// if (vbr_map_replace(&map[0], 5, 72, &found, 100000) == VBR_YES) changed++; // 5 had the value found, and has 72
+/// ```
+#[unsafe(no_mangle)]
+pub extern "C" fn vbr_map_replace(
+    handle: &mut MapHandle,
+    key: u64,
+    value: u64,
+    found: &mut u64,
+    budget: u32,
+) -> i32
+    ensures { TellsReplace handle.old.member handle.new.member key value budget
+        found.old found.new result }
+{
+    entries::replace(handle.owner_mut(), key, value, found, budget)
+}
+
+/// Gives a key a value, whether it is there or not, as [`vbr_map_replace`] does: 1 if it was there, and the
+/// value that it had is written; 0 if it was absent.
+///
+/// ```c file=bindings/c/map_calls.c
+/// if (vbr_map_put(&map[1], 6, 60, NULL, 100000) == VBR_NO) added++; // 6 was absent; either way it has 60
+/// ```
+#[unsafe(no_mangle)]
+pub extern "C" fn vbr_map_put(
+    handle: &mut MapHandle,
+    key: u64,
+    value: u64,
+    found: &mut u64,
+    budget: u32,
+) -> i32
+    ensures { TellsPut handle.old.member handle.new.member key value budget
+        found.old found.new result }
+{
+    entries::put(handle.owner_mut(), key, value, found, budget)
+}
+
+/// Gives a key that is absent a value, as [`vbr_map_insert`] does: 0; 1 if the key was there, and then the
+/// value that it has is written. The same budget is enough, and the refusals of [`vbr_map_replace`] come.
+///
+/// ```c file=bindings/c/map_calls.c
+/// if (vbr_map_get_or_insert(&map[0], 5, 1, &found, 100000) == VBR_YES) there++; // 5 had the value found, and keeps it
+/// ```
+#[unsafe(no_mangle)]
+pub extern "C" fn vbr_map_get_or_insert(
+    handle: &mut MapHandle,
+    key: u64,
+    value: u64,
+    found: &mut u64,
+    budget: u32,
+) -> i32
+    ensures { TellsGetOrInsert handle.old.member handle.new.member key value budget
+        found.old found.new result }
+{
+    entries::get_or_insert(handle.owner_mut(), key, value, found, budget)
+}
+
+/// Gives a key another value where it has the one that is expected, as [`vbr_map_replace`] does: 1; 2 if it has
+/// another value, which stays; 0 if it is absent. With 1 and 2 the value that was there is written. Two steps
+/// more are enough, and the refusals of [`vbr_map_replace`] come.
+///
+/// ```c file=bindings/c/map_calls.c
+/// told = vbr_map_compare_exchange(&map[0], 5, seen, seen + 1, &seen, 100000);
+/// ```
+#[unsafe(no_mangle)]
+pub extern "C" fn vbr_map_compare_exchange(
+    handle: &mut MapHandle,
+    key: u64,
+    expected: u64,
+    value: u64,
+    found: &mut u64,
+    budget: u32,
+) -> i32
+    ensures { TellsExchange handle.old.member handle.new.member key expected value budget
+        found.old found.new result }
+{
+    entries::compare_exchange(handle.owner_mut(), key, expected, value, found, budget)
+}
+
+/// Takes a key out where it has the value that is expected, as [`vbr_map_remove`] does: 1; 2 if it has another
+/// value, and then it stays; 0 if it is absent. With 1 and 2 the value that was there is written. The same
+/// budget is enough, and the same refusals come.
+///
+/// ```c file=bindings/c/map_calls.c
+/// if (vbr_map_remove_if(&map[0], 6, 61, &found, 100000) == VBR_OTHER) kept++; // 6 has the value found, and is still there
+/// ```
+#[unsafe(no_mangle)]
+pub extern "C" fn vbr_map_remove_if(
+    handle: &mut MapHandle,
+    key: u64,
+    expected: u64,
+    found: &mut u64,
+    budget: u32,
+) -> i32
+    ensures { TellsRemoveIf handle.old.member handle.new.member key expected budget
+        found.old found.new result }
+{
+    entries::remove_if(handle.owner_mut(), key, expected, found, budget)
+}
+
 /// Looks a key up, and asks for no value, as [`crate::set::vbr_has`] does: 1 if it is there, 0 if it is
 /// absent.
 ///
@@ -171,7 +280,7 @@ pub extern "C" fn vbr_map_buckets(handle: &mut MapHandle) -> u32
 /// [`crate::set::vbr_balance`] tells of a set.
 ///
 /// ```c file=bindings/c/balances.c
-/// int64_t entered = vbr_map_balance(&map[0]) + vbr_map_balance(&map[1]);
+/// int64_t entered = vbr_map_balance(&map[0]) + vbr_map_balance(&map[1]); // no call is under way
 /// ```
 #[unsafe(no_mangle)]
 pub extern "C" fn vbr_map_balance(handle: &mut MapHandle) -> i64
@@ -224,7 +333,7 @@ pub extern "C" fn vbr_map_close_all(
 /// and it writes what `vbr_map_close_all` would write. The handles stay as they are, and go on.
 ///
 /// ```c file=bindings/c/balances.c
-/// CHECK(vbr_map_report_all(map, 2, entries, 8, &report) == VBR_YES);
+/// vbr_answer told = vbr_map_report_all(map, 2, entries, 8, &report); // VBR_YES: report.live entries are in front of entries
 /// ```
 #[unsafe(no_mangle)]
 pub extern "C" fn vbr_map_report_all(
@@ -244,7 +353,7 @@ pub extern "C" fn vbr_map_report_all(
 /// for a set: each key keeps its value.
 ///
 /// ```c file=bindings/c/balances.c
-/// CHECK(vbr_map_renew_all(map, 2, 2 * SLOTS, 2 * BUCKETS, VBR_MAX_EPOCH) == VBR_NO);
+/// vbr_answer renewed = vbr_map_renew_all(map, 2, 2048 + 2 * 64, 2048, VBR_MAX_EPOCH); // VBR_NO: twice as large
 /// ```
 #[unsafe(no_mangle)]
 pub extern "C" fn vbr_map_renew_all(

@@ -170,7 +170,7 @@ pub extern "C" fn vbr_buckets(handle: &mut Handle) -> u32
 /// calls are under way, the sum is off by at most as many.
 ///
 /// ```c file=bindings/c/balances.c
-/// int64_t keys = vbr_balance(&handle[0]) + vbr_balance(&handle[1]);
+/// int64_t keys = vbr_balance(&handle[0]) + vbr_balance(&handle[1]); // no call is under way
 /// ```
 #[unsafe(no_mangle)]
 pub extern "C" fn vbr_balance(handle: &mut Handle) -> i64
@@ -239,7 +239,7 @@ pub extern "C" fn vbr_close_all(
 /// Refusals are those of `vbr_close_all`, with what they write.
 ///
 /// ```c file=bindings/c/balances.c
-/// CHECK(vbr_report_all(handle, 2, keys, 8, &report) == VBR_YES);
+/// vbr_answer told = vbr_report_all(handle, 2, keys, 8, &report); // VBR_YES: report.live keys are in front of keys
 /// ```
 #[unsafe(no_mangle)]
 pub extern "C" fn vbr_report_all(
@@ -265,7 +265,7 @@ pub extern "C" fn vbr_report_all(
 /// no contract speaks of.
 ///
 /// ```c file=bindings/c/balances.c
-/// CHECK(vbr_renew_all(handle, 2, 2 * SLOTS, 2 * BUCKETS, VBR_MAX_EPOCH) == VBR_NO);
+/// vbr_answer renewed = vbr_renew_all(handle, 2, 2048 + 2 * 64, 2048, VBR_MAX_EPOCH); // VBR_NO: twice as large
 /// ```
 #[unsafe(no_mangle)]
 pub extern "C" fn vbr_renew_all(

@@ -95,10 +95,10 @@ module _ {H : Type 0} (member : H → Option Member) where
       let new = r.new in
       let set : TableView = new.set in
       let count : length after ≡ length members =
-          sym (length-map after member)
-          ∙ ap (λ (os : List (Option Member)). length os) full
-          ∙ length-map came Some
-          ∙ as_many_renewed kind members came shape r
+      sym (length-map after member)
+      ∙ ap (λ (os : List (Option Member)). length os) full
+      ∙ length-map came Some
+      ∙ as_many_renewed kind members came shape r
       in
       record {
         report = r.report;

@@ -1,5 +1,5 @@
 -- The balance of a member: how many keys its calls have added, less those that they took out.
-use Rattle.std.specs.Prelude.{ℕ, zero, suc, ℤ, pos, negsuc, ◌+ℤ◌, Bool, true, false, List, [], ◌∷◌, Result, Ok, Err, length}
+use Rattle.std.specs.Prelude.{ℕ, zero, suc, ℤ, pos, negsuc, ◌+ℤ◌, Bool, true, false, List, [], ◌∷◌, Result, Ok, Err, length, if◌then◌else◌}
 use Rattle.std.specs.Int.{w64, int_wrap}
 use Rattle.vbr_machine.specs.Start.{Start}
 use Rattle.vbr_machine.specs.declared.history.Call.{Call}
@@ -29,8 +29,7 @@ opened_for start (suc who) = pos 0
 abbrev pub balance_of : MemberView → ℤ
 balance_of m = int_wrap w64 (opened_for m.set.start m.pass.trace.who +ℤ change_of (made_by m.pass.trace))
 
--- one for an answer that is yes, and else none
-abbrev pub one_if_yes : Result Bool Refusal → ℤ
-one_if_yes (Ok true) = pos 1
-one_if_yes (Ok false) = pos 0
-one_if_yes (Err refusal) = pos 0
+-- one for an answer that passes a test, and else none
+abbrev pub one_where : {A : Type 0} → (A → Bool) → Result A Refusal → ℤ
+one_where test (Ok reply) = if test reply then pos 1 else pos 0
+one_where test (Err refusal) = pos 0

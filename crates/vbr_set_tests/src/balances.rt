@@ -40,11 +40,7 @@ fn both(alloc: Global, one: Member, other: Member) -> Option<Vec<Member>>
 }
 
 // Lets members go on over a set of another shape. What found no memory left them, so it is tried again.
-fn renew(
-    alloc: Global,
-    members: Vec<Member>,
-    shape: Shape,
-) -> Result<Vec<Member>, RenewAllError>
+fn renew(alloc: Global, members: Vec<Member>, shape: Shape) -> Result<Vec<Member>, RenewAllError>
     requires { AreOfOneSet members.items }
 {
     match Member::renew_all(alloc, members, shape) {
