@@ -3,7 +3,6 @@ mod Traversals
 mod Going
 mod KeptHands
 mod Reaching
-mod Nearing
 mod Moments
 mod Clearing
 mod Sweeping

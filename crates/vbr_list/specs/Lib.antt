@@ -8,7 +8,6 @@ pub mod Alone
 pub mod Told
 pub mod Sparing
 pub mod Pieces
-pub mod Nearing
 pub mod Walking
 pub mod Visiting
 pub mod Traversing
