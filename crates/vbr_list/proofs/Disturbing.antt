@@ -35,6 +35,10 @@ unchanged_at p q r bucket is ok sq sr b x = own_unchanged (since p.start p.passe
 kept_at : (p q r : Trace) (bucket : ℕ) → IsSame p q → IsSame p r → ChangesNone q r → changed_at p bucket r.seen ≡ changed_at p bucket q.seen
 kept_at p q r bucket sq sr x = sym (λ i. own_changes (sr.start i) r.seen (sr.who i) bucket) ∙ x.same bucket ∙ (λ i. own_changes (sq.start i) q.seen (sq.who i) bucket)
 
+-- nor did it between two moments at which it had changed as much
+pub kept_between : (p : Trace) (q x r : List Event) → IsStart p.start → IsRun p.start p.passes r → (bucket : ℕ) → Begins q x → Begins x r → changed_at p bucket r ≡ changed_at p bucket q → changed_at p bucket r ≡ changed_at p bucket x
+kept_between p q x r is ok bucket a b own = own_between (since p.start p.passes q x is (begins_run p.start p.passes x r b ok) a) (since p.start p.passes x r is ok b) (since p.start p.passes r r is ok (begins_refl r)) p.who bucket own
+
 -- from the trace of another moment of the pass
 pub changed_same : (p q : Trace) (key : ℕ) (run : List Event) → IsSame p q → changed_after q key run ≡ changed_after p key run
 changed_same p q key run s = (λ i. own_changes (s.start i) run (s.who i) (bucket_of (let st : Start = s.start i in st.shape) key))
@@ -87,21 +91,12 @@ module _ (p r : Trace) (is : IsStart p.start) (ok : IsRun p.start p.passes r.see
   pub loses_disturb : (q : Trace) (held : Held) → IsSame p q → IsSame p r → Begins p.seen q.seen → Begins q.seen r.seen → changed_at p bucket r.seen ≡ changed_at p bucket p.seen → IsFresh q → (x : StoodOpen p q bucket held) → LosesHeld q r held → disturbed_at p bucket x.moment < disturbed_at p bucket r.seen
   loses_disturb q held sq sr a b own fresh x l = go l.why l.rolled l.fresh
     where
-      ok_q : IsRun p.start p.passes q.seen
-      ok_q = begins_run p.start p.passes q.seen r.seen b ok
-
-      own_q : changed_at p bucket r.seen ≡ changed_at p bucket q.seen
-      own_q = own_between (since p.start p.passes p.seen q.seen is ok_q a) (since p.start p.passes q.seen r.seen is ok b) (since p.start p.passes r.seen r.seen is ok (begins_refl r.seen)) p.who bucket own
-
-      own_x : changed_at p bucket r.seen ≡ changed_at p bucket x.moment
-      own_x = own_between (since p.start p.passes p.seen x.moment is (begins_run p.start p.passes x.moment q.seen x.to ok_q) x.from) (since p.start p.passes x.moment r.seen is ok (begins_trans x.moment q.seen r.seen x.to b)) (since p.start p.passes r.seen r.seen is ok (begins_refl r.seen)) p.who bucket own
-
       go : (why : Rollback) → IsMovedOrLost q r held why → FreshIfMoved r why → disturbed_at p bucket x.moment < disturbed_at p bucket r.seen
       go (EpochMoved now) m f =
-          let less = moves_disturb q sq sr b own_q fresh (record { other = λ e. m.0 (sym m.1 ∙ e); fresh = f }) in
-          let more = disturbances_grow (since p.start p.passes x.moment q.seen is ok_q x.to) p.who bucket in
+          let less = moves_disturb q sq sr b (kept_between p p.seen q.seen r.seen is ok bucket a b own) fresh (record { other = λ e. m.0 (sym m.1 ∙ e); fresh = f }) in
+          let more = disturbances_grow (since p.start p.passes x.moment q.seen is (begins_run p.start p.passes q.seen r.seen b ok) x.to) p.who bucket in
           omega (arith, less, more)
-      go (LostExchange word) m f = lost_disturbs q held (LostExchange word) sq b x own_x m
+      go (LostExchange word) m f = lost_disturbs q held (LostExchange word) sq b x (kept_between p p.seen x.moment r.seen is ok bucket x.from (begins_trans x.moment q.seen r.seen x.to b) own) m
 
 -- ---- the nodes that can be met
 

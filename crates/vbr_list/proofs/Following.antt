@@ -64,7 +64,7 @@ module _ {p q r : PassView} (law : PassLaw p) {bucket from a b c budget : ℕ} {
       let before = grows_disturbed p.trace q.trace law.start (run_at p.trace q.trace first.same (first.is_run law.is_run)) bucket p.trace.seen first.seen in
       let less = visit_moved law bucket first looks.goes.quiet looks.observes x.fresh moves in
       let low = x.some in
-      (omega (arith, low, few), visit_paid law bucket first looks.goes.quiet looks.observes x.walks (omega (arith, few)) some, omega (arith, before, less))
+      (omega (arith, low, few), visit_paid law bucket first looks.goes.quiet x.walks (omega (arith, few)) some, omega (arith, before, less))
 
   -- a value is read of the node that it met, in so many steps
   module _ {met : Visited} (m : Meets q.trace r.trace b c here from met) {s : PassView} {n : ℕ} (reads : ReadsIn r s (steps_to_value_of r.trace.start)) (steps : n ≡ steps_to_value_of r.trace.start) where
@@ -76,7 +76,7 @@ module _ {p q r : PassView} (law : PassLaw p) {bucket from a b c budget : ℕ} {
 
     pub value_paid : WalksOnce 5 (steps_besides p.trace) p.trace s.trace bucket a (c + n)
     value_paid =
-        let paid = met_paid law bucket first looks.goes.quiet looks.observes x.walks m {now = c} (omega (arith, few)) in
+        let paid = met_paid law bucket first looks.goes.quiet looks.observes x.walks m {now_used = c} (omega (arith, few)) in
         let more = met_until p.trace s.trace law.start ok bucket r.trace whole.seen reads.quiet.seen in
         let same : steps_to_value_of r.trace.start ≡ steps_to_value_of p.trace.start = ap steps_to_value_of whole.same.start in
         omega (arith, paid, more, steps, same)

@@ -8,9 +8,9 @@ mod Clearing
 mod Sweeping
 mod Observing
 mod Disturbing
+mod Visits
 mod Walking
 mod LostWalks
-mod Visits
 mod Passing
 mod Sights
 mod Following

@@ -5,8 +5,7 @@ use Rattle.vbr_list.proofs.Disturbing.{loses_place_disturb, moves_on, moves_on_d
 use Rattle.vbr_list.proofs.Going.{call_on, goes_further, goes_on, tries_on, within_call}
 use Rattle.vbr_list.proofs.Moments.{cur_found}
 use Rattle.vbr_list.proofs.Reaching.{node_found, node_reached, pred_inside, pred_on, stood_since, traverses_on}
-use Rattle.vbr_list.proofs.Walking.{knows_now, stands_still_on, walk_helped, walk_visited}
-use Rattle.vbr_list.proofs.Visits.{met_knows, met_open, met_paid, met_past, met_to, paid_so_far, starts_none, starts_walk, visit_changes_none, visit_paid, visited_run}
+use Rattle.vbr_list.proofs.Visits.{knows_now, met_knows, met_open, met_paid, met_past, met_to, paid_so_far, stands_still_on, starts_none, starts_walk, visit_changes_none, visit_paid, visited_run, walk_helped}
 use Rattle.vbr_list.proofs.call.PendingCall.traverse.Goals as goal
 
 pub help-requires-clause-pred : goal.help-requires-clause-pred
@@ -69,7 +68,7 @@ loop-pred-preserved-in-Ok-help g c =
     let past : Walks 9 p r bucket c.args.self.now.used c.help.new.self.used c.loop-pred.pred (held_of c.in-Ok-Marked.marked) = met_past c.law.ensures c.args.self.now.bucket c.loop-pred.invariant.1.tries.goes.quiet c.visit.ensures.goes.goes.quiet c.visit.ensures.observes i.walks met (omega (arith, count, few)) in (
       call_on c.loop-pred.invariant.0 (call_on v.call h.call),
       traverses_on i (goes_on v.goes h.goes) (omega (arith, x, y)) (omega (arith, few, z, b, d)) (record { is = s.is; stood = stood_since v.goes.quiet s.stood })
-          (walk_helped 9 p r t is ok_t bucket whole.same whole.seen h.goes.quiet.seen past inside helped.epoch helped.opens),
+          (walk_helped c.law.ensures bucket whole h.goes.quiet past inside helped.epoch helped.opens),
     )
 
 pub returns-in-Err-clause-goes : goal.returns-in-Err-clause-goes
@@ -136,8 +135,8 @@ returns-in-Err-clause-stopped g c =
     let some : is_some (link_of c.loop-pred.pred.word).slot ≡ true = ap (λ (l : Link). is_some l.slot) (sym c.decode.ensures.link) ∙ sym c.is_some.ensures ∙ c.loop-pred-test.true in
     let steps = c.visit.ensures.goes.goes.hand.takes_no_slot.count ∙ i.tries.goes.hand.takes_no_slot.count in (
       omega arith,
-      visit_paid c.law.ensures c.args.self.now.bucket c.loop-pred.invariant.1.tries.goes.quiet c.visit.ensures.goes.goes.quiet c.visit.ensures.observes i.walks (omega (arith, few)) some,
-      moves_on_disturb p r c.law.ensures.start (visited_run c.law.ensures c.args.self.now.bucket c.loop-pred.invariant.1.tries.goes.quiet c.visit.ensures.goes.goes.quiet c.visit.ensures.observes) c.args.self.now.bucket (quiet_on first v).same steps q first.same v.seen i.walks.knew (moves_on q r v.same v.seen c.in-Err.ensures.moved),
+      visit_paid c.law.ensures c.args.self.now.bucket c.loop-pred.invariant.1.tries.goes.quiet c.visit.ensures.goes.goes.quiet i.walks (omega (arith, few)) some,
+      moves_on_disturb p r c.law.ensures.start (visited_run c.law.ensures c.args.self.now.bucket first v) c.args.self.now.bucket (quiet_on first v).same steps q first.same v.seen i.walks.knew (moves_on q r v.same v.seen c.in-Err.ensures.moved),
     )
 
 pub returns-then-not-affords-3-clause-stopped : goal.returns-then-not-affords-3-clause-stopped
@@ -169,6 +168,6 @@ returns-in-Err-help-clause-stopped g c =
     let steps = h.hand.takes_no_slot.count ∙ v.hand.takes_no_slot.count ∙ i.tries.goes.hand.takes_no_slot.count in
     let none = visit_changes_none c.law.ensures c.args.self.now.bucket c.loop-pred.invariant.1.tries.goes.quiet c.visit.ensures.goes.goes.quiet c.visit.ensures.observes in (
       omega arith,
-      walk_visited 9 p t is ok_t bucket all.same q first.same first.seen later.seen i.walks (let count = met.count in omega (arith, count, few)) (ap is_some met.reads.named),
+      visit_paid c.law.ensures bucket first later i.walks (let count = met.count in omega (arith, count, few)) (ap is_some met.reads.named),
       loses_place_disturb p t is ok_t bucket all.same steps r c.loop-pred.pred whole.same h.quiet.seen (knows_now p r whole.same whole.seen met.fresh) (stands_still_on v.quiet.seen none i.walks.stands) c.in-Err-help.ensures.lost,
     )

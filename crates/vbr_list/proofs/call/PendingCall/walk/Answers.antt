@@ -2,8 +2,7 @@ use Rattle.vbr_list.proofs.Names.{rules, ◌≡◌, refl, sym, ap, ◌∙◌, su
 use Rattle.vbr_list.proofs.Names.{Held, Link, link_of}
 use Rattle.vbr_list.proofs.Following.{follows_head, follows_marked, follows_node, visit_lost}
 use Rattle.vbr_list.proofs.Going.{call_on, goes_further}
-use Rattle.vbr_list.proofs.Walking.{stood_on}
-use Rattle.vbr_list.proofs.Visits.{met_open, met_paid, paid_so_far, starts_none}
+use Rattle.vbr_list.proofs.Visits.{met_open, met_paid, paid_so_far, starts_none, stood_on}
 use Rattle.vbr_list.proofs.Observing.{observes_on}
 use Rattle.vbr_list.proofs.Reaching.{node_found}
 use Rattle.vbr_list.proofs.Passing.{absent_at_end, absent_before, present_at}
