@@ -1,11 +1,11 @@
--- What a replacement costs: its searches, and those that follow where the place before the old node is lost.
+-- What a store costs that replaced a node: its searches, and those that follow where the place before the old node is lost.
 use Rattle.vbr_list.proofs.Names.{◌≡◌, ℕ, ◌+◌, ◌*◌, ◌<◌, ◌≤◌, sym, ap, ◌∙◌, subst, arith, mul-le}
 use Rattle.vbr_list.proofs.Names.{Begins, begins_run, bucket_of, Call, disturbances_grow, Insert, inserts_in, inserts_in-two, IsRun, IsSame, IsStart, MadeTwo, met_bound_made, own_calls, PIECE, Quiet, quiet_on, Remove, same_on, since, Trace}
 use Rattle.vbr_list.specs.Budgets.{listed_for}
-use Rattle.vbr_list.specs.Disturbed.{disturbed, replace_costs_among}
+use Rattle.vbr_list.specs.Disturbed.{disturbed, store_costs_among}
 use Rattle.vbr_list.specs.Inserting.{SearchedFor}
 use Rattle.vbr_list.specs.Removing.{MarksAndSearches}
-use Rattle.vbr_list.specs.Replacing.{AnswersLate}
+use Rattle.vbr_list.specs.Settling.{AnswersLate}
 use Rattle.vbr_list.specs.Traversing.{LastWalk}
 use Rattle.vbr_list.specs.Walking.{met_since}
 use Rattle.vbr_list.specs.declared.found.Found.{Found}
@@ -52,7 +52,7 @@ met_replaced p r is ok key {first} {second} made one two =
     let y = disturbances_grow (since p.start p.passes p.seen r.seen is ok made.seen) p.who bucket in
     omega (arith, x, y, calls)
 
-late_costs : (lost lost2 later m1 m2 m3 n t used now taking : ℕ) → used ≤ 0 + 9 * m1 + lost * (9 * m1 + 7) + (taking + 3) → now ≤ used + 9 * m2 + lost2 * (9 * m2 + 12) + (later + 1) * (9 * m3 + 3) + 17 → m1 ≤ n + t → m2 ≤ n + t → m3 ≤ n + t + 1 → lost + lost2 + later + 1 ≤ t → now ≤ replace_costs_among n t taking
+late_costs : (lost lost2 later m1 m2 m3 n t used now taking : ℕ) → used ≤ 0 + 9 * m1 + lost * (9 * m1 + 7) + (taking + 3) → now ≤ used + 9 * m2 + lost2 * (9 * m2 + 12) + (later + 1) * (9 * m3 + 3) + 17 → m1 ≤ n + t → m2 ≤ n + t → m3 ≤ n + t + 1 → lost + lost2 + later + 1 ≤ t → now ≤ store_costs_among n t taking
 late_costs lost lost2 later m1 m2 m3 n t used now taking x y l k j f =
     let u = mul-le lost (9 * m1 + 7) lost (9 * (n + t) + 12) (omega arith) (omega (arith, l)) in
     let v = mul-le lost2 (9 * m2 + 12) lost2 (9 * (n + t) + 12) (omega arith) (omega (arith, k)) in
@@ -61,7 +61,7 @@ late_costs lost lost2 later m1 m2 m3 n t used now taking x y l k j f =
     omega (arith, x, y, u, v, z, w, l, k)
 
 -- and of one that was late
-pub late_paid : (p q r : Trace) → IsStart p.start → IsRun p.start p.passes r.seen → (key taking : ℕ) → Quiet p q → {first second : Call} → MadeTwo first second p r → first.op ≡ Remove → second.op ≡ Insert → {used now : ℕ} → SearchedFor p q key 0 used (taking + 3) → AnswersLate q r key used now → now ≤ replace_costs_among (listed_for p key) (disturbed p r key) taking
+pub late_paid : (p q r : Trace) → IsStart p.start → IsRun p.start p.passes r.seen → (key taking : ℕ) → Quiet p q → {first second : Call} → MadeTwo first second p r → first.op ≡ Remove → second.op ≡ Insert → {used now : ℕ} → SearchedFor p q key 0 used (taking + 3) → AnswersLate q r key used now → now ≤ store_costs_among (listed_for p key) (disturbed p r key) taking
 late_paid p q r is ok key taking quiet made one two {used} {now} x y =
     let m = y.ended in
     let ok_m = begins_run p.start p.passes m.seen r.seen y.to ok in

@@ -23,8 +23,11 @@ mod LonePasses
 mod Told
 mod Marks
 mod ValueReads
-mod Replacements
+mod FoundValues
+mod Stores
+mod Wants
+mod Settled
 mod Linking
 mod LateSearches
-mod ReplacedValues
+mod StoredValues
 pub mod Lemmas

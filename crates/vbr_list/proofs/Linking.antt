@@ -15,7 +15,7 @@ use Rattle.vbr_list.proofs.KeptHands.{own_kept}
 use Rattle.vbr_list.proofs.LostWalks.{search_ends}
 use Rattle.vbr_list.proofs.Moments.{stands_before}
 use Rattle.vbr_list.proofs.Preparing.{if_went, within_on, within_same}
-use Rattle.vbr_list.proofs.Replacements.{hand_kept}
+use Rattle.vbr_list.proofs.Stores.{hand_kept}
 use Rattle.vbr_list.proofs.Told.{stored_same, told_since}
 use Rattle.vbr_list.proofs.Walking.{HasRepeated, search_round_on}
 

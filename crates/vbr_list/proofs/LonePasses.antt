@@ -1,8 +1,10 @@
 -- A pass that is its table's only one made all the calls of its run, and those are legal.
 use Rattle.vbr_list.proofs.Names.{◌≡◌, ℕ, ◌<◌, List, [], ◌∷◌, ◌++◌, Result, Ok, Err, refl, sym, ap, ◌∙◌, subst, arith, IfOk}
 use Rattle.vbr_list.proofs.Names.{added_own, after, AreAccepted, Call, calls_added, calls_after, calls_by, calls_by-append, Event, every_run, GiveStored, GivesValue, IsLegal, IsRun, IsStart, Keys, keys_after, Made, made_by, opening, opening_keys, opening_payloads, Payloads, payloads_after, reply_of, set_after, Start, Trace, values_after, World, world_from}
-use Rattle.vbr_list.specs.Alone.{AnswersAlone}
+use Rattle.vbr_list.specs.Alone.{AnswersAlone, AreAnsweredAlone}
 use Rattle.vbr_list.specs.Sparing.{GivesAlone}
+use Rattle.vbr_list.specs.Storing.{Makes}
+use Rattle.vbr_list.proofs.Stores.{has_made}
 
 -- the last call of a legal history has the reply of the set before it
 legal_last : (keys : Keys) (calls : List Call) (x : Call) → IsLegal keys (calls ++ x ∷ []) → x.reply ≡ reply_of (set_after keys calls) x.op x.key
@@ -56,3 +58,35 @@ gives_alone {p} {q} {call} start low made one =
 pub each_alone : {A E : Type 0} (p q : Trace) (told : A → Call) (answer : Result A E) → IsStart p.start → p.who < p.passes → IfOk answer (λ reply. Made (told reply) p q) → IfOk answer (λ reply. AnswersAlone p (told reply).op (told reply).key (told reply).reply)
 each_alone p q told (Ok reply) start low made = alone start low made
 each_alone p q told (Err refusal) start low made = tt
+
+-- ---- the calls of a store
+
+-- the last calls of a legal history are legal after those before
+legal_rest : (keys : Keys) (before calls : List Call) → IsLegal keys (before ++ calls) → IsLegal (set_after keys before) calls
+legal_rest keys [] calls legal = legal
+legal_rest keys (c ∷ cs) calls legal = legal_rest (keys_after keys c.op c.key c.reply) cs calls legal.1
+
+-- and give what was stored, if the history does
+stored_rest : (payloads : Payloads) (before calls : List Call) → GiveStored payloads (before ++ calls) → GiveStored (values_after payloads before) calls
+stored_rest payloads [] calls stored = stored
+stored_rest payloads (c ∷ cs) calls stored = stored_rest (payloads_after payloads c.op c.key c.reply c.value) cs calls stored.1
+
+calls_made : (p q : Trace) (calls : List Call) → Makes calls p q → made_by q ≡ made_by p ++ calls
+calls_made p q [] made = absurd made
+calls_made p q (one ∷ []) made = made.calls
+calls_made p q (one ∷ two ∷ []) made = made.calls
+calls_made p q (one ∷ two ∷ three ∷ more) made = absurd made
+
+pub are_alone : (p q : Trace) (calls : List Call) → IsStart p.start → p.who < p.passes → Makes calls p q → AreAnsweredAlone p calls
+are_alone p q calls start low made one =
+    let x = has_made p q calls made in
+    let low_now : q.who < q.passes = rw (x.same.who, x.same.passes) low in
+    let is_start = let P : Start → Type 0 = IsStart in subst P (sym x.same.start) start in
+    let legal = lone_legal q is_start low_now x.is_run (x.same.passes ∙ one) in
+    let stored = lone_stored q is_start low_now x.is_run (x.same.passes ∙ one) in
+    let all = calls_made p q calls made in
+    let legal_there = subst (λ (d : Start). IsLegal (opening_keys d) (made_by q)) x.same.start legal in
+    let stored_there = subst (λ (d : Start). GiveStored (opening_payloads d) (made_by q)) x.same.start stored in (
+      legal_rest (opening_keys p.start) (made_by p) calls (subst (IsLegal (opening_keys p.start)) all legal_there),
+      stored_rest (opening_payloads p.start) (made_by p) calls (subst (GiveStored (opening_payloads p.start)) all stored_there),
+    )

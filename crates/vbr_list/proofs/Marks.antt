@@ -1,6 +1,6 @@
 -- A remove after its mark: the place before the node stands as it stood, or the pass was disturbed; and what the answer costs.
 use Rattle.vbr_list.proofs.Names.{◌≡◌, ◌≢◌, ℕ, ◌+◌, ◌*◌, ◌<◌, ◌≤◌, true, false, Option, Result, is_err, IfErr, refl, sym, ap, ◌∙◌, subst, inl, inr, arith, ◌⊎◌, IfNone, IfSome, cases_lt, mul-le}
-use Rattle.vbr_list.proofs.Names.{AddsNone, advances, ahead, At, Begins, begins_refl, begins_run, begins_trans, bucket_of, Call, disturbances_grow, Ghosts, Head, Held, HeldIn, incarnations_after, inserts_in, inserts_in-remove, IsAlone, IsHeld, IsOpenIn, IsRun, IsSame, IsStart, KeyAt, known_open, knows, LeavesOthers, link_of, link_shown_at, Made, marked_fewer, met_bound_uninserted, one_key, own_calls, own_changes, PassView, Quiet, Remove, same_on, since, Slot, StandsBehind, Start, Trace, undisturbed_shown}
+use Rattle.vbr_list.proofs.Names.{AddsNone, advances, ahead, At, Begins, begins_refl, begins_run, begins_trans, bucket_of, Call, disturbances_grow, Ghosts, Head, Held, HeldIn, incarnations_after, inserts_in, inserts_in-remove, IsAlone, IsHeld, IsOpenIn, IsRun, IsSame, IsStart, KeyAt, known_open, knows, LeavesOthers, link_of, link_shown_at, Made, marked_fewer, met_bound_uninserted, one_key, own_calls, own_changes, PassView, Quiet, Remove, same_on, same_refl, since, Slot, StandsBehind, Start, Trace, undisturbed_shown}
 use Rattle.vbr_list.specs.Budgets.{listed_for, steps_to_value_of}
 use Rattle.vbr_list.specs.Disturbed.{changed_after, disturbed, disturbed_after, remove_costs_among}
 use Rattle.vbr_list.specs.Leaving.{Leaves}
@@ -65,6 +65,22 @@ marks_behind p q r key pred node is ok quiet none same x other epoch count held 
       own = later ∙ unchanged_at p p q bucket is (begins_run p.start p.passes q.seen r.seen all ok) (record { table = refl; start = refl; passes = refl; who = refl }) quiet.same quiet.seen none;
       link = sym (λ i. link_shown_at (incarnations_after (quiet.same.start i) r.seen) pred.at) ∙ x.links pred.at other ∙ (λ i. link_shown_at (incarnations_after (quiet.same.start i) x.moment) pred.at);
       opens = λ shown. subst P whole.start (known_open r.start r.passes r.seen (subst IsStart (sym whole.start) is) ok_r r.who (bucket_of r.start.shape key) pred.at (link_of pred.word) held.link unmarked ((λ i. link_shown_at (incarnations_after (whole.start i) r.seen) pred.at) ∙ shown) inside);
+    }
+
+-- so it is of a mark after what only read
+pub marks_later : (p q r : Trace) (key : ℕ) (pred : Held) → IsStart p.start → IsRun p.start p.passes q.seen → Quiet p q → AddsNone p q → (knows q).epoch ≡ (knows p).epoch → advances q ≡ advances p → MarksBehind q r key pred → MarksBehind p r key pred
+marks_later p q r key pred is ok quiet none epoch count x =
+    let P : Start → Type 0 = λ start. IsOpenIn start (incarnations_after start r.seen) (bucket_of start.shape key) pred.at in
+    record {
+      same = same_on quiet.same x.same;
+      count = x.count ∙ count;
+      epoch = x.epoch ∙ epoch;
+      moment = x.moment;
+      before = begins_trans p.seen q.seen x.moment quiet.seen x.before;
+      after = x.after;
+      own = sym (changed_same p q key x.moment quiet.same) ∙ x.own ∙ changed_same p q key q.seen quiet.same ∙ unchanged_at p p q key is ok (same_refl p) quiet.same quiet.seen none;
+      link = sym (λ i. link_shown_at (incarnations_after (quiet.same.start i) r.seen) pred.at) ∙ x.link ∙ (λ i. link_shown_at (incarnations_after (quiet.same.start i) x.moment) pred.at);
+      opens = λ shown. subst P quiet.same.start (x.opens ((λ i. link_shown_at (incarnations_after (quiet.same.start i) r.seen) pred.at) ∙ shown));
     }
 
 -- ---- a place that is lost since

@@ -1,5 +1,5 @@
 -- The steps of an insert: of a slot, and of a pass that was alone.
-use Rattle.vbr_list.proofs.Names.{◌≡◌, ◌≢◌, ℕ, ◌+◌, ◌*◌, ◌<◌, ◌≤◌, List, [], Result, sym, subst, arith, IfErr}
+use Rattle.vbr_list.proofs.Names.{◌≡◌, ◌≢◌, ℕ, ◌+◌, ◌*◌, ◌<◌, ◌≤◌, List, [], Result, Ok, Err, sym, subst, arith, IfErr, IfOk, OnOk}
 use Rattle.vbr_list.proofs.Names.{alone_gained, Begins, gained, gained_on, gained_since, IsAlone, more_lost, most_to_take, most_to_take_among, none_lost, NoSlot, PassView, Quiet, Refusal, Start, steps_to_take_among, steps_to_value, TookWithin, Trace}
 use Rattle.vbr_list.specs.Budgets.{IsAnsweredOrSpent, LacksSteps, enough_to_insert, insert_costs, listed_for}
 use Rattle.vbr_list.specs.Disturbed.{disturbed, enough_to_insert_among, insert_costs_among, steps_for_slot}
@@ -64,3 +64,8 @@ each_error P Q x f h = grind (arith, f)
 -- what is so of any error is so of an answer's
 pub any_error : {A E : Type 0} {P : E → Type 0} (x : Result A E) → ((e : E) → P e) → IfErr x P
 any_error x f = grind (arith, f)
+
+-- what follows of an answer is so of the answer that was given
+pub on_ok : {A E P Q : Type 0} (x : Result A E) → (P → Q) → OnOk x P → IfOk x (λ _. Q)
+on_ok (Ok value) f p = f p
+on_ok (Err error) f p = tt

@@ -15,7 +15,7 @@ none_kept values value none = grind arith
 pub kept_none : (start : Start) → payload_kept start None ≡ None
 kept_none start = none_kept start.shape.values None refl
 
-kept_all : (start : Start) (value : Option ℕ) → start.shape.values ≡ true → payload_kept start value ≡ value
+pub kept_all : (start : Start) (value : Option ℕ) → start.shape.values ≡ true → payload_kept start value ≡ value
 kept_all start value has = ap (λ (values : Bool). if values then value else None) has
 
 kept_bare : (start : Start) (value : Option ℕ) → start.shape.values ≡ false → payload_kept start value ≡ None

@@ -7,6 +7,8 @@ use Rattle.vbr_slots.specs.Alone.{ahead}
 use Rattle.vbr_slots.specs.Views.{PassView, Trace}
 use Rattle.vbr_at_table.specs.Budgets.{most_to_take}
 use Rattle.vbr_at_table.specs.Values.{steps_to_value}
+use Rattle.vbr_list.specs.Wanted.{steps_to_compare}
+use Rattle.vbr_list.specs.declared.wanted.Wanted.{Wanted}
 use Rattle.vbr_at_table.specs.declared.refusal.Refusal.{Refusal}
 use Rattle.vbr_at_table.specs.declared.refusal.Refusal.TheVariants.{OutOfSteps, NoSlot, EpochSpent}
 
@@ -70,13 +72,21 @@ insert_costs_past nodes taking storing = 18 * nodes + taking + 9 + storing
 abbrev pub insert_costs : PassView → ℕ → ℕ
 insert_costs p key = insert_costs_past (listed_for p.trace key) (most_to_take p.trace.start p.pool) (steps_to_value p.trace.start.shape.values)
 
--- a replacement six more than are enough for an insert
-abbrev pub replace_costs : PassView → ℕ → ℕ
-replace_costs p key = enough_to_insert p key + 6
+-- for a store: an insert's, and those of reading the value before a slot is taken
+abbrev pub enough_to_store : Wanted → PassView → ℕ → ℕ
+enough_to_store wanted p key = enough_to_insert p key + steps_to_compare wanted
 
--- what is enough for it to unlink the node besides: two more than it costs
-abbrev pub enough_to_unlist : PassView → ℕ → ℕ
-enough_to_unlist p key = replace_costs p key + 2
+-- of a pass that has slots in its own pool
+abbrev pub enough_to_store_with_a_slot : Wanted → Trace → ℕ → ℕ
+enough_to_store_with_a_slot wanted p key = enough_with_a_slot p key + steps_to_compare wanted
+
+-- a store costs six more than are enough for it
+abbrev pub store_costs : Wanted → PassView → ℕ → ℕ
+store_costs wanted p key = enough_to_store wanted p key + 6
+
+-- what is enough for it to unlink the node that it replaced besides: two more than it costs
+abbrev pub enough_to_unlist : Wanted → PassView → ℕ → ℕ
+enough_to_unlist wanted p key = store_costs wanted p key + 2
 
 -- a refusal for want of steps comes of a budget below so many
 abbrev pub LacksSteps : ℕ → ℕ → Refusal → Type 0

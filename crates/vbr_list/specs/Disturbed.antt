@@ -9,6 +9,8 @@ use Rattle.vbr_slots.specs.Views.{PassView, Trace}
 use Rattle.vbr_at_table.specs.Budgets.{most_to_take_among}
 use Rattle.vbr_at_table.specs.Gained.{gained}
 use Rattle.vbr_list.specs.Budgets.{enough_past, insert_costs_past}
+use Rattle.vbr_list.specs.Wanted.{steps_to_compare}
+use Rattle.vbr_list.specs.declared.wanted.Wanted.{Wanted}
 
 -- how often other passes had disturbed this one at a bucket, after these events: they inserted, marked or unlinked a node there, or advanced the epoch
 abbrev pub disturbed_at : Trace → ℕ → List Event → ℕ
@@ -66,17 +68,21 @@ enough_to_insert_among nodes times taking = enough_past (nodes + times) taking +
 abbrev pub insert_costs_among : ℕ → ℕ → ℕ → ℕ → ℕ
 insert_costs_among nodes times taking storing = insert_costs_past (nodes + times) taking storing + searches_more 7 nodes times
 
--- enough to replace the value of a key among so many nodes, with twelve steps more each time, for a pass that is disturbed so often and takes a slot in so many steps
-abbrev pub enough_to_replace_among : ℕ → ℕ → ℕ → ℕ
-enough_to_replace_among nodes times taking = enough_past (nodes + times) taking + searches_more 12 nodes times
+-- enough to store among so many nodes, with twelve steps more each time, for a pass that is disturbed so often and has compared and taken a slot in so many steps
+abbrev pub enough_to_store_among : ℕ → ℕ → ℕ → ℕ
+enough_to_store_among nodes times taking = enough_past (nodes + times) taking + searches_more 12 nodes times
 
 -- the most that it costs where it is answered: six more
-abbrev pub replace_costs_among : ℕ → ℕ → ℕ → ℕ
-replace_costs_among nodes times taking = enough_to_replace_among nodes times taking + 6
+abbrev pub store_costs_among : ℕ → ℕ → ℕ → ℕ
+store_costs_among nodes times taking = enough_to_store_among nodes times taking + 6
 
 -- the most steps in which the call takes a slot, while other passes take slots out of the shared pool
 abbrev pub steps_for_slot : PassView → Trace → ℕ
 steps_for_slot p q = most_to_take_among p.trace.start p.pool (gained p.trace q)
+
+-- and those of a store, which may read the value before
+abbrev pub steps_to_prepare : Wanted → PassView → Trace → ℕ
+steps_to_prepare wanted p q = steps_for_slot p q + steps_to_compare wanted
 
 -- the most that it costs where it is found
 abbrev pub find_costs_among : ℕ → ℕ → ℕ

@@ -6,6 +6,7 @@ pub mod Leaving
 pub mod Found
 pub mod Alone
 pub mod Told
+pub mod Wanted
 pub mod Sparing
 pub mod Pieces
 pub mod Walking
@@ -13,10 +14,13 @@ pub mod Visiting
 pub mod Traversing
 pub mod Helping
 pub mod Valuing
+pub mod Telling
 pub mod LookingUp
 pub mod Next
 pub mod Cursors
 pub mod Seeking
 pub mod Inserting
 pub mod Removing
+pub mod Storing
+pub mod Settling
 pub mod Replacing

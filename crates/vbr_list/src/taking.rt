@@ -38,8 +38,8 @@ impl<N: Nodes> PendingCall<'_, N> {
         confirm_present(&mut self.at, Op::Insert, cur)
     }
 
-    // Takes a slot with what is left of the budget.
-    fn provide(&mut self) -> Result<Hand, Refusal>
+    /// Takes a slot with what is left of the budget.
+    pub(crate) fn provide(&mut self) -> Result<Hand, Refusal>
         requires empty_hand { (pass_in self.old).hand ≡ None }
         ensures prepares { Prepares self.old self.new }
         ensures quiet { Quiet (trace_in self.old) (trace_in self.new) }

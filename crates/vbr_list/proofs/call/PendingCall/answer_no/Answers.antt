@@ -1,16 +1,12 @@
-use Rattle.vbr_list.proofs.Names.{rules, inl, inr, false, Bool, Option, subst, sym, Result, Ok, Err, IfOk, OnOk}
+use Rattle.vbr_list.proofs.Names.{rules, inl, inr, false, Bool, Option, subst, sym, IfOk}
 use Rattle.vbr_list.proofs.Names.{FindsAnother, Held, knows, Made, set_call, unchanged_by_none}
 use Rattle.vbr_list.specs.Inserting.{denied}
 use Rattle.vbr_list.specs.Walking.{LosesNext}
 use Rattle.vbr_list.proofs.Disturbing.{lost_place, run_at}
 use Rattle.vbr_list.proofs.Moments.{key_found}
 use Rattle.vbr_list.proofs.Passing.{before_named}
-use Rattle.vbr_list.proofs.Sufficing.{each_error}
+use Rattle.vbr_list.proofs.Sufficing.{each_error, on_ok}
 use Rattle.vbr_list.proofs.call.PendingCall.answer_no.Goals as goal
-
-on_ok : {A E P Q : Type 0} (x : Result A E) → (P → Q) → OnOk x P → IfOk x (λ _. Q)
-on_ok (Ok value) f p = f p
-on_ok (Err error) f p = tt
 
 pub confirm_absent-requires-clause-gap : goal.confirm_absent-requires-clause-gap
 confirm_absent-requires-clause-gap g c =

@@ -5,7 +5,7 @@ use Rattle.vbr_list.proofs.Disturbing.{lost_place}
 use Rattle.vbr_list.proofs.Linking.{counts_until, denied_then, gap_found, had_denied, has_denied, had_tired, links_tired, made_denied, takes_back, had_until, links_hand, links_then, lost_then, quiet_until, succ_found, takes_on}
 use Rattle.vbr_list.proofs.LostWalks.{search_ends}
 use Rattle.vbr_list.proofs.Preparing.{if_failed, within_same}
-use Rattle.vbr_list.proofs.Replacements.{hand_kept}
+use Rattle.vbr_list.proofs.Stores.{hand_kept}
 use Rattle.vbr_list.proofs.Told.{told_as, told_bare}
 use Rattle.vbr_list.proofs.ValueReads.{few_to_update}
 use Rattle.vbr_list.proofs.call.PendingCall.link.Goals as goal

@@ -1,6 +1,6 @@
 use Rattle.vbr_list.proofs.Names.{◌-◌}
 use Rattle.vbr_list.proofs.Linking.{IsLinking}
-use Rattle.vbr_list.proofs.call.PendingCall.replace_with.Given as goal
+use Rattle.vbr_list.proofs.call.PendingCall.store_with.Given as goal
 
 abbrev pub invariant-loop-found : goal.invariant-loop-found
 invariant-loop-found g l = IsLinking 11 l.fn.self l.self l.hand

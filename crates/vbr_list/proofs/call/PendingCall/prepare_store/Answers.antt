@@ -1,0 +1,105 @@
+use Rattle.vbr_list.proofs.Names.{◌+◌, ◌∙◌, arith, err_from_is_err_and}
+use Rattle.vbr_list.proofs.Names.{gained, quiet_on, some_grown, steps_to_take_among}
+use Rattle.vbr_list.specs.Disturbed.{steps_to_prepare}
+use Rattle.vbr_list.specs.Settling.{MeetsOther, MeetsWanted}
+use Rattle.vbr_list.specs.Wanted.{steps_to_compare}
+use Rattle.vbr_list.proofs.Disturbing.{run_at}
+use Rattle.vbr_list.proofs.Preparing.{prepares_none, prepares_on, steps_gone, takes_after}
+use Rattle.vbr_list.proofs.Sufficing.{take_after, take_least}
+use Rattle.vbr_list.proofs.Walking.{searches_later}
+use Rattle.vbr_list.proofs.Wants.{met_goes, searches_more_steps, store_in_vain, wanted_for, was_before}
+use Rattle.vbr_list.proofs.call.PendingCall.prepare_store.Goals as goal
+
+pub returns-in_default-clause-prepares : goal.returns-in_default-clause-prepares
+returns-in_default-clause-prepares g c = let x = c.meet.ensures.meets in prepares_none c.args.self.now c.meet.new.self x.call x.counts x.hand.takes_no_slot x.hand.hand
+
+pub returns-in-Told-clause-prepares : goal.returns-in-Told-clause-prepares
+returns-in-Told-clause-prepares g c = let x = c.meet.ensures.meets in prepares_none c.args.self.now c.meet.new.self x.call x.counts x.hand.takes_no_slot x.hand.hand
+
+pub returns-in_err-hand-in-AsWanted-clause-prepares : goal.returns-in_err-hand-in-AsWanted-clause-prepares
+returns-in_err-hand-in-AsWanted-clause-prepares g c =
+    let met : MeetsWanted c.args.wanted c.args.self.now c.meet.new.self = rw c.in-AsWanted.is at c.in-Some.ensures.met in
+    prepares_on (met_goes c.meet.ensures.meets met.quiet) c.provide.ensures.one c.provide.ensures.prepares
+
+pub returns-in_ok-hand-in-AsWanted-clause-prepares : goal.returns-in_ok-hand-in-AsWanted-clause-prepares
+returns-in_ok-hand-in-AsWanted-clause-prepares g c =
+    let met : MeetsWanted c.args.wanted c.args.self.now c.meet.new.self = rw c.in-AsWanted.is at c.in-Some.ensures.met in
+    prepares_on (met_goes c.meet.ensures.meets met.quiet) c.provide.ensures.one c.provide.ensures.prepares
+
+pub returns-in_default-clause-refused : goal.returns-in_default-clause-refused
+returns-in_default-clause-refused g c =
+    let x = c.meet.ensures.meets in
+    let tired = c.in_default.ensures.tired in
+    let p = c.args.self.now.at.stepper.now in
+    let m = c.meet.new.self.at.stepper.now.trace in
+    let least = take_least p m in
+    record {
+      quiet = tired.quiet;
+      hand = x.hand.hand ∙ c.requires.empty_hand;
+      says = record { counts = x.counts; short = tired.short };
+      so = tt;
+      searches = searches_more_steps (c.args.self.now.budget + 1) (steps_to_prepare c.args.wanted p m + 10) (omega (arith, least)) tired.searches;
+    }
+
+pub returns-in-Told-clause-prepared : goal.returns-in-Told-clause-prepared
+returns-in-Told-clause-prepared g c =
+    let met : MeetsOther c.args.wanted c.args.self.now c.meet.new.self c.in-Told.there = rw c.in-Told.is at c.in-Some.ensures.met in
+    let p = c.args.self.now.at.stepper.now in
+    let m = c.meet.new.self.at.stepper.now.trace in
+    let least = take_least p m in
+    record {
+      tells = met.tells;
+      spent = c.meet.ensures.meets.hand.hand ∙ c.requires.empty_hand;
+      searched = record {
+        ended = met.searched.ended;
+        quiet = met.searched.quiet;
+        to = met.searched.to;
+        searches = searches_more_steps c.meet.new.self.used (steps_to_prepare c.args.wanted p m + 3) (omega (arith, least)) met.searched.searches;
+      };
+    }
+
+pub returns-in_err-hand-in-AsWanted-clause-refused : goal.returns-in_err-hand-in-AsWanted-clause-refused
+returns-in_err-hand-in-AsWanted-clause-refused g c =
+    let met : MeetsWanted c.args.wanted c.args.self.now c.meet.new.self = rw c.in-AsWanted.is at c.in-Some.ensures.met in
+    let gone = met_goes c.meet.ensures.meets met.quiet in
+    let error = err_from_is_err_and c.from_residual.result c.from_residual.ensures.1 in
+    let refusal = c.in_err-hand-in-AsWanted.field-0.0 in
+    let none = c.in_err-hand-in-AsWanted.ensures.refused in
+    let d = c.provide.ensures.quiet in
+    let p = c.args.self.now.at.stepper.now in
+    let m = c.meet.new.self.at.stepper.now in
+    let r = c.provide.new.self.at.stepper.now in
+    let whole = quiet_on gone.goes.quiet d in
+    let some = some_grown p m gone.goes.hand.takes_no_slot.grows in
+    let taken = take_after p m r.trace gone.goes.quiet some in
+    rw (error.1, error.2) (record {
+      quiet = whole;
+      hand = none.hand;
+      says = takes_after p m r gone.goes.quiet some (steps_gone gone) d refusal (rw gone.call.budget at none.says);
+      so = wanted_for p.trace r.trace c.args.self.now.key c.args.wanted (was_before p.trace m.trace r.trace c.args.self.now.key c.args.wanted met.was d) refusal;
+      searches = store_in_vain c.args.self.now.budget (steps_to_take_among m.trace.start m.pool (gained m.trace r.trace)) (steps_to_prepare c.args.wanted p r.trace + 10)
+          (searches_later p.trace m.trace r.trace c.law.ensures.start (run_at p.trace r.trace whole.same (whole.is_run c.law.ensures.is_run)) c.args.self.now.key gone.goes.quiet.seen d.seen (steps_to_compare c.args.wanted + 3) (omega arith) met.searches)
+          refusal (rw gone.call.budget at none.enough) (omega (arith, taken));
+    })
+
+pub returns-in_ok-hand-in-AsWanted-clause-prepared : goal.returns-in_ok-hand-in-AsWanted-clause-prepared
+returns-in_ok-hand-in-AsWanted-clause-prepared g c =
+    let met : MeetsWanted c.args.wanted c.args.self.now c.meet.new.self = rw c.in-AsWanted.is at c.in-Some.ensures.met in
+    let gone = met_goes c.meet.ensures.meets met.quiet in
+    let d = c.provide.ensures.quiet in
+    let hand = c.in_ok-hand-in-AsWanted.ensures.hand in
+    let p = c.args.self.now.at.stepper.now in
+    let m = c.meet.new.self.at.stepper.now in
+    let r = c.provide.new.self.at.stepper.now in
+    let taken = take_after p m r.trace gone.goes.quiet (some_grown p m gone.goes.hand.takes_no_slot.grows) in
+    let few = hand.few in
+    record {
+      quiet = quiet_on gone.goes.quiet d;
+      hand = hand.has;
+      searched = record {
+        ended = m.trace;
+        quiet = gone.goes.quiet;
+        to = d.seen;
+        searches = searches_more_steps c.provide.new.self.used (steps_to_prepare c.args.wanted p r.trace + 3) (omega (arith, few, taken)) met.searches;
+      };
+    }

@@ -1,0 +1,311 @@
+//! Storing a value where what is there is as it is wanted.
+ghost use Rattle.std.specs.Prelude.{◌≡◌, ◌+◌, ◌≤◌, false, true, None, IfOk, IfErr, IfNone, IfSome};
+ghost use Rattle.vbr_slots.specs.Calls.{Took};
+ghost use Rattle.vbr_slots.specs.Views.{IsOf};
+ghost use Rattle.vbr_list.specs.Inserting.{HasHandAndRoom, Links, Prepares};
+ghost use Rattle.vbr_list.specs.Pieces.{HasRoom, pass_in, trace_in};
+ghost use Rattle.vbr_list.specs.Replacing.{HasUnused};
+ghost use Rattle.vbr_list.specs.Settling.{AnswersPaid, AskLoses, Asks, AsksMet, ChangePaid, HasHandForValue, IsMet, IsPreparedStore, MaySettle, Meeting, MeetTires, PreparesNoStore, SettlesNone, SettlesPaid, StoreAnswers, StoresAndLeaves, StoresNone, has_wanted};
+ghost use Rattle.vbr_list.specs.Storing.{CallsStore, HasUnstored};
+ghost use Rattle.vbr_list.specs.Telling.{KnowsThere};
+ghost use Rattle.vbr_list.specs.Traversing.{LocatesFor};
+
+use crate::call::{PendingCall, begin};
+use crate::found::Found;
+use crate::wanted::Wanted;
+use vbr_at_table::budget::affords;
+use vbr_at_table::{Hand, Refusal, Rollback, give_back, update};
+use vbr_slots::{Pass, Slots, Stepper};
+use vbr_words::{Entries, Nodes};
+
+/// How a store without a slot in hand found the key.
+#[derive(Clone, Copy)]
+pub(crate) enum Met {
+    /// As it is wanted.
+    AsWanted,
+    /// Otherwise: it has answered a get with what was there.
+    Told(Option<u64>),
+}
+
+/// What a store has before it changes anything.
+pub(crate) enum Prepared {
+    /// A slot in hand.
+    Ready(Hand),
+    /// Its answer.
+    Told(Option<u64>),
+}
+
+// Whether a key is as it is wanted that is there, or isn't, whatever value it has.
+#[inline(always)]
+fn has_wanted(wanted: Wanted, present: bool) -> bool
+    ensures { result ≡ has_wanted wanted present }
+{
+    match wanted {
+        Wanted::Absent => !present,
+        Wanted::Present => present,
+        Wanted::Anything => true,
+        Wanted::Value(_) => false,
+    }
+}
+
+// ---- without a slot in hand
+
+impl<N: Nodes> PendingCall<'_, N> {
+    // Reads what was there where that is asked for, and answers a get with it where it isn't as wanted.
+    #[inline]
+    fn ask(&mut self, found: &Found, wanted: Wanted) -> Result<Met, Rollback>
+        requires values { (trace_in self.old).start.shape.values ≡ true }
+        requires locates { LocatesFor self.old found.now }
+        requires open { has_wanted wanted found.now.present ≡ false }
+        requires room { HasRoom self.old }
+        ensures asks { Asks self.old self.new }
+        ensures met { IfOk result (AsksMet wanted self.old self.new found.now) }
+        ensures lost { IfErr result (λ _. AskLoses self.old self.new found.now) }
+    {
+        self.at.law();
+        let there = self.read_found(found)?;
+        if wanted.wants(there) {
+            return Ok(Met::AsWanted);
+        }
+        self.tell_found(found, there)?;
+        Ok(Met::Told(there))
+    }
+
+    // Looks for the key until it is found as it is wanted, or a get was answered, as it is otherwise;
+    // none where the budget has no room for one more piece. Where anything is wanted it makes no step.
+    #[inline]
+    fn meet(&mut self, wanted: Wanted) -> Option<Met>
+        requires values { (trace_in self.old).start.shape.values ≡ true }
+        ensures meets { Meeting self.old self.new }
+        ensures met { IfSome result (IsMet wanted self.old self.new) }
+        ensures tired { IfNone result (MeetTires self.old self.new) }
+    {
+        self.at.law();
+        if let Wanted::Anything = wanted {
+            return Some(Met::AsWanted);
+        }
+        loop {
+            let Some(found) = self.search() else {
+                return None;
+            };
+            if has_wanted(wanted, found.present) {
+                return Some(Met::AsWanted);
+            }
+            if !affords(self.budget, self.used) {
+                return None;
+            }
+            if let Ok(met) = self.ask(&found, wanted) {
+                return Some(met);
+            }
+        }
+    }
+
+    // Takes a slot once the key was found as it is wanted; else gives what was there.
+    #[inline]
+    fn prepare_store(&mut self, wanted: Wanted) -> Result<Prepared, Refusal>
+        requires values { (trace_in self.old).start.shape.values ≡ true }
+        requires empty_hand { (pass_in self.old).hand ≡ None }
+        ensures prepares { Prepares self.old self.new }
+        ensures prepared { IfOk result (IsPreparedStore wanted self.old self.new) }
+        ensures refused { IfErr result (PreparesNoStore wanted self.old self.new) }
+    {
+        self.at.law();
+        let Some(met) = self.meet(wanted) else {
+            return Err(Refusal::OutOfSteps { used: self.used });
+        };
+        match met {
+            Met::Told(there) => Ok(Prepared::Told(there)),
+            Met::AsWanted => {
+                let hand = self.provide()?;
+                Ok(Prepared::Ready(hand))
+            }
+        }
+    }
+}
+
+// ---- with a slot in hand
+
+impl<N: Nodes> PendingCall<'_, N> {
+    // Links the slot in hand with this value where the key was found absent, in four steps. Else the
+    // hand comes back.
+    #[inline]
+    fn link_found(&mut self, found: &Found, value: u64, hand: Hand) -> Result<(), Hand>
+        requires knows { KnowsThere self.old found.now None }
+        requires hand { HasHandAndRoom (pass_in self.old) hand }
+        requires room { self.old.used + 6 ≤ self.old.budget }
+        ensures settles { MaySettle self.old self.new }
+        ensures few { self.new.used ≡ self.old.used + 4 }
+        ensures had { HasUnused (pass_in self.old) (pass_in self.new) result }
+        ensures stored { IfOk result (λ _. StoresAndLeaves value self.old self.new None) }
+        ensures back { IfErr result (SettlesNone 6 self.old self.new found.now) }
+    {
+        self.at.law();
+        self.used += 4;
+        match update(
+            &mut self.at,
+            &found.pred,
+            found.cur.as_ref(),
+            self.key,
+            value,
+            hand,
+        ) {
+            Ok(()) => Ok(()),
+            Err((back, _)) => Err(back),
+        }
+    }
+
+    // Puts the value where this was found: by an insert, or in the place of the value that was there.
+    // Else the hand comes back.
+    #[inline]
+    fn change(
+        &mut self,
+        found: &Found,
+        there: Option<u64>,
+        value: u64,
+        hand: Hand,
+    ) -> Result<(), Hand>
+        requires knows { KnowsThere self.old found.now there }
+        requires hand { HasHandAndRoom (pass_in self.old) hand }
+        requires room { self.old.used + 6 ≤ self.old.budget }
+        ensures settles { MaySettle self.old self.new }
+        ensures had { HasUnused (pass_in self.old) (pass_in self.new) result }
+        ensures stored { IfOk result (λ _. StoresAndLeaves value self.old self.new there) }
+        ensures paid { IfOk result (λ _. ChangePaid self.old self.new found.now there) }
+        ensures back { IfErr result (SettlesNone 6 self.old self.new found.now) }
+    {
+        match there {
+            None => self.link_found(found, value, hand),
+            Some(_) => self.replace_and_unlink(found, value, hand),
+        }
+    }
+
+    // Stores the value if what was found is as it is wanted, else answers a get; gives what was there, and
+    // the hand is empty. Else the hand comes back.
+    #[inline]
+    fn settle_store(
+        &mut self,
+        found: &Found,
+        value: u64,
+        wanted: Wanted,
+        hand: Hand,
+    ) -> Result<Option<u64>, Hand>
+        requires found { LocatesFor self.old found.now }
+        requires has { HasHandForValue self.old hand }
+        requires room { HasRoom self.old }
+        ensures settles { MaySettle self.old self.new }
+        ensures had { HasUnstored wanted (pass_in self.old) (pass_in self.new) result }
+        ensures answers { IfOk result (StoreAnswers value wanted self.old self.new) }
+        ensures paid { IfOk result (SettlesPaid wanted self.old self.new found.now) }
+        ensures back { IfErr result (SettlesNone 8 self.old self.new found.now) }
+    {
+        self.at.law();
+        let Ok(there) = self.read_found(found) else {
+            return Err(hand);
+        };
+        if wanted.wants(there) {
+            return match self.change(found, there, value, hand) {
+                Ok(()) => Ok(there),
+                Err(back) => Err(back),
+            };
+        }
+        if self.tell_found(found, there).is_err() {
+            return Err(hand);
+        }
+        give_back(&mut self.at, hand);
+        Ok(there)
+    }
+
+    // Stores the value by the slot in hand, if what is there is as it is wanted then, else answers a get;
+    // gives what was there. The hand is spent.
+    #[inline]
+    fn store_with(
+        &mut self,
+        value: u64,
+        wanted: Wanted,
+        mut hand: Hand,
+    ) -> Result<Option<u64>, Refusal>
+        requires values { (trace_in self.old).start.shape.values ≡ true }
+        requires hand { HasHandAndRoom (pass_in self.old) hand }
+        ensures links { Links self.old self.new }
+        ensures had { HasUnstored wanted (pass_in self.old) (pass_in self.new) result }
+        ensures answers { IfOk result (StoreAnswers value wanted self.old self.new) }
+        ensures paid { IfOk result (AnswersPaid wanted self.old self.new) }
+        ensures refused { IfErr result (StoresNone self.old self.new) }
+    {
+        self.at.law();
+        loop {
+            let Some(found) = self.reach() else {
+                give_back(&mut self.at, hand);
+                return Err(Refusal::OutOfSteps { used: self.used });
+            };
+            match self.settle_store(&found, value, wanted, hand) {
+                Ok(there) => return Ok(there),
+                Err(back) => hand = back,
+            }
+        }
+    }
+}
+
+/// Gives a key a value where what is there is as it is wanted, in at most `budget` steps, and gives
+/// what was there: the value that the key had, or none where it was absent. So the value is stored
+/// exactly where [`Wanted::wants`] that, in one step, which is an insert in the history; or two calls
+/// next to each other, where the key was there: it is removed with the value that it had, and
+/// inserted with the new one, and no call of another pass finds it absent between. Where it isn't as
+/// wanted, nothing changes, and the answer is that of a get. A store takes a slot once it has found the
+/// key as it is wanted, or at once where anything is, and traverses anew with it; a slot that is left
+/// over goes back to the own pool. A node that it replaced has then left its list: where another comes
+/// between, the call goes on as [`crate::find`] does, until the node is out, unless less than a piece
+/// is left of the budget.
+///
+/// Its refusals are OutOfSteps, and, where the key was as it is wanted, NoSlot and EpochSpent: then no
+/// call was made, and what is there stays. The budgets that are enough are those of [`crate::insert`],
+/// and two steps more for [`Wanted::Value`]: while the other passes stand still, 18n + slots + 82 with n
+/// nodes in the key's bucket, and 18n + 82 with a slot in the pass's own pool, unless the epoch is spent.
+/// What is answered took at most six steps more, and with eight more a node that it replaced has left
+/// its list. It advances the epoch at most once, and only where no slot that it could take is stamped
+/// below the epoch that it read.
+#[inline]
+pub fn store(
+    slots: &Slots<Entries>,
+    pass: &mut Pass,
+    key: u64,
+    value: u64,
+    wanted: Wanted,
+    budget: u32,
+) -> Result<Option<u64>, Refusal>
+    requires own { IsOf pass.old.trace slots.now }
+    requires empty_hand { pass.old.hand ≡ None }
+    ensures { CallsStore pass.old pass.new key value wanted budget result }
+{
+    pass.during(
+        |stepper|
+            requires own { IsOf stepper.old.trace slots.now }
+            requires empty_hand { stepper.old.hand ≡ None }
+        { store_by(slots, stepper, key, value, wanted, budget) },
+    )
+}
+
+// As `store`, where no step is counted; and how many steps were made.
+#[inline]
+fn store_by(
+    slots: &Slots<Entries>,
+    stepper: &mut Stepper,
+    key: u64,
+    value: u64,
+    wanted: Wanted,
+    budget: u32,
+) -> (Result<Option<u64>, Refusal>, u32)
+    requires own { IsOf stepper.old.trace slots.now }
+    requires empty_hand { stepper.old.hand ≡ None }
+    ensures took { Took stepper.old.trace stepper.new.trace result.1 }
+    ensures calls { CallsStore stepper.old stepper.new key value wanted budget result.0 }
+{
+    slots.kind();
+    let mut call = begin!(slots, stepper, key, budget, 0);
+    call.at.law();
+    match call.prepare_store(wanted) {
+        Err(refusal) => (Err(refusal), call.used),
+        Ok(Prepared::Told(there)) => (Ok(there), call.used),
+        Ok(Prepared::Ready(hand)) => (call.store_with(value, wanted, hand), call.used),
+    }
+}
