@@ -78,7 +78,7 @@ marks_later p q r key pred is ok quiet none epoch count x =
       moment = x.moment;
       before = begins_trans p.seen q.seen x.moment quiet.seen x.before;
       after = x.after;
-      own = sym (changed_same p q key x.moment quiet.same) ∙ x.own ∙ changed_same p q key q.seen quiet.same ∙ unchanged_at p p q key is ok (same_refl p) quiet.same quiet.seen none;
+      own = sym (changed_same p q key x.moment quiet.same) ∙ x.own ∙ changed_same p q key q.seen quiet.same ∙ unchanged_at p p q (bucket_of p.start.shape key) is ok (same_refl p) quiet.same quiet.seen none;
       link = sym (λ i. link_shown_at (incarnations_after (quiet.same.start i) r.seen) pred.at) ∙ x.link ∙ (λ i. link_shown_at (incarnations_after (quiet.same.start i) x.moment) pred.at);
       opens = λ shown. subst P quiet.same.start (x.opens ((λ i. link_shown_at (incarnations_after (quiet.same.start i) r.seen) pred.at) ∙ shown));
     }
