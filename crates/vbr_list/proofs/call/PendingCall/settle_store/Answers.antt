@@ -10,7 +10,8 @@ use Rattle.vbr_list.proofs.Going.{call_on}
 use Rattle.vbr_list.proofs.Linking.{takes_back}
 use Rattle.vbr_list.proofs.Preparing.{if_failed, if_went}
 use Rattle.vbr_list.proofs.Settled.{answers_since, change_answers, settles_since, told_answers}
-use Rattle.vbr_list.proofs.Stores.{found_later, hand_kept, replaced_where, unless_since}
+use Rattle.vbr_list.proofs.ReadFirst.{found_lost_since}
+use Rattle.vbr_list.proofs.Stores.{hand_kept, replaced_where, unless_since}
 use Rattle.vbr_list.proofs.call.PendingCall.settle_store.Goals as goal
 
 pub returns-in_default-clause-had : goal.returns-in_default-clause-had
@@ -92,7 +93,7 @@ returns-in-Err-clause-back g c =
     let used = read.used in
     let more = back.few in
     record {
-      given = record { quiet = quiet_on quiet back.given.quiet; hand = back.given.hand; loses = found_later p q r c.args.found.now quiet c.in-Ok.ensures.found.keeps none back.given.loses };
+      given = record { quiet = quiet_on quiet back.given.quiet; hand = back.given.hand; loses = found_lost_since c.args.found.now quiet c.in-Ok.ensures.found.keeps none back.given.loses };
       few = omega (arith, few, used, more);
     }
 
@@ -127,7 +128,7 @@ returns-then-is_err-clause-back g c =
     let none : ChangesNone p q = unchanged_by_none c.law.ensures.start (run_at p q quiet.same (quiet.is_run c.law.ensures.is_run)) quiet.same quiet.seen read.reads.adds_none in
     let few = asks.few in
     record {
-      given = record { quiet = quiet_on quiet lost.quiet; hand = hand_kept c.args.hand asks.hand c.requires.has.hand; loses = found_later p q r c.args.found.now quiet c.in-Ok.ensures.found.keeps none lost.loses };
+      given = record { quiet = quiet_on quiet lost.quiet; hand = hand_kept c.args.hand asks.hand c.requires.has.hand; loses = found_lost_since c.args.found.now quiet c.in-Ok.ensures.found.keeps none lost.loses };
       few = omega (arith, few);
     }
 
