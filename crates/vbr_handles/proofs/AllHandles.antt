@@ -1,6 +1,6 @@
--- The members of handles, one after another.
-use Rattle.std.proofs.Common.{◌≡◌, ℕ, zero, suc, ◌+◌, ◌<◌, ◌∷◌, [], ◌++◌, List, map, length, take, append_assoc, refl, sym, ap, ◌∙◌, subst, arith}
-use Rattle.std.specs.Prelude.{Option, None, Some, slice_set}
+-- What owners tell of their handles, and the members of handles one after another.
+use Rattle.std.proofs.Common.{◌≡◌, Bool, true, false, ℕ, zero, suc, ◌+◌, ◌<◌, ◌∷◌, [], ◌++◌, List, map, length, take, append_assoc, refl, sym, ap, ◌∙◌, subst, arith}
+use Rattle.std.specs.Prelude.{IsSome, Option, None, Some, slice_set}
 use Rattle.vbr_slots.specs.Views.{PassView, TableView}
 use Rattle.vbr_set.specs.AllMembers.{ReportsAllBy}
 use Rattle.std.proofs.lemmas.List.{same_from_push}
@@ -16,6 +16,16 @@ use Rattle.vbr_handles.specs.declared.owner.Owner.{Owner}
 -- an owner whose member was lent, and not changed
 pub lent_back : (o : Owner Member) (m : Member) → o.member ≡ Some m → with_member o m ≡ o
 lent_back o m is = λ i. record { at = o.at; alloc = o.alloc; member = sym is i }
+
+-- a handle is empty where its owner is, and stays as it was
+pub told_empty : {H : Type 0} (handle_of : Owner Member → H) {owner lent left : Owner Member} {result : Bool} → lent ≡ owner
+    → (result ≡ false → IsSome lent.member) × (result ≡ true → lent.member ≡ None) × (left ≡ lent)
+    → (result ≡ false → IsSome owner.member) × (result ≡ true → owner.member ≡ None) × (handle_of left ≡ handle_of owner)
+told_empty handle_of is told = (
+  (λ e. subst (λ (o : Owner Member). IsSome o.member) is (told.0 e)),
+  (λ e. sym (ap (λ (o : Owner Member). o.member) is) ∙ told.1 e),
+  ap handle_of (told.2 ∙ is),
+)
 
 module _ {H : Type 0} (member : H → Option Member) where
   -- the first member goes to those that were taken out before

@@ -1,34 +1,33 @@
--- The keys of entries at their places, and entries that are written one after another.
+-- The keys of items at their places, and entries that are written one after another.
 use Rattle.std.proofs.Common.{◌≡◌, ℕ, zero, suc, ◌+◌, ◌<◌, List, [], ◌∷◌, map, length, slice_index, slice_index_or, refl, sym, ap, ◌∙◌, subst, arith}
 use lib.ListN.{get_or-map}
 use lib.Seq.{paste, paste-suc}
 use Rattle.std.specs.Prelude.{slice_set}
 use Rattle.std.specs.List.Sorted.{IsStrictlyIncreasing}
 use Rattle.std.proofs.lemmas.List.{length-map}
-use Rattle.vbr_handles.specs.Listings.{as_entry, as_pair, entry_keys}
+use Rattle.vbr_handles.specs.Listings.{as_entry}
 use Rattle.vbr_handles.specs.declared.entry.Entry.{Entry}
 
-pub as_many_keys : (entries : List Entry) → length (entry_keys entries) ≡ length entries
-as_many_keys entries = length-map (map as_pair entries) (λ (pair : ℕ × ℕ). pair.0) ∙ length-map entries as_pair
+module _ {I : Type 0} (key : I → ℕ) where
+  key_at : (items : List I) (i : ℕ) (d : I) → i < length items → slice_index (map key items) i ≡ key (slice_index_or items i d)
+  key_at [] i d within = absurd (omega arith)
+  key_at (item ∷ items) zero d within = refl
+  key_at (item ∷ items) (suc i) d within = key_at items i d (omega arith)
 
-key_at : (entries : List Entry) (i : ℕ) (d : Entry) → i < length entries → slice_index (entry_keys entries) i ≡ (slice_index_or entries i d).key
-key_at [] i d within = absurd (omega arith)
-key_at (entry ∷ entries) zero d within = refl
-key_at (entry ∷ entries) (suc i) d within = key_at entries i d (omega arith)
+  -- keys ascend where each is below the next, and only there
+  pub ascending : (items : List I) → ((k : ℕ) (d : I) → k + 1 < length items → key (slice_index_or items k d) < key (slice_index_or items (k + 1) d)) → IsStrictlyIncreasing (map key items)
+  ascending [] below k within = absurd (omega arith)
+  ascending (item ∷ items) below k within =
+      let all : List I = item ∷ items in
+      let many = length-map all key in
+      subst (λ (n : ℕ). n < slice_index (map key all) (k + 1)) (sym (key_at all k item (omega (arith, many))))
+      (subst (λ (n : ℕ). key (slice_index_or all k item) < n) (sym (key_at all (k + 1) item (omega (arith, many)))) (below k item (omega (arith, many))))
 
--- the keys of entries ascend where each is below the next, and only there
-pub ascending : (entries : List Entry) → ((k : ℕ) (d : Entry) → k + 1 < length entries → (slice_index_or entries k d).key < (slice_index_or entries (k + 1) d).key) → IsStrictlyIncreasing (entry_keys entries)
-ascending entries below k within =
-    let d : Entry = record { key = 0; value = 0 } in
-    let many = as_many_keys entries in
-    subst (λ (n : ℕ). n < slice_index (entry_keys entries) (k + 1)) (sym (key_at entries k d (omega arith)))
-    (subst (λ (n : ℕ). (slice_index_or entries k d).key < n) (sym (key_at entries (k + 1) d (omega arith))) (below k d (omega arith)))
-
-pub below_next : (entries : List Entry) → IsStrictlyIncreasing (entry_keys entries) → (k : ℕ) (d : Entry) → k + 1 < length entries → (slice_index_or entries k d).key < (slice_index_or entries (k + 1) d).key
-below_next entries ascend k d within =
-    let many = as_many_keys entries in
-    subst (λ (n : ℕ). n < (slice_index_or entries (k + 1) d).key) (key_at entries k d (omega arith))
-    (subst (λ (n : ℕ). slice_index (entry_keys entries) k < n) (key_at entries (k + 1) d within) (ascend k (omega arith)))
+  pub below_next : (items : List I) → IsStrictlyIncreasing (map key items) → (k : ℕ) (d : I) → k + 1 < length items → key (slice_index_or items k d) < key (slice_index_or items (k + 1) d)
+  below_next items ascend k d within =
+      let many = length-map items key in
+      subst (λ (n : ℕ). n < key (slice_index_or items (k + 1) d)) (key_at items k d (omega (arith, many)))
+      (subst (λ (n : ℕ). slice_index (map key items) k < n) (key_at items (k + 1) d within) (ascend k (omega (arith, many))))
 
 pub one_more_written : (before entries : List Entry) (pairs : List (ℕ × ℕ)) (i : ℕ) (pair : ℕ × ℕ) → i < length before → i < length pairs → pair ≡ slice_index_or pairs i pair → entries ≡ paste before 0 (map as_entry pairs) i
     → slice_set entries i (as_entry pair) ≡ paste before 0 (map as_entry pairs) (i + 1)

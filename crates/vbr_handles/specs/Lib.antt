@@ -3,6 +3,7 @@ pub mod Owners
 pub mod Lent
 pub mod Handles
 pub mod Listings
+pub mod ListedKeys
 pub mod Opening
 pub mod Closing
 pub mod Codes

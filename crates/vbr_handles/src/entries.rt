@@ -1,7 +1,7 @@
 //! A map lists entries.
-ghost use Rattle.std.specs.Prelude.{◌≡◌, true, false, map, IfOk};
-ghost use Rattle.std.specs.List.Sorted.{IsStrictlyIncreasing};
-ghost use Rattle.vbr_handles.specs.Listings.{as_entries, as_pair, entry_keys};
+ghost use Rattle.std.specs.Prelude.{◌≡◌, map, IfOk};
+ghost use Rattle.vbr_handles.specs.Listings.{as_entries, as_pair};
+ghost use Rattle.vbr_handles.specs.ListedKeys.{each_key_of_entries};
 
 use crate::entry::Entry;
 use crate::listed::Listed;
@@ -13,8 +13,10 @@ use vbr_words::{Entries, Shape};
 impl Listed<Entries> for Entry {
     ghost listing = { as_entries };
 
-    fn can_open(entries: &[Entry], slots: u32) -> bool {
-        entries.len() <= slots as usize && ascend(entries)
+    ghost key = { λ entry. entry.key };
+
+    fn key(&self) -> u64 {
+        self.key
     }
 
     fn open(
@@ -48,19 +50,8 @@ impl Listed<Entries> for Entry {
             entries[i] = Entry { key, value };
         }
     }
-}
 
-// Whether the keys of entries ascend, each above the one before.
-fn ascend(entries: &[Entry]) -> bool
-    ensures ascending { result ≡ true → IsStrictlyIncreasing (entry_keys entries.now) }
-    ensures not { result ≡ false → ¬ (IsStrictlyIncreasing (entry_keys entries.now)) }
-{
-    for i in 1..entries.len() {
-        if entries[i - 1].key >= entries[i].key {
-            return false;
-        }
-    }
-    true
+    ghost keys = { each_key_of_entries };
 }
 
 // Entries as pairs.

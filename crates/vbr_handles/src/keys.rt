@@ -1,7 +1,6 @@
 //! A set lists keys.
-ghost use Rattle.std.specs.Prelude.{◌≡◌, true, false};
-ghost use Rattle.std.specs.List.Sorted.{IsStrictlyIncreasing};
 ghost use Rattle.vbr_handles.specs.Listings.{as_keys};
+ghost use Rattle.vbr_handles.specs.ListedKeys.{each_key};
 
 use crate::listed::Listed;
 use crate::report_numbers::ReportNumbers;
@@ -12,8 +11,10 @@ use vbr_words::{Keys, Shape};
 impl Listed<Keys> for u64 {
     ghost listing = { as_keys };
 
-    fn can_open(keys: &[u64], slots: u32) -> bool {
-        keys.len() <= slots as usize && ascend(keys)
+    ghost key = { λ key. key };
+
+    fn key(&self) -> u64 {
+        *self
     }
 
     fn open(
@@ -41,17 +42,6 @@ impl Listed<Keys> for u64 {
     fn write(report: &Report, keys: &mut [u64]) {
         keys[..report.keys.len()].copy_from_slice(&report.keys);
     }
-}
 
-// Whether keys ascend, each above the one before.
-fn ascend(keys: &[u64]) -> bool
-    ensures ascending { result ≡ true → IsStrictlyIncreasing keys.now }
-    ensures not { result ≡ false → ¬ (IsStrictlyIncreasing keys.now) }
-{
-    for i in 1..keys.len() {
-        if keys[i - 1] >= keys[i] {
-            return false;
-        }
-    }
-    true
+    ghost keys = { each_key };
 }

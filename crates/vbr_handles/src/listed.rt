@@ -1,5 +1,6 @@
 //! What is listed of a node to C and from it: its key, or its entry.
-ghost use Rattle.std.specs.Prelude.{◌≡◌, ◌<◌, ◌≤◌, ◌++◌, ◌⊎◌, true, false, drop, length, IfOk, IsErrOf};
+ghost use Rattle.std.specs.Prelude.{◌≡◌, ℕ, ◌<◌, ◌≤◌, ◌++◌, ◌⊎◌, List, true, false, drop, length, map, IfOk, IsErrOf};
+ghost use Rattle.std.specs.List.Sorted.{IsStrictlyIncreasing};
 ghost use Rattle.vbr_machine.specs.Start.{start_with};
 ghost use Rattle.vbr_set.specs.Members.{AreNew};
 ghost use Rattle.vbr_handles.specs.Listings.{Listing};
@@ -16,10 +17,11 @@ use vbr_words::Shape;
 pub trait Listed<N: Kind>: Copy {
     ghost listing: { Listing N.Report Self };
 
-    /// Whether the keys ascend, each above the one before, and there are no more of them than slots.
-    fn can_open(items: &[Self], slots: u32) -> bool
-        ensures yes { result ≡ true → CanOpen (listing.keys items.now) slots }
-        ensures no { result ≡ false → ¬ (CanOpen (listing.keys items.now) slots) };
+    ghost key: { Self → ℕ };
+
+    /// Its key.
+    fn key(&self) -> u64
+        ensures { result ≡ key self.now };
 
     /// Opens a set of these keys, or a map of these entries, and gives its members.
     fn open(
@@ -47,4 +49,27 @@ pub trait Listed<N: Kind>: Copy {
         requires { length (listing.items report.now) ≤ length items.old }
         ensures { items.new
             ≡ listing.items report.now ++ drop (length (listing.items report.now)) items.old };
+
+    /// Whether the keys ascend, each above the one before, and there are no more of them than slots.
+    final fn can_open(items: &[Self], slots: u32) -> bool
+        ensures yes { result ≡ true → CanOpen (listing.keys items.now) slots }
+        ensures no { result ≡ false → ¬ (CanOpen (listing.keys items.now) slots) }
+    {
+        items.len() <= slots as usize && ascend::<N, Self>(items)
+    }
+
+    ghost keys: { (items : List Self) → listing.keys items ≡ map key items };
+}
+
+// Whether the keys of items ascend, each above the one before.
+fn ascend<N: Kind, I: Listed<N>>(items: &[I]) -> bool
+    ensures ascending { result ≡ true → IsStrictlyIncreasing (I.listing.keys items.now) }
+    ensures not { result ≡ false → ¬ (IsStrictlyIncreasing (I.listing.keys items.now)) }
+{
+    for i in 1..items.len() {
+        if items[i - 1].key() >= items[i].key() {
+            return false;
+        }
+    }
+    true
 }

@@ -165,25 +165,24 @@ pub loses_link : {p q : Trace} (held : Held) (rollback : Rollback) → IsLost p 
 loses_link held (EpochMoved now) l = absurd l
 loses_link held (LostExchange found) l = record { why = LostExchange found; rolled = l; fresh = tt }
 
--- after what only read
+-- after what only read it has not stood either
+lost_since : {p q r : Trace} (held : Held) (word : ℕ) → Quiet p q → Keeps (knows p) (knows q) → IsLost q r held (LostExchange word) → IsLost p r held (LostExchange word)
+lost_since {p} {q} held word a keeps m = (
+  m.0,
+  record {
+    moment = m.1.moment;
+    within = record { from = begins_trans p.seen q.seen m.1.moment a.seen m.1.within.from; to = m.1.within.to; is_run = m.1.within.is_run };
+    found = ap (λ (start : Start). found start (world_after start m.1.moment) (LoadLink held.at)) (sym a.same.start) ∙ m.1.found;
+  },
+  keeps_on keeps m.2,
+)
+
 pub loses_later : {p q r : Trace} (held : Held) → Quiet p q → Keeps (knows p) (knows q) → LosesHeld q r held → LosesHeld p r held
 loses_later {p} {q} {r} held a keeps l = go l.why l.rolled l.fresh
   where
     go : (why : Rollback) → IsMovedOrLost q r held why → FreshIfMoved r why → LosesHeld p r held
     go (EpochMoved now) m f = record { why = EpochMoved now; rolled = (λ e. m.0 (e ∙ sym keeps.epoch), m.1, m.2, m.3); fresh = f }
-    go (LostExchange word) m f = record {
-      why = LostExchange word;
-      rolled = (
-        m.0,
-        record {
-          moment = m.1.moment;
-          within = record { from = begins_trans p.seen q.seen m.1.moment a.seen m.1.within.from; to = m.1.within.to; is_run = m.1.within.is_run };
-          found = ap (λ (start : Start). found start (world_after start m.1.moment) (LoadLink held.at)) (sym a.same.start) ∙ m.1.found;
-        },
-        keeps_on keeps m.2,
-      );
-      fresh = tt;
-    }
+    go (LostExchange word) m f = record { why = LostExchange word; rolled = lost_since held word a keeps m; fresh = tt }
 
 -- ---- a place whose marked node is unlinked
 
@@ -227,15 +226,7 @@ pub lost_place_later : {p q r : Trace} (held : Held) (rollback : Rollback) → Q
 lost_place_later held (EpochMoved now) a keeps none l adds = absurd l
 lost_place_later {p} {q} {r} held (LostExchange word) a keeps none m adds = inr (
   word,
-  (
-    m.0,
-    record {
-      moment = m.1.moment;
-      within = record { from = begins_trans p.seen q.seen m.1.moment a.seen m.1.within.from; to = m.1.within.to; is_run = m.1.within.is_run };
-      found = ap (λ (start : Start). found start (world_after start m.1.moment) (LoadLink held.at)) (sym a.same.start) ∙ m.1.found;
-    },
-    keeps_on keeps m.2,
-  ),
+  lost_since held word a keeps m,
   record { same = λ bucket. adds.same bucket ∙ none.same bucket },
 )
 

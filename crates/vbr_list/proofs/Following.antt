@@ -119,10 +119,14 @@ module _ {p q r : PassView} (law : PassLaw p) {bucket from a b c budget : ℕ} {
       }
 
 -- and a value is read
-pub peeks_value : {p q r : PassView} {a : ℕ} (b n budget : ℕ) → Peeks p q a b budget → ReadsIn q r (steps_to_value_of q.trace.start) → n ≡ steps_to_value_of q.trace.start → b + 2 ≤ budget → Peeks p r a (b + n) budget
+peeks_value : {p q r : PassView} {a : ℕ} (b n budget : ℕ) → Peeks p q a b budget → ReadsIn q r (steps_to_value_of q.trace.start) → n ≡ steps_to_value_of q.trace.start → b + 2 ≤ budget → Peeks p r a (b + n) budget
 peeks_value {p} {q} b n budget x y e fits =
     let few = few_to_value q.trace.start in
     peeks_on x (goes_counted b n (steps_to_value_of q.trace.start) e y) (reads_observe y) (omega arith) (omega (arith, e, few, fits))
+
+-- of the node that was visited
+pub peeks_behind : {p q r t : PassView} → PassLaw p → {bucket from a b c budget : ℕ} {pred here : Held} → Follows p q bucket from a b budget pred here → LooksOn q r b c → IsVisit b c → b + PIECE ≤ budget → (n : ℕ) → ReadsIn r t (steps_to_value_of r.trace.start) → n ≡ steps_to_value_of r.trace.start → Peeks p t a (c + n) budget
+peeks_behind law {c = c} {budget = budget} x looks few fits n reads e = peeks_value c n budget (peeks_visit law x looks few fits) reads e (omega (arith, few, fits))
 
 -- ---- what it tells
 

@@ -30,6 +30,7 @@ mod Stores
 mod Wants
 mod Settled
 mod Linking
+mod Inserts
 mod LateSearches
 mod StoredValues
 pub mod Lemmas

@@ -1,10 +1,9 @@
 -- A slot in hand: search after search for the key, until the call is answered or its budget has no room.
-use Rattle.vbr_list.proofs.Names.{◌≡◌, ℕ, ◌+◌, ◌≤◌, Bool, false, is_err, Option, Result, IfOk, None, Some, sym, ap, ◌∙◌, subst, arith, Bor, option_copied}
-use Rattle.vbr_list.proofs.Names.{CountsSteps, Ghosts, had_back, had_grown, had_on, HandView, HasStill, Held, IsGap, IsSucc, KeepsIn, Know, knows, Made, none_back, none_on, PassLaw, PassView, PutsBack, Quiet, quiet_on, set_call, steps_to_update, TakesNoSlot, Took, Trace}
-use Rattle.vbr_list.specs.Inserting.{CountsWithin, denied, DeniesNone, HasHandAndRoom, Links, LinksHand}
-use Rattle.vbr_list.specs.Pieces.{GoesOn, IsSameCall, Stores, pass_in, trace_in}
+use Rattle.vbr_list.proofs.Names.{◌≡◌, ℕ, ◌+◌, ◌≤◌, Bool, false, is_err, Option, Result, IfOk, None, Some, sym, ◌∙◌, subst, arith, Bor, option_copied}
+use Rattle.vbr_list.proofs.Names.{CountsSteps, Ghosts, had_back, had_grown, had_on, HandView, HasStill, Held, IsGap, IsSucc, KeepsIn, Know, knows, Made, none_back, none_on, PassLaw, PassView, PutsBack, Quiet, quiet_on, set_call, TakesNoSlot, Took, Trace}
+use Rattle.vbr_list.specs.Inserting.{CountsWithin, denied, AnswersNone, HasHandAndRoom, Links}
+use Rattle.vbr_list.specs.Pieces.{GoesOn, IsSameCall, pass_in, trace_in}
 use Rattle.vbr_list.specs.Places.{IsCur, IsEnd, Locates}
-use Rattle.vbr_list.specs.Told.{stored_in}
 use Rattle.vbr_list.specs.Traversing.{Finds, LastWalk, LocatesFor}
 use Rattle.vbr_list.specs.Walking.{LosesFound}
 use Rattle.vbr_list.specs.declared.call.PendingCall.{PendingCall}
@@ -12,11 +11,9 @@ use Rattle.vbr_list.specs.declared.found.Found.{Found}
 use Rattle.vbr_list.proofs.Disturbing.{run_at}
 use Rattle.vbr_list.proofs.Going.{call_on, counts_step, within_call}
 use Rattle.vbr_list.proofs.KeptHands.{own_kept}
-use Rattle.vbr_list.proofs.LostWalks.{search_ends}
 use Rattle.vbr_list.proofs.Moments.{stands_before}
 use Rattle.vbr_list.proofs.Preparing.{if_went, within_on, within_same}
 use Rattle.vbr_list.proofs.Stores.{hand_kept}
-use Rattle.vbr_list.proofs.Told.{stored_same, told_since}
 use Rattle.vbr_list.proofs.Walking.{HasRepeated, search_round_on}
 
 -- the call has made so many searches, with a slot in hand; so many steps for each that was lost
@@ -87,7 +84,7 @@ lost_then each {b} {c} {d} {e} law so went x few quiet has had found finds loses
 -- ---- an answer no, and the end of the budget
 
 -- the answer was lost: the slot is in hand again
-pub denied_then : {N : Type 0} {kind : Ghosts N} → (each : ℕ) → 1 ≤ each → {b c d e : PendingCall N kind} {hand : HandView} → PassLaw (pass_in b) → IsLinking (3 + each) b c hand → GoesOn c d → IsSameCall d e → e.used ≡ d.used + 1 → KeepsIn (pass_in d) (pass_in e) 1 → (found : Found) → Finds c d found → DeniesNone d e found → IsLinking (3 + each) b e hand
+pub denied_then : {N : Type 0} {kind : Ghosts N} → (each : ℕ) → 1 ≤ each → {b c d e : PendingCall N kind} {hand : HandView} → PassLaw (pass_in b) → IsLinking (3 + each) b c hand → GoesOn c d → IsSameCall d e → e.used ≡ d.used + 1 → KeepsIn (pass_in d) (pass_in e) 1 → (found : Found) → Finds c d found → AnswersNone d e found → IsLinking (3 + each) b e hand
 denied_then each one {d = d} {e = e} law so went same used keeps found finds lost =
     lost_then each law so went (takes_on 1 same used keeps.took keeps.takes_no_slot) (omega (arith, used, one)) lost.quiet
     (has_denied so went keeps)
@@ -147,22 +144,3 @@ succ_found know key pred (Some node) cur present same x =
     let P : Option Held → Type 0 = λ cur. IsEnd know key pred cur present in
     let y : IsCur know key pred node.now present = subst P (sym same) x in
     (y.held, (y.slot, y.named, y.at))
-
--- ---- the insert is answered
-
--- its last search, and the call that it made
-pub links_hand : {N : Type 0} {kind : Ghosts N} {b c d e : PendingCall N kind} {hand : HandView} → PassLaw (pass_in b) → IsLinking 7 b c hand → GoesOn c d → (found : Found) → Finds c d found → (value : ℕ) (reply : Bool) → e.used ≤ d.used + steps_to_update (trace_in d).start → Stores value d e reply → LinksHand value b e reply
-links_hand {b = b} {d = d} {e = e} law so went found finds value reply few made =
-    let quiet = quiet_until so went in
-    let P : ℕ → Type 0 = λ key. Made (stored_in (trace_in d) key value reply) (trace_in d) (trace_in e) in
-    let steps = steps_to_update (trace_in b).start in
-    let start = ap steps_to_update quiet.same.start in
-    record {
-      made = told_since quiet (stored_same quiet.same b.key value reply) (subst P (begun so went).key made);
-      searched = record {
-        ended = trace_in d;
-        quiet = quiet;
-        to = made.seen;
-        searches = search_ends law so.0 so.1 went so.6 finds.walks e.used steps (steps + 3) (omega (arith, few, start)) (omega arith);
-      };
-    }

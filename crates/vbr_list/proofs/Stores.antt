@@ -6,11 +6,11 @@ use Rattle.vbr_list.specs.Budgets.{IsAnsweredOrSpent, LacksSteps, enough_to_stor
 use Rattle.vbr_list.specs.Disturbed.{disturbed, enough_to_store_among, steps_to_prepare, store_costs_among}
 use Rattle.vbr_list.specs.Inserting.{CountsWithin, HasHandAndRoom, InsertIsShort, SearchedFor, SearchesInVain, TakesNone}
 use Rattle.vbr_list.specs.Pieces.{KeepsHand}
-use Rattle.vbr_list.specs.Settling.{SearchesWith, WasWantedFor, had_node}
+use Rattle.vbr_list.specs.Settling.{SearchesWith, had_node}
 use Rattle.vbr_list.specs.Storing.{HasUnlessStored, HasUnstored, IsRefusedStore, Makes, replaced, stored_calls, storing_calls}
 use Rattle.vbr_list.specs.Told.{given_call, stored_call}
 use Rattle.vbr_list.specs.Walking.{WalksAgain}
-use Rattle.vbr_list.specs.Wanted.{steps_to_compare, wants}
+use Rattle.vbr_list.specs.Wanted.{WasWantedFor, steps_to_compare, wants}
 use Rattle.vbr_list.specs.declared.wanted.Wanted.{Wanted}
 use Rattle.vbr_list.proofs.LonePasses.{alone_all}
 use Rattle.vbr_list.proofs.Sufficing.{lacks_more, lone, took_more}

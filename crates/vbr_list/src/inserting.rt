@@ -1,57 +1,16 @@
 //! Inserts.
-ghost use Rattle.std.specs.Prelude.{◌≡◌, None, IfOk, IfErr};
+ghost use Rattle.std.specs.Prelude.{◌≡◌, None};
 ghost use Rattle.vbr_machine.specs.declared.history.Op.TheVariants.{Insert};
-ghost use Rattle.vbr_at_table.specs.KeptSlots.{HasUnpublished};
 ghost use Rattle.vbr_slots.specs.Calls.{Took};
 ghost use Rattle.vbr_slots.specs.Views.{IsOf};
 ghost use Rattle.vbr_list.specs.Sparing.{Calls, CallsAs, CallsInsert, SparesInsert};
-ghost use Rattle.vbr_list.specs.Inserting.{HasHandAndRoom, Links, LinksHand, LinksNone};
-ghost use Rattle.vbr_list.specs.Pieces.{pass_in};
 ghost use Rattle.vbr_list.specs.Told.{stored_in};
 
-use crate::call::{PendingCall, begin};
+use crate::call::begin;
 use crate::valuing::steps_to_update;
-use vbr_at_table::{Hand, Refusal, give_back, update};
+use vbr_at_table::{Refusal, give_back, update};
 use vbr_slots::{Pass, Slots, Stepper};
 use vbr_words::{Entries, Nodes};
-
-impl<N: Nodes> PendingCall<'_, N> {
-    // Links the slot in hand, or answers no where the key has come meanwhile. The hand is spent.
-    fn link(&mut self, value: u64, mut hand: Hand) -> Result<bool, Refusal>
-        requires hand { HasHandAndRoom (pass_in self.old) hand }
-        ensures links { Links self.old self.new }
-        ensures had { HasUnpublished (pass_in self.old) (pass_in self.new) result }
-        ensures linked { IfOk result (LinksHand value self.old self.new) }
-        ensures refused { IfErr result (LinksNone self.old self.new) }
-    {
-        self.at.law();
-        loop {
-            let Some(found) = self.reach() else {
-                give_back(&mut self.at, hand);
-                return Err(Refusal::OutOfSteps { used: self.used });
-            };
-            if found.present {
-                if self.answer_no(&found).is_err() {
-                    continue;
-                }
-                give_back(&mut self.at, hand);
-                return Ok(false);
-            }
-            self.used += steps_to_update(self.at.slots);
-            match update(
-                &mut self.at,
-                &found.pred,
-                found.cur.as_ref(),
-                self.key,
-                value,
-                hand,
-            ) {
-                Ok(()) => return Ok(true),
-                Err((back, _)) => hand = back,
-            }
-        }
-    }
-}
 
 /// Adds a key to the set, in at most `budget` steps, and says whether it was absent. It takes a slot
 /// only once it has found the key absent, and traverses anew with it. The answer's point is one step:
@@ -104,7 +63,8 @@ pub fn insert_entry(
     )
 }
 
-// The insert of a key, with its value where nodes have values; and how many steps were made.
+// The insert of a key, with its value where nodes have values; and how many steps were made. With a slot in
+// hand it searches anew, and links the slot, or gives it back where the key has come meanwhile.
 fn insert_by<N: Nodes>(
     slots: &Slots<N>,
     stepper: &mut Stepper,
@@ -119,11 +79,37 @@ fn insert_by<N: Nodes>(
         (SparesInsert stepper.old stepper.new key budget)
         stepper.old stepper.new budget result.0 }
 {
-    let mut call = begin!(slots, stepper, key, budget, 0);
+    let call = &mut begin!(slots, stepper, key, budget, 0);
     call.at.law();
-    match call.prepare(false) {
-        Err(refusal) => (Err(refusal), call.used),
-        Ok(None) => (Ok(false), call.used),
-        Ok(Some(hand)) => (call.link(value, hand), call.used),
+    let mut hand = match call.prepare() {
+        Ok(Some(hand)) => hand,
+        Ok(None) => return (Ok(false), call.used),
+        Err(refusal) => return (Err(refusal), call.used),
+    };
+    call.at.law();
+    loop {
+        let Some(found) = call.reach() else {
+            give_back(&mut call.at, hand);
+            return (Err(Refusal::OutOfSteps { used: call.used }), call.used);
+        };
+        if found.present {
+            if call.answer_no(&found).is_err() {
+                continue;
+            }
+            give_back(&mut call.at, hand);
+            return (Ok(false), call.used);
+        }
+        call.used += steps_to_update(call.at.slots);
+        match update(
+            &mut call.at,
+            &found.pred,
+            found.cur.as_ref(),
+            call.key,
+            value,
+            hand,
+        ) {
+            Ok(()) => return (Ok(true), call.used),
+            Err((back, _)) => hand = back,
+        }
     }
 }

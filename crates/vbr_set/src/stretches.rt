@@ -2,8 +2,9 @@
 //! Each function says its law in its contract, and does nothing.
 ghost use Rattle.vbr_set.specs.Stretches.{MapStretchesMakeProgress, PassesComeByCalls, StretchesDisturb, StretchesMakeProgress};
 
-/// A law: an insert or a store, answered or refused, makes at most one step that would advance the epoch; each
-/// other call makes none, and so it is of going over keys, of meeting others and of catching up.
+/// A law: an insert or a store, answered or refused, makes at most one step that would advance the
+/// epoch; each other call makes none, and so it is of going over keys, of meeting others and of
+/// catching up.
 pub fn passes_come_by_calls()
     ensures { PassesComeByCalls }
 {}

@@ -1,22 +1,27 @@
-use Rattle.vbr_list.proofs.Names.{rules, ap, Bool, false, ℕ, Err, subst, ◌≡◌, ◌+◌, [], arith, IfOk}
-use Rattle.vbr_list.proofs.Names.{counts_on, had_then, Insert, IsAlone, longer, Made, needed_before, NoSlot, Quiet, quiet_on, same_on, shared_on, shares_more, slots_kept_on, steps_to_update, steps_to_value, took_all, TookWithin}
-use Rattle.vbr_list.specs.Budgets.{LacksSteps, enough_to_insert, listed_for}
-use Rattle.vbr_list.specs.Disturbed.{disturbed, enough_to_insert_among, insert_costs_among, steps_for_slot}
-use Rattle.vbr_list.specs.Inserting.{InsertIsShort, LinksNone, SearchedFor, SearchesFor}
-use Rattle.vbr_list.specs.Refusals.{IsRefusedInsert}
-use Rattle.vbr_list.specs.Told.{stored_in}
-use Rattle.vbr_list.proofs.Disturbing.{run_at}
-use Rattle.vbr_list.proofs.Going.{ok_as}
-use Rattle.vbr_list.proofs.LonePasses.{alone, each_alone}
-use Rattle.vbr_list.proofs.Preparing.{each_same, each_seen, each_since, refused_first, refused_second, within_all, within_most, within_on}
-use Rattle.vbr_list.proofs.Sufficing.{answered_or_spent, each_error, had_no_slot, lacks, lone_costs, lone_lacks, never_refused, slot_later}
-use Rattle.vbr_list.proofs.Told.{stored_same, told_as, told_bare}
-use Rattle.vbr_list.proofs.Walking.{insert_lacks, once_paid, twice_paid, vain_lacks}
+use Rattle.vbr_list.proofs.Names.{rules, inl, refl, ◌≡◌, ℕ, true, false, Bool, Ok, Err, Some, ◌+◌, ◌≤◌, ◌∙◌, ap, sym, subst, arith}
+use Rattle.vbr_list.proofs.Names.{counts_none, counts_on, CountsSteps, had_grown, had_spent, had_then, HandView, Insert, knows, none_refl, OutOfSteps, Quiet, quiet_refl, Refusal, Start, steps_to_update, steps_to_value, Took, took_all, TookWithin, Trace}
+use Rattle.vbr_list.specs.Budgets.{listed_for}
+use Rattle.vbr_list.specs.Disturbed.{disturbed, insert_costs_among, steps_for_slot}
+use Rattle.vbr_list.specs.Inserting.{SearchesFor}
+use Rattle.vbr_list.proofs.Disturbing.{lost_place, run_at}
+use Rattle.vbr_list.proofs.Going.{call_on, call_refl, counts_step, took_same, within_call}
+use Rattle.vbr_list.proofs.Inserts.{LinksNone, insert_linked, later, links_hand, same_later}
+use Rattle.vbr_list.proofs.Linking.{counts_until, denied_then, gap_found, had_denied, has_denied, has_until, had_tired, links_tired, made_denied, takes_back, had_until, links_then, lost_then, quiet_until, succ_found, takes_on}
+use Rattle.vbr_list.proofs.LonePasses.{alone}
+use Rattle.vbr_list.proofs.LostWalks.{search_ends}
+use Rattle.vbr_list.proofs.Preparing.{if_failed, refused_first, within_all, within_most, within_same}
+use Rattle.vbr_list.proofs.Stores.{hand_kept}
+use Rattle.vbr_list.proofs.Sufficing.{answered_or_spent, had_no_slot, lone_costs, lone_lacks}
+use Rattle.vbr_list.proofs.Told.{told_as, told_bare}
+use Rattle.vbr_list.proofs.ValueReads.{few_to_update}
+use Rattle.vbr_list.proofs.Walking.{once_paid, repeated_none, vain_lacks}
 use Rattle.vbr_list.proofs.inserting.insert_by.Goals as goal
+
+-- ---- before a slot is taken
 
 pub returns-in-Err-clause-calls : goal.returns-in-Err-clause-calls
 returns-in-Err-clause-calls g c =
-    let same : c.stepper-1.given.0 ≡ c.prepare.new.self.at.stepper.now = search rules in
+    let same : c.stepper-in-Err-1.given.0 ≡ c.prepare.new.self.at.stepper.now = search rules in
     let p = c.args.stepper.now in
     let q = c.prepare.new.self.at.stepper.now in
     let refused = c.in-Err.ensures.refused in
@@ -45,7 +50,7 @@ returns-in-Err-clause-calls g c =
 
 pub returns-in-Ok-None-clause-calls : goal.returns-in-Ok-None-clause-calls
 returns-in-Ok-None-clause-calls g c =
-    let same : c.stepper-in-Ok-None-1.given.0 ≡ c.prepare.new.self.at.stepper.now = search rules in
+    let same : c.stepper-1.given.0 ≡ c.prepare.new.self.at.stepper.now = search rules in
     let p = c.args.stepper.now in
     let q = c.prepare.new.self.at.stepper.now in
     let is = rw c.in-Ok-None.field-0-is at c.in-Ok-None.ensures.prepared.is in
@@ -73,70 +78,146 @@ returns-in-Ok-None-clause-calls g c =
       };
     })
 
-pub returns-in-Ok-Some-clause-calls : goal.returns-in-Ok-Some-clause-calls
-returns-in-Ok-Some-clause-calls g c =
-    let same : c.stepper-in-Ok-Some-1.given.0 ≡ c.link.new.self.at.stepper.now = search rules in
-    let p = c.args.stepper.now in
-    let q = c.prepare.new.self.at.stepper.now in
-    let r = c.link.new.self.at.stepper.now in
-    let first = (rw c.in-Ok-Some.field-0-is at c.in-Ok-Some.ensures.prepared.is).0 in
-    let call = c.prepare.ensures.prepares.call in
-    let d = c.prepare.new.self in
-    let e = c.link.new.self in
-    let made : IfOk c.link.result (λ reply. Made (stored_in q.trace c.args.key c.args.value reply) q.trace r.trace) = ok_as c.link.result (λ reply x. rw call.key at x.made) c.link.ensures.linked in
-    let counts = rw call.budget at c.link.ensures.links.counts in
-    let quiet = each_error (LinksNone d e) (λ refusal. Quiet q.trace r.trace) c.link.result (λ refusal none. none.quiet) c.link.ensures.refused in
-    let refused = each_error (LinksNone d e) (λ refusal. InsertIsShort q r d.used c.args.budget refusal) c.link.result (λ refusal none. let P : ℕ → Type 0 = λ b. InsertIsShort q r d.used b refusal in subst P call.budget none.says) c.link.ensures.refused in
-    let since = each_since p.trace q.trace r.trace (stored_in q.trace c.args.key c.args.value) (stored_in p.trace c.args.key c.args.value) c.link.result first (stored_same first.same c.args.key c.args.value) made in
-    let more = each_seen q.trace r.trace (stored_in q.trace c.args.key c.args.value) c.link.result made quiet in
-    let n = listed_for p.trace c.args.key in
-    let t = disturbed p.trace r.trace c.args.key in
-    let taking = steps_for_slot p r.trace in
-    let storing = steps_to_value p.trace.start.shape.values in
-    let later = slot_later p q.trace r.trace more.0 in
-    let all = same_on first.same (each_same q.trace r.trace (stored_in q.trace c.args.key c.args.value) c.link.result made quiet) in
-    let run = run_at p.trace r.trace all (more.1 (first.is_run c.law.ensures.is_run)) in
-    let before : SearchedFor p.trace q.trace c.args.key 0 d.used (steps_for_slot p q.trace + 3) = c.in-Ok-Some.ensures.prepared.searched in
-    let within = each_error (LinksNone d e) (λ refusal. LacksSteps (enough_to_insert_among n t taking) c.args.budget refusal) c.link.result
-    (λ refusal none. (
-    let after : SearchesFor q.trace r.trace d.key d.used (d.budget + 1) 11 = none.searches in
-    let last : SearchesFor q.trace r.trace c.args.key d.used (c.args.budget + 1) 11 = rw (call.key, call.budget) at after in
-    let short = insert_lacks p.trace q.trace r.trace c.law.ensures.start run c.args.key c.args.budget d.used (steps_for_slot p q.trace) first none.quiet before last in
-    lacks (enough_to_insert_among n t taking) c.args.budget refusal (omega (arith, short, later))))
-    c.link.ensures.refused in
-    let alone_within = each_error (λ refusal. LacksSteps (enough_to_insert_among n t taking) c.args.budget refusal) (λ refusal. IsAlone p.trace r.trace → LacksSteps (enough_to_insert p c.args.key) c.args.budget refusal) c.link.result (λ refusal. lone_lacks p r.trace c.args.key c.args.budget refusal) within in
-    let costs : IfOk c.link.result (λ reply. TookWithin p.trace r.trace (insert_costs_among n t taking storing)) = ok_as c.link.result
-    (λ reply linked. (
-    let after : SearchedFor q.trace r.trace d.key d.used e.used (steps_to_update q.trace.start + 3) = linked.searched in
-    let last : SearchedFor q.trace r.trace c.args.key d.used e.used (steps_to_update q.trace.start + 3) = rw call.key at after in
-    let paid = twice_paid p.trace q.trace r.trace c.law.ensures.start run c.args.key first before last in
-    let start = ap steps_to_update first.same.start in
-    within_most (within_on c.prepare.ensures.prepares.counts counts.counts counts.within.0 counts.within.1) (omega (arith, paid, later, start))))
-    c.link.ensures.linked in
-    rw same (record {
-      same = all;
-      made = since;
-      alone = each_alone p.trace r.trace (stored_in p.trace c.args.key c.args.value) c.link.result c.law.ensures.start c.law.ensures.low since;
-      quiet = each_error (λ refusal. Quiet q.trace r.trace) (λ refusal. Quiet p.trace r.trace) c.link.result (λ refusal later. quiet_on first later) quiet;
-      hand = search rules;
-      steps = within_all (within_on c.prepare.ensures.prepares.counts counts.counts counts.within.0 counts.within.1);
-      spares = record {
-        advances = needed_before {p = p} {q = q} {r = r} c.prepare.ensures.prepares.advances more.0 more.1 c.link.ensures.links.takes_no_slot.count;
-        kept = slots_kept_on p q r c.prepare.ensures.prepares.kept c.link.ensures.links.takes_no_slot.kept;
-        had = had_then p q r c.link.result c.prepare.ensures.prepares.had c.link.ensures.had;
-        shared = shared_on p q r 2 c.prepare.ensures.prepares.shared (longer q r c.link.ensures.links.takes_no_slot.grows) (shares_more q r c.link.ensures.links.takes_no_slot.shared);
-        refused = each_error (λ refusal. InsertIsShort q r c.prepare.new.self.used c.args.budget refusal) (λ refusal. IsRefusedInsert p r c.args.key c.args.budget refusal) c.link.result (refused_second p q r c.args.key c.prepare.ensures.prepares.counts) refused;
-        disturbed_within = within;
-        within = alone_within;
-        ready = λ some alone enough. answered_or_spent p r c.args.budget n c.link.result some alone enough
-            (each_error (λ refusal. InsertIsShort q r c.prepare.new.self.used c.args.budget refusal) (λ refusal. refusal ≡ NoSlot → p.pool ≡ []) c.link.result (never_refused p.pool q r c.prepare.new.self.used c.args.budget) refused)
-            alone_within;
-        costs = ok_as c.link.result (λ reply x. lone_costs p r.trace c.args.key x) costs;
-        disturbed_costs = costs;
-      };
-    })
+-- ---- the loop
 
-pub returns-in-Ok-Some-clause-took : goal.returns-in-Ok-Some-clause-took
-returns-in-Ok-Some-clause-took g c =
-    let same : c.stepper-in-Ok-Some-1.given.0 ≡ c.link.new.self.at.stepper.now = search rules in
-    rw same (took_all (counts_on c.prepare.ensures.prepares.counts.counts c.link.ensures.links.counts.counts))
+-- the steps that an update makes
+steps_updating : {n : ℕ} {table now : Start} → n ≡ steps_to_update table → now ≡ table → n ≡ steps_to_update now
+steps_updating e of = e ∙ ap steps_to_update (sym of)
+
+pub loop-found-init : goal.loop-found-init
+loop-found-init g c =
+    let b = c.prepare.new.self in
+    let begun = call_refl b in (
+      begun,
+      quiet_refl b.at.stepper.now.trace,
+      record { counts = counts_none b.at.stepper.now.trace b.used; within = (omega arith, within_call begun) },
+      none_refl b.at.stepper.now,
+      (rw c.in-Ok-Some.field-0-is at c.in-Ok-Some.ensures.prepared.is).1,
+      (λ slot had. had),
+      repeated_none 9 b.at.stepper.now.trace b.key 7 b.used,
+    )
+
+pub update-requires-clause-hand : goal.update-requires-clause-hand
+update-requires-clause-hand g c = (hand_kept c.loop-found.hand c.reach.ensures.goes.goes.hand c.loop-found.invariant.4).is
+
+pub update-requires-clause-gap : goal.update-requires-clause-gap
+update-requires-clause-gap g c = gap_found c.reach.ensures.goes c.in-Some.found c.in-Some.ensures.found c.if-found.false
+
+pub update-requires-clause-succ : goal.update-requires-clause-succ
+update-requires-clause-succ g c = succ_found (knows c.reach.new.self.at.stepper.now.trace) c.loop-found.call.key c.in-Some.found.pred c.as_ref.result c.in-Some.found.cur c.in-Some.found.present c.as_ref.ensures.value c.in-Some.ensures.found.found.locates.end
+
+pub give_back-requires-clause-hand : goal.give_back-requires-clause-hand
+give_back-requires-clause-hand g c = (has_until c.loop-found.invariant c.reach.ensures.goes).is
+
+pub give_back-requires-then-found-clause-hand : goal.give_back-requires-then-found-clause-hand
+give_back-requires-then-found-clause-hand g c = (has_denied c.loop-found.invariant c.reach.ensures.goes c.answer_no.ensures.keeps).is
+
+pub loop-found-preserved-then-is_err : goal.loop-found-preserved-then-is_err
+loop-found-preserved-then-is_err g c =
+    let d = c.answer_no.ensures in
+    denied_then 4 (omega arith) {b = c.prepare.new.self} c.law-2.ensures c.loop-found.invariant c.reach.ensures.goes d.call d.used d.keeps c.in-Some.found c.in-Some.ensures.found (if_failed c.answer_no.result (sym c.is_err.ensures.value ∙ c.if-is_err.true) d.rolls)
+
+pub loop-found-preserved : goal.loop-found-preserved
+loop-found-preserved g c =
+    let stores = c.update.ensures.stores in
+    let lost = c.in-Err-update.ensures.lost in
+    let q = c.reach.new.self.at.stepper.now in
+    let most = (few_to_update q.trace.start).1 in
+    let same = steps_updating c.steps_to_update.ensures c.reach.new.self.at.own.1 in
+    let held = hand_kept c.loop-found.hand c.reach.ensures.goes.goes.hand c.loop-found.invariant.4 in
+    let found = c.in-Some.found in
+    lost_then 4 {b = c.prepare.new.self} c.law-2.ensures c.loop-found.invariant c.reach.ensures.goes
+    (takes_on (steps_to_update q.trace.start) (search rules) (ap (λ (n : ℕ). c.reach.new.self.used + n) same) stores.took stores.takes_no_slot)
+    (omega (arith, same, most)) lost.exchange.quiet
+    (record { is = lost.hand; room = rw stores.pool held.room })
+    (had_grown q c.update.new.at.stepper.now stores.takes_no_slot.grows (lost.hand.slot ∙ ap (λ (h : HandView). Some h.slot) lost.same ∙ sym held.is.slot))
+    found c.in-Some.ensures.found (inl (lost_place found.pred _ lost.exchange.lost lost.exchange.unchanged))
+
+-- ---- the slot is linked, or given back
+
+pub returns-in-Ok-clause-took : goal.returns-in-Ok-clause-took
+returns-in-Ok-clause-took g c =
+    let end : c.stepper-in-Ok-1.given.0 ≡ c.update.new.at.stepper.now = search rules in
+    let d = c.reach.new.self in
+    let steps = steps_updating c.steps_to_update.ensures d.at.own.1 in
+    let until = counts_on c.prepare.ensures.prepares.counts.counts (counts_until c.loop-found.invariant c.reach.ensures.goes).counts in
+    rw end (took_all (counts_on until (counts_step d.used c.steps_to_update.result (took_same c.steps_to_update.result (steps_to_update d.at.stepper.now.trace.start) steps c.update.ensures.stores.took))))
+
+pub returns-then-found-clause-took : goal.returns-then-found-clause-took
+returns-then-found-clause-took g c =
+    let same : c.stepper-then-found-1.given.0 ≡ c.give_back-then-found.new.at.stepper.now = search rules in
+    let d = c.reach.new.self in
+    let until = counts_on c.prepare.ensures.prepares.counts.counts (counts_until c.loop-found.invariant c.reach.ensures.goes).counts in
+    let P : ℕ → Type 0 = CountsSteps d.at.stepper.now.trace c.answer_no.new.self.at.stepper.now.trace d.used in
+    let T : Trace → Type 0 = λ t. Took c.args.stepper.now.trace t c.answer_no.new.self.used in
+    rw same (subst T (sym c.give_back-then-found.ensures.back.trace) (took_all (counts_on until (subst P (sym c.answer_no.ensures.used) (counts_step d.used 1 c.answer_no.ensures.keeps.took)))))
+
+pub returns-in_default-clause-took : goal.returns-in_default-clause-took
+returns-in_default-clause-took g c =
+    let same : c.stepper-in_default-1.given.0 ≡ c.give_back.new.at.stepper.now = search rules in
+    rw same (took_all (counts_on c.prepare.ensures.prepares.counts.counts (within_same c.give_back.ensures.back.trace (counts_until c.loop-found.invariant c.reach.ensures.goes)).counts))
+
+pub returns-in-Ok-clause-calls : goal.returns-in-Ok-clause-calls
+returns-in-Ok-clause-calls g c =
+    let same : c.stepper-in-Ok-1.given.0 ≡ c.update.new.at.stepper.now = search rules in
+    let so = c.loop-found.invariant in
+    let went = c.reach.ensures.goes in
+    let d = c.reach.new.self in
+    let q = d.at.stepper.now in
+    let r = c.update.new.at.stepper.now in
+    let stores = c.update.ensures.stores in
+    let inserted = c.in-Ok.ensures.inserted in
+    let steps = steps_updating c.steps_to_update.ensures d.at.own.1 in
+    let most = (few_to_update q.trace.start).1 in
+    let room = c.in-Some.ensures.room in
+    let fits : d.used + c.steps_to_update.result ≤ d.budget = omega (arith, steps, most, room) in
+    let e = later d c.update.new.at (d.used + c.steps_to_update.result) c.update.ensures.table inserted.made.same.start fits in
+    let once = same_later d c.update.new.at e.used c.update.ensures.table inserted.made.same.start fits in
+    let links = links_then so went {e = e} (takes_on (steps_to_update q.trace.start) once (ap (λ (n : ℕ). d.used + n) steps) stores.took stores.takes_no_slot) inserted.spent in
+    let had = had_then {E = Refusal} c.prepare.new.self.at.stepper.now q r (Ok true) (had_until so went) (had_spent q r c.loop-found.hand.slot (has_until so went).is.slot stores.pool) in
+    let linked = links_hand {b = c.prepare.new.self} {e = e} c.law-2.ensures so went c.in-Some.found c.in-Some.ensures.found c.args.value true (omega (arith, steps)) inserted.made in
+    rw same (insert_linked c.args.value (Ok true) c.law.ensures refl c.prepare.ensures.prepares (rw c.in-Ok-Some.field-0-is at c.in-Ok-Some.ensures.prepared.is).0 c.in-Ok-Some.ensures.prepared.searched links had linked tt)
+
+pub returns-then-found-clause-calls : goal.returns-then-found-clause-calls
+returns-then-found-clause-calls g c =
+    let same : c.stepper-then-found-1.given.0 ≡ c.give_back-then-found.new.at.stepper.now = search rules in
+    let so = c.loop-found.invariant in
+    let went = c.reach.ensures.goes in
+    let d = c.reach.new.self in
+    let p = d.at.stepper.now.trace in
+    let f = c.answer_no.new.self in
+    let no = c.answer_no.ensures in
+    let back = c.give_back-then-found.ensures.back in
+    let start = ap (λ (t : Trace). t.start) back.trace in
+    let e = later f c.give_back-then-found.new.at f.used c.give_back-then-found.ensures.table start f.within in
+    let once = call_on no.call (same_later f c.give_back-then-found.new.at f.used c.give_back-then-found.ensures.table start f.within) in
+    let links = links_then so went {e = e} (takes_back c.loop-found.hand.slot once no.used no.keeps back) back.hand in
+    let made = made_denied p d.key c.in-Some.found true c.if-found.true c.answer_no.result (sym c.is_err.ensures.value ∙ c.if-is_err.false) no.made back in
+    let some = (few_to_update p.start).0 in
+    let used = no.used in
+    let linked = links_hand {b = c.prepare.new.self} {e = e} c.law-2.ensures so went c.in-Some.found c.in-Some.ensures.found c.args.value false (omega (arith, some, used)) (told_as (told_bare p.start p.who Insert d.key false) made) in
+    rw same (insert_linked c.args.value (Ok false) c.law.ensures refl c.prepare.ensures.prepares (rw c.in-Ok-Some.field-0-is at c.in-Ok-Some.ensures.prepared.is).0 c.in-Ok-Some.ensures.prepared.searched links (had_denied so went no.keeps back) linked tt)
+
+pub returns-in_default-clause-calls : goal.returns-in_default-clause-calls
+returns-in_default-clause-calls g c =
+    let same : c.stepper-in_default-1.given.0 ≡ c.give_back.new.at.stepper.now = search rules in
+    let so = c.loop-found.invariant in
+    let went = c.reach.ensures.goes in
+    let d = c.reach.new.self in
+    let b = c.prepare.new.self in
+    let p = b.at.stepper.now.trace in
+    let back = c.give_back.ensures.back in
+    let start = ap (λ (t : Trace). t.start) back.trace in
+    let e = later d c.give_back.new.at d.used c.give_back.ensures.table start d.within in
+    let once = same_later d c.give_back.new.at d.used c.give_back.ensures.table start d.within in
+    let links = links_tired so went {e = e} once refl back in
+    let tired = c.in_default.ensures.tired in
+    let short = rw so.0.budget at tired.tired in
+    let Q : Trace → Type 0 = Quiet p in
+    let S : Trace → Type 0 = λ t. SearchesFor p t b.key b.used (b.budget + 1) 11 in
+    let refused : LinksNone b e (OutOfSteps d.used) = record {
+      quiet = subst Q (sym back.trace) (quiet_until so went);
+      says = record { counts = within_same back.trace (counts_until so went); short = short };
+      searches = subst S (sym back.trace) (search_ends c.law-2.ensures so.0 so.1 went so.6 tired.walks (b.budget + 1) 8 11 (omega (arith, short)) (omega arith));
+    } in
+    rw same (insert_linked c.args.value (Err (OutOfSteps d.used)) c.law.ensures refl c.prepare.ensures.prepares (rw c.in-Ok-Some.field-0-is at c.in-Ok-Some.ensures.prepared.is).0 c.in-Ok-Some.ensures.prepared.searched links (had_tired so went back) tt refused)

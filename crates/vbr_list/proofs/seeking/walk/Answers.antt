@@ -1,7 +1,7 @@
 use Rattle.vbr_list.proofs.Names.{rules, ◌≡◌, ◌+◌, sym, ap, ◌∙◌, subst, arith, Bool, true, false, not, Option, ℕ, None, is_none, is_some}
 use Rattle.vbr_list.proofs.Names.{Held, Link, link_of}
 use Rattle.vbr_list.proofs.Disturbing.{moves_epoch}
-use Rattle.vbr_list.proofs.Following.{follows_head, follows_marked, follows_node, peeks_value, peeks_visit, tells_next, tells_none, value_lost, value_paid, visit_lost}
+use Rattle.vbr_list.proofs.Following.{follows_head, follows_marked, follows_node, peeks_behind, peeks_visit, tells_next, tells_none, value_lost, value_paid, visit_lost}
 use Rattle.vbr_list.proofs.Going.{goes_read, table_on}
 use Rattle.vbr_list.proofs.Observing.{reads_observe}
 use Rattle.vbr_list.proofs.Traversals.{Follows}
@@ -62,11 +62,8 @@ returns-in-Err-clause-stopped g c =
 pub returns-in_default-read-clause-peeks : goal.returns-in_default-read-clause-peeks
 returns-in_default-read-clause-peeks g c =
     let v = c.visit_behind.ensures in
-    let w = c.value_if_any-read.ensures in
-    let few = v.used in
-    let fits = c.affords-in-loop-here.ensures.0 c.if-not-affords-2.false in
-    let steps = steps_read c.steps_to_value_of.ensures c.value_if_any-read.new.at.own.1 w.reads.quiet.same.start in
-    peeks_value c.visit_behind.new.used c.steps_to_value_of.result c.args.budget (peeks_visit c.law.ensures c.loop-here.invariant.1.1 v.looks few fits) w.reads steps (omega (arith, few, fits))
+    let reads = c.value_if_any-read.ensures.reads in
+    peeks_behind c.law.ensures c.loop-here.invariant.1.1 v.looks v.used (c.affords-in-loop-here.ensures.0 c.if-not-affords-2.false) c.steps_to_value_of.result reads (steps_read c.steps_to_value_of.ensures c.value_if_any-read.new.at.own.1 reads.quiet.same.start)
 
 pub returns-in_default-read-clause-stopped : goal.returns-in_default-read-clause-stopped
 returns-in_default-read-clause-stopped g c =
@@ -80,11 +77,8 @@ returns-in_default-read-clause-stopped g c =
 pub returns-in-Ok-Beyond-clause-peeks : goal.returns-in-Ok-Beyond-clause-peeks
 returns-in-Ok-Beyond-clause-peeks g c =
     let v = c.visit_behind.ensures in
-    let w = c.value_if_any-read.ensures in
-    let few = v.used in
-    let fits = c.affords-in-loop-here.ensures.0 c.if-not-affords-2.false in
-    let steps = steps_read c.steps_to_value_of.ensures c.value_if_any-read.new.at.own.1 w.reads.quiet.same.start in
-    peeks_value c.visit_behind.new.used c.steps_to_value_of.result c.args.budget (peeks_visit c.law.ensures c.loop-here.invariant.1.1 v.looks few fits) w.reads steps (omega (arith, few, fits))
+    let reads = c.value_if_any-read.ensures.reads in
+    peeks_behind c.law.ensures c.loop-here.invariant.1.1 v.looks v.used (c.affords-in-loop-here.ensures.0 c.if-not-affords-2.false) c.steps_to_value_of.result reads (steps_read c.steps_to_value_of.ensures c.value_if_any-read.new.at.own.1 reads.quiet.same.start)
 
 pub returns-in-Ok-Beyond-clause-next : goal.returns-in-Ok-Beyond-clause-next
 returns-in-Ok-Beyond-clause-next g c =
