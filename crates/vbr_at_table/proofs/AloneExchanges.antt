@@ -1,5 +1,5 @@
--- Exchanges and confirming loads by a pass that was alone: where the link that is held stands, none is lost.
-use Rattle.std.proofs.Common.{◌≡◌, ◌≢◌, ℕ, suc, false, [], ◌∷◌, ◌++◌, sym, ap, ◌∙◌}
+-- A won unlinking: the link that was written stands, and what it leaves to a pass that was alone.
+use Rattle.std.proofs.Common.{◌≡◌, ℕ, suc, false, [], ◌∷◌, ◌++◌, sym, ap, ◌∙◌}
 use Rattle.vbr_machine.specs.Start.{Start, IsStart}
 use Rattle.vbr_words.specs.Words.{link_of}
 use Rattle.vbr_words.specs.declared.place.At.{At}
@@ -9,49 +9,25 @@ use Rattle.vbr_machine.specs.Accounts.{incarnations_after, notes_after}
 use Rattle.vbr_machine.specs.Agreement.{Agrees}
 use Rattle.vbr_machine.specs.Images.{link_shown_at}
 use Rattle.vbr_machine.specs.Incarnations.{Incarnations}
-use Rattle.vbr_machine.specs.Learning.{link_written, present_reply}
+use Rattle.vbr_machine.specs.Learning.{link_written}
 use Rattle.vbr_machine.specs.Machine.{found}
 use Rattle.vbr_machine.specs.Machine as machine
 use Rattle.vbr_machine.specs.Membership.{Knows}
 use Rattle.vbr_machine.specs.Nodes.{behind}
 use Rattle.vbr_machine.specs.Runs.{world_after}
-use Rattle.vbr_machine.specs.declared.event.Step.TheVariants.{Publish, Mark, Unlink, ConfirmPresent, ConfirmAbsent}
-use Rattle.vbr_machine.specs.declared.history.Op.{Op}
+use Rattle.vbr_machine.specs.declared.event.Step.TheVariants.{Unlink}
 use Rattle.vbr_machine.specs.declared.knowledge.Read.TheVariants.{LinkAt}
-use Rattle.vbr_machine.proofs.Lemmas.{found_at, run_agrees, unlink_makes, unlink_takes_listed, unlink_takes_one}
+use Rattle.vbr_machine.proofs.Lemmas.{run_agrees, unlink_makes, unlink_takes_listed, unlink_takes_one}
 use Rattle.vbr_slots.specs.Alone.{IsAlone, nodes, ahead}
 use Rattle.vbr_slots.specs.Views.{Trace, Did, knows, event_of}
-use Rattle.vbr_slots.proofs.Lemmas.{did_run, found_now, nodes_next, run_was, same_leaves, stands_found}
+use Rattle.vbr_slots.proofs.Lemmas.{did_run, found_now, nodes_next, run_was, same_leaves}
 use Rattle.vbr_at_table.specs.Alone.{StandsNow, UnlinksAlone}
 use Rattle.vbr_at_table.specs.Keeping.{Keeps}
 use Rattle.vbr_at_table.proofs.Keeping.{held_in_kept}
 use Rattle.vbr_at_table.specs.declared.held.Held.{Held}
-use Rattle.vbr_at_table.proofs.Moments.{won, lost, unanswered}
+use Rattle.vbr_at_table.proofs.Moments.{won}
 use Rattle.vbr_at_table.proofs.UnlinkedLinks.{link_after}
-use Rattle.vbr_at_table.proofs.AloneReads.{shape_on}
-
--- ---- none is lost
-
-module _ {p q : Trace} {r : ℕ} (is : IsStart p.start) (alone : IsAlone p q) where
-  pub unlink_wins : (pred : At) (expected s : ℕ) → Did (Unlink pred expected s) p q r → r ≢ expected → link_shown_at (nodes p) pred ≡ link_of expected → ⊥
-  unlink_wins pred expected s d other stands =
-      other (sym (lost expected r _ other d.shows.answers) ∙ found_now d alone ∙ found_at p.start (world_after p.start p.seen) pred ∙ stands_found p pred expected is (run_was d alone) stands)
-
-  pub publish_wins : (pred : At) (expected s : ℕ) → Did (Publish pred expected s) p q r → r ≢ expected → link_shown_at (nodes p) pred ≡ link_of expected → ⊥
-  publish_wins pred expected s d other stands =
-      other (sym (lost expected r _ other d.shows.answers) ∙ found_now d alone ∙ found_at p.start (world_after p.start p.seen) pred ∙ stands_found p pred expected is (run_was d alone) stands)
-
-  pub mark_wins : (s expected : ℕ) → Did (Mark s expected) p q r → r ≢ expected → link_shown_at (nodes p) (Slot s) ≡ link_of expected → ⊥
-  mark_wins s expected d other stands =
-      other (sym (lost expected r _ other d.shows.answers) ∙ found_now d alone ∙ stands_found p (Slot s) expected is (run_was d alone) stands)
-
-  pub present_confirmed : (op : Op) (s expected : ℕ) → Did (ConfirmPresent op s expected) p q r → r ≢ expected → link_shown_at (nodes p) (Slot s) ≡ link_of expected → ⊥
-  present_confirmed op s expected d other stands =
-      other (sym (unanswered (present_reply op) expected r _ other d.shows.answers) ∙ found_now d alone ∙ stands_found p (Slot s) expected is (run_was d alone) stands)
-
-  pub absent_confirmed : (op : Op) (key : ℕ) (at : At) (expected : ℕ) → Did (ConfirmAbsent op key at expected) p q r → r ≢ expected → link_shown_at (nodes p) at ≡ link_of expected → ⊥
-  absent_confirmed op key at expected d other stands =
-      other (sym (unanswered false expected r _ other d.shows.answers) ∙ found_now d alone ∙ found_at p.start (world_after p.start p.seen) at ∙ stands_found p at expected is (run_was d alone) stands)
+use Rattle.vbr_at_table.proofs.ReadSteps.{shape_on}
 
 -- ---- a won unlinking
 

@@ -1,15 +1,12 @@
 -- A slot that is retired by a pass that was alone: the lists are as they were, and the epoch that was read still stands.
-use Rattle.std.proofs.Common.{ℕ, refl, sym, ◌∙◌, subst}
-use Rattle.vbr_machine.specs.Start.{Start, IsStart}
-use Rattle.vbr_machine.specs.declared.event.Step.{Step}
+use Rattle.std.proofs.Common.{ℕ, refl, sym, ◌∙◌}
+use Rattle.vbr_machine.specs.Start.{IsStart}
 use Rattle.vbr_machine.specs.declared.event.Step.TheVariants.{ReadEpoch, StoreStamp, Raise}
 use Rattle.vbr_slots.specs.Alone.{IsAlone, IsFresh, LeavesLists}
 use Rattle.vbr_slots.specs.Views.{Trace, Did, knows}
 use Rattle.vbr_slots.proofs.Lemmas.{alone_three, alone_two, epoch_now, leaves_on, looks, raise_leaves_lists, same_leaves, stamp_leaves_lists}
+use Rattle.vbr_at_table.proofs.ReadSteps.{shape_on}
 use Rattle.vbr_at_table.proofs.Shown.{epoch_told}
-
-shape_on : {step : Step} {p q : Trace} {r : ℕ} → Did step p q r → IsStart p.start → IsStart q.start
-shape_on d is = let P : Start → Type 0 = IsStart in subst P (sym d.same.1) is
 
 module _ {p q r : Trace} {slot e n : ℕ} (is : IsStart p.start) (read : Did ReadEpoch p q e) (stamp : Did (StoreStamp slot (knows q).epoch) q r n) where
   pub retired_leaves : IsAlone p r → LeavesLists p r

@@ -1,11 +1,9 @@
 -- A load that answers an operation: it leaves the pass what it had, and either it makes the call, or another link stood where one is held.
 use Rattle.std.proofs.Common.{◌≡◌, ◌≢◌, ℕ, false, ◌++◌, refl, sym, ap, subst}
 use Rattle.vbr_machine.specs.Start.{IsStart}
-use Rattle.vbr_words.specs.Words.{link_of}
 use Rattle.vbr_words.specs.declared.place.At.{At}
 use Rattle.vbr_words.specs.declared.place.At.TheVariants.{Slot}
 use Rattle.vbr_machine.specs.History.{set_call}
-use Rattle.vbr_machine.specs.Images.{link_shown_at}
 use Rattle.vbr_machine.specs.Knowledge.{Know}
 use Rattle.vbr_machine.specs.Learning.{present_reply}
 use Rattle.vbr_machine.specs.Loads.{IsLoad}
@@ -16,7 +14,6 @@ use Rattle.vbr_machine.specs.declared.event.Step.TheVariants.{ConfirmAbsent, Con
 use Rattle.vbr_machine.specs.declared.history.Op.{Op}
 use Rattle.vbr_machine.specs.declared.history.Op.TheVariants.{Get}
 use Rattle.vbr_machine.specs.declared.knowledge.Read.TheVariants.{KeyOf, ValueOf}
-use Rattle.vbr_slots.specs.Alone.{nodes}
 use Rattle.vbr_slots.specs.Views.{Did, KeepsPool, PassView, Trace, knows}
 use Rattle.vbr_slots.proofs.Lemmas.{did_loads, did_moment, did_took}
 use Rattle.vbr_at_table.specs.Answering.{FindsAnother, IsAnswered, KeepsByLoad}
@@ -27,7 +24,6 @@ use Rattle.vbr_at_table.specs.Values.{found_call}
 use Rattle.vbr_at_table.specs.declared.held.Held.{Held}
 use Rattle.vbr_at_table.specs.declared.rollback.Rollback.TheVariants.{LostExchange}
 use Rattle.vbr_at_table.proofs.Advancing.{did_none}
-use Rattle.vbr_at_table.proofs.AloneExchanges.{absent_confirmed, present_confirmed}
 use Rattle.vbr_at_table.proofs.Keeping.{keeps_refl}
 use Rattle.vbr_at_table.proofs.MadeCalls.{absent_adds, absent_adds_none, absent_failed, absent_made, present_adds, present_adds_none, present_failed, present_made}
 use Rattle.vbr_at_table.proofs.Moments.{unanswered}
@@ -64,25 +60,21 @@ absent_answered d = record { made = absent_made d; adds = absent_adds d }
 
 -- ---- another link
 
-module _ {p q : Trace} {found : ℕ} (held : Held) (start : IsStart p.start) (other : found ≢ held.word) where
+module _ {p q : Trace} {found : ℕ} (held : Held) (other : found ≢ held.word) where
   pub present_finds : {op : Op} (s : ℕ) → held.at ≡ Slot s → Did (ConfirmPresent op s held.word) p q found → FindsAnother p q held (LostExchange found)
   present_finds {op} s at d =
       let F : At → Type 0 = λ at. WasFound p q at found in
-      let S : At → Type 0 = λ at. link_shown_at (nodes p) at ≡ link_of held.word in
       record {
         quiet = present_failed d other;
         adds_none = present_adds_none d other;
         lost = (other, subst F (sym at) (record { moment = p.seen ++ d.rest; within = did_moment d; found = unanswered (present_reply op) held.word found _ other d.shows.answers }), known_keeps d.know);
-        wins = λ alone stands. present_confirmed start alone op s held.word d other (subst S at stands);
       }
 
   pub absent_finds : {op : Op} {key : ℕ} (at : At) → held.at ≡ at → Did (ConfirmAbsent op key at held.word) p q found → FindsAnother p q held (LostExchange found)
   absent_finds {op} {key} at is d =
       let F : At → Type 0 = λ at. WasFound p q at found in
-      let S : At → Type 0 = λ at. link_shown_at (nodes p) at ≡ link_of held.word in
       record {
         quiet = absent_failed d other;
         adds_none = absent_adds_none d other;
         lost = (other, subst F (sym is) (record { moment = p.seen ++ d.rest; within = did_moment d; found = unanswered false held.word found _ other d.shows.answers }), known_keeps d.know);
-        wins = λ alone stands. absent_confirmed start alone op key at held.word d other (subst S is stands);
       }

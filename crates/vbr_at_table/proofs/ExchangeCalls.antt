@@ -21,14 +21,13 @@ use Rattle.vbr_machine.specs.declared.event.Step.TheVariants.{Mark, Publish, Unl
 use Rattle.vbr_machine.specs.declared.history.Op.TheVariants.{Insert}
 use Rattle.vbr_machine.specs.declared.knowledge.Read.TheVariants.{LinkAt}
 use Rattle.vbr_machine.proofs.Lemmas.{is_run_before, is_run_last, mark_out, others_leave_know}
-use Rattle.vbr_slots.specs.Alone.{IsAlone, IsFresh, nodes}
+use Rattle.vbr_slots.specs.Alone.{IsFresh, nodes}
 use Rattle.vbr_slots.specs.Calls.{Made, Quiet}
 use Rattle.vbr_slots.specs.PassLaw.{PassLaw}
 use Rattle.vbr_slots.specs.Views.{Did, KeepsPool, PassView, Trace, knows, event_of}
 use Rattle.vbr_slots.proofs.Lemmas.{adds_on, alone_first, alone_then, did_run, did_same, did_seen, made_on, quiet_on}
 use Rattle.vbr_at_table.specs.Hands.{UnlinkedView}
 use Rattle.vbr_at_table.proofs.Advancing.{none_on}
-use Rattle.vbr_at_table.specs.Alone.{StandsNow}
 use Rattle.vbr_at_table.specs.Values.{InsertsEntry, RemovesEntry, ValueAt, entry_call}
 use Rattle.vbr_at_table.specs.Exchanges.{IsUnmarked, LosesExchange, UnlinksNode, UnlinksNone}
 use Rattle.vbr_at_table.specs.Held.{IsHeld, HoldsMarked, Names}
@@ -39,7 +38,7 @@ use Rattle.vbr_at_table.specs.declared.held.Held.{Held}
 use Rattle.vbr_at_table.specs.declared.held.Marked.{Marked}
 use Rattle.vbr_at_table.specs.declared.rollback.Rollback.{Rollback}
 use Rattle.vbr_at_table.specs.declared.rollback.Rollback.TheVariants.{EpochMoved, LostExchange}
-use Rattle.vbr_at_table.proofs.AloneExchanges.{publish_wins, unlink_wins, unlinked_alone, unlinks_after, written_stands}
+use Rattle.vbr_at_table.proofs.AloneExchanges.{unlinked_alone, unlinks_after, written_stands}
 use Rattle.vbr_at_table.proofs.Keeping.{held_kept, keeps_on, marked_kept}
 use Rattle.vbr_at_table.proofs.MadeCalls.{mark_made, publish_adds_none, publish_failed, unlink_adds_none}
 use Rattle.vbr_at_table.proofs.MarkedLinks.{marked_alone, marked_leaves}
@@ -102,12 +101,11 @@ run_after {step} {p} {q} is d =
     let s = did_same d in
     subst Q s.passes (subst P s.start (did_run d))
 
-pub publish_lost : {p q r : Trace} {s found : ℕ} (pred : Held) → IsStart q.start → Quiet p q → ChangesNone p q → Keeps (knows p) (knows q) → (IsAlone p q → StandsNow p pred → StandsNow q pred) → Did (Publish pred.at pred.word s) q r found → found ≢ pred.word → LosesExchange p r pred (LostExchange found)
-publish_lost {s = s} pred start fill same keeps stands d other = record {
+pub publish_lost : {p q r : Trace} {s found : ℕ} (pred : Held) → IsStart q.start → Quiet p q → ChangesNone p q → Keeps (knows p) (knows q) → Did (Publish pred.at pred.word s) q r found → found ≢ pred.word → LosesExchange p r pred (LostExchange found)
+publish_lost pred start fill same keeps d other = record {
   quiet = quiet_on fill (publish_failed d other);
   lost = (other, found_after fill (publish_found d other), keeps_on keeps (publish_lost_keeps d other));
   unchanged = unchanged_on same (unchanged_by_none start (run_after start d) (did_same d) (did_seen d) (publish_adds_none d other));
-  wins = λ alone stood. publish_wins start (alone_then fill.same.who fill.seen (did_seen d) alone) pred.at pred.word s d other (stands (alone_first fill.seen (did_seen d) alone) stood);
 }
 
 -- ---- an unlinking, after the birth of what the marked link names
@@ -140,8 +138,6 @@ module _ {p q r : PassView} {n : ℕ} (pred : Held) (gone : Marked) (named : Lin
     rolled = (other, found_after reads.quiet (unlink_found d other), keeps_on read.keeps (unlink_lost_keeps d other));
     fresh = tt;
     adds_none = adds_on reads.adds_none (unlink_adds_none d other);
-    wins = λ fresh alone stands. unlink_wins law.start (alone_then reads.quiet.same.who reads.quiet.seen (did_seen d) alone) pred.at pred.word gone.slot d other
-        (ap (λ a. link_shown_at a pred.at) (reads.looks (alone_first reads.quiet.seen (did_seen d) alone)) ∙ stands);
   }
 
 fresh_any : (q : Trace) → IsFresh q → (r : Rollback) → FreshIfMoved q r
@@ -149,6 +145,6 @@ fresh_any q fresh (EpochMoved now) = fresh
 fresh_any q fresh (LostExchange found) = tt
 
 -- the birth wasn't read: nothing was unlinked
-pub none_unlinked : {A : Type 0} {p q : PassView} {n : ℕ} (pred : Held) (answer : Result A Rollback) → ReadsIn p q n → IfErr answer (IsMovedOrLost p.trace q.trace pred) → IsFresh q.trace → (IsFresh p.trace → IsAlone p.trace q.trace → ⊥) → IfErr answer (UnlinksNone p q pred)
-none_unlinked pred (Ok told) reads rolled new still = tt
-none_unlinked {q = q} pred (Err r) reads rolled new still = record { takes_no_slot = reads.takes_no_slot; rolled = rolled; fresh = fresh_any q.trace new r; adds_none = reads.adds_none; wins = λ fresh alone stands. still fresh alone }
+pub none_unlinked : {A : Type 0} {p q : PassView} {n : ℕ} (pred : Held) (answer : Result A Rollback) → ReadsIn p q n → IfErr answer (IsMovedOrLost p.trace q.trace pred) → IsFresh q.trace → IfErr answer (UnlinksNone p q pred)
+none_unlinked pred (Ok told) reads rolled new = tt
+none_unlinked {q = q} pred (Err r) reads rolled new = record { takes_no_slot = reads.takes_no_slot; rolled = rolled; fresh = fresh_any q.trace new r; adds_none = reads.adds_none }

@@ -18,8 +18,6 @@ pub use Rattle.vbr_at_table.proofs.PlacesInShape.{link_in}
 pub use Rattle.vbr_at_table.proofs.Keeping.{behind_kept, held_in_kept, held_in_next, held_kept, keeps_on}
 -- What was so at the moment of a step.
 pub use Rattle.vbr_at_table.proofs.Moments.{stood_after, stood_before, was_absent, was_absent_on, was_entry, was_present}
--- Checked reads by a pass that was alone: the epoch hasn't moved, the lists are as they were, and what was read stands there.
-pub use Rattle.vbr_at_table.proofs.AloneReads.{fresh_kept}
 -- An unlinking: won, it gives the pass the slot to stamp; lost, it leaves all as it was.
 pub use Rattle.vbr_at_table.proofs.NoneUnlinked.{unlinks_none}
 -- What calls that read tell, one after another.

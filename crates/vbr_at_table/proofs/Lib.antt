@@ -23,7 +23,6 @@ mod Moments
 mod Accepted
 mod MadeCalls
 mod CheckedReads
-mod AloneReads
 mod ReadCalls
 mod WonExchanges
 mod KeptSlots

@@ -60,4 +60,4 @@ module _ (p : PassView) (sound : PassLaw p) (key : ℕ) (held : Held) where
   pub look_up_finds : (q : PassView) (present : Bool) (found : ℕ) → Did (look_up present key held.at held.word) p.trace q.trace found → found ≢ held.word → FindsAnother p.trace q.trace held (LostExchange found)
   look_up_finds q present found d other =
       let P : At → Step → Type 0 = λ at step. held.at ≡ at → Did step p.trace q.trace found → FindsAnother p.trace q.trace held (LostExchange found) in
-      either_step P key held.word (λ s is d. present_finds held sound.start other s is d) (λ at is d. absent_finds held sound.start other at is d) present held.at refl d
+      either_step P key held.word (λ s is d. present_finds held other s is d) (λ at is d. absent_finds held other at is d) present held.at refl d

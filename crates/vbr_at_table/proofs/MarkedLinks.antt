@@ -27,7 +27,7 @@ use Rattle.vbr_at_table.specs.Alone.{MarksAlone}
 use Rattle.vbr_at_table.specs.Counts.{ChangesNone}
 use Rattle.vbr_at_table.specs.Marks.{LeavesOthers}
 use Rattle.vbr_at_table.specs.declared.held.Held.{Held}
-use Rattle.vbr_at_table.proofs.AloneReads.{shape_on}
+use Rattle.vbr_at_table.proofs.ReadSteps.{shape_on}
 
 -- ---- in the world
 

@@ -33,11 +33,10 @@ use Rattle.vbr_at_table.specs.Values.{IsValueRead}
 use Rattle.vbr_at_table.specs.declared.held.Held.{Held}
 use Rattle.vbr_at_table.specs.declared.rollback.Rollback.TheVariants.{EpochMoved}
 use Rattle.vbr_at_table.proofs.Accepted.{named_slot}
-use Rattle.vbr_at_table.proofs.AloneReads.{checked_still, head_stands, node_stands, node_still, shape_on}
 use Rattle.vbr_at_table.proofs.CheckedReads.{checked, checked_keeps, head_is_unmarked, head_keeps, head_read, key_of_bucket, node_keeps, node_read}
 use Rattle.vbr_at_table.proofs.EpochReads.{own_read}
 use Rattle.vbr_at_table.proofs.Keeping.{keeps_on}
-use Rattle.vbr_at_table.proofs.ReadSteps.{Loads, learned, loaded_keeps, loads_birth, loads_key, loads_link, loads_value, moved}
+use Rattle.vbr_at_table.proofs.ReadSteps.{Loads, learned, loaded_keeps, loads_birth, loads_key, loads_link, loads_value, moved, shape_on}
 
 -- ---- what a read needs of its pass, which a read keeps
 
@@ -134,7 +133,6 @@ head_told law x same = record {
   read = head_read x.loaded x.read same law.start;
   unmarked = head_is_unmarked x.loaded x.read same law.start;
   fresh = fresh_read (shape_on x.loaded law.start) x.read ((head_keeps x.loaded x.read same).epoch ∙ sym same);
-  stands = λ alone. head_stands x.loaded x.read alone law.start;
 }
 
 pub node_told : {p q : PassView} {s birth word epoch : ℕ} (held : Held) → PassLaw p → IsHeld (knows p.trace) held → Names held s → ReadsNode s p q birth word epoch → epoch ≡ (knows p.trace).epoch → IsNextRead p q held (Some (record { at = Slot s; birth = birth; word = word; epoch = epoch }))
@@ -142,7 +140,6 @@ node_told {s = s} held law is names x same = record {
   keeps = node_keeps x.born x.reads.loaded x.reads.read same;
   read = (s, names, refl, node_read x.born x.reads.loaded x.reads.read same law.start (named_slot held s is names));
   fresh = fresh_read (shape_on x.reads.loaded (shape_on x.born law.start)) x.reads.read ((node_keeps x.born x.reads.loaded x.reads.read same).epoch ∙ sym same);
-  stands = λ alone. node_stands x.born x.reads.loaded x.reads.read alone law.start;
 }
 
 pub key_told : {p q : PassView} {s key epoch : ℕ} (at : At) → PassLaw p → at ≡ Slot s → Reads (LoadKey s) p q key epoch → epoch ≡ (knows p.trace).epoch → IsKeyRead p q at key
@@ -170,7 +167,7 @@ module _ {p q : PassView} {word epoch : ℕ} (law : PassLaw p) where
   pub load_rolls : {step : Step} {read : Read} → Loads step word read → Reads step p q word epoch → epoch ≢ (knows p.trace).epoch → RollsBack p q (EpochMoved epoch)
   load_rolls loads x other =
       let moved = has_moved p.trace (loaded_keeps loads x.loaded) x.read other in
-      record { moved = moved; fresh = fresh_read (shape_on x.loaded law.start) x.read moved.1; still = λ fresh alone. other (checked_still loads x.loaded x.read alone law.start fresh) }
+      record { moved = moved; fresh = fresh_read (shape_on x.loaded law.start) x.read moved.1 }
 
   pub node_rolls : {s birth : ℕ} → ReadsNode s p q birth word epoch → epoch ≢ (knows p.trace).epoch → RollsBack p q (EpochMoved epoch)
   node_rolls {s} {birth} x other =
@@ -178,5 +175,4 @@ module _ {p q : PassView} {word epoch : ℕ} (law : PassLaw p) where
       record {
         moved = moved;
         fresh = fresh_read (shape_on x.reads.loaded (shape_on x.born law.start)) x.reads.read moved.1;
-        still = λ fresh alone. other (node_still x.born x.reads.loaded x.reads.read alone law.start fresh);
       }

@@ -1,5 +1,5 @@
 -- What the steps teach that read: loads are pending, and are checked where the epoch hasn't moved.
-use Rattle.std.proofs.Common.{◌≡◌, ◌≢◌, ℕ, true, false, [], ◌∷◌, ◌++◌, None, refl, ◌∙◌, eq-eqb, arith}
+use Rattle.std.proofs.Common.{◌≡◌, ◌≢◌, ℕ, true, false, [], ◌∷◌, ◌++◌, None, refl, sym, ◌∙◌, subst, eq-eqb, arith}
 use Rattle.std.specs.Prelude.{◌==◌}
 use Rattle.std.specs.List.{Contains}
 use Rattle.std.proofs.lemmas.Bool.{ne_eqb}
@@ -13,7 +13,7 @@ use Rattle.vbr_machine.specs.Learning.{call_of, learn, read_epoch, reread, with_
 use Rattle.vbr_machine.specs.Loads.{IsLoad}
 use Rattle.vbr_machine.specs.Machine.{World}
 use Rattle.vbr_machine.specs.Membership.{Knows}
-use Rattle.vbr_machine.specs.Start.{Start}
+use Rattle.vbr_machine.specs.Start.{IsStart, Start}
 use Rattle.vbr_machine.specs.declared.event.Step.{Step}
 use Rattle.vbr_machine.specs.declared.event.Step.TheVariants.{ReadEpoch, LoadLink, LoadBirth, LoadKey, LoadValue}
 use Rattle.vbr_machine.specs.declared.knowledge.Read.{Read}
@@ -24,6 +24,10 @@ use Rattle.vbr_at_table.specs.Keeping.{Keeps}
 
 pub only : {X : Type 0} (x : X) → Contains (x ∷ []) x
 only x = (0, omega arith, refl)
+
+-- a step leaves how the table began
+pub shape_on : {step : Step} {p q : Trace} {r : ℕ} → Did step p q r → IsStart p.start → IsStart q.start
+shape_on d is = let P : Start → Type 0 = IsStart in subst P (sym d.same.1) is
 
 -- ---- one more read is pending
 

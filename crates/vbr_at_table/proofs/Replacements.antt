@@ -16,7 +16,6 @@ use Rattle.vbr_machine.specs.Removals.{ReplacedAt}
 use Rattle.vbr_machine.specs.Sound.{IsRemoved}
 use Rattle.vbr_machine.specs.declared.event.Event.{Event}
 use Rattle.vbr_machine.specs.Acceptance.{IsAtIn, IsInHand, Accepts}
-use Rattle.vbr_machine.specs.Images.{link_shown_at}
 use Rattle.vbr_machine.specs.Knowledge.{Know}
 use Rattle.vbr_machine.specs.Learning.{call_ahead, call_of, key_in_hand, link_in_hand, link_written, birth_in_hand, reads_won, value_in_hand, value_read, with_checked, with_own}
 use Rattle.vbr_machine.specs.Links.{link_to, marked}
@@ -30,12 +29,10 @@ use Rattle.vbr_machine.specs.declared.history.Op.TheVariants.{Insert, Remove}
 use Rattle.vbr_machine.specs.declared.knowledge.Holding.{Holding}
 use Rattle.vbr_machine.specs.declared.knowledge.Read.TheVariants.{BirthOf, KeyOf, LinkAt, ValueOf}
 use Rattle.vbr_machine.proofs.Lemmas.{begins_trans, calls-snoc, calls_since, is_run_before, is_run_last, known_accepts, marked_call_is, others_leave_know, replaced_earlier, replaced_entry, replaced_out, written_is}
-use Rattle.vbr_slots.specs.Alone.{IsAlone, nodes}
 use Rattle.vbr_slots.specs.Calls.{Quiet, entries_of, made_by}
 use Rattle.vbr_slots.specs.PassLaw.{PassLaw}
 use Rattle.vbr_slots.specs.Views.{Did, PassView, Trace, event_of, knows}
-use Rattle.vbr_slots.proofs.Lemmas.{alone_first, alone_then, did_calls, did_entries, did_moment, did_run, did_same, did_seen, found_now, quiet_on, run_was, same_on, stands_found}
-use Rattle.vbr_at_table.specs.Alone.{StandsNow}
+use Rattle.vbr_slots.proofs.Lemmas.{did_calls, did_entries, did_moment, did_run, did_same, did_seen, quiet_on, same_on}
 use Rattle.vbr_at_table.specs.Counts.{ChangesNone}
 use Rattle.vbr_at_table.specs.Exchanges.{LosesExchange}
 use Rattle.vbr_at_table.specs.Held.{IsFilled, IsHeld}
@@ -208,18 +205,11 @@ replace_lost_keeps {p} {q} {s} {expected} {t} {word} d ne = rw (d.know ∙ lost_
 replace_found : {s expected t word : ℕ} {p q : Trace} → Did (Replace s expected t) p q word → word ≢ expected → WasFound p q (Slot s) word
 replace_found {s} {expected} {t} {word} {p} d ne = record { moment = p.seen ++ d.rest; within = did_moment d; found = lost expected word _ ne d.shows.answers }
 
-replace_wins : {p q : Trace} {r : ℕ} → IsStart p.start → IsAlone p q → (s expected t : ℕ) → Did (Replace s expected t) p q r → r ≢ expected → link_shown_at (nodes p) (Slot s) ≡ link_of expected → ⊥
-replace_wins {p} {q} {r} is alone s expected t d ne stands =
-    ne (sym (lost expected r _ ne d.shows.answers) ∙ found_now d alone ∙ stands_found p (Slot s) expected is (run_was d alone) stands)
-
-pub replace_lost : {p q r : Trace} {s t word : ℕ} (node : Held) → node.at ≡ Slot s → IsStart q.start → Quiet p q → ChangesNone p q → Keeps (knows p) (knows q) → (IsAlone p q → StandsNow p node → StandsNow q node) → Did (Replace s node.word t) q r word → word ≢ node.word → LosesExchange p r node (LostExchange word)
-replace_lost {p} {q} {r} {s} {t} {word} node at start fill same keeps stands d ne = record {
+pub replace_lost : {p q r : Trace} {s t word : ℕ} (node : Held) → node.at ≡ Slot s → IsStart q.start → Quiet p q → ChangesNone p q → Keeps (knows p) (knows q) → Did (Replace s node.word t) q r word → word ≢ node.word → LosesExchange p r node (LostExchange word)
+replace_lost {q = q} {r = r} {word = word} node at start fill same keeps d ne = record {
   quiet = quiet_on fill (replace_failed d ne);
   lost = (ne, found_after fill (let P : At → Type 0 = λ i. WasFound q r i word in subst P (sym at) (replace_found d ne)), keeps_on keeps (replace_lost_keeps d ne));
   unchanged = unchanged_on same (unchanged_by_none start (run_after start d) (did_same d) (did_seen d) (replace_adds_none d ne));
-  wins = λ alone stood.
-      let P : At → Type 0 = λ i. link_shown_at (nodes q) i ≡ link_of node.word in
-      replace_wins start (alone_then fill.same.who fill.seen (did_seen d) alone) s node.word t d ne (subst P at (stands (alone_first fill.seen (did_seen d) alone) stood));
 }
 
 -- ---- the node that is replaced

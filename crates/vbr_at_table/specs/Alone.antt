@@ -1,5 +1,5 @@
--- What a pass that was alone holds: it stands as it was read.
-use Rattle.std.specs.Prelude.{◌≡◌, ◌≢◌, ℕ, suc, Option, Some, None}
+-- What stands, and what a won exchange leaves to a pass that was alone.
+use Rattle.std.specs.Prelude.{◌≡◌, ◌≢◌, ℕ, suc}
 use Rattle.vbr_words.specs.Words.{link_of}
 use Rattle.vbr_words.specs.declared.place.At.{At}
 use Rattle.vbr_words.specs.declared.place.At.TheVariants.{Head}
@@ -12,11 +12,6 @@ use Rattle.vbr_at_table.specs.declared.held.Held.{Held}
 -- the link that is held is the one that stands at its place, after what the pass has seen
 abbrev pub StandsNow : Trace → Held → Type 0
 StandsNow q held = link_shown_at (nodes q) held.at ≡ link_of held.word
-
--- so it is of what was read behind a place, if that is a node
-abbrev pub NextStands : Trace → Option Held → Type 0
-NextStands q None = Unit {0}
-NextStands q (Some node) = StandsNow q node
 
 -- what a won unlinking behind a place leaves to a pass that was alone: the epoch and the new link stand, and in each bucket in which the place is held one node fewer is behind it, and in the list
 pub record UnlinksAlone (p q : Trace) (pred place : Held) : Type 0 where

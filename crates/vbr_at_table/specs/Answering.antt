@@ -9,11 +9,9 @@ use Rattle.vbr_machine.specs.Membership.{KeyAt, StandsBehind, StandsBeforeOn}
 use Rattle.vbr_machine.specs.declared.history.Call.{Call}
 use Rattle.vbr_machine.specs.declared.history.Op.{Op}
 use Rattle.vbr_machine.specs.declared.history.Op.TheVariants.{Get, Has}
-use Rattle.vbr_slots.specs.Alone.{IsAlone}
 use Rattle.vbr_slots.specs.Calls.{AddsAnswer, AddsNone, Made, OnlyLoads, Quiet, Took}
 use Rattle.vbr_slots.specs.Views.{PassView, Trace, knows}
 use Rattle.vbr_at_table.specs.KeptSlots.{TakesNoSlot}
-use Rattle.vbr_at_table.specs.Alone.{StandsNow}
 use Rattle.vbr_at_table.specs.Held.{IsHeld}
 use Rattle.vbr_at_table.specs.Keeping.{Keeps, KeepsOwn}
 use Rattle.vbr_at_table.specs.Rollbacks.{IsLost}
@@ -71,9 +69,8 @@ AnswersAbsent p q op key = IsAnswered p q (set_call p.who op key false)
 abbrev pub AnswersLookUp : Trace → Trace → ℕ → Bool → Type 0
 AnswersLookUp p q key present = IsAnswered p q (set_call p.who Has key present)
 
--- another link stood where one was held: no call was made, and no event added to the chronicle; for a pass that was alone, what is held hadn't stood
+-- another link stood where one was held: no call was made, and no event added to the chronicle
 pub record FindsAnother (p q : Trace) (held : Held) (rollback : Rollback) : Type 0 where
   pub quiet : Quiet p q
   pub adds_none : AddsNone p q
   pub lost : IsLost p q held rollback
-  pub wins : IsAlone p q → StandsNow p held → ⊥

@@ -8,7 +8,7 @@ use Rattle.vbr_machine.specs.Links.{link_to}
 use Rattle.vbr_machine.specs.Membership.{StandsBefore, StandsBehind}
 use Rattle.vbr_machine.specs.declared.history.Call.{Call}
 use Rattle.vbr_machine.specs.declared.history.Op.TheVariants.{Insert}
-use Rattle.vbr_slots.specs.Alone.{IsAlone, IsFresh}
+use Rattle.vbr_slots.specs.Alone.{IsAlone}
 use Rattle.vbr_slots.specs.Calls.{AddsNone, Made, Quiet, Took}
 use Rattle.vbr_slots.specs.Views.{PassView, Trace, knows}
 use Rattle.vbr_at_table.specs.Counts.{ChangesNone}
@@ -39,12 +39,11 @@ pub record IsGap (p : Trace) (key : ℕ) (pred : Held) : Type 0 where
 
 -- ---- what they tell
 
--- another link stood where one was held: no call was made, and no list changed; for a pass that was alone, what is held hadn't stood
+-- another link stood where one was held: no call was made, and no list changed
 pub record LosesExchange (p q : Trace) (held : Held) (rollback : Rollback) : Type 0 where
   pub quiet : Quiet p q
   pub lost : IsLost p q held rollback
   pub unchanged : ChangesNone p q
-  pub wins : IsAlone p q → StandsNow p held → ⊥
 
 -- in so many steps, the pass kept its own pool and what it knew, and took no slot
 pub record StoresIn (p q : PassView) (steps : ℕ) : Type 0 where
@@ -53,13 +52,12 @@ pub record StoresIn (p q : PassView) (steps : ℕ) : Type 0 where
   pub pool : q.pool ≡ p.pool
   pub takes_no_slot : TakesNoSlot p q
 
--- the incarnation in hand has this key, and this birth in its link; no call was made, no list changed, and for a pass that was alone what is held stands if it stood
+-- the incarnation in hand has this key, and this birth in its link; no call was made, and no list changed
 pub record FillsHand (p q : PassView) (pred : Held) (given : HandView) (key birth : ℕ) : Type 0 where
   pub quiet : Quiet p.trace q.trace
   pub hand : q.hand ≡ p.hand
   pub filled : IsFilled ((knows q.trace).own given.slot) given.birth key (link_to (link_of pred.word).slot given.birth birth)
   pub unchanged : ChangesNone p.trace q.trace
-  pub stands : IsAlone p.trace q.trace → (link_of pred.word).mark ≡ false → StandsNow p.trace pred → StandsNow q.trace pred
 
 -- the pass made this call, an insert, and its hand is empty
 pub record InsertsNode (call : Call) (p q : PassView) : Type 0 where
@@ -95,10 +93,9 @@ pub record UnlinksNode (p q : PassView) (pred : Held) (gone : Marked) (told : Un
   pub stands : StandsNow q.trace told.1
   pub alone : IsAlone p.trace q.trace → StandsNow p.trace pred → UnlinksAlone p.trace q.trace pred told.1
 
--- the node wasn't unlinked, and no event added to the chronicle: the epoch has moved, and none has followed, or another link stood; for a pass that was alone since it had read the epoch, what is held hadn't stood
+-- the node wasn't unlinked, and no event added to the chronicle: the epoch has moved, and none has followed, or another link stood
 pub record UnlinksNone (p q : PassView) (pred : Held) (rollback : Rollback) : Type 0 where
   pub takes_no_slot : TakesNoSlot p q
   pub rolled : IsMovedOrLost p.trace q.trace pred rollback
   pub fresh : FreshIfMoved q.trace rollback
   pub adds_none : AddsNone p.trace q.trace
-  pub wins : IsFresh p.trace → IsAlone p.trace q.trace → StandsNow p.trace pred → ⊥

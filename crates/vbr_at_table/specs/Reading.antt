@@ -9,7 +9,6 @@ use Rattle.vbr_slots.specs.Alone.{IsAlone, IsFresh, nodes}
 use Rattle.vbr_slots.specs.Calls.{AddsNone, OnlyLoads, Quiet, Took}
 use Rattle.vbr_slots.specs.Views.{PassView, Trace, knows}
 use Rattle.vbr_at_table.specs.KeptSlots.{TakesNoSlot}
-use Rattle.vbr_at_table.specs.Alone.{NextStands, StandsNow}
 use Rattle.vbr_at_table.specs.Keeping.{Keeps, KeepsOwn}
 use Rattle.vbr_at_table.specs.Moments.{IsEpochRead, IsNext, IsRead}
 use Rattle.vbr_at_table.specs.Rollbacks.{IsMoved}
@@ -37,26 +36,24 @@ pub record IsCheckpoint (p q : PassView) (epoch : ℕ) : Type 0 where
   pub read : IsEpochRead p.trace q.trace epoch
   pub fresh : IsFresh q.trace
 
--- what is held is the head of the bucket, read in the epoch that the pass had, which none has followed in what it has seen, and unmarked; if the pass was alone, it stands
+-- what is held is the head of the bucket, read in the epoch that the pass had, which none has followed in what it has seen, and unmarked
 pub record IsHeadRead (p q : PassView) (bucket : ℕ) (head : Held) : Type 0 where
   pub keeps : Keeps (knows p.trace) (knows q.trace)
   pub at : head.at ≡ Head bucket
   pub read : IsRead p.trace q.trace head
   pub unmarked : (link_of head.word).mark ≡ false
   pub fresh : IsFresh q.trace
-  pub stands : IsAlone p.trace q.trace → StandsNow q.trace head
 
 -- no epoch has followed the one in which a node was read
 abbrev pub NextFresh : Trace → Option Held → Type 0
 NextFresh q None = Unit {0}
 NextFresh q (Some node) = IsFresh q
 
--- what is held is the node that a held link names, if it names one, read in the epoch that the pass had, which none has followed; if the pass was alone, it stands
+-- what is held is the node that a held link names, if it names one, read in the epoch that the pass had, which none has followed
 pub record IsNextRead (p q : PassView) (held : Held) (next : Option Held) : Type 0 where
   pub keeps : Keeps (knows p.trace) (knows q.trace)
   pub read : IsNext p.trace q.trace held next
   pub fresh : NextFresh q.trace next
-  pub stands : IsAlone p.trace q.trace → NextStands q.trace next
 
 -- this is the key of the node at a place, read in the epoch that the pass had, which none has followed, and one of each bucket in which the place was held
 pub record IsKeyRead (p q : PassView) (at : At) (found : ℕ) : Type 0 where
@@ -70,11 +67,10 @@ pub record IsBirthRead (p q : PassView) (word found : ℕ) : Type 0 where
   pub keeps : Keeps (knows p.trace) (knows q.trace)
   pub birth : BirthNamed (knows q.trace) (link_of word).slot found
 
--- the epoch has moved, to one that none has followed in what the pass has seen; it hasn't for a pass that was alone since it had read it
+-- the epoch has moved, to one that none has followed in what the pass has seen
 pub record RollsBack (p q : PassView) (rollback : Rollback) : Type 0 where
   pub moved : IsMoved p.trace q.trace rollback
   pub fresh : IsFresh q.trace
-  pub still : IsFresh p.trace → IsAlone p.trace q.trace → ⊥
 
 -- the link of this word names a node, and the epoch has moved
 pub record BirthMoved (p q : PassView) (word : ℕ) (rollback : Rollback) : Type 0 where

@@ -5,7 +5,6 @@ use Rattle.vbr_words.specs.Words.{link_of}
 use Rattle.vbr_words.specs.declared.place.At.{At}
 use Rattle.vbr_words.specs.declared.place.At.TheVariants.{Head, Slot}
 use Rattle.vbr_machine.specs.Knowledge.{Know}
-use Rattle.vbr_machine.specs.Images.{link_shown_at}
 use Rattle.vbr_machine.specs.History.{set_call}
 use Rattle.vbr_machine.specs.Learning.{present_reply, present_value, value_in_hand, with_value}
 use Rattle.vbr_machine.specs.Links.{marked}
@@ -111,15 +110,14 @@ abbrev pub with_kept_value : Bool → Option Holding → ℕ → Option Holding
 with_kept_value true holding value = with_value holding value
 with_kept_value false holding value = holding
 
--- the slot in hand has the value, where nodes have values; no call was made, no list changed, and for a pass that was alone each link is as it was
+-- the slot in hand has the value, where nodes have values; no call was made, and no list changed
 pub record PutsValue (p q : PassView) (slot value : ℕ) : Type 0 where
   pub quiet : Quiet p.trace q.trace
   pub hand : q.hand ≡ p.hand
   pub holding : (knows q.trace).own slot ≡ with_kept_value p.trace.start.shape.values ((knows p.trace).own slot) value
   pub unchanged : ChangesNone p.trace q.trace
-  pub links : IsAlone p.trace q.trace → (at : At) → link_shown_at (nodes q.trace) at ≡ link_shown_at (nodes p.trace) at
 
--- the incarnation in hand has this key and this birth in its link, and this value where nodes have values; no call was made, and for a pass that was alone what is held stands if it stood
+-- the incarnation in hand has this key and this birth in its link, and this value where nodes have values; and no call was made
 pub record FillsEntry (p q : PassView) (pred : Held) (given : HandView) (key value birth : ℕ) : Type 0 where
   pub fills : FillsHand p q pred given key birth
   pub valued : p.trace.start.shape.values ≡ true → value_in_hand ((knows q.trace).own given.slot) ≡ Some value

@@ -1,17 +1,19 @@
 -- An iteration goes from bucket to bucket.
-use Rattle.vbr_list.proofs.Names.{◌≡◌, ℕ, suc, ◌+◌, ◌-◌, ◌<◌, ◌≤◌, Bool, true, false, Some, None, Ok, Err, refl, sym, ap, ◌∙◌, subst, arith, inl, inr}
-use Rattle.vbr_list.proofs.Names.{bucket_of, IsAlone, IsRun, OutOfSteps, PassLaw, PassView, Quiet, quiet_adds_none, Start, took_all, Trace}
-use Rattle.vbr_list.specs.Budgets.{steps_to_value_of}
+use Rattle.vbr_list.proofs.Names.{◌≡◌, ℕ, suc, ◌+◌, ◌-◌, ◌*◌, ◌<◌, ◌≤◌, Bool, true, false, Some, None, Ok, Err, refl, sym, ap, ◌∙◌, subst, arith, inl, inr}
+use Rattle.vbr_list.proofs.Names.{alone_first, alone_then, begins_refl, bucket_of, IsAlone, IsRun, IsStart, OutOfSteps, PassLaw, PassView, Quiet, quiet_adds_none, Start, took_all, Trace}
+use Rattle.vbr_list.specs.Budgets.{listed_in, steps_to_value_of}
 use Rattle.vbr_list.specs.Cursors.{HasStayedOrMoved, IsBehindKey, IsPastKey, IteratesWhere, PassesBy, SeesMore, costs_over, entered_by, next_bucket}
-use Rattle.vbr_list.specs.Next.{HasNoNext, enough_to_seek, listed_in, seek_costs}
+use Rattle.vbr_list.specs.Next.{HasNoNext, enough_to_seek, seek_costs}
 use Rattle.vbr_list.specs.Pieces.{Goes, Observes}
-use Rattle.vbr_list.specs.Seeking.{Sought}
+use Rattle.vbr_list.specs.Seeking.{Sought, steps_besides}
+use Rattle.vbr_list.specs.Walking.{SearchesIn}
 use Rattle.vbr_list.specs.declared.cursor.Cursor.{Cursor}
 use Rattle.vbr_list.specs.declared.seeking.NextNode.{NextNode}
 use Rattle.vbr_list.proofs.Cursors.{entry_since, passes_bucket, passes_key, passes_last, passes_on, passes_still}
+use Rattle.vbr_list.proofs.Disturbing.{run_at, undisturbed_in}
 use Rattle.vbr_list.proofs.Going.{goes_on, goes_refl, within_of}
-use Rattle.vbr_list.proofs.Nearing.{first_of, then_of}
 use Rattle.vbr_list.proofs.Observing.{observes_on, observes_refl}
+use Rattle.vbr_list.proofs.Walking.{searched_in}
 
 -- ---- what buckets cost
 
@@ -22,18 +24,15 @@ costs_on p from to le =
     let last : from + (to - from) ≡ to = omega (arith, le) in
     ap (costs_over p from) next ∙ ap (λ b. costs_over p from (to - from) + seek_costs p b) last
 
-module _ {p : PassView} (q : PassView) (law : PassLaw p) (quiet : Quiet p.trace q.trace) (alone : IsAlone p.trace q.trace) (bucket : ℕ) where
-  listed_no_more : listed_in q.trace bucket ≤ listed_in p.trace bucket
-  listed_no_more = quiet_adds_none law.start law.is_run quiet alone bucket bucket
-
-  -- a pass that was alone and made no call seeks at no more cost than before
-  pub costs_no_more : seek_costs q.trace bucket ≤ seek_costs p.trace bucket
-  costs_no_more =
-      let values : steps_to_value_of q.trace.start ≡ steps_to_value_of p.trace.start = ap steps_to_value_of quiet.same.start in
-      omega (arith, listed_no_more, values)
-
-  pub enough_no_more : enough_to_seek q.trace bucket ≤ enough_to_seek p.trace bucket
-  enough_no_more = omega (arith, listed_no_more)
+-- what a seek costs a pass that was alone, after what made no call: as many nodes are listed as before
+sought_alone : {p : PassView} {q r : Trace} → PassLaw p → Quiet p.trace q → Quiet q r → IsAlone p.trace r → {bucket each before since more : ℕ} → SearchesIn 5 each q r bucket before since more → since ≤ before + 5 * listed_in p.trace bucket + more
+sought_alone {p} {q} {r} law first seeks alone {bucket} {each} {before} {since} {more} x =
+    let is = subst IsStart (sym first.same.start) law.start in
+    let few = quiet_adds_none law.start law.is_run first (alone_first first.seen seeks.seen alone) bucket bucket in
+    let paid = searched_in q r r is (run_at q r seeks.same (seeks.is_run (first.is_run law.is_run))) bucket seeks (begins_refl r.seen) x in
+    let P : ℕ → Type 0 = λ t. since ≤ before + (5 * (listed_in q bucket + t) + t * (5 * (listed_in q bucket + t) + each) + more) in
+    let most = subst P (undisturbed_in q r bucket (alone_then first.same.who first.seen seeks.seen alone)) paid in
+    omega (arith, most, few)
 
 -- ---- what the loop keeps
 
@@ -74,14 +73,13 @@ module _ {p q : PassView} (r : PassView) (law : PassLaw p) (c d : Cursor) (used 
   on = forth c d x.moved
 
   -- what was paid, with what it cost to seek in one bucket more
-  paid_on : Quiet q.trace r.trace → (IsAlone q.trace r.trace → since ≤ used + seek_costs q.trace d.bucket) → IsAlone p.trace r.trace → since ≤ costs_over p.trace c.bucket (d.bucket + 1 - c.bucket)
+  paid_on : Quiet q.trace r.trace → SearchesIn 5 (steps_besides q.trace) q.trace r.trace d.bucket used since (steps_besides q.trace) → IsAlone p.trace r.trace → since ≤ costs_over p.trace c.bucket (d.bucket + 1 - c.bucket)
   paid_on quiet paid alone =
-      let first = first_of x.goes.quiet quiet alone in
-      let before = x.paid first in
-      let now = paid (then_of x.goes.quiet quiet alone) in
-      let few = costs_no_more q law x.goes.quiet first d.bucket in
+      let before = x.paid (alone_first x.goes.quiet.seen quiet.seen alone) in
+      let now = sought_alone law x.goes.quiet quiet alone paid in
+      let values : steps_to_value_of q.trace.start ≡ steps_to_value_of p.trace.start = ap steps_to_value_of x.goes.quiet.same.start in
       let sum = costs_on p.trace c.bucket d.bucket on in
-      omega (arith, before, now, few, sum)
+      omega (arith, before, now, values, sum)
 
   -- over the rest of a bucket
   pub come_on : Sought q r d.bucket d.from used since budget (Some None) → HasComeBy p r c (next_bucket d) since budget
@@ -91,7 +89,7 @@ module _ {p q : PassView} (r : PassView) (law : PassLaw p) (c d : Cursor) (used 
     within = y.peeks.tries.within.1;
     passes = passes_on to_here (from_here y.peeks.tries.goes.quiet) x.passes (passes_bucket d y.next.tells);
     moved = inr (omega (arith, on), refl);
-    paid = λ alone. paid_on y.peeks.tries.goes.quiet y.next.paid alone;
+    paid = λ alone. paid_on y.peeks.tries.goes.quiet y.next.searches alone;
   }
 
   -- to a node
@@ -115,7 +113,7 @@ module _ {p q : PassView} (r : PassView) (law : PassLaw p) (c d : Cursor) (used 
         takes_no_slot = all.hand.takes_no_slot;
         hand = all.hand.hand;
         steps = within_of since budget y.peeks.tries.within.1 all.counts;
-        costs = λ alone. within_of since (costs_over p.trace c.bucket (entered_by e.bucket e.from - c.bucket)) (entered past (paid_on y.peeks.tries.goes.quiet y.next.paid alone)) all.counts;
+        costs = λ alone. within_of since (costs_over p.trace c.bucket (entered_by e.bucket e.from - c.bucket)) (entered past (paid_on y.peeks.tries.goes.quiet y.next.searches alone)) all.counts;
       }
     where
       is_past : (is_last : Bool) → (is_last ≡ true → e ≡ next_bucket d) → (is_last ≡ false → IsBehindKey d.bucket next.key e) → IsPastKey d.bucket next.key e
@@ -161,8 +159,6 @@ module _ {p q : PassView} (r : PassView) (law : PassLaw p) (c d : Cursor) (used 
     where
       short : IsAlone p.trace r.trace → budget < costs_over p.trace c.bucket (d.bucket - c.bucket) + enough_to_seek p.trace d.bucket
       short alone =
-          let first = first_of x.goes.quiet y.peeks.tries.goes.quiet alone in
-          let before = x.paid first in
-          let lacks = y.tired.short (then_of x.goes.quiet y.peeks.tries.goes.quiet alone) in
-          let few = enough_no_more q law x.goes.quiet first d.bucket in
-          omega (arith, before, lacks, few)
+          let before = x.paid (alone_first x.goes.quiet.seen y.peeks.tries.goes.quiet.seen alone) in
+          let lacks = sought_alone law x.goes.quiet y.peeks.tries.goes.quiet alone y.tired.searches in
+          omega (arith, before, lacks)

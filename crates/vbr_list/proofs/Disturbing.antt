@@ -1,11 +1,11 @@
 -- What shows that another pass disturbed a call: an epoch that has moved, and a link that stands open no more. A pass that was alone was not disturbed.
 use Rattle.vbr_list.proofs.Names.{◌≡◌, ◌≢◌, ℕ, ◌+◌, ◌*◌, ◌<◌, ◌≤◌, Bool, true, false, cond, eq-eqb, Option, Some, None, List, [], ◌∷◌, ◌++◌, sym, ap, ◌∙◌, subst, inl, inr, arith, append_assoc, append-nil, ◌==◌, ◌&&◌, count_by, sum_by-append, mul-le}
-use Rattle.vbr_list.proofs.Names.{AddsNone, advances, AdvancesNone, At, Begins, begins_refl, begins_run, begins_trans, bucket_of, changed_disturbed, ChangesNone, disturbances, disturbances_grow, disturbances_paid, EpochMoved, Event, found, FreshIfMoved, Held, held_in_kept, HeldIn, incarnations_after, is_advance, IsAdvance, IsAlone, IsFresh, IsHeld, IsLost, IsMovedOrLost, IsOpenIn, IsRun, IsSame, IsStart, Keeps, keeps_on, known_open, knows, link_loaded, link_of, link_shown_at, LoadLink, LostExchange, Marked, met, met_bound, met_bound_quiet, met_later, met_on, moved_by_others, moved_disturbed, OnlyEventsOf, own_between, own_calls, own_changes, own_entries, own_unchanged, PassView, Quiet, quiet_on, Rollback, RollsBack, run_agrees, shown_there, since, StampsFreshly, StandsNow, Start, Step, Trace, undisturbed_by_itself, word_of, word_of-link_of, world_after}
+use Rattle.vbr_list.proofs.Names.{AddsNone, advances, AdvancesNone, At, Begins, begins_refl, begins_run, begins_trans, bucket_of, changed_disturbed, ChangesNone, disturbances, disturbances_grow, disturbances_paid, EpochMoved, Event, found, FreshIfMoved, Held, held_in_kept, HeldIn, incarnations_after, is_advance, IsAdvance, IsAlone, IsFresh, IsHeld, IsLost, IsMovedOrLost, IsOpenIn, IsRun, IsSame, IsStart, Keeps, keeps_on, known_open, knows, link_loaded, link_of, link_shown_at, LoadLink, LostExchange, Marked, met, met_bound_quiet, met_later, met_on, moved_by_others, moved_disturbed, OnlyEventsOf, own_between, own_calls, own_changes, own_entries, own_unchanged, PassView, Quiet, quiet_on, Rollback, RollsBack, run_agrees, shown_there, since, StampsFreshly, StandsNow, Start, Step, Trace, undisturbed_by_itself, word_of, word_of-link_of, world_after}
 use Rattle.vbr_list.specs.Helping.{OpensPlace}
-use Rattle.vbr_list.specs.Budgets.{listed_for}
-use Rattle.vbr_list.specs.Disturbed.{changed_after, disturbed_after, disturbed, enough_among, enough_to_insert_among, enough_to_search_among, enough_to_store_among, most_disturbed}
+use Rattle.vbr_list.specs.Budgets.{listed_for, listed_in}
+use Rattle.vbr_list.specs.Disturbed.{changed_after, changed_at, disturbed, disturbed_after, disturbed_at, disturbed_in, enough_among, enough_to_insert_among, enough_to_search_among, enough_to_store_among, most_disturbed}
 use Rattle.vbr_list.specs.declared.found.Found.{Found}
-use Rattle.vbr_list.specs.Walking.{KnowsEpoch, LosesFound, LosesHeld, LosesNext, LosesPlace, MovesEpoch, MovesOn, NextStandsStill, StandsStill, StoodOpen, met_since, nodes_after}
+use Rattle.vbr_list.specs.Walking.{KnowsEpoch, LosesFound, LosesHeld, LosesNext, LosesPlace, MovesEpoch, MovesOn, NextStandsStill, StandsStill, StoodOpen, met_in, met_since, nodes_after}
 
 -- ---- at the table of a pass
 
@@ -29,15 +29,23 @@ pub own_at : (p q r : Trace) → IsSame p q → IsSame p r → AddsNone q r → 
 own_at p q r sq sr x = sym (λ i. own_entries (sr.start i) r.seen (sr.who i)) ∙ x.entries ∙ (λ i. own_entries (sq.start i) q.seen (sq.who i))
 
 -- a pass that added no event to the chronicle changed nothing itself
-pub unchanged_at : (p q r : Trace) (key : ℕ) → IsStart p.start → IsRun p.start p.passes r.seen → IsSame p q → IsSame p r → Begins q.seen r.seen → AddsNone q r → changed_after p key r.seen ≡ changed_after p key q.seen
-unchanged_at p q r key is ok sq sr b x = own_unchanged (since p.start p.passes q.seen r.seen is ok b) p.who (bucket_of p.start.shape key) (own_at p q r sq sr x)
+pub unchanged_at : (p q r : Trace) (bucket : ℕ) → IsStart p.start → IsRun p.start p.passes r.seen → IsSame p q → IsSame p r → Begins q.seen r.seen → AddsNone q r → changed_at p bucket r.seen ≡ changed_at p bucket q.seen
+unchanged_at p q r bucket is ok sq sr b x = own_unchanged (since p.start p.passes q.seen r.seen is ok b) p.who bucket (own_at p q r sq sr x)
 
-pub changed_at : (p q r : Trace) (key : ℕ) → IsSame p q → IsSame p r → ChangesNone q r → changed_after p key r.seen ≡ changed_after p key q.seen
-changed_at p q r key sq sr x =
-    let bucket = bucket_of p.start.shape key in
-    sym (λ i. own_changes (sr.start i) r.seen (sr.who i) bucket) ∙ x.same bucket ∙ (λ i. own_changes (sq.start i) q.seen (sq.who i) bucket)
+kept_at : (p q r : Trace) (bucket : ℕ) → IsSame p q → IsSame p r → ChangesNone q r → changed_at p bucket r.seen ≡ changed_at p bucket q.seen
+kept_at p q r bucket sq sr x = sym (λ i. own_changes (sr.start i) r.seen (sr.who i) bucket) ∙ x.same bucket ∙ (λ i. own_changes (sq.start i) q.seen (sq.who i) bucket)
+
+-- nor did it between two moments at which it had changed as much
+pub kept_between : (p : Trace) (q x r : List Event) → IsStart p.start → IsRun p.start p.passes r → (bucket : ℕ) → Begins q x → Begins x r → changed_at p bucket r ≡ changed_at p bucket q → changed_at p bucket r ≡ changed_at p bucket x
+kept_between p q x r is ok bucket a b own = own_between (since p.start p.passes q x is (begins_run p.start p.passes x r b ok) a) (since p.start p.passes x r is ok b) (since p.start p.passes r r is ok (begins_refl r)) p.who bucket own
 
 -- from the trace of another moment of the pass
+pub changed_same : (p q : Trace) (key : ℕ) (run : List Event) → IsSame p q → changed_after q key run ≡ changed_after p key run
+changed_same p q key run s = (λ i. own_changes (s.start i) run (s.who i) (bucket_of (let st : Start = s.start i in st.shape) key))
+
+pub disturbed_there : (p q : Trace) (bucket : ℕ) (run : List Event) → IsSame p q → disturbed_at q bucket run ≡ disturbed_at p bucket run
+disturbed_there p q bucket run s = (λ i. disturbances (s.start i) run (s.who i) bucket)
+
 pub disturbed_same : (p q : Trace) (key : ℕ) (run : List Event) → IsSame p q → disturbed_after q key run ≡ disturbed_after p key run
 disturbed_same p q key run s = (λ i. disturbances (s.start i) run (s.who i) (bucket_of (let st : Start = s.start i in st.shape) key))
 
@@ -48,18 +56,18 @@ moves_epoch (LostExchange found) x = absurd x.moved
 
 -- ---- a disturbance
 
-module _ (p r : Trace) (is : IsStart p.start) (ok : IsRun p.start p.passes r.seen) (key : ℕ) where
-  pub grows_disturbed : (run : List Event) → Begins run r.seen → disturbed_after p key run ≤ disturbed_after p key r.seen
-  grows_disturbed run b = disturbances_grow (since p.start p.passes run r.seen is ok b) p.who (bucket_of p.start.shape key)
+module _ (p r : Trace) (is : IsStart p.start) (ok : IsRun p.start p.passes r.seen) (bucket : ℕ) where
+  pub grows_disturbed : (run : List Event) → Begins run r.seen → disturbed_at p bucket run ≤ disturbed_at p bucket r.seen
+  grows_disturbed run b = disturbances_grow (since p.start p.passes run r.seen is ok b) p.who bucket
 
   -- where the epoch has moved since it stood
-  pub moves_disturb : (q : Trace) → IsSame p q → IsSame p r → Begins q.seen r.seen → changed_after p key r.seen ≡ changed_after p key q.seen → IsFresh q → MovesEpoch q r → disturbed_after p key q.seen < disturbed_after p key r.seen
+  pub moves_disturb : (q : Trace) → IsSame p q → IsSame p r → Begins q.seen r.seen → changed_at p bucket r.seen ≡ changed_at p bucket q.seen → IsFresh q → MovesEpoch q r → disturbed_at p bucket q.seen < disturbed_at p bucket r.seen
   moves_disturb q sq sr b own fresh m =
-      moved_disturbed (since p.start p.passes q.seen r.seen is ok b) p.who (bucket_of p.start.shape key) own
+      moved_disturbed (since p.start p.passes q.seen r.seen is ok b) p.who bucket own
       (λ same. m.other (sym (fresh_at p r sr m.fresh) ∙ same ∙ fresh_at p q sq fresh))
 
   -- where what was held is lost since it stood
-  pub lost_disturbs : (q : Trace) (held : Held) (why : Rollback) → IsSame p q → Begins q.seen r.seen → (x : StoodOpen p q key held) → changed_after p key r.seen ≡ changed_after p key x.moment → IsLost q r held why → disturbed_after p key x.moment < disturbed_after p key r.seen
+  pub lost_disturbs : (q : Trace) (held : Held) (why : Rollback) → IsSame p q → Begins q.seen r.seen → (x : StoodOpen p q bucket held) → changed_at p bucket r.seen ≡ changed_at p bucket x.moment → IsLost q r held why → disturbed_at p bucket x.moment < disturbed_at p bucket r.seen
   lost_disturbs q held (EpochMoved now) sq b x own l = absurd l
   lost_disturbs q held (LostExchange word) sq b x own l =
       let y = l.1.moment in
@@ -74,52 +82,55 @@ module _ (p r : Trace) (is : IsStart p.start) (ok : IsRun p.start p.passes r.see
       sym (shown_there p.start p.passes y is ok_y held.at)
       ∙ link_loaded p.start p.passes y is ok_y p.who held.at
       ∙ ap link_of (sym (ap (λ (start : Start). found start (world_after start y) (LoadLink held.at)) sq.start) ∙ l.1.found) in
-      let less = changed_disturbed second p.who (bucket_of p.start.shape key) (own_between first second third p.who (bucket_of p.start.shape key) own) held.at x.is_open
+      let less = changed_disturbed second p.who bucket (own_between first second third p.who bucket own) held.at x.is_open
       (λ same. l.0 (sym (word_of-link_of word) ∙ ap word_of (sym shown ∙ same ∙ x.shown) ∙ word_of-link_of held.word)) in
-      let more = disturbances_grow third p.who (bucket_of p.start.shape key) in
+      let more = disturbances_grow third p.who bucket in
       omega (arith, less, more)
 
   -- the one or the other
-  pub loses_disturb : (q : Trace) (held : Held) → IsSame p q → IsSame p r → Begins p.seen q.seen → Begins q.seen r.seen → changed_after p key r.seen ≡ changed_after p key p.seen → IsFresh q → (x : StoodOpen p q key held) → LosesHeld q r held → disturbed_after p key x.moment < disturbed_after p key r.seen
+  pub loses_disturb : (q : Trace) (held : Held) → IsSame p q → IsSame p r → Begins p.seen q.seen → Begins q.seen r.seen → changed_at p bucket r.seen ≡ changed_at p bucket p.seen → IsFresh q → (x : StoodOpen p q bucket held) → LosesHeld q r held → disturbed_at p bucket x.moment < disturbed_at p bucket r.seen
   loses_disturb q held sq sr a b own fresh x l = go l.why l.rolled l.fresh
     where
-      ok_q : IsRun p.start p.passes q.seen
-      ok_q = begins_run p.start p.passes q.seen r.seen b ok
-
-      own_q : changed_after p key r.seen ≡ changed_after p key q.seen
-      own_q = own_between (since p.start p.passes p.seen q.seen is ok_q a) (since p.start p.passes q.seen r.seen is ok b) (since p.start p.passes r.seen r.seen is ok (begins_refl r.seen)) p.who (bucket_of p.start.shape key) own
-
-      own_x : changed_after p key r.seen ≡ changed_after p key x.moment
-      own_x = own_between (since p.start p.passes p.seen x.moment is (begins_run p.start p.passes x.moment q.seen x.to ok_q) x.from) (since p.start p.passes x.moment r.seen is ok (begins_trans x.moment q.seen r.seen x.to b)) (since p.start p.passes r.seen r.seen is ok (begins_refl r.seen)) p.who (bucket_of p.start.shape key) own
-
-      go : (why : Rollback) → IsMovedOrLost q r held why → FreshIfMoved r why → disturbed_after p key x.moment < disturbed_after p key r.seen
+      go : (why : Rollback) → IsMovedOrLost q r held why → FreshIfMoved r why → disturbed_at p bucket x.moment < disturbed_at p bucket r.seen
       go (EpochMoved now) m f =
-          let less = moves_disturb q sq sr b own_q fresh (record { other = λ e. m.0 (sym m.1 ∙ e); fresh = f }) in
-          let more = disturbances_grow (since p.start p.passes x.moment q.seen is ok_q x.to) p.who (bucket_of p.start.shape key) in
+          let less = moves_disturb q sq sr b (kept_between p p.seen q.seen r.seen is ok bucket a b own) fresh (record { other = λ e. m.0 (sym m.1 ∙ e); fresh = f }) in
+          let more = disturbances_grow (since p.start p.passes x.moment q.seen is (begins_run p.start p.passes q.seen r.seen b ok) x.to) p.who bucket in
           omega (arith, less, more)
-      go (LostExchange word) m f = lost_disturbs q held (LostExchange word) sq b x own_x m
+      go (LostExchange word) m f = lost_disturbs q held (LostExchange word) sq b x (kept_between p p.seen x.moment r.seen is ok bucket x.from (begins_trans x.moment q.seen r.seen x.to b) own) m
 
 -- ---- the nodes that can be met
 
-module _ (p r : Trace) (is : IsStart p.start) (ok : IsRun p.start p.passes r.seen) (key : ℕ) where
-  -- they are no more than were in the list, and than the pass was disturbed
-  pub met_few : Begins p.seen r.seen → own_entries p.start r.seen p.who ≡ own_entries p.start p.seen p.who → met_since p r key ≤ listed_for p key + disturbed p r key
-  met_few b own =
-      let bucket = bucket_of p.start.shape key in
-      let x = met_bound p.start p.passes p.seen r.seen is ok b p.who bucket bucket own in
-      let y = disturbances_grow (since p.start p.passes p.seen r.seen is ok b) p.who bucket in
-      omega (arith, x, y)
+module _ (p r : Trace) (is : IsStart p.start) (ok : IsRun p.start p.passes r.seen) where
+  module _ (bucket : ℕ) where
+    -- of a pass that makes no call they are no more than were in the list, and than it was disturbed
+    pub met_unanswered : Quiet p r → met_in p r bucket ≤ listed_in p bucket + disturbed_in p r bucket
+    met_unanswered q =
+        let calls : own_calls p.start r.seen p.who ≡ own_calls p.start p.seen p.who = sym (λ i. own_calls (q.same.start i) r.seen (q.same.who i)) ∙ q.calls in
+        let x = met_bound_quiet p.start p.passes p.seen r.seen is ok q.seen p.who bucket bucket calls in
+        let y = disturbances_grow (since p.start p.passes p.seen r.seen is ok q.seen) p.who bucket in
+        omega (arith, x, y)
 
-  -- what can be met of it since a later moment
-  pub met_less : (q : Trace) → IsSame p q → Begins p.seen q.seen → Begins q.seen r.seen → met_since q r key ≤ met_since p r key
-  met_less q s a b =
-      let same : met_since q r key ≡ met p.start (nodes_after p q.seen) (nodes_after p r.seen) (bucket_of p.start.shape key) = (λ i. met (s.start i) (incarnations_after (s.start i) q.seen) (incarnations_after (s.start i) r.seen) (bucket_of (let st : Start = s.start i in st.shape) key)) in
-      let x = met_later p.start p.passes q.seen r.seen is ok b p.seen a (bucket_of p.start.shape key) in
-      omega (arith, same, x)
+    -- what can be met since a later moment
+    pub met_after : (q : Trace) → IsSame p q → Begins p.seen q.seen → Begins q.seen r.seen → met_in q r bucket ≤ met_in p r bucket
+    met_after q s a b =
+        let same : met_in q r bucket ≡ met p.start (nodes_after p q.seen) (nodes_after p r.seen) bucket = (λ i. met (s.start i) (incarnations_after (s.start i) q.seen) (incarnations_after (s.start i) r.seen) bucket) in
+        let x = met_later p.start p.passes q.seen r.seen is ok b p.seen a bucket in
+        omega (arith, same, x)
 
-  -- and until an earlier one
-  pub met_before : (q : Trace) → Begins p.seen q.seen → Begins q.seen r.seen → met_since p q key ≤ met_since p r key
-  met_before q a b = met_on p.start p.passes q.seen r.seen is ok b p.seen a (bucket_of p.start.shape key)
+    -- and until an earlier one
+    pub met_until : (q : Trace) → Begins p.seen q.seen → Begins q.seen r.seen → met_in p q bucket ≤ met_in p r bucket
+    met_until q a b = met_on p.start p.passes q.seen r.seen is ok b p.seen a bucket
+
+  -- so it is of a key's bucket
+  module _ (key : ℕ) where
+    pub met_less : (q : Trace) → IsSame p q → Begins p.seen q.seen → Begins q.seen r.seen → met_since q r key ≤ met_since p r key
+    met_less q s a b = subst (λ (start : Start). met_in q r (bucket_of start.shape key) ≤ met_since p r key) (sym s.start) (met_after (bucket_of p.start.shape key) q s a b)
+
+    pub met_before : (q : Trace) → Begins p.seen q.seen → Begins q.seen r.seen → met_since p q key ≤ met_since p r key
+    met_before q a b = met_until (bucket_of p.start.shape key) q a b
+
+    pub met_quiet : Quiet p r → met_since p r key ≤ listed_for p key + disturbed p r key
+    met_quiet q = met_unanswered (bucket_of p.start.shape key) q
 
 -- ---- a pass that was alone
 
@@ -130,11 +141,13 @@ own_disturbs_none start who bucket seen (event ∷ own) each =
     sym (ap (λ w. disturbances start (seen ++ event ∷ []) w bucket) each.0) ∙ undisturbed_by_itself start seen event bucket ∙ ap (λ w. disturbances start seen w bucket) each.0) in
     ap (λ l. disturbances start l who bucket) (sym (append_assoc seen (event ∷ []) own)) ∙ own_disturbs_none start who bucket (seen ++ event ∷ []) own each.1 ∙ one
 
-pub alone_undisturbed : (p q : Trace) (key : ℕ) → IsAlone p q → disturbed p q key ≡ 0
-alone_undisturbed p q key alone =
-    let bucket = bucket_of p.start.shape key in
-    let same : disturbances p.start q.seen p.who bucket ≡ disturbances p.start p.seen p.who bucket = ap (λ l. disturbances p.start l p.who bucket) alone.seen ∙ own_disturbs_none p.start p.who bucket p.seen alone.own alone.each in
+pub undisturbed_in : (p q : Trace) (bucket : ℕ) → IsAlone p q → disturbed_in p q bucket ≡ 0
+undisturbed_in p q bucket alone =
+    let same : disturbed_at p bucket q.seen ≡ disturbed_at p bucket p.seen = ap (disturbed_at p bucket) alone.seen ∙ own_disturbs_none p.start p.who bucket p.seen alone.own alone.each in
     omega (arith, same)
+
+pub alone_undisturbed : (p q : Trace) (key : ℕ) → IsAlone p q → disturbed p q key ≡ 0
+alone_undisturbed p q key alone = undisturbed_in p q (bucket_of p.start.shape key) alone
 
 -- so what is so of a pass that was disturbed so often is so of one that was disturbed never
 pub undisturbed : (P : ℕ → Type 0) {p q : Trace} (key : ℕ) → P (disturbed p q key) → IsAlone p q → P 0
@@ -251,18 +264,18 @@ advances_none p q s same moment a b =
     let kept : advance_steps q.who q.seen ≡ advance_steps p.who p.seen = same in
     none_counted p.who b.0 (omega (arith, one, two, there, last, who, kept))
 
-module _ (p r : Trace) (is : IsStart p.start) (ok : IsRun p.start p.passes r.seen) (key : ℕ) (same_r : IsSame p r) (none : advances r ≡ advances p) where
+module _ (p r : Trace) (is : IsStart p.start) (ok : IsRun p.start p.passes r.seen) (bucket : ℕ) (same_r : IsSame p r) (none : advances r ≡ advances p) where
   -- between two moments at which other epochs stood the pass was disturbed
-  pub epochs_disturb : (first last : List Event) → Begins p.seen first → Begins first last → Begins last r.seen → (nodes_after p last).epoch ≢ (nodes_after p first).epoch → disturbed_after p key first < disturbed_after p key last
+  pub epochs_disturb : (first last : List Event) → Begins p.seen first → Begins first last → Begins last r.seen → (nodes_after p last).epoch ≢ (nodes_after p first).epoch → disturbed_at p bucket first < disturbed_at p bucket last
   epochs_disturb first last a b c other =
       let ok_last = begins_run p.start p.passes last r.seen c ok in
       let whole : Begins first r.seen = (b.0 ++ c.0, c.1 ∙ ap (λ l. l ++ c.0) b.1 ∙ append_assoc first b.0 c.0) in
       let front : AdvancesNone p.who b.0 = front_none p.who b.0 c.0 (advances_none p r same_r none first a whole) in
-      let P : List Event → Type 0 = λ l. (nodes_after p l).epoch + disturbed_after p key first ≤ (nodes_after p first).epoch + disturbed_after p key l in
-      let moved = subst P (sym b.1) (moved_by_others p.start p.who (bucket_of p.start.shape key) first b.0 front) in
+      let P : List Event → Type 0 = λ l. (nodes_after p l).epoch + disturbed_at p bucket first ≤ (nodes_after p first).epoch + disturbed_at p bucket l in
+      let moved = subst P (sym b.1) (moved_by_others p.start p.who bucket first b.0 front) in
       let grows = (since p.start p.passes first last is ok_last b).grown.epoch in
-      let more = disturbances_grow (since p.start p.passes first last is ok_last b) p.who (bucket_of p.start.shape key) in
-      apart (nodes_after p last).epoch (nodes_after p first).epoch (disturbed_after p key first) (disturbed_after p key last) other grows moved
+      let more = disturbances_grow (since p.start p.passes first last is ok_last b) p.who bucket in
+      apart (nodes_after p last).epoch (nodes_after p first).epoch (disturbed_at p bucket first) (disturbed_at p bucket last) other grows moved
     where
       front_none : (who : ℕ) (xs ys : List Event) → AdvancesNone who (xs ++ ys) → AdvancesNone who xs
       front_none who [] ys h = tt
@@ -272,53 +285,38 @@ module _ (p r : Trace) (is : IsStart p.start) (ok : IsRun p.start p.passes r.see
       apart m n d e other le moved = omega (arith, other, le, moved)
 
   -- where another epoch stood than the one that it knew
-  pub moves_on_disturb : (q : Trace) → IsSame p q → Begins q.seen r.seen → (k : KnowsEpoch p q) → MovesOn q r → disturbed_after p key p.seen < disturbed_after p key r.seen
+  pub moves_on_disturb : (q : Trace) → IsSame p q → Begins q.seen r.seen → (k : KnowsEpoch p q) → MovesOn q r → disturbed_at p bucket p.seen < disturbed_at p bucket r.seen
   moves_on_disturb q sq b k m =
       let there : (nodes_after p m.moment).epoch ≢ (nodes_after p k.moment).epoch = λ e. m.other (ap (λ (start : Start). (incarnations_after start m.moment).epoch) sq.start ∙ e ∙ k.was) in
       let less = epochs_disturb k.moment m.moment k.from (begins_trans k.moment q.seen m.moment k.to m.from) m.to there in
       let ok_m = begins_run p.start p.passes m.moment r.seen m.to ok in
       let ok_k = begins_run p.start p.passes k.moment m.moment (begins_trans k.moment q.seen m.moment k.to m.from) ok_m in
-      let low = disturbances_grow (since p.start p.passes p.seen k.moment is ok_k k.from) p.who (bucket_of p.start.shape key) in
-      let high = disturbances_grow (since p.start p.passes m.moment r.seen is ok m.to) p.who (bucket_of p.start.shape key) in
+      let low = disturbances_grow (since p.start p.passes p.seen k.moment is ok_k k.from) p.who bucket in
+      let high = disturbances_grow (since p.start p.passes m.moment r.seen is ok m.to) p.who bucket in
       omega (arith, less, low, high)
 
   -- or the place was lost
-  pub loses_place_disturb : (q : Trace) (pred : Held) → IsSame p q → Begins q.seen r.seen → KnowsEpoch p q → StandsStill p q key pred → LosesPlace q r pred → disturbed_after p key p.seen < disturbed_after p key r.seen
+  pub loses_place_disturb : (q : Trace) (pred : Held) → IsSame p q → Begins q.seen r.seen → KnowsEpoch p q → StandsStill p q bucket pred → LosesPlace q r pred → disturbed_at p bucket p.seen < disturbed_at p bucket r.seen
   loses_place_disturb q pred sq b k x (inl m) = moves_on_disturb q sq b k m
   loses_place_disturb q pred sq b k x (inr m) =
       let ok_q = begins_run p.start p.passes q.seen r.seen b ok in
       let ok_x = begins_run p.start p.passes x.stood.moment q.seen x.stood.to ok_q in
-      let less = lost_disturbs p r is ok key q pred (LostExchange m.0) sq b x.stood (changed_at p q r key sq same_r m.2 ∙ x.own) m.1 in
-      let low = disturbances_grow (since p.start p.passes p.seen x.stood.moment is ok_x x.stood.from) p.who (bucket_of p.start.shape key) in
+      let less = lost_disturbs p r is ok bucket q pred (LostExchange m.0) sq b x.stood (kept_at p q r bucket sq same_r m.2 ∙ x.own) m.1 in
+      let low = disturbances_grow (since p.start p.passes p.seen x.stood.moment is ok_x x.stood.from) p.who bucket in
       omega (arith, less, low)
 
   -- or what was found
-  pub loses_found_disturb : (q : Trace) (told : Found) → IsSame p q → Begins q.seen r.seen → KnowsEpoch p q → StandsStill p q key told.pred → NextStandsStill p q key told.cur → LosesFound q r told → disturbed_after p key p.seen < disturbed_after p key r.seen
+  pub loses_found_disturb : (q : Trace) (told : Found) → IsSame p q → Begins q.seen r.seen → KnowsEpoch p q → StandsStill p q bucket told.pred → NextStandsStill p q bucket told.cur → LosesFound q r told → disturbed_at p bucket p.seen < disturbed_at p bucket r.seen
   loses_found_disturb q told sq b k pred cur (inl x) = loses_place_disturb q told.pred sq b k pred x
   loses_found_disturb q told sq b k pred cur (inr x) = next told.cur cur x
     where
-      next : (at : Option Held) → NextStandsStill p q key at → LosesNext q r at → disturbed_after p key p.seen < disturbed_after p key r.seen
+      next : (at : Option Held) → NextStandsStill p q bucket at → LosesNext q r at → disturbed_at p bucket p.seen < disturbed_at p bucket r.seen
       next None still y = absurd y
       next (Some node) still y = loses_place_disturb q node sq b k still y
 
 -- a roll-back
 pub moves_on : (q r : Trace) → IsSame q r → Begins q.seen r.seen → MovesEpoch q r → MovesOn q r
 moves_on q r s b m = record { moment = r.seen; from = b; to = begins_refl r.seen; other = λ e. m.other (sym (fresh_at q r s m.fresh) ∙ e) }
-
--- ---- what can be met of a pass that makes no call
-
-pub met_quiet : (p r : Trace) → IsStart p.start → IsRun p.start p.passes r.seen → (key : ℕ) → Quiet p r → met_since p r key ≤ listed_for p key + disturbed p r key
-met_quiet p r is ok key q =
-    let bucket = bucket_of p.start.shape key in
-    let calls : own_calls p.start r.seen p.who ≡ own_calls p.start p.seen p.who = sym (λ i. own_calls (q.same.start i) r.seen (q.same.who i)) ∙ q.calls in
-    let x = met_bound_quiet p.start p.passes p.seen r.seen is ok q.seen p.who bucket bucket calls in
-    let y = disturbances_grow (since p.start p.passes p.seen r.seen is ok q.seen) p.who bucket in
-    omega (arith, x, y)
-
--- ---- from an earlier beginning
-
-pub changed_same : (p q : Trace) (key : ℕ) (run : List Event) → IsSame p q → changed_after q key run ≡ changed_after p key run
-changed_same p q key run s = (λ i. own_changes (s.start i) run (s.who i) (bucket_of (let st : Start = s.start i in st.shape) key))
 
 -- ---- what disturbances are
 

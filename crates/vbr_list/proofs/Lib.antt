@@ -3,15 +3,14 @@ mod Traversals
 mod Going
 mod KeptHands
 mod Reaching
-mod Nearing
 mod Moments
 mod Clearing
 mod Sweeping
 mod Observing
 mod Disturbing
+mod Visits
 mod Walking
 mod LostWalks
-mod Visits
 mod Passing
 mod Sights
 mod Following

@@ -1,13 +1,12 @@
--- Walks of a call, one after another: each but the last was lost, disturbed by another pass.
-use Rattle.vbr_list.proofs.Names.{ℕ, ◌+◌, ◌<◌, ◌≤◌, subst}
+-- Searches of a call, one after another: each but the last was lost, disturbed by another pass.
+use Rattle.vbr_list.proofs.Names.{ℕ, ◌+◌, ◌≤◌, subst}
 use Rattle.vbr_list.proofs.Names.{Ghosts, IsRun, PassLaw, Quiet, quiet_on}
-use Rattle.vbr_list.specs.Disturbed.{disturbed_after}
 use Rattle.vbr_list.specs.Inserting.{SearchesFor}
 use Rattle.vbr_list.specs.Pieces.{GoesOn, IsSameCall, pass_in, trace_in}
-use Rattle.vbr_list.specs.Walking.{Repeats, WalksAgain, WalksOnce}
+use Rattle.vbr_list.specs.Walking.{WalksAgain}
 use Rattle.vbr_list.specs.declared.call.PendingCall.{PendingCall}
-use Rattle.vbr_list.proofs.Disturbing.{grows_disturbed, run_at}
-use Rattle.vbr_list.proofs.Walking.{HasRepeated, repeated_last, repeated_on, searches_end}
+use Rattle.vbr_list.proofs.Disturbing.{run_at}
+use Rattle.vbr_list.proofs.Walking.{HasRepeated, searches_end}
 
 -- a call goes on, after what it did first
 module _ {N : Type 0} {kind : Ghosts N} {b c d : PendingCall N kind} (law : PassLaw (pass_in b)) (same : IsSameCall b c) (first : Quiet (trace_in b) (trace_in c)) (went : GoesOn c d) where
@@ -19,27 +18,6 @@ module _ {N : Type 0} {kind : Ghosts N} {b c d : PendingCall N kind} (law : Pass
 
   pub run_whole : IsRun (trace_in b).start (trace_in b).passes (trace_in d).seen
   run_whole = run_at (trace_in b) (trace_in d) whole.same (whole.is_run law.is_run)
-
-  -- by one more walk
-  module _ {per : ℕ} (lost : HasRepeated per (trace_in b) (trace_in c) b.key 3 b.used c.used) (once : WalksOnce per (trace_in c) (trace_in d) c.key c.used d.used) where
-    walked : WalksOnce per (trace_in c) (trace_in d) b.key c.used d.used
-    walked = let P : ℕ → Type 0 = λ key. WalksOnce per (trace_in c) (trace_in d) key c.used d.used in subst P same.key once
-
-    -- it was lost too
-    pub lost_on : disturbed_after (trace_in c) c.key (trace_in c).seen < disturbed_after (trace_in c) c.key (trace_in d).seen → HasRepeated per (trace_in b) (trace_in d) b.key 3 b.used d.used
-    lost_on less =
-        let P : ℕ → Type 0 = λ key. disturbed_after (trace_in c) key (trace_in c).seen < disturbed_after (trace_in c) key (trace_in d).seen in
-        repeated_on per (trace_in b) (trace_in c) (trace_in d) law.start run_whole b.key first.same first.seen then.seen lost walked (subst P same.key less)
-
-    -- it was the last one
-    pub last_walk : (times : ℕ) → disturbed_after (trace_in b) b.key (trace_in c).seen ≤ times → Repeats per (trace_in b) (trace_in d) b.key 3 b.used d.used (lost.lost + 1) (times + 1)
-    last_walk = repeated_last per (trace_in b) (trace_in c) (trace_in d) law.start run_whole b.key first.same first.seen then.seen lost walked
-
-    pub walks_again : WalksAgain per (trace_in b) (trace_in d) b.key b.used d.used
-    walks_again = record {
-      lost = lost.lost;
-      repeats = last_walk (disturbed_after (trace_in b) b.key (trace_in d).seen) (grows_disturbed (trace_in b) (trace_in d) law.start run_whole b.key (trace_in c).seen then.seen);
-    }
 
   -- by one more search, and what came then
   pub search_ends : HasRepeated 9 (trace_in b) (trace_in c) b.key 7 b.used c.used → WalksAgain 9 (trace_in c) (trace_in d) c.key c.used d.used → (now more all : ℕ) → now ≤ d.used + more → more + 3 ≤ all → SearchesFor (trace_in b) (trace_in d) b.key b.used now all

@@ -1,6 +1,6 @@
 -- A remove after its mark: the place before the node stands as it stood, or the pass was disturbed; and what the answer costs.
 use Rattle.vbr_list.proofs.Names.{◌≡◌, ◌≢◌, ℕ, ◌+◌, ◌*◌, ◌<◌, ◌≤◌, true, false, Option, Result, is_err, IfErr, refl, sym, ap, ◌∙◌, subst, inl, inr, arith, ◌⊎◌, IfNone, IfSome, cases_lt, mul-le}
-use Rattle.vbr_list.proofs.Names.{AddsNone, advances, ahead, At, Begins, begins_refl, begins_run, begins_trans, bucket_of, Call, disturbances_grow, Ghosts, Head, Held, HeldIn, incarnations_after, inserts_in, inserts_in-remove, IsAlone, IsHeld, IsOpenIn, IsRun, IsSame, IsStart, KeyAt, known_open, knows, LeavesOthers, link_of, link_shown_at, Made, marked_fewer, met_bound_uninserted, one_key, own_calls, own_changes, PassView, Quiet, Remove, same_on, same_refl, since, Slot, StandsBehind, Start, Trace, undisturbed_shown}
+use Rattle.vbr_list.proofs.Names.{AddsNone, advances, ahead, At, Begins, begins_refl, begins_run, begins_trans, bucket_of, Call, disturbances_grow, Ghosts, Head, Held, HeldIn, incarnations_after, inserts_in, inserts_in-remove, IsAlone, IsHeld, IsOpenIn, IsRun, IsSame, IsStart, KeyAt, known_open, knows, LeavesOthers, link_of, link_shown_at, Made, marked_fewer, met_bound_uninserted, one_key, own_calls, own_changes, PassView, Quiet, quiet_on, Remove, same_on, same_refl, since, Slot, StandsBehind, Start, Trace, undisturbed_shown}
 use Rattle.vbr_list.specs.Budgets.{listed_for, steps_to_value_of}
 use Rattle.vbr_list.specs.Disturbed.{changed_after, disturbed, disturbed_after, remove_costs_among}
 use Rattle.vbr_list.specs.Leaving.{Leaves}
@@ -14,7 +14,7 @@ use Rattle.vbr_list.specs.declared.found.Found.{Found}
 use Rattle.vbr_list.proofs.Disturbing.{alone_undisturbed, changed_same, disturbed_same, grows_disturbed, loses_place_disturb, met_before, met_less, met_quiet, run_at, run_to, same_between, unchanged_at, undisturbed}
 use Rattle.vbr_list.proofs.Going.{by_either}
 use Rattle.vbr_list.proofs.Preparing.{if_failed}
-use Rattle.vbr_list.proofs.Walking.{HasRepeated}
+use Rattle.vbr_list.proofs.Walking.{HasRepeated, call_paid}
 
 -- ---- a search
 
@@ -62,7 +62,7 @@ marks_behind p q r key pred node is ok quiet none same x other epoch count held 
       moment = x.moment;
       before = begins_trans p.seen q.seen x.moment quiet.seen x.from;
       after = x.to;
-      own = later ∙ unchanged_at p p q key is (begins_run p.start p.passes q.seen r.seen all ok) (record { table = refl; start = refl; passes = refl; who = refl }) quiet.same quiet.seen none;
+      own = later ∙ unchanged_at p p q bucket is (begins_run p.start p.passes q.seen r.seen all ok) (record { table = refl; start = refl; passes = refl; who = refl }) quiet.same quiet.seen none;
       link = sym (λ i. link_shown_at (incarnations_after (quiet.same.start i) r.seen) pred.at) ∙ x.links pred.at other ∙ (λ i. link_shown_at (incarnations_after (quiet.same.start i) x.moment) pred.at);
       opens = λ shown. subst P whole.start (known_open r.start r.passes r.seen (subst IsStart (sym whole.start) is) ok_r r.who (bucket_of r.start.shape key) pred.at (link_of pred.word) held.link unmarked ((λ i. link_shown_at (incarnations_after (whole.start i) r.seen) pred.at) ∙ shown) inside);
     }
@@ -78,14 +78,14 @@ marks_later p q r key pred is ok quiet none epoch count x =
       moment = x.moment;
       before = begins_trans p.seen q.seen x.moment quiet.seen x.before;
       after = x.after;
-      own = sym (changed_same p q key x.moment quiet.same) ∙ x.own ∙ changed_same p q key q.seen quiet.same ∙ unchanged_at p p q key is ok (same_refl p) quiet.same quiet.seen none;
+      own = sym (changed_same p q key x.moment quiet.same) ∙ x.own ∙ changed_same p q key q.seen quiet.same ∙ unchanged_at p p q (bucket_of p.start.shape key) is ok (same_refl p) quiet.same quiet.seen none;
       link = sym (λ i. link_shown_at (incarnations_after (quiet.same.start i) r.seen) pred.at) ∙ x.link ∙ (λ i. link_shown_at (incarnations_after (quiet.same.start i) x.moment) pred.at);
       opens = λ shown. subst P quiet.same.start (x.opens ((λ i. link_shown_at (incarnations_after (quiet.same.start i) r.seen) pred.at) ∙ shown));
     }
 
 -- ---- a place that is lost since
 
-module _ (b p r s : Trace) (is : IsStart b.start) (ok : IsRun b.start b.passes s.seen) (key : ℕ) (sp : IsSame b p) (sr : IsSame p r) (ss : IsSame b s) (first : Begins b.seen p.seen) (last : Begins r.seen s.seen) (pred : Held) (still : StandsStill b p key pred) (mark : MarksBehind p r key pred) where
+module _ (b p r s : Trace) (is : IsStart b.start) (ok : IsRun b.start b.passes s.seen) (key : ℕ) (sp : IsSame b p) (sr : IsSame p r) (ss : IsSame b s) (first : Begins b.seen p.seen) (last : Begins r.seen s.seen) (pred : Held) (still : StandsStill b p (bucket_of b.start.shape key) pred) (mark : MarksBehind p r key pred) where
   to_moment : Begins still.stood.moment mark.moment
   to_moment = begins_trans still.stood.moment p.seen mark.moment still.stood.to mark.before
 
@@ -106,10 +106,10 @@ module _ (b p r s : Trace) (is : IsStart b.start) (ok : IsRun b.start b.passes s
   unchanged = sym (changed_same b p key mark.moment sp) ∙ mark.own ∙ changed_same b p key p.seen sp ∙ still.own
 
   -- so the place stands as it stood, or the pass was disturbed
-  stands_past : (disturbed_after b key b.seen < disturbed_after b key s.seen) ⊎ StandsStill b r key pred
+  stands_past : (disturbed_after b key b.seen < disturbed_after b key s.seen) ⊎ StandsStill b r (bucket_of b.start.shape key) pred
   stands_past = go (cases_lt (disturbed_after b key still.stood.moment) (disturbed_after b key mark.moment))
     where
-      go : (disturbed_after b key still.stood.moment < disturbed_after b key mark.moment) ⊎ (disturbed_after b key mark.moment ≤ disturbed_after b key still.stood.moment) → (disturbed_after b key b.seen < disturbed_after b key s.seen) ⊎ StandsStill b r key pred
+      go : (disturbed_after b key still.stood.moment < disturbed_after b key mark.moment) ⊎ (disturbed_after b key mark.moment ≤ disturbed_after b key still.stood.moment) → (disturbed_after b key b.seen < disturbed_after b key s.seen) ⊎ StandsStill b r (bucket_of b.start.shape key) pred
       go (inl less) =
           let low = disturbances_grow (since b.start b.passes b.seen still.stood.moment is ok_stood still.stood.from) b.who (bucket_of b.start.shape key) in
           let high = disturbances_grow (since b.start b.passes mark.moment s.seen is ok to_end) b.who (bucket_of b.start.shape key) in
@@ -136,7 +136,7 @@ module _ (b p r s : Trace) (is : IsStart b.start) (ok : IsRun b.start b.passes s
   lost_past count knew loses =
       let to_r = begins_trans p.seen mark.moment r.seen mark.before mark.after in
       let knows_r : KnowsEpoch b r = record { moment = knew.moment; from = knew.from; to = begins_trans knew.moment p.seen r.seen knew.to to_r; was = knew.was ∙ sym mark.epoch } in
-      by_either stands_past (λ less. less) (λ stands. loses_place_disturb b s is ok key ss count r pred (same_on sp sr) last knows_r stands loses)
+      by_either stands_past (λ less. less) (λ stands. loses_place_disturb b s is ok (bucket_of b.start.shape key) ss count r pred (same_on sp sr) last knows_r stands loses)
 
 -- ---- what an answer costs
 
@@ -180,13 +180,6 @@ module _ (p q m r : Trace) (is : IsStart p.start) (ok : IsRun p.start p.passes r
       let since_e = late.searches.walks.repeats.few in
       omega (arith, before, since_q, since_e, less, here, mid_there, there, end, then_e, then_r)
 
-soon_few : (lost t m1 m2 n d used mid now more : ℕ) → used ≤ 0 + lost * (9 * m1 + 6) → mid ≤ used + (t + 1) * (9 * m2 + 3) → now ≤ mid + (more + 7) → m1 ≤ n + d → m2 ≤ n + d → lost + t ≤ d → now ≤ remove_costs_among n d more
-soon_few lost t m1 m2 n d used mid now more x y z l k f =
-    let u = mul-le lost (9 * m1 + 6) lost (9 * (n + d) + 6) (omega arith) (omega (arith, l)) in
-    let v = mul-le (t + 1) (9 * m2 + 3) (t + 1) (9 * (n + d) + 3) (omega arith) (omega (arith, k)) in
-    let w = mul-le (lost + t) (9 * (n + d) + 6) d (9 * (n + d) + 6) f (omega arith) in
-    omega (arith, x, y, z, u, v, w)
-
 late_few : (lost t t2 m1 m2 m3 n d used mid marked ended now more : ℕ) → used ≤ 0 + lost * (9 * m1 + 6) → mid ≤ used + (t + 1) * (9 * m2 + 3) → marked ≤ mid + more + 1 → ended ≤ marked + 6 → now ≤ ended + (t2 + 1) * (9 * m3 + 3) → m1 ≤ n + d → m2 ≤ n + d → m3 ≤ n + d → lost + t + t2 + 1 ≤ d → now ≤ remove_costs_among n d more
 late_few lost t t2 m1 m2 m3 n d used mid marked ended now more x y z e g l k j f =
     let u = mul-le lost (9 * m1 + 6) lost (9 * (n + d) + 6) (omega arith) (omega (arith, l)) in
@@ -195,7 +188,7 @@ late_few lost t t2 m1 m2 m3 n d used mid marked ended now more x y z e g l k j f
     let w = mul-le (lost + t + t2 + 1) (9 * (n + d) + 6) d (9 * (n + d) + 6) f (omega arith) in
     omega (arith, x, y, z, e, g, u, v, v2, w)
 
-module _ (p q m r : Trace) (is : IsStart p.start) (key : ℕ) (sq : IsSame p q) (sm : IsSame q m) (a : Begins p.seen q.seen) (b : Begins q.seen m.seen) (quiet : Quiet p m) {call : Call} (made : Made call p r) (on : Begins m.seen r.seen) where
+module _ (p q m r : Trace) (is : IsStart p.start) (key : ℕ) (first : Quiet p q) (then : Quiet q m) {call : Call} (made : Made call p r) (on : Begins m.seen r.seen) where
   ok : IsRun p.start p.passes r.seen
   ok = run_at p r made.same made.is_run
 
@@ -203,13 +196,13 @@ module _ (p q m r : Trace) (is : IsStart p.start) (key : ℕ) (sq : IsSame p q) 
   ok_m = begins_run p.start p.passes m.seen r.seen on ok
 
   met_some : met_since p m key ≤ listed_for p key + disturbed p r key
-  met_some = let x = met_quiet p m is ok_m key quiet in let grows = grows_disturbed p r is ok key m.seen on in omega (arith, x, grows)
+  met_some = let x = met_quiet p m is ok_m key (quiet_on first then) in let grows = grows_disturbed p r is ok (bucket_of p.start.shape key) m.seen on in omega (arith, x, grows)
 
   met_first : met_since p q key ≤ listed_for p key + disturbed p r key
-  met_first = let low = met_before p m is ok_m key q a b in let some = met_some in omega (arith, low, some)
+  met_first = let low = met_before p m is ok_m key q first.seen then.seen in let some = met_some in omega (arith, low, some)
 
   met_mid : met_since q m key ≤ listed_for p key + disturbed p r key
-  met_mid = let less = met_less p m is ok_m key q sq a b in let some = met_some in omega (arith, less, some)
+  met_mid = let less = met_less p m is ok_m key q first.same first.seen then.seen in let some = met_some in omega (arith, less, some)
 
   -- a node that was marked and has left is in the list no more
   pub left_fewer : call.op ≡ Remove → Leaves p r key → IsAlone p r → listed_for r key < listed_for p key
@@ -224,26 +217,20 @@ module _ (p q m r : Trace) (is : IsStart p.start) (key : ℕ) (sq : IsSame p q) 
   module _ {used mid : ℕ} (x : HasRepeated 9 p q key 6 0 used) where
     -- one that was soon
     soon_paid : WalksAgain 9 q m key used mid → (now : ℕ) → now ≤ mid + (steps_to_value_of p.start + 7) → now ≤ remove_costs_among (listed_for p key) (disturbed p r key) (steps_to_value_of p.start)
-    soon_paid w now few =
-        let here = disturbed_same p q key q.seen sq in
-        let there = disturbed_same p q key m.seen sq in
-        let before = x.repeats.few in
-        let since_q = w.repeats.few in
-        let grows = grows_disturbed p r is ok key m.seen on in
-        soon_few x.lost w.lost (met_since p q key) (met_since q m key) (listed_for p key) (disturbed p r key) used mid now (steps_to_value_of p.start) x.repeats.paid w.repeats.paid few met_first met_mid (omega (arith, before, since_q, here, there, grows))
+    soon_paid w now few = let most = call_paid p q m r is ok key 6 first then on (omega arith, omega arith) x w now (steps_to_value_of p.start + 7) few in omega (arith, most)
 
     module _ (op : call.op ≡ Remove) (told : Found) (last : LastWalk q m key used mid told) {now : ℕ} (late : MarksAndSearches (steps_to_value_of m.start + 1) m r key mid now told.pred) where
       rounds : x.lost + last.lost + late.searches.walks.lost + 1 ≤ disturbed p r key
-      rounds = let few = late_rounds p q m r is ok key sq sm x told last late in omega (arith, few)
+      rounds = let few = late_rounds p q m r is ok key first.same then.same x told last late in omega (arith, few)
 
       -- and one that was late
       late_paid : now ≤ remove_costs_among (listed_for p key) (disturbed p r key) (steps_to_value_of p.start)
       late_paid =
           let e = late.searches.ended in
-          let to_e = to_searched p q m r is ok key sq sm x told last late in
-          let start = ap steps_to_value_of (same_on sq sm).start in
+          let to_e = to_searched p q m r is ok key first.same then.same x told last late in
+          let start = ap steps_to_value_of (same_on first.same then.same).start in
           let marked_few = late.few in
-          let met_last = met_less p r is ok key e (same_searched p q m r is ok key sq sm x told last late) (begins_trans p.seen m.seen e.seen (begins_trans p.seen q.seen m.seen a b) to_e) late.searches.then.seen in
+          let met_last = met_less p r is ok key e (same_searched p q m r is ok key first.same then.same x told last late) (begins_trans p.seen m.seen e.seen (begins_trans p.seen q.seen m.seen first.seen then.seen) to_e) late.searches.then.seen in
           let all = met_removed p r is ok key made op in
           late_few x.lost last.lost late.searches.walks.lost (met_since p q key) (met_since q m key) (met_since e r key) (listed_for p key) (disturbed p r key) used mid late.used late.searches.used now (steps_to_value_of p.start) x.repeats.paid last.repeats.paid (omega (arith, marked_few, start)) late.searches.few late.searches.walks.repeats.paid met_first met_mid (omega (arith, met_last, all)) rounds
 

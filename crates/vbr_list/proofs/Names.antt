@@ -32,7 +32,6 @@ pub use Rattle.vbr_machine.specs.Learning.{birth_in_hand, read_epoch, reread}
 pub use Rattle.vbr_machine.specs.Machine.{after, found, link_at, opening, World}
 pub use Rattle.vbr_machine.specs.Membership.{at_head, HeldIn, IsHeldPlace, itself, KeyAt, Knows, LeadsTo, onward, StandsBefore, StandsBeforeOn, StandsBehind}
 pub use Rattle.vbr_machine.specs.Moments.{WasShown}
-pub use Rattle.vbr_machine.specs.Nodes.{is_there}
 pub use Rattle.vbr_machine.specs.Opened.{opening_keys, opening_payloads, payload_kept}
 pub use Rattle.vbr_machine.specs.Removals.{HasLeft, IsTakenOut, MarkedLeft, NoneMarked, ReplacedAt, ReplacedLeft}
 pub use Rattle.vbr_machine.specs.Runs.{AreAccepted, Begins, IsRun, know_after, world_after, world_from}
@@ -47,8 +46,8 @@ pub use Rattle.vbr_machine.specs.declared.history.Op.TheVariants.{Get, Has, Inse
 pub use Rattle.vbr_machine.specs.declared.knowledge.Holding.{Holding}
 pub use Rattle.vbr_machine.specs.declared.knowledge.Holding.TheVariants.{Free}
 pub use Rattle.vbr_machine.specs.declared.knowledge.Read.TheVariants.{KeyOf, LinkAt}
-pub use Rattle.vbr_machine.proofs.Lemmas.{added_own, AdvancesNone, ahead_few, begins_refl, begins_run, begins_trans, calls_after, calls_by-append, changed_disturbed, disturbances_grow, disturbances_paid, every_run, found_left, has_key, head_visited, held_key, held_on, inserts_in, inserts_in-remove, inserts_in-two, IsAdvance, known_open, left_on, left_since, link_loaded, marked_fewer, marked_left, met_bound, met_bound_made, met_bound_quiet, met_bound_uninserted, met_later, met_on, moved_by_others, moved_disturbed, named_there, next_visited, none_marked_between, none_marked_here, none_marked_skipped, one_fewer_behind, one_key, out_on, own_between, own_unchanged, passed_left, put_here, put_other, removed_on, replaced_earlier, replaced_later, run_agrees, shown_there, since, skipped_left, undisturbed_by_itself, undisturbed_shown, unmarked_open, visited_few, visited_on}
-pub use Rattle.vbr_slots.specs.Alone.{ahead, IsAlone, IsFresh, LeavesLists, nodes, OnlyEventsOf}
+pub use Rattle.vbr_machine.proofs.Lemmas.{added_own, AdvancesNone, ahead_few, begins_refl, begins_run, begins_trans, calls_after, calls_by-append, changed_disturbed, disturbances_grow, disturbances_paid, every_run, found_left, has_key, head_visited, held_key, held_on, inserts_in, inserts_in-remove, inserts_in-two, IsAdvance, known_open, left_on, left_since, link_loaded, marked_fewer, marked_left, met_bound_made, met_bound_quiet, met_bound_uninserted, met_later, met_on, moved_by_others, moved_disturbed, next_visited, none_marked_between, none_marked_here, none_marked_skipped, one_key, out_on, own_between, own_unchanged, passed_left, put_here, put_other, removed_on, replaced_earlier, replaced_later, run_agrees, shown_there, since, skipped_left, undisturbed_by_itself, undisturbed_shown, unmarked_open, visited_few, visited_on}
+pub use Rattle.vbr_slots.specs.Alone.{ahead, IsAlone, IsFresh, nodes, OnlyEventsOf}
 pub use Rattle.vbr_slots.specs.AtTables.{IsSameTable}
 pub use Rattle.vbr_slots.specs.Calls.{AddsAnswer, AddsNone, IsSame, Made, made_by, OnlyLoads, Quiet, Took}
 pub use Rattle.vbr_slots.specs.PassLaw.{PassLaw}
@@ -56,7 +55,7 @@ pub use Rattle.vbr_slots.specs.Pools.{OwnPool}
 pub use Rattle.vbr_slots.specs.Views.{IsOf, knows, PassView, TableView, Trace}
 pub use Rattle.vbr_slots.specs.declared.at_table.AtTable.{AtTable}
 pub use Rattle.vbr_slots.specs.declared.pass.TheConstants.{POOL}
-pub use Rattle.vbr_slots.proofs.Lemmas.{adds_on, adds_refl, alone_first, alone_then, answer_on, loads_on, loads_refl, made_on, made_then, moment_after, moment_before, quiet_adds_none, quiet_on, quiet_refl, same_leaves, same_on, same_refl}
+pub use Rattle.vbr_slots.proofs.Lemmas.{adds_on, adds_refl, alone_first, alone_then, answer_on, loads_on, loads_refl, made_on, made_then, moment_after, moment_before, quiet_adds_none, quiet_on, quiet_refl, same_on, same_refl}
 pub use Rattle.vbr_at_table.specs.Advances.{AdvancesWhereNeeded}
 pub use Rattle.vbr_at_table.specs.Alone.{StandsNow}
 pub use Rattle.vbr_at_table.specs.Answering.{FindsAnother, KeepsIn}
@@ -87,4 +86,4 @@ pub use Rattle.vbr_at_table.specs.declared.refusal.Refusal.{Refusal}
 pub use Rattle.vbr_at_table.specs.declared.refusal.Refusal.TheVariants.{EpochSpent, NoSlot, OutOfSteps}
 pub use Rattle.vbr_at_table.specs.declared.rollback.Rollback.{Rollback}
 pub use Rattle.vbr_at_table.specs.declared.rollback.Rollback.TheVariants.{EpochMoved, LostExchange}
-pub use Rattle.vbr_at_table.proofs.Lemmas.{alone_gained, behind_kept, counts_none, counts_on, fresh_kept, gained_on, gained_since, grows_same, had_back, had_grown, had_on, had_spent, had_taken, had_then, held_in_kept, held_in_next, held_kept, keeps_on, key_on, longer, missed_after, more_lost, needed_after, needed_before, no_room, none_back, none_lost, none_on, none_refl, reads_on, replaced_since, shared_on, shared_taken, shares_more, slots_kept_on, some_grown, stood_after, stood_before, took_all, two_before, two_on, unchanged_by_none, unlinks_none, value_on, was_absent, was_absent_on, was_entry, was_present}
+pub use Rattle.vbr_at_table.proofs.Lemmas.{alone_gained, behind_kept, counts_none, counts_on, gained_on, gained_since, grows_same, had_back, had_grown, had_on, had_spent, had_taken, had_then, held_in_kept, held_in_next, held_kept, keeps_on, key_on, longer, missed_after, more_lost, needed_after, needed_before, no_room, none_back, none_lost, none_on, none_refl, reads_on, replaced_since, shared_on, shared_taken, shares_more, slots_kept_on, some_grown, stood_after, stood_before, took_all, two_before, two_on, unchanged_by_none, unlinks_none, value_on, was_absent, was_absent_on, was_entry, was_present}

@@ -116,7 +116,7 @@ helped {p} {q} {r} key pred place x keeps at unmarked read a b keeps2 =
 
 -- ---- from place to place
 
-pub traverses_on : {p q r : PassView} {key a b c budget : ℕ} {pred next : Held} → Traverses p q key a b budget pred → Goes q r b c → b ≤ c → c ≤ budget → HasComeTo q.trace r.trace key next → Walks 9 p.trace r.trace key a c next next → Traverses p r key a c budget next
+pub traverses_on : {p q r : PassView} {bucket key a b c budget : ℕ} {pred next : Held} → Traverses p q bucket key a b budget pred → Goes q r b c → b ≤ c → c ≤ budget → HasComeTo q.trace r.trace key next → Walks 9 p.trace r.trace bucket a c next next → Traverses p r bucket key a c budget next
 traverses_on x y le high reached walks = record {
   walks = walks;
   tries = tries_on x.tries y le high;

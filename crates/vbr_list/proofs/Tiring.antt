@@ -1,17 +1,17 @@
 -- A remove and a look-up that are refused for want of steps: the budget was below what is enough, alone and disturbed.
-use Rattle.vbr_list.proofs.Names.{◌≡◌, ℕ, ◌+◌, ◌<◌, ◌≤◌, Bool, List, None, Result, Err, arith}
-use Rattle.vbr_list.proofs.Names.{Begins, Call, Event, IsRun, OutOfSteps, PassLaw, PassView, PIECE, Refusal, same_refl, took_all}
+use Rattle.vbr_list.proofs.Names.{◌≡◌, ℕ, ◌+◌, ◌<◌, ◌≤◌, Bool, None, Result, Err, arith}
+use Rattle.vbr_list.proofs.Names.{Call, IsRun, OutOfSteps, PassLaw, PassView, PIECE, Refusal, took_all}
 use Rattle.vbr_list.specs.Budgets.{listed_for}
-use Rattle.vbr_list.specs.Disturbed.{disturbed_after, enough_among, enough_to_search_among}
+use Rattle.vbr_list.specs.Disturbed.{enough_among, enough_to_search_among}
 use Rattle.vbr_list.specs.Leaving.{SparesRemove}
 use Rattle.vbr_list.specs.Pieces.{Goes, Observes, Tries}
 use Rattle.vbr_list.specs.Refusals.{IsTired}
 use Rattle.vbr_list.specs.Sparing.{CallsAs, SparesLookUp}
-use Rattle.vbr_list.specs.Walking.{Repeats, WalksAgain}
-use Rattle.vbr_list.proofs.Disturbing.{own_at, run_at, undisturbed}
+use Rattle.vbr_list.specs.Walking.{WalksAgain}
+use Rattle.vbr_list.proofs.Disturbing.{run_at, undisturbed}
 use Rattle.vbr_list.proofs.Going.{goes_on, within_of}
 use Rattle.vbr_list.proofs.Observing.{observes_on}
-use Rattle.vbr_list.proofs.Walking.{HasRepeated, lacks_steps, remove_lacks}
+use Rattle.vbr_list.proofs.Walking.{HasRepeated, lacks_steps}
 
 -- a call that has tried so far goes on, and then its budget has no room for one more piece
 module _ {p q r : PassView} (law : PassLaw p) (key : ℕ) {a b budget : ℕ} (tries : Tries p q 0 a budget) (went : Goes q r a b) (within : b ≤ budget) (short : budget < b + PIECE) (hand : r.hand ≡ None) where
@@ -29,7 +29,7 @@ module _ {p q r : PassView} (law : PassLaw p) (key : ℕ) {a b budget : ℕ} (tr
 
   pub remove_tires : {A : Type 0} {told : A → Call} {yes : A → Bool} → HasRepeated 9 p.trace q.trace key 6 0 a → WalksAgain 9 q.trace r.trace key a b → CallsAs told (SparesRemove yes p r key budget) p r budget (Err (OutOfSteps b))
   remove_tires {A} {told} {yes} lost walks =
-      let lacks = remove_lacks p.trace q.trace r.trace law.start ok key tries.goes.quiet.same tries.goes.quiet.seen went.quiet.seen whole.quiet lost walks budget short in
+      let lacks = lacks_steps p.trace q.trace r.trace law.start ok key tries.goes.quiet went.quiet (omega arith) lost walks budget short in
       refused {S = SparesRemove yes p r key budget} (record {
         takes_no_slot = whole.hand.takes_no_slot;
         unlists = tt;
@@ -41,10 +41,10 @@ module _ {p q r : PassView} (law : PassLaw p) (key : ℕ) {a b budget : ℕ} (tr
         fewer = tt;
       })
 
-  pub look_up_tires : {A : Type 0} {told : A → Call} {reading each : ℕ} → each ≤ 3 → Observes p.trace q.trace → Observes q.trace r.trace → HasRepeated 5 p.trace q.trace key (3 + each) 0 a → (lost : ℕ) (moment : List Event) → Begins moment r.trace.seen → Repeats 5 q.trace r.trace key 3 a b (lost + 1) (disturbed_after q.trace key moment + 1) → CallsAs told (SparesLookUp told reading p r key budget) p r budget (Err (OutOfSteps b))
-  look_up_tires {A} {told} {reading} {each} few before now rounds lost moment to repeats =
+  pub look_up_tires : {A : Type 0} {told : A → Call} {reading each : ℕ} → each ≤ 3 → Observes p.trace q.trace → Observes q.trace r.trace → HasRepeated 5 p.trace q.trace key (3 + each) 0 a → WalksAgain 5 q.trace r.trace key a b → CallsAs told (SparesLookUp told reading p r key budget) p r budget (Err (OutOfSteps b))
+  look_up_tires {A} {told} {reading} {each} few before now rounds looks =
       let seen = observes_on before now in
-      let lacks = lacks_steps p.trace q.trace r.trace law.start ok key each tries.goes.quiet.same tries.goes.quiet.seen went.quiet.seen (own_at p.trace p.trace r.trace (same_refl p.trace) whole.quiet.same seen.adds_none) rounds lost moment to repeats budget few short in
+      let lacks = lacks_steps p.trace q.trace r.trace law.start ok key tries.goes.quiet went.quiet (omega (arith, few)) rounds looks budget short in
       refused {S = SparesLookUp told reading p r key budget} (record {
         only_loads = seen.only_loads;
         adds = tt;

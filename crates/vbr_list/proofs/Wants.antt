@@ -3,7 +3,8 @@ use Rattle.vbr_list.proofs.Names.{◌≡◌, ℕ, ◌+◌, ◌≤◌, Bool, true
 use Rattle.vbr_list.proofs.Names.{At, EpochSpent, Ghosts, Held, held_kept, IsSame, IsStart, Keeps, KeyAt, Know, knows, moment_before, NoSlot, OutOfSteps, Quiet, Refusal, stood_before, Trace, ValueAt, was_entry, WasEntry, WasSo}
 use Rattle.vbr_list.specs.Budgets.{LacksSteps, steps_where}
 use Rattle.vbr_list.specs.Found.{CurStood, IsFound}
-use Rattle.vbr_list.specs.Inserting.{Searches, SearchesFor, SearchesInVain}
+use Rattle.vbr_list.specs.Inserting.{SearchesFor, SearchesInVain}
+use Rattle.vbr_list.specs.Walking.{SearchesIn}
 use Rattle.vbr_list.specs.Pieces.{GoesOn, trace_in}
 use Rattle.vbr_list.specs.Places.{IsCur, IsEnd}
 use Rattle.vbr_list.specs.Settling.{AsksMet, IsMet, Meeting, MeetsOther, MeetsWanted, ReadsWanted, TellsOther, has_wanted}
@@ -92,14 +93,14 @@ pub met_goes : {N : Type 0} {kind : Ghosts N} {c d : PendingCall N kind} → Mee
 met_goes x quiet = record { call = x.call; goes = record { quiet = quiet; counts = x.counts.counts; hand = x.hand }; more = x.counts.within.0 }
 
 -- and some steps came then
-pub searches_more_steps : {each : ℕ} {p q : Trace} {key before now more : ℕ} (since_then all : ℕ) → since_then + more ≤ now + all → Searches each p q key before now more → Searches each p q key before since_then all
+pub searches_more_steps : {per each : ℕ} {p q : Trace} {bucket before now more : ℕ} (since_then all : ℕ) → since_then + more ≤ now + all → SearchesIn per each p q bucket before now more → SearchesIn per each p q bucket before since_then all
 searches_more_steps since_then all le x = record { lost = x.lost; few = x.few; paid = let paid = x.paid in omega (arith, paid, le) }
 
 -- a budget that has no room for a slot, after these searches
-pub store_in_vain : {p q : Trace} {key before mid more : ℕ} (budget steps all : ℕ) → SearchesFor p q key before mid more → (refusal : Refusal) → LacksSteps (mid + steps + 7) budget refusal → more + steps + 7 ≤ all → SearchesInVain p q key before budget all refusal
-store_in_vain budget steps all x (OutOfSteps used) short le = searches_more_steps (budget + 1) all (omega (arith, short, le)) x
-store_in_vain budget steps all x NoSlot short le = tt
-store_in_vain budget steps all x (EpochSpent epoch) short le = tt
+pub store_in_vain : {p q : Trace} (key : ℕ) {before mid more : ℕ} (budget steps all : ℕ) → SearchesFor p q key before mid more → (refusal : Refusal) → LacksSteps (mid + steps + 7) budget refusal → more + steps + 7 ≤ all → SearchesInVain p q key before budget all refusal
+store_in_vain key budget steps all x (OutOfSteps used) short le = searches_more_steps (budget + 1) all (omega (arith, short, le)) x
+store_in_vain key budget steps all x NoSlot short le = tt
+store_in_vain key budget steps all x (EpochSpent epoch) short le = tt
 
 -- what was asked tells how it was met
 pub met_as : {N : Type 0} {kind : Ghosts N} (c m d : PendingCall N kind) (wanted : Wanted) (found : Found) (met : Met) → ((there : Option ℕ) → ReadsWanted wanted m d found there → MeetsWanted wanted c d) → ((there : Option ℕ) → TellsOther wanted m d there → MeetsOther wanted c d there) → AsksMet wanted m d found met → IsMet wanted c d met

@@ -12,13 +12,20 @@ use Rattle.vbr_list.specs.Budgets.{enough_past, insert_costs_past}
 use Rattle.vbr_list.specs.Wanted.{steps_to_compare}
 use Rattle.vbr_list.specs.declared.wanted.Wanted.{Wanted}
 
--- how often other passes had disturbed this one at a key's bucket, after these events: they inserted, marked or unlinked a node there, or advanced the epoch
-abbrev pub disturbed_after : Trace → ℕ → List Event → ℕ
-disturbed_after p key run = disturbances p.start run p.who (bucket_of p.start.shape key)
+-- how often other passes had disturbed this one at a bucket, after these events: they inserted, marked or unlinked a node there, or advanced the epoch
+abbrev pub disturbed_at : Trace → ℕ → List Event → ℕ
+disturbed_at p bucket run = disturbances p.start run p.who bucket
 
 -- and how often they did since, in what the pass has seen
+abbrev pub disturbed_in : Trace → Trace → ℕ → ℕ
+disturbed_in p q bucket = disturbed_at p bucket q.seen - disturbed_at p bucket p.seen
+
+-- so it is at a key's bucket
+abbrev pub disturbed_after : Trace → ℕ → List Event → ℕ
+disturbed_after p key run = disturbed_at p (bucket_of p.start.shape key) run
+
 abbrev pub disturbed : Trace → Trace → ℕ → ℕ
-disturbed p q key = disturbed_after p key q.seen - disturbed_after p key p.seen
+disturbed p q key = disturbed_in p q (bucket_of p.start.shape key)
 
 -- the most that this can be: one for each advance of the epoch since, two for each update answered yes, and one for each node that was marked
 abbrev pub most_disturbed : Trace → Trace → ℕ
@@ -34,9 +41,16 @@ enough_among nodes times = (times + 1) * (5 * (nodes + times) + 11)
 abbrev pub costs_among : ℕ → ℕ → ℕ → ℕ
 costs_among nodes times reading = (times + 1) * (5 * (nodes + times) + 4 + reading)
 
--- how often the pass had changed the list of a key's bucket itself, or moved the epoch
+-- the most that it costs to find the next key of a bucket among so many nodes, with so many steps to read a value
+abbrev pub seek_costs_among : ℕ → ℕ → ℕ → ℕ
+seek_costs_among nodes times reading = (times + 1) * (5 * (nodes + times) + (3 + reading))
+
+-- how often the pass had changed the list of a bucket itself, or moved the epoch
+abbrev pub changed_at : Trace → ℕ → List Event → ℕ
+changed_at p bucket run = own_changes p.start run p.who bucket
+
 abbrev pub changed_after : Trace → ℕ → List Event → ℕ
-changed_after p key run = own_changes p.start run p.who (bucket_of p.start.shape key)
+changed_after p key run = changed_at p (bucket_of p.start.shape key) run
 
 -- enough to find where a key stands among so many nodes, for a pass that is disturbed so often
 abbrev pub enough_to_search_among : ℕ → ℕ → ℕ

@@ -1,5 +1,6 @@
 -- An insert, piece by piece: it takes a slot once it has found the key absent, and then links it. A store takes one by the same piece. Only contracts of private functions cite this.
-use Rattle.std.specs.Prelude.{◌≡◌, ℕ, ◌+◌, ◌*◌, ◌<◌, ◌≤◌, Bool, true, false, length, Option, Some, None}
+use Rattle.std.specs.Prelude.{◌≡◌, ℕ, ◌+◌, ◌<◌, ◌≤◌, Bool, true, false, length, Option, Some, None}
+use Rattle.vbr_words.specs.Buckets.{bucket_of}
 use Rattle.vbr_words.specs.declared.nodes.Nodes.{Ghosts}
 use Rattle.vbr_machine.specs.Runs.{Begins}
 use Rattle.vbr_machine.specs.declared.history.Op.{Op}
@@ -16,8 +17,8 @@ use Rattle.vbr_at_table.specs.Refusals.{HasNoSlot, IsSpent}
 use Rattle.vbr_at_table.specs.Steps.{CountsSteps}
 use Rattle.vbr_at_table.specs.declared.budget.TheConstants.{PIECE}
 use Rattle.vbr_list.specs.Budgets.{LacksSteps}
-use Rattle.vbr_list.specs.Disturbed.{disturbed_after, steps_for_slot}
-use Rattle.vbr_list.specs.Walking.{LosesFound, met_since}
+use Rattle.vbr_list.specs.Disturbed.{steps_for_slot}
+use Rattle.vbr_list.specs.Walking.{LosesFound, SearchesIn}
 use Rattle.vbr_list.specs.Wanted.{WasWantedFor}
 use Rattle.vbr_list.specs.declared.wanted.Wanted.TheVariants.{Absent}
 use Rattle.vbr_list.specs.Pieces.{IsSameCall, Replies, pass_in, trace_in}
@@ -102,10 +103,8 @@ pub record ProvidesNone {N : Type 0} {kind : Ghosts N} (c d : PendingCall N kind
   pub enough : LacksSteps (c.used + steps_to_take_among (trace_in c).start (pass_in c).pool (gained (trace_in c) (trace_in d)) + 7) c.budget refusal
 
 -- searches for a key, each but the last disturbed: nine steps for each node of each of them, so many for each that was disturbed, and so many more
-pub record Searches (each : ℕ) (p q : Trace) (key before since more : ℕ) : Type 0 where
-  pub lost : ℕ
-  pub few : disturbed_after p key p.seen + lost ≤ disturbed_after p key q.seen
-  pub paid : since ≤ before + 9 * met_since p q key + lost * (9 * met_since p q key + each) + more
+abbrev pub Searches : ℕ → Trace → Trace → ℕ → ℕ → ℕ → ℕ → Type 0
+Searches each p q key before since more = SearchesIn 9 each p q (bucket_of p.start.shape key) before since more
 
 -- so it is without a slot, and with one that is to be linked: seven steps for each that was disturbed
 abbrev pub SearchesFor : Trace → Trace → ℕ → ℕ → ℕ → ℕ → Type 0

@@ -10,7 +10,6 @@ pub mod Wanted
 pub mod Sparing
 pub mod Expecting
 pub mod Pieces
-pub mod Nearing
 pub mod Walking
 pub mod Visiting
 pub mod Traversing

@@ -3,15 +3,14 @@ use Rattle.std.specs.Prelude.{◌≡◌, ℕ, ◌+◌, ◌<◌, Bool, true, Opti
 use Rattle.vbr_words.specs.declared.nodes.Nodes.{Ghosts}
 use Rattle.vbr_slots.specs.Alone.{IsFresh}
 use Rattle.vbr_slots.specs.Calls.{AddsAnswer, AddsNone, Quiet}
-use Rattle.vbr_slots.specs.Views.{Trace, knows}
+use Rattle.vbr_slots.specs.Views.{knows}
 use Rattle.vbr_at_table.specs.declared.budget.TheConstants.{PIECE}
 use Rattle.vbr_at_table.specs.declared.rollback.Rollback.{Rollback}
 use Rattle.vbr_list.specs.Budgets.{steps_where}
-use Rattle.vbr_list.specs.Disturbed.{disturbed_after}
 use Rattle.vbr_list.specs.Pieces.{Gives, trace_in}
 use Rattle.vbr_list.specs.Places.{IsSight, sighted}
 use Rattle.vbr_list.specs.Told.{given_in, look_up_op}
-use Rattle.vbr_list.specs.Walking.{LooksTo, LosesHeld, StoodOpen, WalksAgain, WalksOnce}
+use Rattle.vbr_list.specs.Walking.{IsDisturbed, LooksTo, LosesHeld, StoodOpen, WalksAgain, WalksOnce}
 use Rattle.vbr_list.specs.declared.call.PendingCall.{PendingCall}
 use Rattle.vbr_list.specs.declared.looking.Sight.{Sight}
 use Rattle.vbr_list.specs.declared.traversal.Stop.{Stop}
@@ -21,21 +20,17 @@ use Rattle.vbr_list.specs.declared.traversal.Stop.TheVariants.{Again, Tired}
 abbrev pub IsSightFor : {N : Type 0} {kind : Ghosts N} → PendingCall N kind → Sight → Type 0
 IsSightFor c sight = IsSight (trace_in c).start (knows (trace_in c)) c.key sight
 
--- how often others had disturbed the call at its bucket
-abbrev pub times_disturbed : {N : Type 0} {kind : Ghosts N} → PendingCall N kind → Trace → ℕ
-times_disturbed c q = disturbed_after (trace_in c) c.key q.seen
-
 -- one walk came to the key, or to where it is absent
 pub record WalksTo {N : Type 0} {kind : Ghosts N} (c d : PendingCall N kind) (sight : Sight) : Type 0 where
   pub sees : IsSight (trace_in d).start (knows (trace_in d)) c.key sight
   pub fresh : IsFresh (trace_in d)
-  pub stood : StoodOpen (trace_in c) (trace_in d) c.key (sighted sight)
-  pub paid : WalksOnce 5 (trace_in c) (trace_in d) c.key c.used d.used
+  pub stood : StoodOpen (trace_in c) (trace_in d) c.bucket (sighted sight)
+  pub paid : WalksOnce 5 3 (trace_in c) (trace_in d) c.bucket c.used d.used
 
 -- it stopped before that: it rolled back, disturbed by another; or the budget has no room for one more piece
 abbrev pub WalkStops : {N : Type 0} {kind : Ghosts N} → PendingCall N kind → PendingCall N kind → Stop → Type 0
-WalkStops c d Again = (c.used < d.used) × WalksOnce 5 (trace_in c) (trace_in d) c.key c.used d.used × (times_disturbed c (trace_in c) < times_disturbed c (trace_in d))
-WalkStops c d Tired = (c.budget < d.used + PIECE) × WalksOnce 5 (trace_in c) (trace_in d) c.key c.used d.used
+WalkStops c d Again = (c.used < d.used) × WalksOnce 5 3 (trace_in c) (trace_in d) c.bucket c.used d.used × IsDisturbed (trace_in c) (trace_in d) c.bucket
+WalkStops c d Tired = (c.budget < d.used + PIECE) × WalksOnce 5 3 (trace_in c) (trace_in d) c.bucket c.used d.used
 
 -- a look came to the key, or to where it is absent
 pub record Sees {N : Type 0} {kind : Ghosts N} (c d : PendingCall N kind) (sight : Sight) : Type 0 where

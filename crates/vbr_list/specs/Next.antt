@@ -1,14 +1,14 @@
 -- The next key of a bucket, from a number on: what is told of it.
 use Rattle.std.specs.Prelude.{◌≡◌, ℕ, ◌+◌, ◌*◌, ◌<◌, ◌≤◌, true, false, Option, Some, None, Result, IfOk, IfErr}
 use Rattle.vbr_words.specs.Buckets.{bucket_of}
-use Rattle.vbr_words.specs.declared.place.At.TheVariants.{Head}
-use Rattle.vbr_slots.specs.Alone.{IsAlone, ahead}
+use Rattle.vbr_slots.specs.Alone.{IsAlone}
 use Rattle.vbr_slots.specs.Calls.{AddsNone, OnlyLoads, Quiet}
 use Rattle.vbr_slots.specs.Views.{PassView, Trace}
 use Rattle.vbr_at_table.specs.KeptSlots.{TakesNoSlot}
 use Rattle.vbr_at_table.specs.Moments.{WasEntry, WasSo}
 use Rattle.vbr_at_table.specs.Steps.{TookWithin}
-use Rattle.vbr_list.specs.Budgets.{steps_to_value_of}
+use Rattle.vbr_list.specs.Budgets.{listed_in, steps_to_value_of}
+use Rattle.vbr_list.specs.Disturbed.{disturbed_in, enough_among, seek_costs_among}
 use Rattle.vbr_list.specs.Refusals.{IsTired}
 use Rattle.vbr_at_table.specs.declared.refusal.Refusal.{Refusal}
 
@@ -42,11 +42,7 @@ IsNextEntryIfAny p q bucket from (Some entry) = IsNextEntry p q bucket from entr
 
 -- ---- what it takes
 
--- how many nodes, linked or marked, are in the list of a bucket, in what the pass has seen
-abbrev pub listed_in : Trace → ℕ → ℕ
-listed_in p bucket = ahead p bucket (Head bucket)
-
--- what is enough to find the next key: five steps for each of them, and eleven
+-- what is enough to find the next key: five steps for each node in the bucket's list, and eleven
 abbrev pub enough_to_seek : Trace → ℕ → ℕ
 enough_to_seek p bucket = 5 * listed_in p bucket + 11
 
@@ -54,7 +50,7 @@ enough_to_seek p bucket = 5 * listed_in p bucket + 11
 abbrev pub seek_costs : Trace → ℕ → ℕ
 seek_costs p bucket = 5 * listed_in p bucket + 3 + steps_to_value_of p.start
 
--- the pass told what it was to tell, or was refused for want of steps alone; it made no call, and loads alone, added nothing to the chronicle, and has what slots it had; it made no more steps than its budget; alone it has steps enough with a budget that is known before, and what is told costs no more than is known before
+-- the pass told what it was to tell, or was refused for want of steps alone; it made no call, and loads alone, added nothing to the chronicle, and has what slots it had; it made no more steps than its budget; alone it has steps enough with a budget that is known before, and what is told costs no more than is known before; and so it is of a pass that was disturbed so often
 pub record Seeks {A : Type 0} (Tells : A → Type 0) (p q : PassView) (bucket budget : ℕ) (answer : Result A Refusal) : Type 0 where
   pub told : IfOk answer Tells
   pub quiet : Quiet p.trace q.trace
@@ -65,7 +61,9 @@ pub record Seeks {A : Type 0} (Tells : A → Type 0) (p q : PassView) (bucket bu
   pub steps : TookWithin p.trace q.trace budget
   pub refused : IfErr answer (IsTired p q budget)
   pub within : IfErr answer (λ refusal. IsAlone p.trace q.trace → budget < enough_to_seek p.trace bucket)
+  pub disturbed_within : IfErr answer (λ refusal. budget < enough_among (listed_in p.trace bucket) (disturbed_in p.trace q.trace bucket))
   pub costs : IfOk answer (λ told. IsAlone p.trace q.trace → TookWithin p.trace q.trace (seek_costs p.trace bucket))
+  pub disturbed_costs : IfOk answer (λ told. TookWithin p.trace q.trace (seek_costs_among (listed_in p.trace bucket) (disturbed_in p.trace q.trace bucket) (steps_to_value_of p.trace.start)))
 
 -- so it is of a key, and of an entry
 abbrev pub SeeksKey : PassView → PassView → ℕ → ℕ → ℕ → Result (Option ℕ) Refusal → Type 0

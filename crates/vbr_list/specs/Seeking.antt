@@ -1,11 +1,12 @@
 -- Seeking the next key of a bucket: all its steps are loads. Only contracts of private functions cite this.
-use Rattle.std.specs.Prelude.{◌≡◌, ℕ, ◌+◌, ◌<◌, ◌≤◌, true, Option, Some, None, IfSome, IfNone}
-use Rattle.vbr_slots.specs.Alone.{IsAlone}
+use Rattle.std.specs.Prelude.{◌≡◌, ℕ, ◌+◌, ◌<◌, true, Option, Some, None, IfSome, IfNone}
 use Rattle.vbr_slots.specs.Views.{PassView, Trace}
 use Rattle.vbr_at_table.specs.Moments.{WasEntry}
 use Rattle.vbr_at_table.specs.declared.budget.TheConstants.{PIECE}
-use Rattle.vbr_list.specs.Next.{HasNoNext, IsNextKey, enough_to_seek, seek_costs}
+use Rattle.vbr_list.specs.Budgets.{steps_to_value_of}
+use Rattle.vbr_list.specs.Next.{HasNoNext, IsNextKey}
 use Rattle.vbr_list.specs.Pieces.{Peeks}
+use Rattle.vbr_list.specs.Walking.{IsDisturbed, SearchesIn, WalksOnce}
 use Rattle.vbr_list.specs.declared.seeking.NextNode.{NextNode}
 use Rattle.vbr_list.specs.declared.traversal.Stop.{Stop}
 use Rattle.vbr_list.specs.declared.traversal.Stop.TheVariants.{Again, Tired}
@@ -20,20 +21,29 @@ abbrev pub TellsNode : Trace → Trace → ℕ → ℕ → Option NextNode → T
 TellsNode p q bucket from None = HasNoNext p q bucket from
 TellsNode p q bucket from (Some next) = TellsWhere p q bucket from (Some (next.key, next.value)) × (next.is_last ≡ true → HasNoNext p q bucket (next.key + 1))
 
--- it tells what is next; alone, in no more steps than is known before
+-- the steps of a walk besides those for its nodes: three to start, and those of reading the value
+abbrev pub steps_besides : Trace → ℕ
+steps_besides p = 3 + steps_to_value_of p.start
+
+-- one walk tells what is next
+pub record WalksToNext (p q : Trace) (bucket from before since : ℕ) (told : Option NextNode) : Type 0 where
+  pub tells : TellsNode p q bucket from told
+  pub paid : WalksOnce 5 (steps_besides p) p q bucket before since
+
+-- it stopped before that: it rolled back, disturbed by another; or the budget has no room for one more piece
+abbrev pub SeekStops : Trace → Trace → ℕ → ℕ → ℕ → ℕ → Stop → Type 0
+SeekStops p q bucket before since budget Again = (before < since) × WalksOnce 5 (steps_besides p) p q bucket before since × IsDisturbed p q bucket
+SeekStops p q bucket before since budget Tired = (budget < since + PIECE) × WalksOnce 5 3 p q bucket before since
+
+-- a seek tells what is next: each walk but the last was disturbed
 pub record FindsNext (p q : Trace) (bucket from before since : ℕ) (told : Option NextNode) : Type 0 where
   pub tells : TellsNode p q bucket from told
-  pub paid : IsAlone p q → since ≤ before + seek_costs p bucket
+  pub searches : SearchesIn 5 (steps_besides p) p q bucket before since (steps_besides p)
 
--- the budget has no room for one more piece; alone it was below what is enough
+-- the budget has no room for one more piece
 pub record SeekTires (p q : Trace) (bucket before since budget : ℕ) : Type 0 where
   pub tired : budget < since + PIECE
-  pub short : IsAlone p q → budget < before + enough_to_seek p bucket
-
--- it rolled back, which it doesn't alone; or it tired
-abbrev pub SeekStops : Trace → Trace → ℕ → ℕ → ℕ → ℕ → Stop → Type 0
-SeekStops p q bucket before since budget Again = (before < since) × (IsAlone p q → ⊥)
-SeekStops p q bucket before since budget Tired = SeekTires p q bucket before since budget
+  pub searches : SearchesIn 5 (steps_besides p) p q bucket before (budget + 1) 11
 
 -- a seek in a bucket that began with so many steps: what the pass did, and what it found, or that it tired
 pub record Sought (p q : PassView) (bucket from before since budget : ℕ) (found : Option (Option NextNode)) : Type 0 where

@@ -1,5 +1,6 @@
 -- A traversal, piece by piece: it starts at the head, visits node after node, and comes to the key. Only contracts of private functions cite this.
 use Rattle.std.specs.Prelude.{◌≡◌, ℕ, ◌+◌, ◌<◌}
+use Rattle.vbr_words.specs.Buckets.{bucket_of}
 use Rattle.vbr_words.specs.declared.nodes.Nodes.{Ghosts}
 use Rattle.vbr_machine.specs.Runs.{Begins}
 use Rattle.vbr_slots.specs.Calls.{IsSame}
@@ -12,7 +13,7 @@ use Rattle.vbr_list.specs.Disturbed.{disturbed_after}
 use Rattle.vbr_list.specs.Found.{IsFound}
 use Rattle.vbr_list.specs.Pieces.{trace_in}
 use Rattle.vbr_list.specs.Places.{IsPlaceBefore, IsPred, Locates}
-use Rattle.vbr_list.specs.Walking.{KnowsEpoch, NextStandsStill, Repeats, StandsStill, WalksAgain, WalksOnce}
+use Rattle.vbr_list.specs.Walking.{IsDisturbed, KnowsEpoch, NextStandsStill, Repeats, StandsStill, WalksAgain, WalksOnce}
 use Rattle.vbr_list.specs.declared.call.PendingCall.{PendingCall}
 use Rattle.vbr_list.specs.declared.found.Found.{Found}
 use Rattle.vbr_list.specs.declared.traversal.Stop.{Stop}
@@ -47,14 +48,14 @@ pub record WalkFinds {N : Type 0} {kind : Ghosts N} (c d : PendingCall N kind) (
   pub found : IsFound (trace_in c) (trace_in d) c.key told
   pub used : told.used ≡ d.used
   pub knew : KnowsEpoch (trace_in c) (trace_in d)
-  pub pred : StandsStill (trace_in c) (trace_in d) c.key told.pred
-  pub cur : NextStandsStill (trace_in c) (trace_in d) c.key told.cur
-  pub paid : WalksOnce 9 (trace_in c) (trace_in d) c.key c.used d.used
+  pub pred : StandsStill (trace_in c) (trace_in d) c.bucket told.pred
+  pub cur : NextStandsStill (trace_in c) (trace_in d) c.bucket told.cur
+  pub paid : WalksOnce 9 3 (trace_in c) (trace_in d) c.bucket c.used d.used
 
 -- it rolled back, disturbed by another; or the budget has no room for one more piece
 abbrev pub SearchStops : {N : Type 0} {kind : Ghosts N} → PendingCall N kind → PendingCall N kind → Stop → Type 0
-SearchStops c d Again = (c.used < d.used) × WalksOnce 9 (trace_in c) (trace_in d) c.key c.used d.used × (disturbed_after (trace_in c) c.key (trace_in c).seen < disturbed_after (trace_in c) c.key (trace_in d).seen)
-SearchStops c d Tired = (c.budget < d.used + PIECE) × WalksOnce 9 (trace_in c) (trace_in d) c.key c.used d.used
+SearchStops c d Again = (c.used < d.used) × WalksOnce 9 3 (trace_in c) (trace_in d) c.bucket c.used d.used × IsDisturbed (trace_in c) (trace_in d) c.bucket
+SearchStops c d Tired = (c.budget < d.used + PIECE) × WalksOnce 9 3 (trace_in c) (trace_in d) c.bucket c.used d.used
 
 -- the last traversal of a search began there, and each before it was disturbed; what it found stood open since
 pub record LastWalk (p q : Trace) (key before since : ℕ) (told : Found) : Type 0 where
@@ -64,8 +65,8 @@ pub record LastWalk (p q : Trace) (key before since : ℕ) (told : Found) : Type
   pub to : Begins begun.seen q.seen
   pub count : advances q ≡ advances begun
   pub knew : KnowsEpoch begun q
-  pub pred : StandsStill begun q key told.pred
-  pub cur : NextStandsStill begun q key told.cur
+  pub pred : StandsStill begun q (bucket_of begun.start.shape key) told.pred
+  pub cur : NextStandsStill begun q (bucket_of begun.start.shape key) told.cur
   pub lost : ℕ
   pub repeats : Repeats 9 p q key 3 before since (lost + 1) (disturbed_after p key begun.seen + 1)
 

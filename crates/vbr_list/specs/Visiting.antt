@@ -1,35 +1,31 @@
 -- The two pieces of each walk along the list of a bucket: it starts at the head, and visits the node behind a place. Only contracts of private functions cite this.
-use Rattle.std.specs.Prelude.{◌≡◌, ℕ, ◌+◌, ◌<◌, ◌≤◌, suc, false}
+use Rattle.std.specs.Prelude.{◌≡◌, ℕ, ◌+◌, ◌<◌, ◌≤◌, false}
 use Rattle.vbr_words.specs.Words.{link_of}
 use Rattle.vbr_words.specs.Buckets.{bucket_of}
 use Rattle.vbr_words.specs.declared.place.At.TheVariants.{Head}
 use Rattle.vbr_machine.specs.Membership.{HeldIn, KeyAt}
-use Rattle.vbr_slots.specs.Alone.{IsAlone, IsFresh, ahead}
+use Rattle.vbr_slots.specs.Alone.{IsFresh}
 use Rattle.vbr_slots.specs.Views.{Trace, knows}
-use Rattle.vbr_at_table.specs.Alone.{StandsNow}
 use Rattle.vbr_at_table.specs.Held.{HoldsMarked, IsHeld, Names, held_of}
 use Rattle.vbr_at_table.specs.Keeping.{Keeps}
 use Rattle.vbr_at_table.specs.declared.held.Held.{Held}
 use Rattle.vbr_at_table.specs.declared.rollback.Rollback.{Rollback}
-use Rattle.vbr_list.specs.Nearing.{StandsInList, StillAt}
 use Rattle.vbr_list.specs.Walking.{MovesEpoch, MovesSince, ReadsFresh, ReadsNext}
 use Rattle.vbr_list.specs.declared.visiting.Visited.{Visited}
 use Rattle.vbr_list.specs.declared.visiting.Visited.TheVariants.{Beyond, Marked, Smaller}
 
 -- ---- the start
 
--- it has come to the head of the bucket, which is unmarked, and which it read in the epoch that stood; the head stands if the pass was alone
+-- it has come to the head of the bucket, which is unmarked, and which it read in the epoch that stood
 pub record StartsAt (p q : Trace) (bucket : ℕ) (head : Held) : Type 0 where
   pub known : IsHeld (knows q) head
   pub unmarked : (link_of head.word).mark ≡ false
   pub at : head.at ≡ Head bucket
   pub reads : ReadsFresh p q head
-  pub stands : IsAlone p q → StillAt q head
 
--- it didn't start, as the epoch moved since it was read, which it doesn't for a pass that was alone
-pub record StartsNone (p q : Trace) (rollback : Rollback) : Type 0 where
-  pub moves : MovesSince p q
-  pub still : IsAlone p q → ⊥
+-- it didn't start, as the epoch moved since it was read
+abbrev pub StartsNone : Trace → Trace → Rollback → Type 0
+StartsNone p q rollback = MovesSince p q
 
 -- ---- a visit
 
@@ -68,22 +64,14 @@ Visits p q here number (Marked marked) = HoldsMarked (knows q) marked × Names h
 Visits p q here number (Smaller node) = HasKeyBelow p q here node number
 Visits p q here number (Beyond node key) = HasKey p q here node key × (number ≤ key)
 
--- what a visit leaves: it came to a place of the list that stands, and has one node fewer behind it
-pub record ComesNearer (p q : Trace) (bucket : ℕ) (here next : Held) : Type 0 where
-  pub stands : StillAt q next
-  pub there : StandsInList q next
-  pub fewer : ahead p bucket here.at ≡ suc (ahead q bucket next.at)
-
--- it met this behind a place, in so many steps, in the epoch that stood, and knows what it knew; alone, it has come nearer
+-- it met this behind a place, in so many steps, in the epoch that stood, and knows what it knew
 pub record Meets (p q : Trace) (before since : ℕ) (here : Held) (number : ℕ) (met : Visited) : Type 0 where
   pub keeps : Keeps (knows p) (knows q)
   pub visits : Visits p q here number met
   pub reads : ReadsNext p q here (met_place met)
   pub fresh : IsFresh q
   pub count : since ≡ before + steps_met met
-  pub alone : (bucket : ℕ) → HeldIn (knows p) here.at bucket → StandsInList p here → StandsNow p here → IsAlone p q → ComesNearer p q bucket here (met_place met)
 
--- it rolled back, as the epoch has moved, which it hasn't for a pass that knows it and was alone
-pub record RollsBackFrom (p q : Trace) (rollback : Rollback) : Type 0 where
-  pub moves : MovesEpoch p q
-  pub still : IsFresh p → IsAlone p q → ⊥
+-- it rolled back, as the epoch has moved
+abbrev pub RollsBackFrom : Trace → Trace → Rollback → Type 0
+RollsBackFrom p q rollback = MovesEpoch p q

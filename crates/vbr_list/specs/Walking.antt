@@ -1,5 +1,5 @@
--- How far a look-up has come along the list of a key's bucket, whatever others did meanwhile. Only contracts of private functions cite this.
-use Rattle.std.specs.Prelude.{◌≡◌, ◌≢◌, ℕ, ◌+◌, ◌*◌, ◌≤◌, List, Option, Some, None, ◌⊎◌}
+-- How far a walk has come along the list of a bucket, whatever others did meanwhile. Only contracts of private functions cite this.
+use Rattle.std.specs.Prelude.{◌≡◌, ◌≢◌, ℕ, ◌+◌, ◌*◌, ◌<◌, ◌≤◌, List, Option, Some, None, ◌⊎◌}
 use Rattle.vbr_words.specs.Words.{link_of}
 use Rattle.vbr_words.specs.Buckets.{bucket_of}
 use Rattle.vbr_words.specs.declared.place.At.TheVariants.{Slot}
@@ -19,7 +19,7 @@ use Rattle.vbr_at_table.specs.Rollbacks.{FreshIfMoved, IsLost, IsMovedOrLost}
 use Rattle.vbr_at_table.specs.declared.held.Held.{Held}
 use Rattle.vbr_at_table.specs.declared.rollback.Rollback.{Rollback}
 use Rattle.vbr_at_table.specs.declared.rollback.Rollback.TheVariants.{LostExchange}
-use Rattle.vbr_list.specs.Disturbed.{changed_after, disturbed_after}
+use Rattle.vbr_list.specs.Disturbed.{changed_at, disturbed_after, disturbed_at}
 use Rattle.vbr_list.specs.declared.found.Found.{Found}
 
 -- ---- what was read
@@ -82,27 +82,31 @@ LosesFound p q found = LosesPlace p q found.pred ⊎ LosesNext p q found.cur
 abbrev pub nodes_after : Trace → List Event → Incarnations
 nodes_after p run = incarnations_after p.start run
 
--- how many nodes of the list of a key's bucket can have been met since
-abbrev pub met_since : Trace → Trace → ℕ → ℕ
-met_since p q key = met p.start (nodes_after p p.seen) (nodes_after p q.seen) (bucket_of p.start.shape key)
+-- how many nodes of the list of a bucket can have been met since
+abbrev pub met_in : Trace → Trace → ℕ → ℕ
+met_in p q bucket = met p.start (nodes_after p p.seen) (nodes_after p q.seen) bucket
 
--- at a moment of what the pass did, what is held stood there, and its place was open in the bucket of a key
-pub record StoodOpen (p q : Trace) (key : ℕ) (held : Held) : Type 0 where
+-- and of that of a key's bucket
+abbrev pub met_since : Trace → Trace → ℕ → ℕ
+met_since p q key = met_in p q (bucket_of p.start.shape key)
+
+-- at a moment of what the pass did, what is held stood there, and its place was open in a bucket
+pub record StoodOpen (p q : Trace) (bucket : ℕ) (held : Held) : Type 0 where
   pub moment : List Event
   pub from : Begins p.seen moment
   pub to : Begins moment q.seen
   pub shown : link_shown_at (nodes_after p moment) held.at ≡ link_of held.word
-  pub is_open : IsOpenIn p.start (nodes_after p moment) (bucket_of p.start.shape key) held.at
+  pub is_open : IsOpenIn p.start (nodes_after p moment) bucket held.at
 
 -- what is held stood open at a moment after which the pass changed nothing itself
-pub record StandsStill (p q : Trace) (key : ℕ) (held : Held) : Type 0 where
-  pub stood : StoodOpen p q key held
-  pub own : changed_after p key q.seen ≡ changed_after p key stood.moment
+pub record StandsStill (p q : Trace) (bucket : ℕ) (held : Held) : Type 0 where
+  pub stood : StoodOpen p q bucket held
+  pub own : changed_at p bucket q.seen ≡ changed_at p bucket stood.moment
 
 -- so it is of what stands behind a place, if that is a node
 abbrev pub NextStandsStill : Trace → Trace → ℕ → Option Held → Type 0
-NextStandsStill p q key None = Unit {0}
-NextStandsStill p q key (Some node) = StandsStill p q key node
+NextStandsStill p q bucket None = Unit {0}
+NextStandsStill p q bucket (Some node) = StandsStill p q bucket node
 
 -- the epoch that the pass knows stood at a moment of what it did
 pub record KnowsEpoch (p q : Trace) : Type 0 where
@@ -111,33 +115,50 @@ pub record KnowsEpoch (p q : Trace) : Type 0 where
   pub to : Begins moment q.seen
   pub was : (nodes_after p moment).epoch ≡ (knows q).epoch
 
--- a walk stands at a place, behind a place before the key that stood open; for each node that it has visited it made no more than so many steps, and three before
-pub record Walks (per : ℕ) (p q : Trace) (key before since : ℕ) (pred here : Held) : Type 0 where
+-- a walk along a bucket stands at a place, behind a place that stood open; for each node that it has visited it made no more than so many steps, and three before
+pub record Walks (per : ℕ) (p q : Trace) (bucket before since : ℕ) (pred here : Held) : Type 0 where
   pub knew : KnowsEpoch p q
-  pub stands : StandsStill p q key pred
+  pub stands : StandsStill p q bucket pred
   pub visited : ℕ
   pub steps : since ≤ before + 3 + per * visited
-  pub ahead : HasVisited p.start (nodes_after p p.seen) (nodes_after p q.seen) (knows q).epoch (bucket_of p.start.shape key) visited (link_of here.word).slot
+  pub ahead : HasVisited p.start (nodes_after p p.seen) (nodes_after p q.seen) (knows q).epoch bucket visited (link_of here.word).slot
 
--- one walk made no more than so many steps for each node that it can have met, and three before
-abbrev pub WalksOnce : ℕ → Trace → Trace → ℕ → ℕ → ℕ → Type 0
-WalksOnce per p q key before since = since ≤ before + 3 + per * met_since p q key
+-- one walk made no more than so many steps for each node that it can have met, and so many besides
+abbrev pub WalksOnce : ℕ → ℕ → Trace → Trace → ℕ → ℕ → ℕ → Type 0
+WalksOnce per each p q bucket before since = since ≤ before + each + per * met_in p q bucket
+
+-- it was disturbed
+abbrev pub IsDisturbed : Trace → Trace → ℕ → Type 0
+IsDisturbed p q bucket = disturbed_at p bucket p.seen < disturbed_at p bucket q.seen
 
 -- so many walks, each with so many steps for a node and so many besides; and no more of them than it was disturbed
-pub record Repeats (per : ℕ) (p q : Trace) (key each before since tries times : ℕ) : Type 0 where
-  pub few : disturbed_after p key p.seen + tries ≤ times
-  pub paid : since ≤ before + tries * (per * met_since p q key + each)
+pub record RepeatsIn (per : ℕ) (p q : Trace) (bucket each before since tries times : ℕ) : Type 0 where
+  pub few : disturbed_at p bucket p.seen + tries ≤ times
+  pub paid : since ≤ before + tries * (per * met_in p q bucket + each)
+
+-- walks one after another: each but the last was disturbed
+pub record WalksAgainIn (per : ℕ) (p q : Trace) (bucket before since : ℕ) : Type 0 where
+  pub lost : ℕ
+  pub repeats : RepeatsIn per p q bucket 3 before since (lost + 1) (disturbed_at p bucket q.seen + 1)
+
+-- and with what came between and after: so many steps for each node of each of them, so many for each that was disturbed, and so many more
+pub record SearchesIn (per each : ℕ) (p q : Trace) (bucket before since more : ℕ) : Type 0 where
+  pub lost : ℕ
+  pub few : disturbed_at p bucket p.seen + lost ≤ disturbed_at p bucket q.seen
+  pub paid : since ≤ before + per * met_in p q bucket + lost * (per * met_in p q bucket + each) + more
+
+-- so it is along a key's bucket
+abbrev pub Repeats : ℕ → Trace → Trace → ℕ → ℕ → ℕ → ℕ → ℕ → ℕ → Type 0
+Repeats per p q key each before since tries times = RepeatsIn per p q (bucket_of p.start.shape key) each before since tries times
+
+abbrev pub WalksAgain : ℕ → Trace → Trace → ℕ → ℕ → ℕ → Type 0
+WalksAgain per p q key before since = WalksAgainIn per p q (bucket_of p.start.shape key) before since
 
 -- a look came to what stood open with its last walk, and each walk before was disturbed
 pub record LooksTo (p q : Trace) (key before since : ℕ) (held : Held) : Type 0 where
-  pub stood : StoodOpen p q key held
+  pub stood : StoodOpen p q (bucket_of p.start.shape key) held
   pub lost : ℕ
   pub repeats : Repeats 5 p q key 3 before since (lost + 1) (disturbed_after p key stood.moment + 1)
-
--- walks one after another: each but the last was disturbed
-pub record WalksAgain (per : ℕ) (p q : Trace) (key before since : ℕ) : Type 0 where
-  pub lost : ℕ
-  pub repeats : Repeats per p q key 3 before since (lost + 1) (disturbed_after p key q.seen + 1)
 
 -- ---- what is lost
 

@@ -21,7 +21,8 @@ use vbr_words::{Entries, Nodes};
 /// and two more for the last one where nodes have values. It confirms nothing.
 ///
 /// OutOfSteps is its one refusal. While the other passes stand still, a budget of 5n + 11 is enough,
-/// with n nodes in the bucket, and what is told took at most 5n + 3 steps, or 5n + 5 with values.
+/// with n nodes in the bucket, and what is told took at most 5n + 3 steps, or 5n + 5 with values. A call
+/// that others disturb m times there makes at most m walks more, each among at most n + m nodes.
 pub fn next_key<N: Nodes>(
     slots: &Slots<N>,
     pass: &mut Pass,
@@ -113,6 +114,7 @@ fn seek_by<N: Nodes>(
     ensures seeks { Seeks (TellsWhere (trace_of at.old) (trace_of at.new) bucket from)
         (pass_of at.old) (pass_of at.new) bucket budget result.0 }
 {
+    at.law();
     let (found, used) = seek_in(at, bucket, from, budget, 0);
     match found {
         Some(Some(node)) => (Ok(Some((node.key, node.value))), used),

@@ -3,7 +3,7 @@
 ghost use Rattle.std.specs.Prelude.{◌<◌, ◌≤◌, IfOk, IfErr};
 ghost use Rattle.vbr_slots.specs.AtTables.{IsSameTable, pass_of, trace_of};
 ghost use Rattle.vbr_list.specs.Pieces.{Peeks};
-ghost use Rattle.vbr_list.specs.Seeking.{FindsNext, SeekStops, Sought};
+ghost use Rattle.vbr_list.specs.Seeking.{SeekStops, Sought, WalksToNext};
 
 use crate::looking::held_of;
 use crate::traversal::Stop;
@@ -38,7 +38,7 @@ fn walk<N: Nodes>(
     requires within { used.old ≤ budget }
     ensures table { IsSameTable at.old at.new }
     ensures peeks { Peeks (pass_of at.old) (pass_of at.new) used.old used.new budget }
-    ensures next { IfOk result (FindsNext (trace_of at.old) (trace_of at.new)
+    ensures next { IfOk result (WalksToNext (trace_of at.old) (trace_of at.new)
         bucket from used.old used.new) }
     ensures stopped { IfErr result (SeekStops (trace_of at.old) (trace_of at.new)
         bucket used.old used.new budget) }

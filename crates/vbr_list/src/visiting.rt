@@ -56,7 +56,6 @@ pub(crate) fn visit_behind<N: Nodes>(
         used.old used.new here.now number) }
     ensures moved { IfErr result (RollsBackFrom (trace_of at.old) (trace_of at.new)) }
 {
-    at.law();
     let node = next(at, here);
     *used += 3;
     let Some(node) = node? else { unreachable!() };

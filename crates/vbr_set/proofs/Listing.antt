@@ -17,7 +17,8 @@ use Rattle.vbr_at_table.specs.Moments.{WasEntry}
 use Rattle.vbr_at_table.specs.Steps.{TookWithin}
 use Rattle.vbr_at_table.proofs.Lemmas.{none_on, none_refl}
 use Rattle.vbr_list.specs.Cursors.{HasGiven, HasGivenAll, HasStayedOrMoved, IsAtEnd, IsPastKey, IsToCome, SeesMore, StopsShort, costs_over, first_cursor}
-use Rattle.vbr_list.specs.Next.{enough_to_seek, listed_in}
+use Rattle.vbr_list.specs.Budgets.{listed_in}
+use Rattle.vbr_list.specs.Next.{enough_to_seek}
 use Rattle.vbr_list.specs.declared.cursor.Cursor.{Cursor}
 use Rattle.vbr_at_table.specs.declared.refusal.Refusal.{Refusal}
 use Rattle.vbr_list.proofs.Lemmas.{entry_more, entry_since, given_all, given_none, given_on, sees_on}

@@ -23,4 +23,4 @@ pub returns-in-Ok-clause-answers : goal.returns-in-Ok-clause-answers
 returns-in-Ok-clause-answers g c = absent_answered c.in-Ok.ensures.found.did
 
 pub returns-in-Err-clause-lost : goal.returns-in-Err-clause-lost
-returns-in-Err-clause-lost g c = absent_finds c.args.pred.now c.law.ensures.start c.in-Err.ensures.other.unexpected c.args.pred.now.at refl c.in-Err.ensures.other.did
+returns-in-Err-clause-lost g c = absent_finds c.args.pred.now c.in-Err.ensures.other.unexpected c.args.pred.now.at refl c.in-Err.ensures.other.did

@@ -35,4 +35,4 @@ pub returns-in-Ok-clause-answers : goal.returns-in-Ok-clause-answers
 returns-in-Ok-clause-answers g c = answered g c
 
 pub returns-in-Err-clause-lost : goal.returns-in-Err-clause-lost
-returns-in-Err-clause-lost g c = present_finds c.args.held.now c.law.ensures.start c.in-Err.ensures.other.unexpected c.in-Slot.slot c.in-Slot.is c.in-Err.ensures.other.did
+returns-in-Err-clause-lost g c = present_finds c.args.held.now c.in-Err.ensures.other.unexpected c.in-Slot.slot c.in-Slot.is c.in-Err.ensures.other.did

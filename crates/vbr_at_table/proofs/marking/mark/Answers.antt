@@ -1,13 +1,7 @@
 use Rattle.std.proofs.Common.{◌<◌, subst, refl, rules}
 use Rattle.vbr_machine.specs.Start.{Start}
-use Rattle.vbr_words.specs.declared.place.At.{At}
 use Rattle.vbr_at_table.proofs.Advancing.{did_none}
-use Rattle.std.proofs.Common.{◌≡◌}
-use Rattle.vbr_words.specs.Words.{link_of}
-use Rattle.vbr_machine.specs.Images.{link_shown_at}
-use Rattle.vbr_slots.specs.Alone.{nodes}
 use Rattle.vbr_slots.proofs.Lemmas.{did_same, did_seen}
-use Rattle.vbr_at_table.proofs.AloneExchanges.{mark_wins}
 use Rattle.vbr_at_table.proofs.ExchangeCalls.{run_after}
 use Rattle.vbr_at_table.proofs.Unchanged.{unchanged_by_none}
 use Rattle.vbr_at_table.proofs.Accepted.{accepted_checked, mark_accepted}
@@ -48,7 +42,4 @@ returns-in-Err-clause-lost g c = record {
   quiet = mark_failed c.in-Err.ensures.other.did c.in-Err.ensures.other.unexpected;
   lost = search rules;
   unchanged = unchanged_by_none c.law.ensures.start (run_after c.law.ensures.start c.in-Err.ensures.other.did) (did_same c.in-Err.ensures.other.did) (did_seen c.in-Err.ensures.other.did) (mark_adds_none c.in-Err.ensures.other.did c.in-Err.ensures.other.unexpected);
-  wins = (λ alone stands.
-      let P : At → Type 0 = λ at. link_shown_at (nodes c.args.at.now.stepper.now.trace) at ≡ link_of c.args.held.now.word in
-      mark_wins c.law.ensures.start alone c.in-Slot.slot c.args.held.now.word c.in-Err.ensures.other.did c.in-Err.ensures.other.unexpected (subst P c.in-Slot.is stands));
 }

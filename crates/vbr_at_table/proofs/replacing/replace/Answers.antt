@@ -79,5 +79,5 @@ pub returns-in-Err-clause-lost : goal.returns-in-Err-clause-lost
 returns-in-Err-clause-lost g c = record {
   same = search rules;
   hand = search rules;
-  exchange = replace_lost c.args.held.now c.in-Slot.is c.law.ensures.start c.fill.ensures.fills.fills.quiet c.fill.ensures.fills.fills.unchanged c.fill.ensures.stores.keeps (λ alone. c.fill.ensures.fills.fills.stands alone c.requires.node.present.unmarked) c.in-Err.ensures.other.did c.in-Err.ensures.other.unexpected;
+  exchange = replace_lost c.args.held.now c.in-Slot.is c.law.ensures.start c.fill.ensures.fills.fills.quiet c.fill.ensures.fills.fills.unchanged c.fill.ensures.stores.keeps c.in-Err.ensures.other.did c.in-Err.ensures.other.unexpected;
 }

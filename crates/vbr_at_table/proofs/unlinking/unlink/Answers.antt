@@ -55,4 +55,4 @@ returns-in-Err-clause-failed g c =
     unlink_lost c.args.pred.now c.args.marked c.decode.result c.in_ok-next_birth.next_birth c.law.ensures b.reads b.birth c.requires.pred c.requires.marked c.requires.names c.decode.ensures.link c.in-Err.ensures.other.did c.in-Err.ensures.other.unexpected c.in-Err.ensures.other.keeps
 
 pub returns-in_err-next_birth-clause-failed : goal.returns-in_err-next_birth-clause-failed
-returns-in_err-next_birth-clause-failed g c = none_unlinked c.args.pred.now c.from_residual.result c.birth_after.ensures.reads (search rules) c.in_err-next_birth.ensures.moved.rolls.fresh c.in_err-next_birth.ensures.moved.rolls.still
+returns-in_err-next_birth-clause-failed g c = none_unlinked c.args.pred.now c.from_residual.result c.birth_after.ensures.reads (search rules) c.in_err-next_birth.ensures.moved.rolls.fresh

@@ -5,7 +5,7 @@ use Rattle.vbr_words.specs.declared.link.Link.{Link}
 use Rattle.vbr_machine.specs.Acceptance.{IsNextIn, IsNextHeld}
 use Rattle.vbr_machine.specs.Links.{link_to}
 use Rattle.vbr_slots.specs.Views.{knows}
-use Rattle.vbr_slots.proofs.Lemmas.{alone_first, alone_then, key_stored_leaves, link_stored_leaves, quiet_on}
+use Rattle.vbr_slots.proofs.Lemmas.{quiet_on}
 use Rattle.vbr_at_table.proofs.Advancing.{did_none}
 use Rattle.vbr_at_table.proofs.Unchanged.{did_unchanged, none_counted, unchanged_on}
 use Rattle.vbr_machine.specs.Learning.{value_in_hand}
@@ -80,12 +80,6 @@ returns-clause-fills g c =
         hand = c.store_link.ensures.pool.1 ∙ put.hand ∙ c.store_key.ensures.pool.1;
         filled = subst F c.slot-slot.ensures full.0;
         unchanged = unchanged_on (unchanged_on (did_unchanged key (λ w a bucket. none_counted (p.trace.who == p.trace.who))) put.unchanged) (did_unchanged link (λ w a bucket. none_counted (c.put_value.new.at.stepper.now.trace.who == c.put_value.new.at.stepper.now.trace.who)));
-        stands = (λ alone unmarked stands.
-            let first = key_stored_quiet key in
-            let front = alone_first (quiet_on first put.quiet).seen (link_stored_quiet link).seen alone in
-            let last = alone_then (quiet_on first put.quiet).same.who (quiet_on first put.quiet).seen (link_stored_quiet link).seen alone in
-            link_stored_leaves c.args.pred.now.at (link_of c.args.pred.now.word) c.law-2.ensures.start link last all.held.link unmarked
-            (put.links (alone_then first.same.who first.seen put.quiet.seen front) c.args.pred.now.at ∙ key_stored_leaves c.args.pred.now.at c.law.ensures.start key (alone_first first.seen put.quiet.seen front) ∙ stands));
       };
       valued = λ has. subst V c.slot-slot.ensures (full.1 (values ∙ has));
     }

@@ -1,7 +1,6 @@
 use Rattle.std.proofs.Common.{◌≡◌, ◌==◌, Bool, true, refl, sym, ap, ◌∙◌, subst}
 use Rattle.vbr_machine.specs.Start.{Start}
 use Rattle.vbr_slots.specs.Views.{knows}
-use Rattle.vbr_slots.proofs.Lemmas.{value_stored_leaves}
 use Rattle.vbr_at_table.proofs.Advancing.{did_none}
 use Rattle.vbr_at_table.proofs.Unchanged.{did_unchanged, none_counted}
 use Rattle.vbr_at_table.specs.Exchanges.{StoresIn}
@@ -28,5 +27,4 @@ returns-then-VALUES-clause-puts g c =
       hand = c.store_value.ensures.pool.1;
       holding = subst P (sym has) (value_stored d);
       unchanged = did_unchanged d (λ w a bucket. none_counted (p.trace.who == p.trace.who));
-      links = λ alone at. value_stored_leaves at c.law.ensures.start d alone;
     }

@@ -68,4 +68,4 @@ returns-in-Ok-clause-inserted g c =
     entry_told c.args.key c.args.value c.args.at.now.stepper.now p c.publish.new.self.stepper.now c.fill.ensures.fills.fills.quiet made (search rules)
 
 pub returns-in-Err-clause-lost : goal.returns-in-Err-clause-lost
-returns-in-Err-clause-lost g c = record { same = search rules; hand = search rules; exchange = publish_lost c.args.pred.now c.law.ensures.start c.fill.ensures.fills.fills.quiet c.fill.ensures.fills.fills.unchanged c.fill.ensures.stores.keeps (λ alone. c.fill.ensures.fills.fills.stands alone c.requires.gap.unmarked) c.in-Err.ensures.other.did c.in-Err.ensures.other.unexpected }
+returns-in-Err-clause-lost g c = record { same = search rules; hand = search rules; exchange = publish_lost c.args.pred.now c.law.ensures.start c.fill.ensures.fills.fills.quiet c.fill.ensures.fills.fills.unchanged c.fill.ensures.stores.keeps c.in-Err.ensures.other.did c.in-Err.ensures.other.unexpected }

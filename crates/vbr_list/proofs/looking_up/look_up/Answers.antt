@@ -1,5 +1,5 @@
 use Rattle.vbr_list.proofs.Names.{rules, ◌≡◌, ◌+◌, ◌≤◌, refl, ◌∙◌, arith, ap, subst}
-use Rattle.vbr_list.proofs.Names.{adds_on, AddsAnswer, answer_on, begins_refl, counts_on, loads_on, no_room, none_on, quiet_on, same_on, same_refl, Start, took_all}
+use Rattle.vbr_list.proofs.Names.{adds_on, AddsAnswer, answer_on, bucket_of, counts_on, loads_on, no_room, none_on, quiet_on, same_on, same_refl, Start, took_all}
 use Rattle.vbr_list.proofs.Going.{call_on, call_refl, goes_on, within_call, within_of}
 use Rattle.vbr_list.proofs.Observing.{observed, observes_on}
 use Rattle.vbr_list.specs.Budgets.{listed_for, look_up_costs, steps_where}
@@ -7,8 +7,8 @@ use Rattle.vbr_list.specs.Disturbed.{costs_among, disturbed}
 use Rattle.vbr_list.specs.LookingUp.{steps_to_answer}
 use Rattle.vbr_list.specs.Places.{sighted}
 use Rattle.vbr_list.specs.Told.{given_call, kept_call, look_up_op}
-use Rattle.vbr_list.proofs.Disturbing.{own_at, run_at, unchanged_at, undisturbed}
-use Rattle.vbr_list.proofs.Walking.{paid_answer, repeated_none, round_on}
+use Rattle.vbr_list.proofs.Disturbing.{run_at, unchanged_at, undisturbed}
+use Rattle.vbr_list.proofs.Walking.{call_paid, looked_again, repeated_none, round_on}
 use Rattle.vbr_list.proofs.Passing.{peeks_on, peeks_refl}
 use Rattle.vbr_list.proofs.LonePasses.{alone}
 use Rattle.vbr_list.proofs.Sights.{few_to_answer}
@@ -37,14 +37,15 @@ loop-sight-preserved g c =
           let first = c.loop-sight.invariant.3.tries.goes.quiet in
           let two = quiet_on first a in
           let whole = quiet_on two b in
-          let sight = rw (c.loop-sight.invariant.0.key ∙ c.loop-sight.invariant.1) at c.in-Some.ensures.sight.looks in
+          let looks = rw (c.loop-sight.invariant.0.key ∙ c.loop-sight.invariant.1) at c.in-Some.ensures.sight.looks in
           let adds = adds_on (adds_on c.loop-sight.invariant.3.observes.adds_none c.look.ensures.observes.adds_none) c.in_default-settle_look_up.ensures.rolls.adds_none in
           let ok = run_at p r whole.same (whole.is_run c.law.ensures.is_run) in
-          round_on p q m r c.law.ensures.start ok c.args.key (steps_to_answer c.args.gives) first.same two.same whole.same first.seen a.seen b.seen (unchanged_at p p r c.args.key c.law.ensures.start ok (same_refl p) whole.same whole.seen adds) (sighted c.in-Some.sight) c.loop-sight.invariant.4 c.in-Some.ensures.sight.fresh sight.stood sight.lost sight.repeats c.settle_look_up.ensures.few c.in_default-settle_look_up.ensures.rolls.loses),
+          let own = unchanged_at p p r (bucket_of p.start.shape c.args.key) c.law.ensures.start ok (same_refl p) whole.same whole.seen adds in
+          round_on p q m r c.law.ensures.start ok c.args.key (steps_to_answer c.args.gives) first.same two.same whole.same first.seen a.seen b.seen own (sighted c.in-Some.sight) c.loop-sight.invariant.4 c.in-Some.ensures.sight.fresh looks c.settle_look_up.ensures.few c.in_default-settle_look_up.ensures.rolls.loses),
     )
 
 pub loop-sight-init : goal.loop-sight-init
-loop-sight-init g c = (call_refl _, refl, refl, peeks_refl c.args.stepper.now 0 c.args.budget (omega arith), repeated_none 5 c.args.stepper.now.trace c.args.key (3 + steps_to_answer c.args.gives) 0)
+loop-sight-init g c = (call_refl _, refl, refl, peeks_refl c.args.stepper.now 0 c.args.budget (omega arith), repeated_none 5 c.args.stepper.now.trace (bucket_of c.args.stepper.now.trace.start.shape c.args.key) (3 + steps_to_answer c.args.gives) 0)
 
 pub returns-in_default-clause-took : goal.returns-in_default-clause-took
 returns-in_default-clause-took g c =
@@ -64,11 +65,10 @@ returns-in-Ok-clause-took g c =
 pub returns-in_default-clause-calls : goal.returns-in_default-clause-calls
 returns-in_default-clause-calls g c =
     let same : c.stepper-1.given.0 ≡ c.look.new.self.at.stepper.now = search rules in
-    let r = c.look.new.self.at.stepper.now.trace.seen in
     let tired = c.in_default.ensures.tired in
     let looks = rw (c.loop-sight.invariant.0.key ∙ c.loop-sight.invariant.1) at tired.looks in
     let within = rw c.loop-sight.invariant.2 at (within_call (call_on c.loop-sight.invariant.0 c.look.ensures.goes.call)) in
-    rw same (look_up_tires c.law.ensures c.args.key c.loop-sight.invariant.3.tries c.look.ensures.goes.goes within (rw (c.loop-sight.invariant.0.budget ∙ c.loop-sight.invariant.2) at tired.tired) (search rules) (few_to_answer c.args.gives) c.loop-sight.invariant.3.observes c.look.ensures.observes c.loop-sight.invariant.4 looks.lost r (begins_refl r) looks.repeats)
+    rw same (look_up_tires c.law.ensures c.args.key c.loop-sight.invariant.3.tries c.look.ensures.goes.goes within (rw (c.loop-sight.invariant.0.budget ∙ c.loop-sight.invariant.2) at tired.tired) (search rules) (few_to_answer c.args.gives) c.loop-sight.invariant.3.observes c.look.ensures.observes c.loop-sight.invariant.4 looks)
 
 pub returns-then-not-affords-clause-calls : goal.returns-then-not-affords-clause-calls
 returns-then-not-affords-clause-calls g c =
@@ -77,7 +77,7 @@ returns-then-not-affords-clause-calls g c =
     let budget = c.look.ensures.goes.call.budget ∙ c.loop-sight.invariant.0.budget ∙ c.loop-sight.invariant.2 in
     let short = no_room c.look.new.self.used c.look.new.self.budget c.affords.result c.if-not-affords.true c.affords.ensures.1 in
     let within = rw c.loop-sight.invariant.2 at (within_call (call_on c.loop-sight.invariant.0 c.look.ensures.goes.call)) in
-    rw same (look_up_tires c.law.ensures c.args.key c.loop-sight.invariant.3.tries c.look.ensures.goes.goes within (rw budget at short) (search rules) (few_to_answer c.args.gives) c.loop-sight.invariant.3.observes c.look.ensures.observes c.loop-sight.invariant.4 looks.lost looks.stood.moment looks.stood.to looks.repeats)
+    rw same (look_up_tires c.law.ensures c.args.key c.loop-sight.invariant.3.tries c.look.ensures.goes.goes within (rw budget at short) (search rules) (few_to_answer c.args.gives) c.loop-sight.invariant.3.observes c.look.ensures.observes c.loop-sight.invariant.4 (looked_again c.law.ensures c.loop-sight.invariant.3.tries.goes.quiet c.look.ensures.goes.goes.quiet looks))
 
 pub returns-in-Ok-clause-calls : goal.returns-in-Ok-clause-calls
 returns-in-Ok-clause-calls g c =
@@ -97,8 +97,9 @@ returns-in-Ok-clause-calls g c =
     let begun = c.loop-sight.invariant.3.tries.goes.quiet in
     let sight = rw (c.loop-sight.invariant.0.key ∙ c.loop-sight.invariant.1) at c.in-Some.ensures.sight.looks in
     let ok_r = run_at p.trace r.trace (same_on first.same answered.same) answered.is_run in
-    let adds = adds_on c.loop-sight.invariant.3.observes.adds_none c.look.ensures.observes.adds_none in
-    let paid = paid_answer p.trace loop.trace q.trace r.trace c.law.ensures.start ok_r c.args.key (steps_where c.args.gives) begun.same begun.seen c.look.ensures.goes.goes.quiet.seen answered.seen (own_at p.trace p.trace q.trace (same_refl p.trace) first.same adds) c.loop-sight.invariant.4 sight.lost sight.stood.moment sight.stood.to sight.repeats c.settle_look_up.ensures.few in
+    let looks = looked_again c.law.ensures begun c.look.ensures.goes.goes.quiet sight in
+    let all = call_paid p.trace loop.trace q.trace r.trace c.law.ensures.start ok_r c.args.key (3 + steps_to_answer c.args.gives) begun c.look.ensures.goes.goes.quiet answered.seen (omega arith, omega arith) c.loop-sight.invariant.4 looks c.settle_look_up.new.self.used (steps_to_answer c.args.gives) c.settle_look_up.ensures.few in
+    let paid : c.settle_look_up.new.self.used ≤ costs_among (listed_for p.trace c.args.key) (disturbed p.trace r.trace c.args.key) (steps_where c.args.gives) = omega (arith, all) in
     let S : Start → Type 0 = λ start. AddsAnswer (kept_call start (given_call q.trace.who op c.args.key c.in-Ok.answer)) q.trace r.trace in
     rw same (record {
       same = same_on first.same answered.same;

@@ -84,7 +84,7 @@ returns-in-Ok-clause-calls g c =
     let late_so : ℕ → Type 0 = λ k. MarksAndSearches (steps_to_value_of q.trace.start + 1) q.trace r.trace k c.reach.new.self.used c.settle_remove.new.self.used c.in-Some.found.pred in
     let either : soon_so ⊎ ((op_to_remove c.args.expected c.in-Ok.answer ≡ Remove) × late_so c.args.key) =
     by_either {C = soon_so ⊎ ((op_to_remove c.args.expected c.in-Ok.answer ≡ Remove) × late_so c.args.key)} c.in-Ok.ensures.answers.paid (λ soon. inl soon) (λ x. inr (taken_removes c.args.expected c.in-Ok.answer x.taken, subst late_so key x.late)) in
-    let paid = remove_paid p.trace walk q.trace r.trace c.law.ensures.start c.args.key before.same went.same before.seen went.seen first made answered.seen c.loop-found.invariant.4 c.in-Some.found last walks either (λ (soon : soon_so). let few = soon.few in omega (arith, few, values)) in
+    let paid = remove_paid p.trace walk q.trace r.trace c.law.ensures.start c.args.key before went made answered.seen c.loop-found.invariant.4 c.in-Some.found last walks either (λ (soon : soon_so). let few = soon.few in omega (arith, few, values)) in
     rw same (record {
       same = same_on first.same answered.same;
       made = made;
@@ -104,9 +104,9 @@ returns-in-Ok-clause-calls g c =
         costs = λ whole. let most = undisturbed (λ t. c.settle_remove.new.self.used ≤ remove_costs_among (listed_for p.trace c.args.key) t (steps_to_value_of p.trace.start)) c.args.key paid whole in within_of c.settle_remove.new.self.used (remove_costs p.trace c.args.key) (omega (arith, most)) counts;
         disturbed_costs = within_of c.settle_remove.new.self.used (remove_costs_among (listed_for p.trace c.args.key) (disturbed p.trace r.trace c.args.key) (steps_to_value_of p.trace.start)) paid counts;
         fewer = λ yes whole enough.
-            let soon = remove_alone p.trace walk q.trace r.trace c.law.ensures.start c.args.key before.same went.same before.seen went.seen first made answered.seen c.loop-found.invariant.4 c.in-Some.found last walks either whole in
+            let soon = remove_alone p.trace walk q.trace r.trace c.law.ensures.start c.args.key before went made answered.seen c.loop-found.invariant.4 c.in-Some.found last walks either whole in
             let few = soon.1 in
             let left = leaves_since r.trace c.args.key c.law.ensures.start first (subst (λ (k : ℕ). Leaves q.trace r.trace k) key (soon.0.leaves yes (omega (arith, few, enough, budget, values)))) in
-            left_fewer p.trace walk q.trace r.trace c.law.ensures.start c.args.key before.same went.same before.seen went.seen first made answered.seen (taken_removes c.args.expected c.in-Ok.answer yes) left whole;
+            left_fewer p.trace walk q.trace r.trace c.law.ensures.start c.args.key before went made answered.seen (taken_removes c.args.expected c.in-Ok.answer yes) left whole;
       };
     })

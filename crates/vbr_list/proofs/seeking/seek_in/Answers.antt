@@ -1,38 +1,38 @@
-use Rattle.vbr_list.proofs.Names.{refl, arith}
-use Rattle.vbr_list.proofs.ComingBy.{costs_no_more, enough_no_more}
+use Rattle.vbr_list.proofs.Names.{◌+◌, refl, ap, arith}
+use Rattle.vbr_list.specs.Budgets.{steps_to_value_of}
+use Rattle.vbr_list.specs.Seeking.{steps_besides}
 use Rattle.vbr_list.proofs.Going.{table_on}
-use Rattle.vbr_list.proofs.Nearing.{first_of, then_of}
 use Rattle.vbr_list.proofs.Passing.{peeks_on, peeks_refl}
 use Rattle.vbr_list.proofs.Following.{tells_since}
+use Rattle.vbr_list.proofs.Walking.{last_search, lost_on, repeated_none}
 use Rattle.vbr_list.proofs.seeking.seek_in.Goals as goal
 
 pub loop-next-init : goal.loop-next-init
-loop-next-init g c = (record { pass = refl; slots = refl }, peeks_refl c.args.at.now.stepper.now c.args.used c.args.budget c.requires.within, λ alone. refl)
+loop-next-init g c =
+    let p = c.args.at.now.stepper.now in
+    (record { pass = refl; slots = refl }, peeks_refl p c.args.used c.args.budget c.requires.within, repeated_none 5 p.trace c.args.bucket (steps_besides p.trace) c.args.used)
 
 pub loop-next-preserved : goal.loop-next-preserved
 loop-next-preserved g c =
     let x = c.loop-next.invariant in
     let y = c.walk.ensures.peeks in
     let stopped = rw c.in-Err-Again.field-0-is at c.in-Err-Again.ensures.stopped in
-    (table_on x.0 c.walk.ensures.table, peeks_on x.1 y.tries.goes y.observes y.tries.within.0 y.tries.within.1, λ alone. absurd (stopped.1 (then_of x.1.tries.goes.quiet y.tries.goes.quiet alone)))
+    let paid = stopped.1 in
+    let same = ap steps_to_value_of x.1.tries.goes.quiet.same.start in
+    (table_on x.0 c.walk.ensures.table, peeks_on x.1 y.tries.goes y.observes y.tries.within.0 y.tries.within.1, lost_on c.law.ensures x.1.tries.goes.quiet y.tries.goes.quiet x.2 (omega (arith, paid, same)) stopped.2)
 
 pub returns-in-Ok-clause-sought : goal.returns-in-Ok-clause-sought
 returns-in-Ok-clause-sought g c =
     let x = c.loop-next.invariant in
     let y = c.walk.ensures.peeks in
-    let q = c.loop-next.at.stepper.now in
-    let r = c.walk.new.at.stepper.now in
+    let p = c.args.at.now.stepper.now.trace in
     let next = c.in-Ok.ensures.next in
+    let same = ap steps_to_value_of x.1.tries.goes.quiet.same.start in
     record {
       peeks = peeks_on x.1 y.tries.goes y.observes y.tries.within.0 y.tries.within.1;
       next = record {
-        tells = tells_since r.trace c.args.bucket c.args.from c.in-Ok.next x.1.tries.goes.quiet next.tells;
-        paid = λ alone.
-            let one = first_of x.1.tries.goes.quiet y.tries.goes.quiet alone in
-            let none = x.2 one in
-            let paid = next.paid (then_of x.1.tries.goes.quiet y.tries.goes.quiet alone) in
-            let few = costs_no_more q c.law.ensures x.1.tries.goes.quiet one c.args.bucket in
-            omega (arith, none, paid, few);
+        tells = tells_since c.walk.new.at.stepper.now.trace c.args.bucket c.args.from c.in-Ok.next x.1.tries.goes.quiet next.tells;
+        searches = last_search c.law.ensures x.1.tries.goes.quiet y.tries.goes.quiet x.2 (steps_besides c.loop-next.at.stepper.now.trace) next.paid c.walk.new.used (steps_besides p) (omega (arith, same));
       };
       tired = tt;
     }
@@ -41,19 +41,10 @@ pub returns-in-Err-Tired-clause-sought : goal.returns-in-Err-Tired-clause-sought
 returns-in-Err-Tired-clause-sought g c =
     let x = c.loop-next.invariant in
     let y = c.walk.ensures.peeks in
-    let q = c.loop-next.at.stepper.now in
-    let r = c.walk.new.at.stepper.now in
     let stopped = rw c.in-Err-Tired.field-0-is at c.in-Err-Tired.ensures.stopped in
+    let short = stopped.0 in
     record {
       peeks = peeks_on x.1 y.tries.goes y.observes y.tries.within.0 y.tries.within.1;
       next = tt;
-      tired = record {
-        tired = stopped.tired;
-        short = λ alone.
-            let one = first_of x.1.tries.goes.quiet y.tries.goes.quiet alone in
-            let none = x.2 one in
-            let short = stopped.short (then_of x.1.tries.goes.quiet y.tries.goes.quiet alone) in
-            let few = enough_no_more q c.law.ensures x.1.tries.goes.quiet one c.args.bucket in
-            omega (arith, none, short, few);
-      };
+      tired = record { tired = short; searches = last_search c.law.ensures x.1.tries.goes.quiet y.tries.goes.quiet x.2 3 stopped.1 (c.args.budget + 1) 11 (omega (arith, short)) };
     }

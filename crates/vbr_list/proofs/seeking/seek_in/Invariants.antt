@@ -1,10 +1,12 @@
-use Rattle.vbr_list.proofs.Names.{◌≡◌, ◌-◌}
-use Rattle.vbr_list.proofs.Names.{IsAlone, IsSameTable}
+use Rattle.vbr_list.proofs.Names.{◌-◌}
+use Rattle.vbr_list.proofs.Names.{IsSameTable}
 use Rattle.vbr_list.specs.Pieces.{Peeks}
+use Rattle.vbr_list.specs.Seeking.{steps_besides}
+use Rattle.vbr_list.proofs.Walking.{HasRepeatedIn}
 use Rattle.vbr_list.proofs.seeking.seek_in.Given as goal
 
 abbrev pub invariant-loop-next : goal.invariant-loop-next
-invariant-loop-next g l = IsSameTable l.fn.at l.at × Peeks l.fn.at.stepper.now l.at.stepper.now l.fn.used l.since l.fn.budget × (IsAlone l.fn.at.stepper.now.trace l.at.stepper.now.trace → l.since ≡ l.fn.used)
+invariant-loop-next g l = IsSameTable l.fn.at l.at × Peeks l.fn.at.stepper.now l.at.stepper.now l.fn.used l.since l.fn.budget × HasRepeatedIn 5 l.fn.at.stepper.now.trace l.at.stepper.now.trace l.fn.bucket (steps_besides l.fn.at.stepper.now.trace) l.fn.used l.since
 
 abbrev pub decreases-loop-next : goal.decreases-loop-next
 decreases-loop-next g l = l.fn.budget - l.since

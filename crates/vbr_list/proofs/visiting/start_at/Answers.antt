@@ -3,7 +3,6 @@ use Rattle.vbr_list.proofs.Names.{Held, IsFresh, IsHeadRead, PassView, reads_on,
 use Rattle.vbr_list.specs.Visiting.{StartsAt, StartsNone}
 use Rattle.vbr_list.specs.Walking.{Checks}
 use Rattle.vbr_list.proofs.Disturbing.{moves_epoch}
-use Rattle.vbr_list.proofs.Nearing.{then_of}
 use Rattle.vbr_list.proofs.visiting.start_at.Goals as goal
 
 module _ {p q r : PassView} {m n : ℕ} (x : ReadsIn p q m) (y : ReadsIn q r n) (fresh : IsFresh q.trace) where
@@ -17,16 +16,12 @@ module _ {p q r : PassView} {m n : ℕ} (x : ReadsIn p q m) (y : ReadsIn q r n) 
     unmarked = read.unmarked;
     at = read.at;
     reads = record { checks = checked; epoch = read.keeps.epoch; fresh = read.fresh; stood = read.read.stood };
-    stands = λ alone. record { fresh = read.fresh; stands = read.stands (then_of x.quiet y.quiet alone) };
   }
   starts bucket (Err e) read = tt
 
   starts_none : (head : Result Held Rollback) → IfErr head (RollsBack q r) → IfErr head (StartsNone p.trace r.trace)
   starts_none (Ok h) rolls = tt
-  starts_none (Err e) rolls = record {
-    moves = record { checks = checked; moves = moves_epoch e rolls };
-    still = λ alone. rolls.still fresh (then_of x.quiet y.quiet alone);
-  }
+  starts_none (Err e) rolls = record { checks = checked; moves = moves_epoch e rolls }
 
 pub returns-clause-reads : goal.returns-clause-reads
 returns-clause-reads g c = reads_on c.checkpoint-point.ensures.reads c.first.ensures.reads

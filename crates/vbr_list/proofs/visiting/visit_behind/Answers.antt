@@ -1,12 +1,10 @@
 use Rattle.vbr_list.proofs.Names.{◌≡◌, ◌≤◌, ℕ, ◌+◌, Option, Some, None, sym, ap, ◌∙◌, subst, arith, false, IsSome}
-use Rattle.vbr_list.proofs.Names.{bucket_of, fresh_kept, Held, held_kept, HeldIn, IsAlone, IsHeld, IsKeyRead, IsNext, Keeps, keeps_on, knows, link_of, link_shown_at, next_steps, PassLaw, PassView, reads_on, ReadsIn, StandsNow, Start, stood_before, Trace}
-use Rattle.vbr_list.specs.Nearing.{StandsInList}
+use Rattle.vbr_list.proofs.Names.{bucket_of, Held, held_kept, IsHeld, IsKeyRead, IsNext, Keeps, keeps_on, knows, link_of, next_steps, PassView, reads_on, ReadsIn, Start, stood_before, Trace}
 use Rattle.vbr_list.specs.Pieces.{LooksOn}
-use Rattle.vbr_list.specs.Visiting.{ComesNearer, HasKey}
+use Rattle.vbr_list.specs.Visiting.{HasKey}
 use Rattle.vbr_list.specs.Walking.{ReadsNext}
 use Rattle.vbr_list.proofs.Disturbing.{moves_epoch}
 use Rattle.vbr_list.proofs.Going.{goes_on, goes_read}
-use Rattle.vbr_list.proofs.Nearing.{comes_nearer, first_of, then_of}
 use Rattle.vbr_list.proofs.Observing.{reads_observe}
 use Rattle.vbr_list.proofs.Reaching.{next_inside, node_unmarked, slot_same}
 use Rattle.vbr_list.proofs.Sufficing.{any_error}
@@ -31,7 +29,6 @@ returns-in-Some-of-clause-met g c =
     let x = c.in_ok-node.ensures in
     let n = rw c.in-Some.is at x.next.read in
     let fresh = rw c.in-Some.is at x.next.fresh in
-    let now = rw c.in-Some.is at x.next.stands in
     let is = c.in-Some-of.ensures.0 in
     let p = c.args.at.now.stepper.now in
     let q = c.next-node.new.at.stepper.now.trace in
@@ -43,9 +40,6 @@ returns-in-Some-of-clause-met g c =
       reads = subst P (sym is) (read_next n);
       fresh = fresh;
       count = omega arith;
-      alone = λ bucket inside there stands alone.
-          let Q : Held → Type 0 = λ h. ComesNearer p.trace q bucket c.args.here.now h in
-          subst Q (sym is) (comes_nearer p c.law.ensures q bucket c.args.here.now c.in-Some.node (record { held = c.requires.held; inside = inside }) there stands n.0 n.1 n.2 x.reads.quiet (x.reads.looks alone) (record { fresh = fresh; stands = now alone }));
     }
 
 -- ---- a node whose key is read
@@ -58,10 +52,7 @@ returns-in_err-key-clause-moved g c =
     let x = c.in_ok-node.ensures in
     let y = c.in_err-key.ensures in
     let m = moves_epoch _ y.moved in
-    any_error c.from_residual-in_err-key.result (λ rollback. record {
-      moves = record { other = λ e. m.other (e ∙ sym x.next.keeps.epoch); fresh = m.fresh };
-      still = λ fresh alone. y.moved.still (fresh_kept c.args.at.now.stepper.now.trace c.next-node.new.at.stepper.now.trace (x.reads.looks (first_of x.reads.quiet y.reads.quiet alone)) x.next.keeps fresh) (then_of x.reads.quiet y.reads.quiet alone);
-    })
+    any_error c.from_residual-in_err-key.result (λ rollback. record { other = λ e. m.other (e ∙ sym x.next.keeps.epoch); fresh = m.fresh })
 
 pub returns-then-key-number-clause-looks : goal.returns-then-key-number-clause-looks
 returns-then-key-number-clause-looks g c = looks_five c.args.used.now c.args.here.now c.requires.some c.next-node.ensures.reads c.key_of-read.ensures.reads
@@ -81,12 +72,6 @@ module _ {p q r : PassView} {m n : ℕ} (x : ReadsIn p q m) (y : ReadsIn q r n) 
   reads_node : ReadsNext p.trace r.trace here node
   reads_node = record { slot = next.0; named = next.1; at = next.2; stood = stood_before next.3.stood y.quiet }
 
-  nearer : PassLaw p → (IsAlone p.trace q.trace → StandsNow q.trace node) → (bucket : ℕ) → HeldIn (knows p.trace) here.at bucket → StandsInList p.trace here → StandsNow p.trace here → IsAlone p.trace r.trace → ComesNearer p.trace r.trace bucket here node
-  nearer law now bucket inside there stands alone =
-      let both = reads_on x y in
-      let still = ap (λ a. link_shown_at a node.at) (y.looks (then_of x.quiet y.quiet alone)) ∙ now (first_of x.quiet y.quiet alone) in
-      comes_nearer p law r.trace bucket here node (record { held = held; inside = inside }) there stands next.0 next.1 next.2 both.quiet (both.looks alone) (record { fresh = k.fresh; stands = still })
-
 pub returns-then-key-number-clause-met : goal.returns-then-key-number-clause-met
 returns-then-key-number-clause-met g c =
     let x = c.in_ok-node.ensures in
@@ -100,7 +85,6 @@ returns-then-key-number-clause-met g c =
       reads = reads_node x.reads y.reads here node c.requires.held x.next.keeps n c.in_ok-key.key y.key;
       fresh = y.key.fresh;
       count = omega arith;
-      alone = nearer x.reads y.reads here node c.requires.held x.next.keeps n c.in_ok-key.key y.key c.law.ensures (rw c.in-Some.is at x.next.stands);
     }
 
 pub returns-else-key-number-clause-met : goal.returns-else-key-number-clause-met
@@ -117,5 +101,4 @@ returns-else-key-number-clause-met g c =
       reads = reads_node x.reads y.reads here node c.requires.held x.next.keeps n c.in_ok-key.key y.key;
       fresh = y.key.fresh;
       count = omega arith;
-      alone = nearer x.reads y.reads here node c.requires.held x.next.keeps n c.in_ok-key.key y.key c.law.ensures (rw c.in-Some.is at x.next.stands);
     }

@@ -77,7 +77,7 @@ returns-in_err-hand-in-AsWanted-clause-refused g c =
       hand = none.hand;
       says = takes_after p m r gone.goes.quiet some (steps_gone gone) d refusal (rw gone.call.budget at none.says);
       so = wanted_for p.trace r.trace c.args.self.now.key c.args.wanted (was_before p.trace m.trace r.trace c.args.self.now.key c.args.wanted met.was d) refusal;
-      searches = store_in_vain c.args.self.now.budget (steps_to_take_among m.trace.start m.pool (gained m.trace r.trace)) (steps_to_prepare c.args.wanted p r.trace + 10)
+      searches = store_in_vain c.args.self.now.key c.args.self.now.budget (steps_to_take_among m.trace.start m.pool (gained m.trace r.trace)) (steps_to_prepare c.args.wanted p r.trace + 10)
           (searches_later p.trace m.trace r.trace c.law.ensures.start (run_at p.trace r.trace whole.same (whole.is_run c.law.ensures.is_run)) c.args.self.now.key gone.goes.quiet.seen d.seen (steps_to_compare c.args.wanted + 3) (omega arith) met.searches)
           refusal (rw gone.call.budget at none.enough) (omega (arith, taken));
     })

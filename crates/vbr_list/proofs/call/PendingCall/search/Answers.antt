@@ -1,20 +1,20 @@
-use Rattle.vbr_list.proofs.Names.{arith}
-use Rattle.vbr_list.specs.Disturbed.{disturbed_after}
+use Rattle.vbr_list.proofs.Names.{ap, ◌∙◌, arith}
+use Rattle.vbr_list.proofs.Names.{bucket_of}
+use Rattle.vbr_list.specs.Disturbed.{disturbed_at}
 use Rattle.vbr_list.proofs.Going.{call_on, call_refl, goes_further, tries_on, tries_refl, within_call}
 use Rattle.vbr_list.proofs.Moments.{found_since}
-use Rattle.vbr_list.proofs.Walking.{repeated_none}
-use Rattle.vbr_list.proofs.LostWalks.{last_walk, lost_on, walks_again}
+use Rattle.vbr_list.proofs.Walking.{last_walk, lost_on, repeated_none, walks_again}
 use Rattle.vbr_list.proofs.call.PendingCall.search.Goals as goal
 
 pub loop-found-init : goal.loop-found-init
-loop-found-init g c = (call_refl c.args.self.now, tries_refl c.args.self.now.at.stepper.now c.args.self.now.used c.args.self.now.budget c.args.self.now.within, repeated_none 9 c.args.self.now.at.stepper.now.trace c.args.self.now.key 3 c.args.self.now.used)
+loop-found-init g c = (call_refl c.args.self.now, tries_refl c.args.self.now.at.stepper.now c.args.self.now.used c.args.self.now.budget c.args.self.now.within, repeated_none 9 c.args.self.now.at.stepper.now.trace c.args.self.now.bucket 3 c.args.self.now.used)
 
 pub loop-found-preserved : goal.loop-found-preserved
 loop-found-preserved g c =
     let t = c.traverse.ensures.goes in
     let same = call_on c.loop-found.invariant.0 t.call in
-    let stopped = rw c.in-Err-Again.field-0-is at c.in-Err-Again.ensures.stopped in
-    (same, tries_on c.loop-found.invariant.1 t.goes t.more (within_call same), lost_on c.law.ensures c.loop-found.invariant.0 c.loop-found.invariant.1.goes.quiet c.traverse.ensures.goes c.loop-found.invariant.2 stopped.1 stopped.2)
+    let stopped = rw c.loop-found.invariant.0.bucket at (rw c.in-Err-Again.field-0-is at c.in-Err-Again.ensures.stopped) in
+    (same, tries_on c.loop-found.invariant.1 t.goes t.more (within_call same), lost_on c.law.ensures c.loop-found.invariant.1.goes.quiet t.goes.quiet c.loop-found.invariant.2 stopped.1 stopped.2)
 
 pub returns-in-Ok-clause-goes : goal.returns-in-Ok-clause-goes
 returns-in-Ok-clause-goes g c = goes_further c.loop-found.invariant.0 c.loop-found.invariant.1 c.traverse.ensures.goes
@@ -27,12 +27,14 @@ returns-in-Ok-clause-found g c =
     let x = c.in-Ok.ensures.found in
     let p = c.args.self.now.at.stepper.now.trace in
     let q = c.loop-found.self.at.stepper.now.trace in
+    let lost = c.loop-found.invariant.2 in
     let first = c.loop-found.invariant.1.goes.quiet in
     let t = c.traverse.ensures.goes.goes in
-    let key = c.args.self.now.key in
-    let walks = walks_again c.law.ensures c.loop-found.invariant.0 c.loop-found.invariant.1.goes.quiet c.traverse.ensures.goes c.loop-found.invariant.2 x.paid in
+    let paid = rw c.loop-found.invariant.0.bucket at x.paid in
+    let there = c.loop-found.self.of_key ∙ ap (bucket_of q.start.shape) c.loop-found.invariant.0.key in
+    let repeats = last_walk c.law.ensures first t.quiet lost paid (disturbed_at p c.args.self.now.bucket q.seen) (omega arith) in
     record {
-      found = found_since key c.in-Ok.found first (rw c.loop-found.invariant.0.key at x.found);
+      found = found_since c.args.self.now.key c.in-Ok.found first (rw c.loop-found.invariant.0.key at x.found);
       used = x.used;
       last = record {
         begun = q;
@@ -41,16 +43,16 @@ returns-in-Ok-clause-found g c =
         to = t.quiet.seen;
         count = t.hand.takes_no_slot.count;
         knew = x.knew;
-        pred = rw c.loop-found.invariant.0.key at x.pred;
-        cur = rw c.loop-found.invariant.0.key at x.cur;
-        lost = c.loop-found.invariant.2.lost;
-        repeats = last_walk c.law.ensures c.loop-found.invariant.0 c.loop-found.invariant.1.goes.quiet c.traverse.ensures.goes c.loop-found.invariant.2 x.paid (disturbed_after p key q.seen) (omega arith);
+        pred = rw there at x.pred;
+        cur = rw there at x.cur;
+        lost = lost.lost;
+        repeats = rw c.args.self.now.of_key at repeats;
       };
-      walks = walks;
+      walks = rw c.args.self.now.of_key at (walks_again c.law.ensures first t.quiet lost paid);
     }
 
 pub returns-in-Err-Tired-clause-tired : goal.returns-in-Err-Tired-clause-tired
 returns-in-Err-Tired-clause-tired g c =
-    let x = rw c.in-Err-Tired.field-0-is at c.in-Err-Tired.ensures.stopped in
-    let tired = rw c.loop-found.invariant.0.budget at x.0 in
-    record { tired = tired; walks = walks_again c.law.ensures c.loop-found.invariant.0 c.loop-found.invariant.1.goes.quiet c.traverse.ensures.goes c.loop-found.invariant.2 x.1 }
+    let x = rw c.loop-found.invariant.0.bucket at (rw c.in-Err-Tired.field-0-is at c.in-Err-Tired.ensures.stopped) in
+    let again = walks_again c.law.ensures c.loop-found.invariant.1.goes.quiet c.traverse.ensures.goes.goes.quiet c.loop-found.invariant.2 x.1 in
+    record { tired = rw c.loop-found.invariant.0.budget at x.0; walks = rw c.args.self.now.of_key at again }

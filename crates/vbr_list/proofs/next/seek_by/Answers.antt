@@ -1,0 +1,83 @@
+use Rattle.vbr_list.proofs.Names.{◌≡◌, ℕ, ◌+◌, ◌*◌, ◌<◌, ◌≤◌, Ok, Err, Option, Some, None, ap, ◌∙◌, subst, arith, mul-le}
+use Rattle.vbr_list.proofs.Names.{begins_refl, OutOfSteps, PassLaw, PassView, took_all}
+use Rattle.vbr_list.specs.Budgets.{listed_in, steps_to_value_of}
+use Rattle.vbr_list.specs.Disturbed.{disturbed_in, enough_among, seek_costs_among}
+use Rattle.vbr_list.specs.Next.{Seeks, seek_costs}
+use Rattle.vbr_list.specs.Seeking.{Sought, steps_besides}
+use Rattle.vbr_list.specs.Walking.{SearchesIn}
+use Rattle.vbr_list.specs.declared.seeking.NextNode.{NextNode}
+use Rattle.vbr_list.proofs.Disturbing.{run_at, undisturbed_in}
+use Rattle.vbr_list.proofs.Going.{within_of}
+use Rattle.vbr_list.proofs.ValueReads.{few_to_value}
+use Rattle.vbr_list.proofs.Walking.{searched_in}
+use Rattle.vbr_list.proofs.next.seek_by.Goals as goal
+
+module _ {p q : PassView} (law : PassLaw p) {bucket from since budget : ℕ} where
+  paid : {found : Option (Option NextNode)} (x : Sought p q bucket from 0 since budget found) {each now more : ℕ} → SearchesIn 5 each p.trace q.trace bucket 0 now more → now ≤ 5 * (listed_in p.trace bucket + disturbed_in p.trace q.trace bucket) + disturbed_in p.trace q.trace bucket * (5 * (listed_in p.trace bucket + disturbed_in p.trace q.trace bucket) + each) + more
+  paid x y =
+      let quiet = x.peeks.tries.goes.quiet in
+      let most = searched_in p.trace q.trace q.trace law.start (run_at p.trace q.trace quiet.same (quiet.is_run law.is_run)) bucket quiet (begins_refl q.trace.seen) y in
+      omega (arith, most)
+
+  -- it told what it was to tell
+  seeks_told : {A : Type 0} {Tells : A → Type 0} (next : Option NextNode) (answer : A) (x : Sought p q bucket from 0 since budget (Some next)) → Tells answer → Seeks Tells p q bucket budget (Ok answer)
+  seeks_told next answer x tells =
+      let most = paid x x.next.searches in
+      let n = listed_in p.trace bucket in
+      let reading = steps_to_value_of p.trace.start in
+      let few : since ≤ seek_costs_among n (disturbed_in p.trace q.trace bucket) reading = omega (arith, most) in
+      let counts = x.peeks.tries.goes.counts in
+      record {
+        told = tells;
+        quiet = x.peeks.tries.goes.quiet;
+        only_loads = x.peeks.observes.only_loads;
+        adds_none = x.peeks.observes.adds_none;
+        takes_no_slot = x.peeks.tries.goes.hand.takes_no_slot;
+        hand = x.peeks.tries.goes.hand.hand;
+        steps = within_of since budget x.peeks.tries.within.1 counts;
+        refused = tt;
+        within = tt;
+        disturbed_within = tt;
+        costs = λ alone. let lone = subst (λ t. since ≤ seek_costs_among n t reading) (undisturbed_in p.trace q.trace bucket alone) few in within_of since (seek_costs p.trace bucket) (omega (arith, lone)) counts;
+        disturbed_costs = within_of since (seek_costs_among n (disturbed_in p.trace q.trace bucket) reading) few counts;
+      }
+
+  -- it had too few steps
+  seeks_short : {A : Type 0} {Tells : A → Type 0} → Sought p q bucket from 0 since budget None → Seeks Tells p q bucket budget (Err (OutOfSteps since))
+  seeks_short x =
+      let most = paid x x.tired.searches in
+      let n = listed_in p.trace bucket in
+      let t = disturbed_in p.trace q.trace bucket in
+      let few = few_to_value p.trace.start in
+      let each = mul-le t (5 * (n + t) + steps_besides p.trace) t (5 * (n + t) + 11) (omega arith) (omega (arith, few)) in
+      let lacks : budget < enough_among n t = omega (arith, most, each) in
+      let counts = x.peeks.tries.goes.counts in
+      record {
+        told = tt;
+        quiet = x.peeks.tries.goes.quiet;
+        only_loads = x.peeks.observes.only_loads;
+        adds_none = x.peeks.observes.adds_none;
+        takes_no_slot = x.peeks.tries.goes.hand.takes_no_slot;
+        hand = x.peeks.tries.goes.hand.hand;
+        steps = within_of since budget x.peeks.tries.within.1 counts;
+        refused = record { took = took_all counts; within = x.peeks.tries.within.1; short = x.tired.tired };
+        within = λ alone. let lone = subst (λ t. budget < enough_among n t) (undisturbed_in p.trace q.trace bucket alone) lacks in omega (arith, lone);
+        disturbed_within = lacks;
+        costs = tt;
+        disturbed_costs = tt;
+      }
+
+pub returns-in-Some-Some-clause-seeks : goal.returns-in-Some-Some-clause-seeks
+returns-in-Some-Some-clause-seeks g c =
+    let whole : c.seek_in-found.result.0 ≡ Some (Some c.in-Some-Some.node) = c.in-Some-Some.is ∙ ap Some (rw c.in-Some-Some.is at c.in-Some-Some.field-0-is) in
+    let x = rw whole at c.seek_in-found.ensures.sought in
+    seeks_told c.law.ensures (Some c.in-Some-Some.node) _ x x.next.tells.0
+
+pub returns-in-Some-None-clause-seeks : goal.returns-in-Some-None-clause-seeks
+returns-in-Some-None-clause-seeks g c =
+    let whole : c.seek_in-found.result.0 ≡ Some None = c.in-Some-None.is ∙ ap Some (rw c.in-Some-None.is at c.in-Some-None.field-0-is) in
+    let x = rw whole at c.seek_in-found.ensures.sought in
+    seeks_told c.law.ensures None _ x x.next.tells
+
+pub returns-in-None-clause-seeks : goal.returns-in-None-clause-seeks
+returns-in-None-clause-seeks g c = seeks_short c.law.ensures (rw c.in-None.is at c.seek_in-found.ensures.sought)
