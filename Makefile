@@ -12,6 +12,7 @@ CRATE := crates/vbr_main
 SCRIPT := crates/vbr_example/data/phases.script
 BENCH ?= --short
 SOAK ?= 1000000000
+REALTIME ?= 100000000
 FUZZ ?= 9000000 1000000
 COMPARE ?=
 PREBUILT ?=
@@ -35,7 +36,8 @@ help:
 	@echo 'make docs-check          see that the documents are true to the tree, and that contracts have their form'
 	@echo 'make clients             build and run the clients in C and Rust over the library'
 	@echo 'make faults              refuse memory call by call, and try the program in a shell: statuses, streams, memory'
-	@echo 'make soak                a thousand million calls of four threads on set after set, and as many on maps, each answer balanced'
+	@echo 'make soak                a thousand million calls of four threads on set after set, and as many on maps, each answer balanced;'
+	@echo '                         and a hundred million of each in an order that keeps to real time'
 	@echo 'make fuzz                ten million random inputs for the library and the program, on all processors'
 	@echo 'make bench               prove and run the measurements, in their short form, and print a CSV table'
 	@echo 'make bench BENCH=        the same in their full form; BENCH has the options of crates/vbr_bench'
@@ -170,6 +172,9 @@ soak:
 	@target/clients/soak $(SOAK)
 	@cc -std=c11 -O2 -Wall -Wextra -Ibindings/include -pthread -include bindings/c/values.h -o target/clients/over_maps bindings/c/soak.c -Ltarget -lvbr
 	@target/clients/over_maps $(SOAK)
+	@cc -std=c11 -O2 -Wall -Wextra -Ibindings/include -pthread -o target/clients/realtime bindings/c/realtime.c -Ltarget -lvbr
+	@target/clients/realtime sets $(REALTIME)
+	@target/clients/realtime maps $(REALTIME)
 
 fuzz:
 	@tools/needs fuzz

@@ -21,7 +21,7 @@ def long(library):
     """The trials of the gate, which leaves the program in target/, and the tests of vbr_set_tests as they were built."""
     return [
         trial("tools", ["tests/tools"]),
-        trial("clients", ["env", "SOAK=100000000", "bindings/test"], library),
+        trial("clients", ["env", "SOAK=100000000", "REALTIME=20000000", "bindings/test"], library),
         trial("faults", ["tests/faults"]),
         trial("kept-inputs", ["tests/fuzz/run", "--kept"], library),
         trial("inputs", ["tests/fuzz/run", "300000", "20000"], "kept-inputs"),

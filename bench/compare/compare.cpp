@@ -3,6 +3,7 @@
 #include "single.hpp"
 #include "walk.hpp"
 
+#include <array>
 #include <iterator>
 #include <sys/wait.h>
 
@@ -38,7 +39,7 @@ struct Cell {
         if (w.is_fill()) return "fill=" + std::to_string(w.range);
         if (single) return "range=" + std::to_string(w.range) + " calls=" + single->calls;
         return "range=" + std::to_string(w.range) + " mix=" + std::to_string(w.has) + "/" + std::to_string(w.insert) + "/" +
-               std::to_string(w.remove);
+               std::to_string(w.remove) + (w.replace ? "/" + std::to_string(w.replace) : "");
     }
     uint64_t possible(uint64_t operations) const {
         if (walk) return Walk::possible(operations, workload.range);
@@ -86,16 +87,19 @@ template <class T, class F> T in_a_process(const std::string &name, F f) {
     return value;
 }
 
-// Four threads on few keys: their answers are to balance.
+void check(const Peer &peer, const Workload &workload) {
+    uint64_t wrong = in_a_process<uint64_t>(peer.name, [&] { return peer.wrong_keys(workload); });
+    if (wrong == 0) return;
+    std::fprintf(stderr, "compare: %s: the answers do not balance for %llu of %llu keys\n", peer.name.c_str(),
+                 static_cast<Count>(wrong), static_cast<Count>(workload.range));
+    std::exit(1);
+}
+
+// Four threads on few keys: their answers are to balance, and what is replaced is to stay.
 void check(const Peer &peer) {
     for (uint64_t range : {8u, 64u, 1000u}) {
-        Workload workload{range, 20, 40, 40, 4, 800000, 1};
-        uint64_t wrong = in_a_process<uint64_t>(peer.name, [&] { return peer.wrong_keys(workload); });
-        if (wrong != 0) {
-            std::fprintf(stderr, "compare: %s: the answers do not balance for %llu of %llu keys\n", peer.name.c_str(),
-                         static_cast<Count>(wrong), static_cast<Count>(range));
-            std::exit(1);
-        }
+        check(peer, {range, 20, 40, 40, 4, 800000, 1});
+        if (peer.replaces_by) check(peer, {range, 50, 0, 0, 4, 800000, 1, 50});
     }
     std::fprintf(stderr, "compare: %s: the answers of four threads balance\n", peer.name.c_str());
 }
@@ -141,8 +145,10 @@ uint64_t fitting_operations(Cell &cell, uint64_t milliseconds) {
 // Those of one kind stand together, as their ratios are asked for.
 void add_singles(std::vector<Cell> &cells, const Options &options) {
     for (uint64_t range : options.ranges)
-        for (const Single &it : singles())
-            cells.push_back({&it.peer, {range, it.has, it.insert, it.remove, 1, it.possible(options.operations, range), 0}, {}, 0, 0, &it});
+        for (const Single &it : singles()) {
+            uint64_t operations = it.possible(options.operations, range);
+            cells.push_back({&it.peer, {range, it.has, it.insert, it.remove, 1, operations, 0, it.replace}, {}, 0, 0, &it});
+        }
 }
 
 // Walks, and the library's look-ups beside them.
@@ -156,13 +162,15 @@ void add_walks(std::vector<Cell> &cells, const Options &options) {
 std::vector<Peer> &peers_of(const Options &options) { return options.maps ? map_peers() : peers(); }
 
 std::vector<Cell> cells(const Options &options) {
-    static const unsigned mixes[][3] = {{100, 0, 0}, {90, 5, 5}, {50, 25, 25}, {0, 50, 50}};
+    // look-ups, inserts, removes, and of maps alone replacements
+    std::vector<std::array<unsigned, 4>> mixes{{100, 0, 0, 0}, {90, 5, 5, 0}, {50, 25, 25, 0}, {0, 50, 50, 0}};
+    if (options.maps) mixes.push_back({90, 0, 0, 10});
     std::vector<Cell> cells;
     for (uint64_t range : options.ranges)
-        for (auto &mix : mixes)
+        for (auto [has, insert, remove, replace] : mixes)
             for (unsigned threads : {1u, 2u, 4u})
                 for (const Peer &peer : peers_of(options))
-                    cells.push_back({&peer, {range, mix[0], mix[1], mix[2], threads, options.operations * threads, 0}, {}});
+                    cells.push_back({&peer, {range, has, insert, remove, threads, options.operations * threads, 0, replace}, {}});
     if (options.maps) add_singles(cells, options);
     add_walks(cells, options);
     if (options.operations == 0) std::fputs("compare: finding how many calls a run shall have\n", stderr);
@@ -226,6 +234,13 @@ void measure_round(std::vector<Cell> &cells, uint64_t round, const Options &opti
         due.clear();
         std::copy_if(disturbed.begin(), disturbed.end(), std::back_inserter(due), [](Cell *cell) { return !cell->is_slow(); });
     }
+}
+
+// What the peers replace a value by, as a first line of a table of maps.
+void print_replacements() {
+    std::string line = "# replacements: ";
+    for (const Peer &peer : map_peers()) line += (&peer == &map_peers()[0] ? "" : "; ") + peer.name + " by " + peer.replaces_by;
+    std::puts(line.c_str());
 }
 
 void print(const std::vector<Cell> &cells) {
@@ -318,6 +333,7 @@ int main(int count, char **words) {
     std::vector<Cell> table = cells(options);
     // the rounds are the outermost loop: what disturbs the machine for a while disturbs all peers alike
     for (uint64_t round = 0; round < options.repeats; round++) measure_round(table, round, options, log);
+    if (options.maps) print_replacements();
     print(table);
     warn(table);
     return 0;

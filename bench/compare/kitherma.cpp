@@ -63,6 +63,9 @@ struct KithermaMap {
     bool insert(Handle &h, uint64_t key, uint64_t value) { return answer(vbr_map_insert(h.of, key, value, BUDGET)); }
     bool remove(Handle &h, uint64_t key, uint64_t &value) { return answer(vbr_map_remove(h.of, key, BUDGET, &value)); }
     bool get(Handle &h, uint64_t key, uint64_t &value) { return answer(vbr_map_get(h.of, key, BUDGET, &value)); }
+    bool replace(Handle &h, uint64_t key, uint64_t value, uint64_t &old) {
+        return answer(vbr_map_replace(h.of, key, value, &old, BUDGET));
+    }
     bool has(Handle &h, uint64_t key) { return answer(vbr_map_has(h.of, key, BUDGET)); }
 
     template <class F> void walk(Handle &h, F each) {
@@ -72,7 +75,7 @@ struct KithermaMap {
 };
 
 PEER("kitherma", Kitherma);
-MAP_PEER("kitherma", KithermaMap);
+MAP_PEER("kitherma", KithermaMap, "replace");
 const bool singles_of_map = add_singles_of_map<KithermaMap>("kitherma");
 const bool singles_of_set = add_singles_of_set<Kitherma>("kitherma set");
 WALK_PEER("kitherma", Kitherma);

@@ -9,6 +9,8 @@
 #include <cds/container/michael_map.h>
 #include <cds/container/michael_set.h>
 
+#include <atomic>
+
 namespace {
 
 namespace cc = cds::container;
@@ -16,7 +18,14 @@ using Traits = cc::michael_list::make_traits<cds::opt::less<std::less<uint64_t>>
 using NoCounter = cds::opt::item_counter<cds::atomicity::empty_item_counter>;
 using Set = cc::MichaelHashSet<cds::gc::HP, cc::MichaelList<cds::gc::HP, uint64_t, Traits>,
                                cc::michael_set::make_traits<cds::opt::hash<Identity>, NoCounter>::type>;
-using Map = cc::MichaelHashMap<cds::gc::HP, cc::MichaelKVList<cds::gc::HP, uint64_t, uint64_t, Traits>,
+
+// A value that is replaced in its node, while others read it. A node's is moved there when it is made.
+struct Value {
+    std::atomic<uint64_t> word;
+    Value(uint64_t value = 0) : word(value) {}
+    Value(Value &&from) : word(from.word.load(std::memory_order_relaxed)) {}
+};
+using Map = cc::MichaelHashMap<cds::gc::HP, cc::MichaelKVList<cds::gc::HP, uint64_t, Value, Traits>,
                                cc::michael_map::make_traits<cds::opt::hash<Identity>, NoCounter>::type>;
 
 // A set or a map, with the library behind it.
@@ -55,14 +64,18 @@ struct LibcdsMap : Libcds<Map> {
 
     bool insert(Handle &, uint64_t key, uint64_t value) { return table.insert(key, value); }
     bool remove(Handle &, uint64_t key, uint64_t &value) {
-        return table.erase(key, [&](Map::value_type &entry) { value = entry.second; });
+        return table.erase(key, [&](Map::value_type &entry) { value = entry.second.word; });
     }
     bool get(Handle &, uint64_t key, uint64_t &value) {
-        return table.find(key, [&](Map::value_type &entry) { value = entry.second; });
+        return table.find(key, [&](Map::value_type &entry) { value = entry.second.word; });
+    }
+    bool replace(Handle &, uint64_t key, uint64_t value, uint64_t &old) {
+        auto exchanges = [&](bool, Map::value_type &entry) { old = entry.second.word.exchange(value); };
+        return table.update(key, exchanges, false).first;
     }
 };
 
 PEER("libcds HP", LibcdsSet);
-MAP_PEER("libcds HP", LibcdsMap);
+MAP_PEER("libcds HP", LibcdsMap, "update, in the node");
 
 }  // namespace

@@ -42,7 +42,7 @@ template <class Node> struct Liburcu {
         {
             Registered registered;
             walk_nodes([&](cds_lfht_node *link) {
-                if (cds_lfht_del(table, link) == 0) call_rcu(&node_of(link)->head, free_node<Node>);
+                if (cds_lfht_del(table, link) == 0) free_later(link);
             });
         }
         rcu_barrier();
@@ -73,9 +73,10 @@ template <class Node> struct Liburcu {
         cds_lfht_iter at;
         for (cds_lfht_first(table, &at); cds_lfht_node *link = cds_lfht_iter_get_node(&at); cds_lfht_next(table, &at)) each(link);
     }
+    void free_later(cds_lfht_node *link) { call_rcu(&node_of(link)->head, free_node<Node>); }
     bool take_out(cds_lfht_node *link) {
         if (!link || cds_lfht_del(table, link) != 0) return false;
-        call_rcu(&node_of(link)->head, free_node<Node>);
+        free_later(link);
         return true;
     }
 };
@@ -124,6 +125,18 @@ struct LiburcuMap : Liburcu<EntryNode> {
         if (link) value = value_of(link);
         return take_out(link);
     }
+    bool replace(Handle &, uint64_t key, uint64_t value, uint64_t &old) {
+        Reading reading;
+        EntryNode *node = new EntryNode;
+        cds_lfht_node_init(&node->link);
+        node->key = key;
+        node->value = value;
+        cds_lfht_node *link = cds_lfht_add_replace(table, key, matches, &key, &node->link);
+        if (!link) return false;
+        old = value_of(link);
+        free_later(link);
+        return true;
+    }
     template <class F> void walk(Handle &, F each) {
         walk_nodes([&](cds_lfht_node *link) { each(node_of(link)->key, value_of(link)); });
     }
@@ -133,7 +146,7 @@ private:
 };
 
 PEER("liburcu", LiburcuSet);
-MAP_PEER("liburcu", LiburcuMap);
+MAP_PEER("liburcu", LiburcuMap, "cds_lfht_add_replace");
 WALK_PEER("liburcu", LiburcuSet);
 MAP_WALK_PEER("liburcu", LiburcuMap);
 

@@ -5,6 +5,7 @@
 #include <shared_mutex>
 #include <unordered_map>
 #include <unordered_set>
+#include <utility>
 
 namespace {
 
@@ -69,6 +70,14 @@ struct LockedMap : Parts<std::unordered_map<uint64_t, uint64_t, Identity>, Lock,
         part.keys.erase(at);
         return true;
     }
+    bool replace(Handle &, uint64_t key, uint64_t value, uint64_t &old) {
+        Part &part = this->part_of(key);
+        std::lock_guard<Lock> guard(part.lock);
+        auto at = part.keys.find(key);
+        if (at == part.keys.end()) return false;
+        old = std::exchange(at->second, value);
+        return true;
+    }
     bool get(Handle &, uint64_t key, uint64_t &value) {
         Part &part = this->part_of(key);
         ReadGuard guard(part.lock);
@@ -93,8 +102,8 @@ using MutexesMap = OfMutexes<LockedMap>;
 PEER("mutex", Mutex);
 PEER("shared mutex", SharedMutex);
 PEER("64 mutexes", Mutexes);
-MAP_PEER("mutex", MutexMap);
-MAP_PEER("shared mutex", SharedMutexMap);
-MAP_PEER("64 mutexes", MutexesMap);
+MAP_PEER("mutex", MutexMap, "assignment");
+MAP_PEER("shared mutex", SharedMutexMap, "assignment");
+MAP_PEER("64 mutexes", MutexesMap, "assignment");
 
 }  // namespace

@@ -2,7 +2,9 @@
 //     struct Handle { Handle(M &, unsigned thread); };        one for each thread, made and ended by it
 //     bool insert(Handle &, uint64_t key, uint64_t value), remove(Handle &, uint64_t key, uint64_t &value);
 //     bool get(Handle &, uint64_t key, uint64_t &value);      this and `remove` give the value where they answer yes
-// An insert of a key that is there leaves its value. MAP_PEER(name, M) names it in a file of its own.
+//     bool replace(Handle &, uint64_t key, uint64_t value, uint64_t &old);    of a key that is there; gives the value that it had
+// An insert of a key that is there leaves its value. MAP_PEER(name, M, REPLACES_BY) names it in a file of its own, with what it
+// replaces a value by.
 #pragma once
 #include "workload.hpp"
 
@@ -47,6 +49,11 @@ template <class M> struct Gets {
         bool given = map.get(h.of_map, key, value);
         return h.notes(given, value, key);
     }
+    bool replace(Handle &h, uint64_t key) {
+        uint64_t old = 0;
+        bool given = map.replace(h.of_map, key, value_of(key, h.thread), old);
+        return h.notes(given, old, key);
+    }
 };
 
 // The same, where a look-up asks only whether the key is there: of a map that has `has` too.
@@ -61,4 +68,5 @@ inline std::vector<Peer> &map_peers() {
     return list;
 }
 
-#define MAP_PEER(name, M) static const bool named_##M = (map_peers().push_back({name, measure<Gets<M>>, wrong_keys<Gets<M>>}), true)
+#define MAP_PEER(name, M, REPLACES_BY) \
+    static const bool named_##M = (map_peers().push_back({name, measure<Gets<M>>, wrong_keys<Gets<M>>, REPLACES_BY}), true)

@@ -5,9 +5,10 @@
 
 struct Single {
     Peer peer;
-    const char *calls;            // get, has, insert, remove, or update: as many inserts as removes
+    const char *calls; // get, has, insert, remove, replace; update: as many inserts as removes; reinsert: a remove and an insert
     unsigned has, insert, remove; // of 100 calls
     bool in_turns;                // a turn has all keys
+    unsigned replace = 0;         // of 100 calls
 
     // As near to so many calls as there can be.
     uint64_t possible(uint64_t operations, uint64_t range) const {
@@ -41,30 +42,48 @@ template <class F> std::chrono::steady_clock::duration timed_calls(const std::ve
     uint64_t yes = 0;
     for (uint32_t number : numbers) yes += call(key_of(number));
     auto time = std::chrono::steady_clock::now() - start;
-    if (yes != numbers.size()) std::fputs("compare: an insert or a remove was answered no\n", stderr), std::_Exit(1);
+    if (yes != numbers.size()) std::fputs("compare: a call of one kind was answered no\n", stderr), std::_Exit(1);
     return time;
 }
 
-// All keys are inserted and removed in turns, and the time of the inserts counts, or that of the removes.
-template <class P> Run measure_turns(const Workload &w) {
+// Turns by one thread, each with all keys. `turn` is given the peer, a handle and what draws orders, and gives the time that counts.
+template <class P, class F> Run measure_in_turns(const Workload &w, F turn) {
     using Clock = std::chrono::steady_clock;
     auto start = Clock::now();
     P peer(w);
-    std::chrono::duration<double> opening = Clock::now() - start, inserts{0}, removes{0};
+    std::chrono::duration<double> opening = Clock::now() - start, time{0};
     Run run;
     run.open_seconds = opening.count();
     Order order(w.range, w.run);
     std::thread([&] {
         typename P::Handle handle(peer, 0);
         Watch watch;
-        for (uint64_t done = 0; done < w.operations; done += w.range) {
-            inserts += timed_calls(order.drawn(), [&](uint64_t key) { return peer.insert(handle, key); });
-            removes += timed_calls(order.drawn(), [&](uint64_t key) { return peer.remove(handle, key); });
-        }
+        for (uint64_t done = 0; done < w.operations; done += w.range) time += turn(peer, handle, order);
         run.disturbance = watch.seen();
     }).join();
-    run.seconds = (w.insert ? inserts : removes).count();
+    run.seconds = time.count();
     return run;
+}
+
+// All keys are inserted and removed in turns, and the time of the inserts counts, or that of the removes.
+template <class P> Run measure_turns(const Workload &w) {
+    return measure_in_turns<P>(w, [&](P &peer, typename P::Handle &handle, Order &order) {
+        auto inserts = timed_calls(order.drawn(), [&](uint64_t key) { return peer.insert(handle, key); });
+        auto removes = timed_calls(order.drawn(), [&](uint64_t key) { return peer.remove(handle, key); });
+        return w.insert ? inserts : removes;
+    });
+}
+
+// The value of each key is replaced in each turn, by a call or by a remove and an insert of the key.
+template <class P> Run measure_replacements(const Workload &w) {
+    bool is_in = false;
+    return measure_in_turns<P>(w, [&](P &peer, typename P::Handle &handle, Order &order) {
+        if (!is_in) timed_calls(order.drawn(), [&](uint64_t key) { return peer.insert(handle, key); });
+        is_in = true;
+        auto replaces = [&](uint64_t key) { return peer.replace(handle, key); };
+        auto reinserts = [&](uint64_t key) { return peer.remove(handle, key) && peer.insert(handle, key); };
+        return w.replace ? timed_calls(order.drawn(), replaces) : timed_calls(order.drawn(), reinserts);
+    });
 }
 
 // What is measured of a map or a set, beside look-ups.
@@ -77,6 +96,8 @@ template <class P> void add_updates(const std::string &name) {
 template <class M> bool add_singles_of_map(const std::string &name) {
     singles().push_back({{name, measure<Gets<M>>, wrong_keys<Gets<M>>}, "get", 100, 0, 0, false});
     singles().push_back({{name, measure<Looks<M>>, wrong_keys<Looks<M>>}, "has", 100, 0, 0, false});
+    singles().push_back({{name, measure_replacements<Gets<M>>, nullptr}, "replace", 0, 0, 0, true, 100});
+    singles().push_back({{name, measure_replacements<Gets<M>>, nullptr}, "reinsert", 0, 50, 50, true});
     add_updates<Gets<M>>(name);
     return true;
 }

@@ -23,6 +23,9 @@ template <class N> struct Twin {
     bool remove(Handle &h, uint64_t key, uint64_t &value) { return answer(table.remove(h.pass, key, BUDGET, value)); }
     bool get(Handle &h, uint64_t key, uint64_t &value) { return answer(table.get(h.pass, key, BUDGET, value)); }
     bool has(Handle &h, uint64_t key) { return answer(table.has(h.pass, key, BUDGET)); }
+    bool replace(Handle &h, uint64_t key, uint64_t value, uint64_t &old) {
+        return answer(table.replace(h.pass, key, value, BUDGET, old));
+    }
     bool insert(Handle &h, uint64_t key) { return insert(h, key, 0); }
     bool remove(Handle &h, uint64_t key) {
         uint64_t none;
@@ -39,9 +42,10 @@ private:
 const bool singles_of_map = add_singles_of_map<Twin<twin::Entries>>("twin");
 const bool singles_of_set = add_singles_of_set<Twin<twin::Keys>>("twin set");
 
-// The library's calls, of a set and of a map. What has no value leaves `value` as it is.
+// The library's calls, of a set and of a map, which has five kinds more. What has no value leaves `value` as it is.
 struct Set {
     using Nodes = twin::Keys;
+    static constexpr unsigned KINDS = 4;
     vbr_handle handles[2] = {};
 
     Set(uint32_t slots, uint32_t buckets, uint64_t last_epoch) {
@@ -59,6 +63,7 @@ struct Set {
 
 struct Map {
     using Nodes = twin::Entries;
+    static constexpr unsigned KINDS = 9;
     vbr_map_handle handles[2] = {};
 
     Map(uint32_t slots, uint32_t buckets, uint64_t last_epoch) {
@@ -71,11 +76,27 @@ struct Map {
     int remove(int by, uint64_t key, uint32_t budget, uint64_t &value) { return vbr_map_remove(&handles[by], key, budget, &value); }
     int get(int by, uint64_t key, uint32_t budget, uint64_t &value) { return vbr_map_get(&handles[by], key, budget, &value); }
     int has(int by, uint64_t key, uint32_t budget) { return vbr_map_has(&handles[by], key, budget); }
+    int replace(int by, uint64_t key, uint64_t value, uint32_t budget, uint64_t &old) {
+        return vbr_map_replace(&handles[by], key, value, &old, budget);
+    }
+    int put(int by, uint64_t key, uint64_t value, uint32_t budget, uint64_t &old) {
+        return vbr_map_put(&handles[by], key, value, &old, budget);
+    }
+    int get_or_insert(int by, uint64_t key, uint64_t value, uint32_t budget, uint64_t &old) {
+        return vbr_map_get_or_insert(&handles[by], key, value, &old, budget);
+    }
+    int compare_exchange(int by, uint64_t key, uint64_t expected, uint64_t value, uint32_t budget, uint64_t &old) {
+        return vbr_map_compare_exchange(&handles[by], key, expected, value, &old, budget);
+    }
+    int remove_if(int by, uint64_t key, uint64_t expected, uint32_t budget, uint64_t &old) {
+        return vbr_map_remove_if(&handles[by], key, expected, &old, budget);
+    }
     uint64_t epoch(int by) { return vbr_map_epoch(&handles[by]); }
 };
 
 // The twin, with the same calls.
 template <class N> struct Plain {
+    static constexpr unsigned KINDS = N::VALUES ? 9 : 4;
     twin::Table<N> table;
     twin::Pass passes[2];
 
@@ -84,7 +105,30 @@ template <class N> struct Plain {
     int remove(int by, uint64_t key, uint32_t budget, uint64_t &value) { return table.remove(passes[by], key, budget, value); }
     int get(int by, uint64_t key, uint32_t budget, uint64_t &value) { return table.get(passes[by], key, budget, value); }
     int has(int by, uint64_t key, uint32_t budget) { return table.has(passes[by], key, budget); }
+    int replace(int by, uint64_t key, uint64_t value, uint32_t budget, uint64_t &old) {
+        return table.replace(passes[by], key, value, budget, old);
+    }
+    int put(int by, uint64_t key, uint64_t value, uint32_t budget, uint64_t &old) {
+        return table.put(passes[by], key, value, budget, old);
+    }
+    int get_or_insert(int by, uint64_t key, uint64_t value, uint32_t budget, uint64_t &old) {
+        return table.get_or_insert(passes[by], key, value, budget, old);
+    }
+    int compare_exchange(int by, uint64_t key, uint64_t expected, uint64_t value, uint32_t budget, uint64_t &old) {
+        return table.compare_exchange(passes[by], key, expected, value, budget, old);
+    }
+    int remove_if(int by, uint64_t key, uint64_t expected, uint32_t budget, uint64_t &old) {
+        return table.remove_if(passes[by], key, expected, budget, old);
+    }
     uint64_t epoch(int by) { return passes[by].epoch; }
+
+    // What a key has, by a caller that isn't one of these.
+    uint64_t value_of(uint64_t key) {
+        twin::Pass another;
+        uint64_t value = 0;
+        table.get(another, key, UINT32_MAX, value);
+        return value;
+    }
 };
 
 // What a call told: its answer, the value, and the epoch that its caller has read last.
@@ -97,16 +141,27 @@ struct Told {
 struct Call {
     unsigned kind;
     int by;
-    uint64_t key, value;
+    uint64_t key, value, expected;
     uint32_t budget;
 };
 
+template <class T> int answer_of(T &of, const Call &it, uint64_t &value) {
+    if (it.kind == 0) return of.insert(it.by, it.key, it.value, it.budget);
+    if (it.kind == 1) return of.remove(it.by, it.key, it.budget, value);
+    if (it.kind == 2) return of.get(it.by, it.key, it.budget, value);
+    if constexpr (T::KINDS > 4) {
+        if (it.kind == 4) return of.replace(it.by, it.key, it.value, it.budget, value);
+        if (it.kind == 5) return of.put(it.by, it.key, it.value, it.budget, value);
+        if (it.kind == 6) return of.get_or_insert(it.by, it.key, it.value, it.budget, value);
+        if (it.kind == 7) return of.compare_exchange(it.by, it.key, it.expected, it.value, it.budget, value);
+        if (it.kind == 8) return of.remove_if(it.by, it.key, it.expected, it.budget, value);
+    }
+    return of.has(it.by, it.key, it.budget);
+}
+
 template <class T> Told told(T &of, const Call &call) {
     uint64_t value = 0;
-    int answer = call.kind == 0   ? of.insert(call.by, call.key, call.value, call.budget)
-                 : call.kind == 1 ? of.remove(call.by, call.key, call.budget, value)
-                 : call.kind == 2 ? of.get(call.by, call.key, call.budget, value)
-                                  : of.has(call.by, call.key, call.budget);
+    int answer = answer_of(of, call, value);
     return {answer, value, of.epoch(call.by)};
 }
 
@@ -117,9 +172,10 @@ template <class L> bool answers_as(uint32_t slots, uint32_t buckets, uint64_t la
     Plain<typename L::Nodes> plain(slots, buckets, last_epoch);
     Random random(keys);
     for (uint64_t i = 0; i < 200000; i++) {
-        uint64_t x = random.next();
+        uint64_t x = random.next(), key = key_of((x >> 8 & 0xffffffff) % keys);
         uint32_t budget = x >> 60 < 6 ? static_cast<uint32_t>(x >> 40) % 64 : 10000;
-        Call call{static_cast<unsigned>(x & 3), static_cast<int>(x >> 2 & 1), key_of((x >> 8 & 0xffffffff) % keys), i, budget};
+        unsigned kind = (x & 0x7f) % L::KINDS;
+        Call call{kind, static_cast<int>(x >> 7 & 1), key, i, plain.value_of(key) + (x >> 59 & 1), budget};
         if (told(library, call) == told(plain, call)) continue;
         std::fprintf(stderr, "compare: the twin answers call %llu of %u slots otherwise than the library\n",
                      static_cast<unsigned long long>(i), slots);

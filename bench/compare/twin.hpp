@@ -16,7 +16,7 @@
 namespace twin {
 
 // As vbr.h has them.
-enum Answer { NO = 0, YES = 1, OUT_OF_STEPS = -1, NO_SLOT = -2, EPOCH_SPENT = -3 };
+enum Answer { NO = 0, YES = 1, OTHER = 2, OUT_OF_STEPS = -1, NO_SLOT = -2, EPOCH_SPENT = -3 };
 
 // The kinds of nodes: those of a set, a key each, and those of a map, a key and its value.
 struct Keys {
@@ -25,6 +25,9 @@ struct Keys {
 struct Entries {
     static constexpr bool VALUES = true;
 };
+
+// What has to be there for a value to be stored.
+enum class Wanted { absent, present, anything, value };
 
 // A link word: the slot that it names, counted from 1, or 0; then a mark, and a version of 39 bits.
 constexpr uint64_t MARK = 1 << 24;
@@ -144,6 +147,25 @@ public:
     [[gnu::noinline, gnu::aligned(64)]] Answer has(Pass &pass, uint64_t key, uint32_t budget) {
         uint64_t none;
         return Call<N>(*this, pass, key, budget).template look_up<false>(none);
+    }
+    // Where nodes have values: each gives the value that was there, unless it answers NO or is refused.
+    [[gnu::noinline, gnu::aligned(64)]] Answer replace(Pass &pass, uint64_t key, uint64_t value, uint32_t budget, uint64_t &old) {
+        return Call<N>(*this, pass, key, budget).template store<Wanted::present>(value, 0, old);
+    }
+    [[gnu::noinline, gnu::aligned(64)]] Answer put(Pass &pass, uint64_t key, uint64_t value, uint32_t budget, uint64_t &old) {
+        return Call<N>(*this, pass, key, budget).template store<Wanted::anything>(value, 0, old);
+    }
+    [[gnu::noinline, gnu::aligned(64)]] Answer get_or_insert(Pass &pass, uint64_t key, uint64_t value, uint32_t budget,
+                                                             uint64_t &old) {
+        return Call<N>(*this, pass, key, budget).template store<Wanted::absent>(value, 0, old);
+    }
+    [[gnu::noinline, gnu::aligned(64)]] Answer compare_exchange(Pass &pass, uint64_t key, uint64_t expected, uint64_t value,
+                                                                uint32_t budget, uint64_t &old) {
+        return Call<N>(*this, pass, key, budget).template store<Wanted::value>(value, expected, old);
+    }
+    [[gnu::noinline, gnu::aligned(64)]] Answer remove_if(Pass &pass, uint64_t key, uint64_t expected, uint32_t budget,
+                                                         uint64_t &old) {
+        return Call<N>(*this, pass, key, budget).remove_if(expected, old);
     }
 
 private:
@@ -331,10 +353,42 @@ public:
             if (!is_affordable()) return OUT_OF_STEPS;
             if (stands(found.cur)) return NO;
         }
-        Taken hand = table.take(pass, budget - used);
-        used += hand.made;
-        epoch = pass.epoch;
+        Taken hand = take();
         return hand.answer == YES ? link(value, hand) : hand.answer;
+    }
+
+    // Stores a value where what is there is as wanted, else answers a get.
+    template <Wanted WANTED> [[gnu::always_inline]] Answer store(uint64_t value, uint64_t expected, uint64_t &old) {
+        while (WANTED != Wanted::anything) {
+            Found found;
+            if (!search(found)) return OUT_OF_STEPS;
+            if (WANTED != Wanted::value && found.present == (WANTED == Wanted::present)) break;
+            if (!is_affordable()) return OUT_OF_STEPS;
+            uint64_t here = 0;
+            if (!read_value(found, here)) continue;
+            if (wants<WANTED>(found.present, here, expected)) break;
+            if (stands(found.present ? found.cur : found.pred)) return told<WANTED>(found.present, here, expected, old);
+        }
+        Taken hand = take();
+        return hand.answer == YES ? store_by<WANTED>(value, expected, hand, old) : hand.answer;
+    }
+
+    [[gnu::always_inline]] Answer remove_if(uint64_t expected, uint64_t &old) {
+        for (;;) {
+            Found found;
+            if (!search(found) || !is_affordable()) return OUT_OF_STEPS;
+            uint64_t here = 0;
+            if (!read_value(found, here)) continue;
+            bool takes_out = found.present && here == expected;
+            if (takes_out) {
+                if (!exchange(found.cur.at, found.cur.word, found.cur.word | MARK)) continue;
+                found.cur.word |= MARK;
+                if (is_affordable()) unlink_marked(found);
+            } else if (!stands(found.present ? found.cur : found.pred)) {
+                continue;
+            }
+            return told<Wanted::value>(found.present, here, expected, old);
+        }
     }
 
 private:
@@ -350,6 +404,30 @@ private:
         return false;
     }
 
+    // Reads the value of the node that was found, if the key is there; whether the epoch stayed.
+    [[gnu::always_inline]] bool read_value(const Found &found, uint64_t &here) {
+        if (!found.present) return true;
+        here = load(found.cur.at + Words::VALUE);
+        used += 2;
+        return epoch_stays();
+    }
+
+    template <Wanted WANTED> static bool wants(bool present, uint64_t here, uint64_t expected) {
+        switch (WANTED) {
+        case Wanted::absent: return !present;
+        case Wanted::present: return present;
+        case Wanted::anything: return true;
+        case Wanted::value: return present && here == expected;
+        }
+    }
+
+    // The answer of a call that found this, and what was there.
+    template <Wanted WANTED> static Answer told(bool present, uint64_t here, uint64_t expected, uint64_t &old) {
+        if (!present) return NO;
+        old = here;
+        return WANTED != Wanted::value || here == expected ? YES : OTHER;
+    }
+
     // A step: whether the link of a place is as it was read.
     bool stands(const Held &held) {
         used++;
@@ -359,6 +437,14 @@ private:
     bool exchange(uint64_t at, uint64_t expected, uint64_t word) {
         used++;
         return words[at].compare_exchange_strong(expected, word);
+    }
+
+    // Takes a slot with what is left of the budget.
+    [[gnu::always_inline]] Taken take() {
+        Taken hand = table.take(pass, budget - used);
+        used += hand.made;
+        epoch = pass.epoch;
+        return hand;
     }
 
     // Reads the epoch and the head of the bucket: whether the epoch stayed.
@@ -461,7 +547,6 @@ private:
 
     // Links the slot in hand, or answers no where the key has come meanwhile.
     [[gnu::always_inline]] Answer link(uint64_t value, const Taken &hand) {
-        const uint64_t named = hand.slot + uint64_t{1}, at = link_of(named);
         for (;;) {
             Found found;
             if (!search(found) || !is_affordable()) return given_back(hand, OUT_OF_STEPS);
@@ -469,12 +554,55 @@ private:
                 if (stands(found.cur)) return given_back(hand, NO);
                 continue;
             }
-            words[at + Words::KEY] = key;
-            if (N::VALUES) words[at + Words::VALUE] = value;
-            words[at] = link_to(named_by(found.pred.word), hand.birth, found.cur.birth);
-            used += N::VALUES ? 3 : 2;
-            if (exchange(found.pred.at, found.pred.word, link_to(named, found.pred.birth, hand.birth))) return YES;
+            if (publish(value, hand, found)) return YES;
         }
+    }
+
+    // Links the slot in hand where the key was found absent; whether nothing came between.
+    [[gnu::always_inline]] bool publish(uint64_t value, const Taken &hand, const Found &found) {
+        const uint64_t named = hand.slot + uint64_t{1}, at = link_of(named);
+        words[at + Words::KEY] = key;
+        if (N::VALUES) words[at + Words::VALUE] = value;
+        words[at] = link_to(named_by(found.pred.word), hand.birth, found.cur.birth);
+        used += N::VALUES ? 3 : 2;
+        return exchange(found.pred.at, found.pred.word, link_to(named, found.pred.birth, hand.birth));
+    }
+
+    // Stores a value by the slot in hand where what is there is as wanted then, else answers a get.
+    template <Wanted WANTED>
+    [[gnu::always_inline]] Answer store_by(uint64_t value, uint64_t expected, const Taken &hand, uint64_t &old) {
+        for (;;) {
+            Found found;
+            if (!search(found) || !is_affordable()) return given_back(hand, OUT_OF_STEPS);
+            uint64_t here = 0;
+            if (!read_value(found, here)) continue;
+            if (!wants<WANTED>(found.present, here, expected)) {
+                if (!stands(found.present ? found.cur : found.pred)) continue;
+                return given_back(hand, told<WANTED>(found.present, here, expected, old));
+            }
+            if (!(found.present ? take_place(value, hand, found.cur) : publish(value, hand, found))) continue;
+            if (found.present && is_affordable()) unlink_marked(found);
+            return told<WANTED>(found.present, here, expected, old);
+        }
+    }
+
+    // Marks the node of the key and links the slot in hand behind it; whether nothing came between. Its link is the marked one then.
+    [[gnu::always_inline]] bool take_place(uint64_t value, const Taken &hand, Held &node) {
+        const uint64_t named = hand.slot + uint64_t{1}, at = link_of(named), next = named_by(node.word);
+        uint64_t birth = 0;
+        if (next) {
+            birth = load(link_of(next) + Words::BIRTH);
+            used += 2;
+            if (!epoch_stays()) return false;
+        }
+        words[at + Words::KEY] = key;
+        words[at + Words::VALUE] = value;
+        words[at] = link_to(next, hand.birth, birth);
+        used += 3;
+        uint64_t marked = MARK | link_to(named, node.birth, hand.birth);
+        if (!exchange(node.at, node.word, marked)) return false;
+        node.word = marked;
+        return true;
     }
 
     Answer given_back(const Taken &hand, Answer answer) {

@@ -40,6 +40,50 @@ template <class N> struct Beside {
         HOLDS(given == (at != plain.end() ? at->second : 0));
         if (at != plain.end()) plain.erase(at);
     }
+    // A store, which was answered so and gave this: where the key is there and where it isn't it stores or doesn't.
+    void stored(Answer answer, uint64_t given, uint64_t key, uint64_t value, bool if_there, bool if_absent) {
+        auto at = plain.find(key);
+        bool is_there = at != plain.end(), stores = is_there ? if_there : if_absent, has_room = plain.size() < slots;
+        HOLDS(answer == (stores && !has_room ? NO_SLOT : is_there ? YES : NO));
+        HOLDS(given == (is_there && answer == YES ? at->second : 0));
+        if (stores && has_room) plain[key] = value;
+    }
+    void replace(uint64_t key, uint64_t value) {
+        uint64_t given = 0;
+        Answer answer = table.replace(pass, key, value, AMPLE, given);
+        stored(answer, given, key, value, true, false);
+    }
+    void put(uint64_t key, uint64_t value) {
+        uint64_t given = 0;
+        Answer answer = table.put(pass, key, value, AMPLE, given);
+        stored(answer, given, key, value, true, true);
+    }
+    void get_or_insert(uint64_t key, uint64_t value) {
+        uint64_t given = 0;
+        Answer answer = table.get_or_insert(pass, key, value, AMPLE, given);
+        stored(answer, given, key, value, false, true);
+    }
+    // With the value that the key has, and with another one.
+    void change_if(uint64_t key, uint64_t value, bool is_expected, bool removes) {
+        uint64_t given = 0;
+        auto at = plain.find(key);
+        uint64_t has = at != plain.end() ? at->second : 0, expected = is_expected ? has : has + 1;
+        Answer answer = removes ? table.remove_if(pass, key, expected, AMPLE, given)
+                                : table.compare_exchange(pass, key, expected, value, AMPLE, given);
+        bool changes = at != plain.end() && is_expected, has_room = removes || plain.size() < slots;
+        HOLDS(answer == (at == plain.end() ? NO : !changes ? OTHER : has_room ? YES : NO_SLOT));
+        HOLDS(given == (answer == NO_SLOT ? 0 : has));
+        if (answer == YES && removes) plain.erase(at);
+        else if (answer == YES) at->second = value;
+    }
+    void change(uint64_t kind, uint64_t key, uint64_t value) {
+        switch (kind) {
+        case 0: replace(key, value); break;
+        case 1: put(key, value); break;
+        case 2: get_or_insert(key, value); break;
+        default: change_if(key, value, kind & 1, kind & 2);
+        }
+    }
     void look_up(uint64_t key) {
         uint64_t given = 0;
         auto at = plain.find(key);
@@ -55,10 +99,11 @@ template <class N> void answers_as_a_plain_map(uint32_t slots, uint32_t buckets,
     for (uint64_t i = 1; i <= 200000; i++) {
         state ^= state << 13, state ^= state >> 7, state ^= state << 17;
         uint64_t key = (state >> 32) % keys * 4096;
-        switch (state % 3) {
+        switch (state % (N::VALUES ? 4 : 3)) {
         case 0: beside.insert(key, i); break;
         case 1: beside.remove(key); break;
         case 2: beside.look_up(key); break;
+        case 3: beside.change((state >> 16) % 7, key, i); break;
         }
     }
     HOLDS(beside.pass.epoch > 1);
@@ -90,6 +135,38 @@ template <class N> void makes_these_steps() {
     // the mark, the unlinking, the epoch and the stamp
     HOLDS(steps_of(pass, [&] { HOLDS(table.remove(pass, 5, AMPLE, given) == YES); }) == 3 + 5 + 2 * VALUE + 4);
     HOLDS(steps_of(pass, [&] { HOLDS(table.remove(pass, 5, AMPLE, given) == NO); }) == 3 + 1);
+}
+
+// What changes a value searches twice, and takes a slot between; but a put takes it first.
+void changes_by_these_steps() {
+    Table<Entries> table(3, 1, 10);
+    Pass pass;
+    uint64_t given = 0;
+    HOLDS(steps_of(pass, [&] { HOLDS(table.replace(pass, 5, 50, AMPLE, given) == NO); }) == 3 + 1);
+    HOLDS(table.insert(pass, 5, 50, AMPLE) == YES);
+    // two searches; two flags, the epoch, a stamp and a birth; the value, three words of the node and the exchange; the birth behind
+    // the marked node, the unlinking, the epoch and the stamp
+    uint64_t taking = 2 + 3, around = 2 * (3 + 5) + (2 + 3 + 1) + (2 + 1 + 2);
+    HOLDS(steps_of(pass, [&] { HOLDS(table.replace(pass, 5, 51, AMPLE, given) == YES); }) == around + taking);
+    HOLDS(given == 50 && table.get(pass, 5, AMPLE, given) == YES && given == 51);
+    HOLDS(table.insert(pass, 6, 60, AMPLE) == YES && pass.epoch == 2);
+    around += 2; // the birth of the node behind
+    HOLDS(steps_of(pass, [&] { HOLDS(table.replace(pass, 5, 52, AMPLE, given) == YES); }) == around + taking);
+    taking = 1 + 1 + 2 + 1; // its own slot has the epoch as its stamp, so that is advanced
+    HOLDS(steps_of(pass, [&] { HOLDS(table.replace(pass, 5, 53, AMPLE, given) == YES); }) == around + taking);
+    HOLDS(given == 52);
+    HOLDS(steps_of(pass, [&] { HOLDS(table.replace(pass, 7, 70, AMPLE, given) == NO); }) == 3 + 5 + 5 + 1);
+    // the value is read before the slot is taken too
+    HOLDS(steps_of(pass, [&] { HOLDS(table.compare_exchange(pass, 5, 53, 54, AMPLE, given) == YES); }) == 2 + around + taking);
+    HOLDS(steps_of(pass, [&] { HOLDS(table.compare_exchange(pass, 5, 53, 55, AMPLE, given) == OTHER); }) == 3 + 5 + 2 + 1);
+    HOLDS(given == 54);
+    HOLDS(steps_of(pass, [&] { HOLDS(table.put(pass, 5, 56, AMPLE, given) == YES); }) == around - (3 + 5) + taking);
+    HOLDS(steps_of(pass, [&] { HOLDS(table.get_or_insert(pass, 5, 57, AMPLE, given) == YES); }) == 3 + 5 + 2 + 1);
+    HOLDS(given == 56);
+    HOLDS(steps_of(pass, [&] { HOLDS(table.remove_if(pass, 5, 57, AMPLE, given) == OTHER); }) == 3 + 5 + 2 + 1);
+    // the mark; the birth behind the node, the unlinking, the epoch and the stamp
+    HOLDS(steps_of(pass, [&] { HOLDS(table.remove_if(pass, 5, 56, AMPLE, given) == YES); }) == 3 + 5 + 2 + 1 + (2 + 1 + 2));
+    HOLDS(steps_of(pass, [&] { HOLDS(table.remove_if(pass, 5, 56, AMPLE, given) == NO); }) == 3 + 5 + 1);
 }
 
 template <class N> void refuses() {
@@ -134,5 +211,6 @@ template <class N> void test() {
 int main() {
     test<Keys>();
     test<Entries>();
+    changes_by_these_steps();
     std::puts("twin: passed");
 }

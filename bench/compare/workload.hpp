@@ -11,16 +11,19 @@
 #include <cstdint>
 #include <string>
 #include <thread>
+#include <type_traits>
+#include <utility>
 #include <vector>
 
 struct Workload {
     uint64_t range;               // how many keys there are
-    unsigned has, insert, remove; // of 100 calls; all 0: the fill, in which each key is inserted once
+    unsigned has, insert, remove; // of 100 calls
     unsigned threads;
     uint64_t operations;          // of all threads
     uint64_t run;                 // from which the random numbers come
+    unsigned replace = 0;         // of 100 calls, of maps alone; all four 0: the fill, in which each key is inserted once
 
-    constexpr bool is_fill() const { return has + insert + remove == 0; }
+    constexpr bool is_fill() const { return has + insert + remove + replace == 0; }
 
     // How many keys the set has as the calls are made: of a mix about half of them, which are put in before.
     constexpr uint64_t keys() const { return is_fill() ? range : range / 2; }
@@ -84,7 +87,15 @@ struct alignas(128) Notes {
     std::vector<int> by_key;  // of each key: inserts answered yes, less removes; empty where nobody asks
 };
 
-// The calls of one thread; how many were answered yes.
+// What a replacement gives; none is in a set.
+template <class P> using Replaced = decltype(std::declval<P &>().replace(std::declval<typename P::Handle &>(), uint64_t{}));
+template <class P, class = void> constexpr bool REPLACES = false;
+template <class P> constexpr bool REPLACES<P, std::void_t<Replaced<P>>> = true;
+
+// The key of this number or of the one before, which is put in before a mix.
+inline uint64_t key_there(uint64_t number) { return key_of(number & ~uint64_t{1}); }
+
+// The calls of one thread; how many were answered yes. Of a key that was put in before the value is replaced.
 template <class P>
 uint64_t mixed_calls(P &peer, typename P::Handle &handle, const Workload &w, unsigned thread, std::vector<int> &by_key) {
     Random random(w.run * 64 + thread);
@@ -96,6 +107,11 @@ uint64_t mixed_calls(P &peer, typename P::Handle &handle, const Workload &w, uns
             yes += peer.has(handle, key);
             continue;
         }
+        if constexpr (REPLACES<P>)
+            if (place >= w.has + w.insert + w.remove) {
+                yes += peer.replace(handle, key_there(number));
+                continue;
+            }
         bool inserts = place < w.has + w.insert;
         bool changed = inserts ? peer.insert(handle, key) : peer.remove(handle, key);
         yes += changed;
@@ -188,6 +204,7 @@ struct Peer {
     std::string name;
     Run (*measure)(const Workload &);
     uint64_t (*wrong_keys)(const Workload &);
+    const char *replaces_by = nullptr; // in a map: how it gives a key another value
 };
 
 inline std::vector<Peer> &peers() {

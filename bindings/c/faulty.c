@@ -22,13 +22,18 @@
    19 a look-up now and then begins anew, though nothing moved: it takes twice the steps
    20 a remove now and then begins anew, though nothing moved
    21 an insert now and then begins anew twice, though nothing moved
+   22 a `has` now and then answers as the last one of its thread did, if that was of the same key and the thread has neither
+      inserted nor removed it since
 
    One thread alone can't see the seventh and the twelfth, and four threads don't look for the eighth, ninth and tenth. The
-   twelfth leaves each thread's own answers right: it shows only where the program orders calls of several. The thirteenth
-   leaves all answers right while there are slots, and the last three leave right whatever is answered: they show only in what
-   is refused for want of steps. What can be wrong with values alone is in map_faulty.c. */
+   twelfth leaves each thread's own answers right: it shows only where the program orders calls of several. So does the
+   twenty-second, of what is inserted and removed. The thirteenth leaves all answers right while there are slots, and the
+   nineteenth to twenty-first leave right whatever is answered: they show only in what is refused for want of steps. What can be
+   wrong with values alone is in map_faulty.c. */
 #include "faulty.h"
 #include "vbr.h"
+
+#include <sched.h>
 
 /* WITH names what only calls on maps have, and GIVE writes a value; LOOK_UP tells of a key, and in a map its value too. */
 #ifdef OF_MAPS
@@ -40,6 +45,8 @@ typedef vbr_entry an_item;
 #define WITH(value) , value
 #define GIVE(to, value) (*(to) = (value))
 vbr_answer __real_vbr_map_get(vbr_map_handle *handle, uint64_t key, uint32_t budget, uint64_t *value);
+vbr_answer __real_vbr_map_get_or_insert(vbr_map_handle *handle, uint64_t key, uint64_t value, uint64_t *found, uint32_t budget);
+vbr_answer __real_vbr_map_remove_if(vbr_map_handle *handle, uint64_t key, uint64_t expected, uint64_t *found, uint32_t budget);
 #else
 typedef vbr_handle a_handle;
 typedef uint64_t an_item;
@@ -66,8 +73,23 @@ static _Thread_local struct an_insert {
 } late;
 
 static void make_late(void) {
-    if (late.handle) (void)!REAL(insert)(late.handle, late.key WITH(late.value), 1 << 20);
+    if (!late.handle) return;
+    sched_yield(); /* so that others look meanwhile, also where processors are few */
+    (void)!REAL(insert)(late.handle, late.key WITH(late.value), 1 << 20);
     late.handle = NULL;
+}
+
+/* What the last `has` of this thread told, for the twenty-second fault; of none where it has changed the key since. */
+static _Thread_local struct {
+    void *of; /* the handle's */
+    uint64_t key;
+    vbr_answer answer;
+} looked;
+
+static int is_looked(const a_handle *handle, uint64_t key) { return looked.of && looked.of == handle->owned && looked.key == key; }
+
+static void forget_look(uint64_t key) {
+    if (looked.key == key) looked.of = NULL;
 }
 
 vbr_answer WRAP(open)(a_handle *handles, size_t count, uint32_t slots, uint32_t buckets, uint64_t last_epoch) {
@@ -87,6 +109,7 @@ vbr_answer WRAP(open_with)(a_handle *handles, size_t count, uint32_t slots, uint
 vbr_answer WRAP(insert)(a_handle *handle, uint64_t key WITH(uint64_t value), uint32_t budget) {
     if (fault() == 8 && budget < 100 && budget >= 8 && handle->owned) return VBR_OUT_OF_STEPS;
     make_late();
+    forget_look(key);
     if (fault() == 12 && REAL(has)(handle, key, budget) == VBR_NO) {
         late = (struct an_insert){handle, key WITH(value)};
         return VBR_YES;
@@ -109,6 +132,7 @@ static vbr_answer remove_after_look_up(a_handle *handle, uint64_t key, uint32_t 
 
 vbr_answer WRAP(remove)(a_handle *handle, uint64_t key, uint32_t budget WITH(uint64_t *value)) {
     make_late();
+    forget_look(key);
     if (now(2)) return LOOK_UP(handle, key, budget WITH(value));
     if (now(13)) { /* the least budget that is answered leaves no step to unlink */
         for (uint32_t least = 0; least < budget; least++) {
@@ -122,7 +146,11 @@ vbr_answer WRAP(remove)(a_handle *handle, uint64_t key, uint32_t budget WITH(uin
 
 vbr_answer WRAP(has)(a_handle *handle, uint64_t key, uint32_t budget) {
     make_late();
+    if (is_looked(handle, key) && now(22)) return looked.answer;
     vbr_answer answer = REAL(has)(handle, key, now(19) ? budget / 2 : budget);
+    looked.of = answer < 0 ? NULL : handle->owned;
+    looked.key = key;
+    looked.answer = answer;
     return answer == VBR_YES && now(4) ? VBR_NO : answer;
 }
 
@@ -132,6 +160,23 @@ vbr_answer __wrap_vbr_map_get(vbr_map_handle *handle, uint64_t key, uint32_t bud
     make_late();
     vbr_answer answer = __real_vbr_map_get(handle, key, now(19) ? budget / 2 : budget, value);
     return answer == VBR_YES && now(4) ? *value = old, VBR_NO : answer;
+}
+
+/* It is an insert, too, for the twelfth fault, and a remove_if is the next call after one. */
+vbr_answer __wrap_vbr_map_get_or_insert(vbr_map_handle *handle, uint64_t key, uint64_t value, uint64_t *found, uint32_t budget) {
+    make_late();
+    forget_look(key);
+    if (fault() == 12 && REAL(has)(handle, key, budget) == VBR_NO) {
+        late = (struct an_insert){handle, key, value};
+        return VBR_NO;
+    }
+    return __real_vbr_map_get_or_insert(handle, key, value, found, budget);
+}
+
+vbr_answer __wrap_vbr_map_remove_if(vbr_map_handle *handle, uint64_t key, uint64_t expected, uint64_t *found, uint32_t budget) {
+    make_late();
+    forget_look(key);
+    return __real_vbr_map_remove_if(handle, key, expected, found, budget);
 }
 #endif
 

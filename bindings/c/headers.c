@@ -13,6 +13,7 @@ static const char *text_of(vbr_answer answer) {
     switch (answer) {
     case VBR_NO: return "no";
     case VBR_YES: return "yes";
+    case VBR_OTHER: return "other";
     case VBR_OUT_OF_STEPS: return "out of steps";
     case VBR_NO_SLOT: return "no slot";
     case VBR_EPOCH_SPENT: return "epoch spent";
@@ -58,6 +59,11 @@ static int check_maps(void) {
     vbr_map_give_back(&lender, mine);
     CHECK(vbr_map_has(&map[1], 5, BUDGET) == VBR_YES && vbr_map_get(&map[1], 5, BUDGET, &value) == VBR_YES && value == 50);
     CHECK(vbr_map_remove(&map[1], 6, BUDGET, &value) == VBR_NO && value == 50);
+    CHECK(vbr_map_replace(&map[0], 5, 51, &value, BUDGET) == VBR_YES && value == 50);
+    CHECK(vbr_map_put(&map[0], 5, 52, &value, BUDGET) == VBR_YES && value == 51);
+    CHECK(vbr_map_get_or_insert(&map[0], 5, 53, &value, BUDGET) == VBR_YES && value == 52);
+    CHECK(text_of(vbr_map_remove_if(&map[0], 5, 53, &value, BUDGET))[1] == 't' && value == 52);
+    CHECK(vbr_map_compare_exchange(&map[0], 5, 52, 50, &value, BUDGET) == VBR_YES && value == 52);
     CHECK(vbr_map_next(&map[1], &cursor, BUDGET, &key, &value) == VBR_YES && key == 5 && value == 50);
     CHECK(vbr_map_next(&map[1], &cursor, BUDGET, &key, &value) == VBR_NO && vbr_map_next(&none, &cursor, BUDGET, &key, &value) == VBR_EMPTY);
     CHECK(vbr_map_close_all(map, HANDLES, entries, 0, &report) == VBR_NO_ROOM && report.live == 1);

@@ -58,11 +58,17 @@ static void *work(void *of) {
 
 static int none_is_left(void) {
     vbr_handle *mine[HANDLES];
-    for (int i = 0; i < HANDLES; i++) CHECK((mine[i] = vbr_lend(&lender)) == &handles[i]);
-    CHECK(vbr_lend(&lender) == NULL && vbr_lend(&lender) == NULL);
+    int seen = 0;
+    for (int i = 0; i < HANDLES; i++) {
+        CHECK((mine[i] = vbr_lend(&lender)) != NULL);
+        seen |= 1 << (mine[i] - handles);
+    }
+    CHECK(seen == (1 << HANDLES) - 1 && vbr_lend(&lender) == NULL && vbr_lend(&lender) == NULL);
     vbr_give_back(&lender, mine[1]);
     CHECK(vbr_lend(&lender) == mine[1] && vbr_lend(&lender) == NULL);
     for (int i = 0; i < HANDLES; i++) vbr_give_back(&lender, mine[i]);
+    CHECK(vbr_lend(&lender) == mine[1]); /* the one that this thread had last */
+    vbr_give_back(&lender, mine[1]);
     return 1;
 }
 

@@ -9,6 +9,9 @@
 static vbr_entry entries[4];
 static vbr_totals report;
 
+/* The calls that do one thing or another by what is there. */
+enum change { REPLACE, PUT, GET_OR_INSERT, COMPARE_EXCHANGE, REMOVE_IF, CHANGES };
+
 static int is_entry(int number, uint64_t key, uint64_t value) {
     return entries[number].key == key && entries[number].value == value;
 }
@@ -31,10 +34,30 @@ static int takes_out(vbr_map_handle *handle, uint64_t key, uint64_t wanted) {
     return vbr_map_remove(handle, key, BUDGET, &value) == VBR_YES && value == wanted;
 }
 
+static vbr_answer change(enum change by, vbr_map_handle *handle, uint64_t key, uint64_t expected, uint64_t value, uint64_t *found, uint32_t budget) {
+    switch (by) {
+    case REPLACE: return vbr_map_replace(handle, key, value, found, budget);
+    case PUT: return vbr_map_put(handle, key, value, found, budget);
+    case GET_OR_INSERT: return vbr_map_get_or_insert(handle, key, value, found, budget);
+    case COMPARE_EXCHANGE: return vbr_map_compare_exchange(handle, key, expected, value, found, budget);
+    default: return vbr_map_remove_if(handle, key, expected, found, budget);
+    }
+}
+
+/* Whether each of these answers so, with a place for what was there and without, and writes nothing. */
+static int each_writes_nothing(vbr_map_handle *handle, uint64_t key, uint64_t expected, uint32_t budget, vbr_answer wanted) {
+    for (enum change by = 0; by < CHANGES; by++) {
+        uint64_t found = 77;
+        if (change(by, handle, key, expected, 99, &found, budget) != wanted || found != 77) return 0;
+        if (change(by, handle, key, expected, 99, NULL, budget) != wanted) return 0;
+    }
+    return 1;
+}
+
 static int empty_handles(void) {
     vbr_map_handle none = {0};
     entries[0] = (vbr_entry){77, 78};
-    CHECK(writes_nothing(&none, 1, BUDGET, VBR_EMPTY));
+    CHECK(writes_nothing(&none, 1, BUDGET, VBR_EMPTY) && each_writes_nothing(&none, 1, 1, BUDGET, VBR_EMPTY));
     CHECK(vbr_map_close(&none, entries, 4, &report) == VBR_EMPTY && is_entry(0, 77, 78));
     CHECK(vbr_map_close(NULL, entries, 4, &report) == VBR_EMPTY && is_entry(0, 77, 78));
     return 0;
@@ -102,6 +125,107 @@ static int opened_with_entries(void) {
     return 0;
 }
 
+/* What each call does where its key is there with the value that it expects, with another one, and where it is absent: the answer,
+   and the value that the key has then; none where it is absent. */
+static const struct outcome {
+    enum change by;
+    uint64_t had, expected;
+    vbr_answer answer;
+    uint64_t has;
+} outcomes[] = {
+    {REPLACE, 70, 0, VBR_YES, 99},
+    {REPLACE, 0, 0, VBR_NO, 0},
+    {PUT, 70, 0, VBR_YES, 99},
+    {PUT, 0, 0, VBR_NO, 99},
+    {GET_OR_INSERT, 70, 0, VBR_YES, 70},
+    {GET_OR_INSERT, 0, 0, VBR_NO, 99},
+    {COMPARE_EXCHANGE, 70, 70, VBR_YES, 99},
+    {COMPARE_EXCHANGE, 70, 99, VBR_OTHER, 70},
+    {COMPARE_EXCHANGE, 0, 70, VBR_NO, 0},
+    {REMOVE_IF, 70, 70, VBR_YES, 0},
+    {REMOVE_IF, 70, 71, VBR_OTHER, 70},
+    {REMOVE_IF, 0, 70, VBR_NO, 0},
+};
+
+/* Whether the key has this value, or is absent where that is 0. */
+static int stands(vbr_map_handle *handle, uint64_t key, uint64_t value) {
+    return value ? has_value(handle, key, value) : writes_nothing(handle, key, BUDGET, VBR_NO);
+}
+
+/* A call with budgets from 0 up: until one is enough it is refused, and does nothing. `most` is enough. */
+static int budgets_from_0(vbr_map_handle *handle, const struct outcome *it, uint64_t key, uint32_t most, int asks) {
+    for (uint32_t budget = 0;; budget++) {
+        uint64_t found = 77;
+        vbr_answer answer = change(it->by, handle, key, it->expected, 99, asks ? &found : NULL, budget);
+        CHECK(!asks || found == (answer == VBR_YES || answer == VBR_OTHER ? it->had : 77));
+        CHECK(stands(handle, key, answer == it->answer ? it->has : it->had));
+        if (answer == it->answer) return 0;
+        CHECK(answer == VBR_OUT_OF_STEPS && budget < most);
+    }
+}
+
+/* The key is the first, the last, or between others of one bucket; the steps are those that are promised to be enough. */
+static int outcomes_of_changes(void) {
+    enum { OTHERS = 4, MAP_SLOTS = OTHERS + 1 + 64 };
+    for (size_t i = 0; i < sizeof outcomes / sizeof outcomes[0]; i++)
+        for (uint64_t key = 0; key < 20; key += 5) {
+            const struct outcome *it = &outcomes[i];
+            static const vbr_entry others[OTHERS] = {{3, 1}, {7, 2}, {11, 3}, {13, 4}};
+            vbr_map_handle one = {0};
+            vbr_entry all[OTHERS + 1] = {{0, 0}};
+            uint32_t nodes = OTHERS + (it->had != 0), most = it->by == REMOVE_IF ? 9 * nodes + 11 : 18 * nodes + MAP_SLOTS + 82 + 2 * (it->by == COMPARE_EXCHANGE);
+            CHECK(vbr_map_open_with(&one, 1, MAP_SLOTS, 1, VBR_MAX_EPOCH, others, OTHERS) == VBR_NO);
+            for (int asks = 0; asks < 2; asks++) {
+                if (it->had) CHECK(vbr_map_insert(&one, key, it->had, BUDGET) == VBR_YES);
+                if (budgets_from_0(&one, it, key, most, asks)) return 1;
+                if (it->has) CHECK(takes_out(&one, key, it->has));
+            }
+            CHECK(vbr_map_close(&one, all, OTHERS + 1, &report) == VBR_YES && report.live == OTHERS && report.marked == 0);
+            for (int at = 0; at < OTHERS; at++) CHECK(all[at].key == others[at].key && all[at].value == others[at].value);
+        }
+    return 0;
+}
+
+/* What is refused for want of a slot, or since the epoch is spent, leaves each value as it was. A new value takes a slot before the
+   old one's is free; what changes nothing takes none. */
+static int refusals_of_changes(void) {
+    static const vbr_entry full[2] = {{5, 50}, {7, 70}};
+    for (int is_spent = 0; is_spent < 2; is_spent++) {
+        vbr_answer refusal = is_spent ? VBR_EPOCH_SPENT : VBR_NO_SLOT;
+        vbr_map_handle one = {0};
+        uint64_t found = 77;
+        CHECK(vbr_map_open_with(&one, 1, is_spent ? 3 : 2, 1, 1, full, 2) == VBR_NO);
+        if (is_spent) CHECK(vbr_map_insert(&one, 9, 90, BUDGET) == VBR_YES && takes_out(&one, 9, 90)); /* its slot would need epoch 2 */
+        CHECK(vbr_map_replace(&one, 5, 51, &found, BUDGET) == refusal && vbr_map_put(&one, 5, 51, &found, BUDGET) == refusal);
+        CHECK(vbr_map_put(&one, 6, 60, &found, BUDGET) == refusal && vbr_map_get_or_insert(&one, 6, 60, &found, BUDGET) == refusal);
+        CHECK(vbr_map_compare_exchange(&one, 5, 50, 51, &found, BUDGET) == refusal && found == 77);
+        CHECK(vbr_map_replace(&one, 6, 60, &found, BUDGET) == VBR_NO && vbr_map_compare_exchange(&one, 6, 60, 61, &found, BUDGET) == VBR_NO && found == 77);
+        CHECK(vbr_map_compare_exchange(&one, 5, 70, 51, &found, BUDGET) == VBR_OTHER && found == 50);
+        CHECK(vbr_map_get_or_insert(&one, 7, 71, &found, BUDGET) == VBR_YES && found == 70);
+        CHECK(has_value(&one, 5, 50) && has_value(&one, 7, 70) && writes_nothing(&one, 6, BUDGET, VBR_NO));
+        CHECK(vbr_map_remove_if(&one, 7, 70, &found, BUDGET) == VBR_YES && found == 70);
+        CHECK(vbr_map_close(&one, entries, 4, &report) == VBR_YES && report.live == 1 && is_entry(0, 5, 50));
+    }
+    return 0;
+}
+
+/* A key whose value changes again and again has two slots in turn, and the others see each value. */
+static int values_in_turn(void) {
+    vbr_map_handle two[2] = {{0}};
+    uint64_t found = 0;
+    CHECK(vbr_map_open(two, 2, 2, 1, VBR_MAX_EPOCH) == VBR_NO && vbr_map_put(&two[0], 5, 0, &found, BUDGET) == VBR_NO);
+    for (uint64_t turn = 0; turn < 3000; turn += 3) {
+        CHECK(vbr_map_replace(&two[0], 5, turn + 1, &found, BUDGET) == VBR_YES && found == turn && has_value(&two[1], 5, turn + 1));
+        CHECK(vbr_map_compare_exchange(&two[0], 5, turn, 99, &found, BUDGET) == VBR_OTHER && found == turn + 1);
+        CHECK(vbr_map_compare_exchange(&two[0], 5, turn + 1, turn + 2, &found, BUDGET) == VBR_YES && found == turn + 1);
+        CHECK(has_value(&two[1], 5, turn + 2) && vbr_map_remove_if(&two[1], 5, turn + 1, &found, BUDGET) == VBR_OTHER && found == turn + 2);
+        CHECK(vbr_map_put(&two[0], 5, turn + 3, &found, BUDGET) == VBR_YES && found == turn + 2 && has_value(&two[1], 5, turn + 3));
+    }
+    CHECK(vbr_map_compare_exchange(&two[0], 5, 3000, 3000, &found, BUDGET) == VBR_YES && found == 3000 && has_value(&two[1], 5, 3000));
+    CHECK(vbr_map_close_all(two, 2, entries, 4, &report) == VBR_YES && report.live == 1 && is_entry(0, 5, 3000) && report.marked == 0 && report.free == 1);
+    return 0;
+}
+
 /* A close writes the entries that it tells of and no others, and none where it isn't answered yes. */
 static int closed_at_once(void) {
     vbr_map_handle three[3] = {{0}}, other[1] = {{0}};
@@ -114,13 +238,14 @@ static int closed_at_once(void) {
     CHECK(vbr_map_close_all(three, 3, entries, 2, &report) == VBR_NO_ROOM && is_entry(0, 77, 78) && is_entry(1, 77, 78));
     CHECK(takes_out(&three[2], 6, 60) && vbr_map_close_all(three, 3, entries, 4, &report) == VBR_YES);
     CHECK(report.live == 2 && is_entry(0, 7, 61) && is_entry(1, 8, 62) && is_entry(2, 77, 78) && is_entry(3, 77, 78));
-    for (int i = 0; i < 3; i++) CHECK(writes_nothing(&three[i], 7, BUDGET, VBR_EMPTY));
+    for (int i = 0; i < 3; i++) CHECK(writes_nothing(&three[i], 7, BUDGET, VBR_EMPTY) && each_writes_nothing(&three[i], 7, 61, BUDGET, VBR_EMPTY));
     vbr_map_drop(other);
     return 0;
 }
 
 int main(void) {
-    if (empty_handles() || largest_map() || calls_and_closes() || values_of_incarnations() || opened_with_entries() || closed_at_once())
+    if (empty_handles() || largest_map() || calls_and_closes() || values_of_incarnations() || opened_with_entries() || closed_at_once() ||
+        outcomes_of_changes() || refusals_of_changes() || values_in_turn())
         return 1;
     puts("values of maps in C: passed");
     return 0;

@@ -29,6 +29,29 @@ static int one_by_one(void) {
     return 0;
 }
 
+static int changed_by_what_is_there(void) {
+    int added = 0, there = 0, changed = 0, kept = 0;
+    vbr_map_handle map[2] = {{0}};
+    vbr_totals report = {0};
+    uint64_t found = 0, seen = 0;
+    if (vbr_map_open(map, 2, 1024 + 2 * 64, 1024, VBR_MAX_EPOCH) != VBR_NO) return 1;
+    CHECK(vbr_map_insert(&map[0], 5, 70, 100000) == VBR_YES);
+    if (vbr_map_replace(&map[0], 5, 72, &found, 100000) == VBR_YES) changed++; // 5 had the value found, and has 72
+    CHECK(found == 70 && changed == 1);
+    if (vbr_map_put(&map[1], 6, 60, NULL, 100000) == VBR_NO) added++; // 6 was absent; either way it has 60
+    if (vbr_map_get_or_insert(&map[0], 5, 1, &found, 100000) == VBR_YES) there++; // 5 had the value found, and keeps it
+    CHECK(added == 1 && there == 1 && found == 72);
+    vbr_answer told = vbr_map_get(&map[0], 5, 100000, &seen) == VBR_YES ? VBR_OTHER : VBR_NO;
+    while (told == VBR_OTHER) // until nobody else has changed it since it was seen
+        told = vbr_map_compare_exchange(&map[0], 5, seen, seen + 1, &seen, 100000);
+    CHECK(told == VBR_YES && seen == 72);
+    if (vbr_map_remove_if(&map[0], 6, 61, &found, 100000) == VBR_OTHER) kept++; // 6 has the value found, and is still there
+    CHECK(kept == 1 && found == 60);
+    CHECK(vbr_map_close_all(map, 2, entries, 8, &report) == VBR_YES && report.live == 2);
+    CHECK(entries[0].key == 5 && entries[0].value == 73 && entries[1].key == 6 && entries[1].value == 60);
+    return 0;
+}
+
 static int all_at_once(void) {
     vbr_map_handle map[2] = {{0}};
     vbr_totals report = {0};
@@ -88,7 +111,7 @@ static int lent(void) {
 }
 
 int main(void) {
-    if (one_by_one() || all_at_once() || walked() || given_up() || lent()) return 1;
+    if (one_by_one() || changed_by_what_is_there() || all_at_once() || walked() || given_up() || lent()) return 1;
     puts("examples of each call on maps in C: passed");
     return 0;
 }

@@ -12,11 +12,21 @@
     9 an opening gives the value of one entry to the key of another
    10 a walk now and then gives the value that its key had before
    11 a walk now and then gives the value of the next key
-   12 a call of a walk that gives no entry writes a value */
+   12 a call of a walk that gives no entry writes a value
+   13 a replace now and then is a remove and an insert, with a step between
+   14 a replace gives the new value
+   15 a compare_exchange now and then exchanges whatever is there
+   16 a get_or_insert gives the value that it is given
+   17 a remove_if now and then removes whatever is there
+   18 a put now and then leaves the old value
+   19 a call that finds its key absent writes a value
+   20 a put of a key that is there now and then is a remove and an insert, with a step between
+   21 a replace now and then inserts a key that is absent */
 #include "faulty.h"
 #include "vbr.h"
 
 #include <pthread.h>
+#include <sched.h>
 #include <string.h>
 
 vbr_answer __real_vbr_map_open_with(vbr_map_handle *handles, size_t count, uint32_t slots, uint32_t buckets, uint64_t last_epoch,
@@ -24,6 +34,11 @@ vbr_answer __real_vbr_map_open_with(vbr_map_handle *handles, size_t count, uint3
 vbr_answer __real_vbr_map_insert(vbr_map_handle *handle, uint64_t key, uint64_t value, uint32_t budget);
 vbr_answer __real_vbr_map_remove(vbr_map_handle *handle, uint64_t key, uint32_t budget, uint64_t *value);
 vbr_answer __real_vbr_map_get(vbr_map_handle *handle, uint64_t key, uint32_t budget, uint64_t *value);
+vbr_answer __real_vbr_map_replace(vbr_map_handle *handle, uint64_t key, uint64_t value, uint64_t *found, uint32_t budget);
+vbr_answer __real_vbr_map_put(vbr_map_handle *handle, uint64_t key, uint64_t value, uint64_t *found, uint32_t budget);
+vbr_answer __real_vbr_map_get_or_insert(vbr_map_handle *handle, uint64_t key, uint64_t value, uint64_t *found, uint32_t budget);
+vbr_answer __real_vbr_map_compare_exchange(vbr_map_handle *handle, uint64_t key, uint64_t expected, uint64_t value, uint64_t *found, uint32_t budget);
+vbr_answer __real_vbr_map_remove_if(vbr_map_handle *handle, uint64_t key, uint64_t expected, uint64_t *found, uint32_t budget);
 vbr_answer __real_vbr_map_next(vbr_map_handle *handle, vbr_cursor *cursor, uint32_t budget, uint64_t *key, uint64_t *value);
 vbr_answer __real_vbr_map_close(vbr_map_handle *handle, vbr_entry *entries, size_t room, vbr_totals *report);
 
@@ -91,6 +106,56 @@ vbr_answer __wrap_vbr_map_get(vbr_map_handle *handle, uint64_t key, uint32_t bud
     if (answer == VBR_YES && (now(1) || now(2))) give_kept(key, value);
     if (answer == VBR_YES && now(3)) give_other(handle, key, budget, value);
     if (answer != VBR_YES && fault() == 7) *value = 1;
+    return answer;
+}
+
+/* A replacement with a step between, in which the key is absent. */
+static vbr_answer replace_in_two(vbr_map_handle *handle, uint64_t key, uint64_t value, uint64_t *found, uint32_t budget) {
+    vbr_answer answer = __real_vbr_map_remove(handle, key, budget, found);
+    if (answer != VBR_YES) return answer;
+    sched_yield();
+    answer = __real_vbr_map_insert(handle, key, value, budget);
+    return answer < 0 ? answer : VBR_YES;
+}
+
+/* The answer of a call that may find its key absent, and then writes a value where that is the fault. */
+static vbr_answer told(vbr_answer answer, uint64_t *found) {
+    if (answer == VBR_NO && fault() == 19) *found = 1;
+    return answer;
+}
+
+vbr_answer __wrap_vbr_map_replace(vbr_map_handle *handle, uint64_t key, uint64_t value, uint64_t *found, uint32_t budget) {
+    if (now(13)) return replace_in_two(handle, key, value, found, budget);
+    vbr_answer answer = now(21) ? __real_vbr_map_put(handle, key, value, found, budget) : __real_vbr_map_replace(handle, key, value, found, budget);
+    if (answer == VBR_YES && fault() == 14) *found = value;
+    return told(answer, found);
+}
+
+vbr_answer __wrap_vbr_map_put(vbr_map_handle *handle, uint64_t key, uint64_t value, uint64_t *found, uint32_t budget) {
+    if (now(20) && vbr_map_has(handle, key, budget) == VBR_YES) return replace_in_two(handle, key, value, found, budget);
+    if (now(18)) return __real_vbr_map_get_or_insert(handle, key, value, found, budget);
+    return told(__real_vbr_map_put(handle, key, value, found, budget), found);
+}
+
+vbr_answer __wrap_vbr_map_get_or_insert(vbr_map_handle *handle, uint64_t key, uint64_t value, uint64_t *found, uint32_t budget) {
+    vbr_answer answer = __real_vbr_map_get_or_insert(handle, key, value, found, budget);
+    if (answer == VBR_YES && fault() == 16) *found = value;
+    return told(answer, found);
+}
+
+vbr_answer __wrap_vbr_map_compare_exchange(vbr_map_handle *handle, uint64_t key, uint64_t expected, uint64_t value, uint64_t *found, uint32_t budget) {
+    if (!now(15)) return told(__real_vbr_map_compare_exchange(handle, key, expected, value, found, budget), found);
+    uint64_t other = 0;
+    vbr_answer answer = __real_vbr_map_replace(handle, key, value, &other, budget);
+    if (answer == VBR_YES) *found = expected;
+    return answer;
+}
+
+vbr_answer __wrap_vbr_map_remove_if(vbr_map_handle *handle, uint64_t key, uint64_t expected, uint64_t *found, uint32_t budget) {
+    if (!now(17)) return told(__real_vbr_map_remove_if(handle, key, expected, found, budget), found);
+    uint64_t other = 0;
+    vbr_answer answer = __real_vbr_map_remove(handle, key, budget, &other);
+    if (answer == VBR_YES) *found = expected;
     return answer;
 }
 

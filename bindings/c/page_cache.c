@@ -6,7 +6,8 @@
    Who asks for a page looks it up, and pins its frame while it reads or writes. Where the page is absent, a thread takes a frame by
    CLOCK: the hand goes round, past frames that are pinned, and those that were used since it came by last; the page of the first
    other one is written back, and leaves the map. Then the thread inserts the page that is wanted with this frame, and reads it from
-   disk. Where two threads miss the same page, both inserts have one that is answered VBR_YES, so a page has one frame, and is read once.
+   disk. Where two threads miss the same page, one call of vbr_map_get_or_insert inserts it, and the other is told the frame that it
+   has; so a page has one frame, and is read once. A page leaves the map with the frame that it has, by vbr_map_remove_if, or stays.
 
    Now and then one thread makes a checkpoint, while the others go on: it walks over the map, and writes back each page that was
    written to. A page that is in the map all the while is given by the walk, and one that leaves it is written back before. So what was
@@ -87,6 +88,8 @@ static uint32_t twice(struct worker *w, uint32_t steps) {
     return steps < UINT32_MAX / 2 ? 2 * steps : UINT32_MAX;
 }
 
+static uint64_t number_of(const struct frame *f) { return (uint64_t)(f - frames); }
+
 static void unpin(struct frame *f) { atomic_fetch_sub(&f->pins, 1); }
 
 /* Pins a frame if it has this page. It hasn't where another thread took it since the page was looked up. */
@@ -124,12 +127,11 @@ static struct frame *evict(struct worker *w) {
         none = 0;
     } while (atomic_exchange(&f->is_used, 0) || !atomic_compare_exchange_strong(&f->pins, &none, TAKEN));
     if (f->page != NO_PAGE) {
-        uint64_t number = 0;
         vbr_answer removed;
         uint32_t steps = AMPLE; /* with a small budget the node could stay in its list, and its slot with it */
         write_back(w, f); /* before it leaves: who misses it then reads it from disk */
-        while ((removed = vbr_map_remove(w->map, f->page, steps, &number)) == VBR_OUT_OF_STEPS) steps = twice(w, steps);
-        CHECK(removed == VBR_YES && f == &frames[number]); /* who took the frame is alone in removing its page */
+        while ((removed = vbr_map_remove_if(w->map, f->page, number_of(f), NULL, steps)) == VBR_OUT_OF_STEPS) steps = twice(w, steps);
+        CHECK(removed == VBR_YES); /* who took the frame is alone in removing its page */
     }
     f->page = NO_PAGE;
     return f;
@@ -149,24 +151,28 @@ static struct frame *empty_frame(struct worker *w) {
     return f;
 }
 
-/* Inserts a page with a frame, and reads it: VBR_YES, or VBR_NO if another thread did so meanwhile, or VBR_EPOCH_SPENT. */
-static vbr_answer load(struct worker *w, uint64_t page) {
+/* Inserts a page with a frame, and reads it: VBR_NO. Or VBR_YES if another thread did so meanwhile, or VBR_EPOCH_SPENT. The frame
+   of the page is then `*pinned`, unless the epoch is spent, or another page is in it again. */
+static vbr_answer load(struct worker *w, uint64_t page, struct frame **pinned) {
     struct frame *f = empty_frame(w);
+    uint64_t number = 0;
     f->page = page;
     for (uint32_t steps = budget;;) {
-        vbr_answer added = vbr_map_insert(w->map, page, (uint64_t)(f - frames), steps);
-        if (added == VBR_OUT_OF_STEPS) {
+        vbr_answer there = vbr_map_get_or_insert(w->map, page, number_of(f), &number, steps);
+        if (there == VBR_OUT_OF_STEPS) {
             steps = twice(w, steps);
-        } else if (added == VBR_NO_SLOT) {
+        } else if (there == VBR_NO_SLOT) {
             keep(w, evict(w)); /* a page that leaves the map leaves its slot to this handle */
             w->full++;
-        } else if (added == VBR_YES) {
+        } else if (there == VBR_NO) {
             read_from_disk(f);
-            atomic_store(&f->pins, 0); /* until now others who found the page have waited */
-            return VBR_YES;
+            atomic_store(&f->pins, 1); /* until now others who found the page have waited */
+            *pinned = f;
+            return there;
         } else {
             keep(w, f);
-            return added;
+            if (there == VBR_YES && pin(&frames[number], page)) *pinned = &frames[number];
+            return there;
         }
     }
 }
@@ -177,8 +183,8 @@ static int serve(struct worker *w, long request) {
     struct frame *f = find(w, page);
     w->hits += f != NULL;
     while (!f) {
-        if (load(w, page) == VBR_EPOCH_SPENT) return 0;
-        f = find(w, page); /* it was there a moment ago */
+        if (load(w, page, &f) == VBR_EPOCH_SPENT) return 0;
+        if (!f) f = find(w, page); /* it was there a moment ago */
     }
     for (uint64_t i = 0; i < WORDS; i++) CHECK(f->words[i] == page * WORDS + i);
     if (is_write(request)) {

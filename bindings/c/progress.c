@@ -17,6 +17,7 @@
    - a node that is marked as the call begins is one of a remove among these, which then counts no second time;
    - an insert advances the epoch at most once, so the advances are at most the inserts that were under way or begun;
    - the nodes of the bucket as the call begins are at most the keys, and the nodes of removes among these.
+   Over maps (values.h) the threads change values too, which counts as a remove and an insert that are answered yes together.
 
    What a handle has seen as a call begins may be taken to be all that was done by then, as with a token that it takes in just
    before (docs/ARGUMENT.md).
@@ -131,18 +132,44 @@ static vbr_answer call(struct worker *w, enum kind kind, uint64_t key, uint32_t 
     }
 }
 
-/* Makes a call, which is told before and after it if it is an update. */
-static vbr_answer told_call(struct worker *w, enum kind kind, uint64_t key, uint32_t budget) {
-    struct told *told = &w->told[kind];
-    if (kind == LOOK_UP) return call(w, kind, key, budget);
+static void tell_begin(struct told *told) {
     atomic_fetch_add(&told->begun, 1);
     atomic_fetch_add(&told->able, 1);
-    vbr_answer answer = call(w, kind, key, budget);
-    if (answer == VBR_YES && kind == REMOVE) CHECK(vbr_remove(&w->handle, last_key(), AMPLE) == VBR_NO);
+}
+
+static void tell_end(struct told *told, vbr_answer answer) {
     if (answer == VBR_YES) atomic_fetch_add(&told->stored, 1);
     else atomic_fetch_sub(&told->able, 1);
     atomic_fetch_add(&told->ended, 1);
+}
+
+/* Takes what a call has marked out of its list. */
+static void sweep(struct worker *w) { CHECK(vbr_remove(&w->handle, last_key(), AMPLE) == VBR_NO); }
+
+/* Makes a call, which is told before and after it if it is an update. */
+static vbr_answer told_call(struct worker *w, enum kind kind, uint64_t key, uint32_t budget) {
+    if (kind == LOOK_UP) return call(w, kind, key, budget);
+    tell_begin(&w->told[kind]);
+    vbr_answer answer = call(w, kind, key, budget);
+    if (answer == VBR_YES && kind == REMOVE) sweep(w);
+    tell_end(&w->told[kind], answer);
     return answer;
+}
+
+/* In a map, now and then: gives a key another value, if it is there, which is told as a remove and an insert. */
+static void change(struct worker *w, uint32_t budget) {
+#ifdef OF_VALUES
+    if (next_random(w) % 8 > 0) return;
+    tell_begin(&w->told[REMOVE]);
+    tell_begin(&w->told[INSERT]);
+    vbr_answer answer = value_change(&w->handle, changing_key(next_random(w) % CHANGING), budget);
+    CHECK(answer == VBR_YES || answer == VBR_NO || answer == VBR_OUT_OF_STEPS);
+    if (answer == VBR_YES) sweep(w);
+    tell_end(&w->told[REMOVE], answer);
+    tell_end(&w->told[INSERT], answer);
+#else
+    (void)w, (void)budget;
+#endif
 }
 
 static void judge(struct worker *w, enum kind kind, uint32_t budget, uint64_t bound) {
@@ -166,6 +193,7 @@ static void *work(void *of) {
         enum kind kind = chance < 2 ? INSERT : chance < 4 ? REMOVE : LOOK_UP;
         uint64_t key = kind == LOOK_UP && chance % 2 ? last_key() : changing_key(next_random(w) % CHANGING);
         uint32_t budget = 1 + (uint32_t)next_random(w) % most(kind);
+        change(w, budget);
         int has_slot = atomic_load(&w->told[INSERT].stored) < PREPARED;
         struct others before = before_call(w);
         vbr_answer answer = told_call(w, kind, key, budget);

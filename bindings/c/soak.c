@@ -6,7 +6,8 @@
 
    makes at least that many calls, and tells on standard error how far it is. Each set is one round. Keys are shared
    by all threads, but for some that one thread alone inserts and removes: each answer on those is known. Others rest: they are
-   in the set from its opening to its close, and no thread inserts or removes them.
+   in the set from its opening to its close, and no thread inserts or removes them. In a map (values.h) each thread changes the
+   values of all keys, those of others and those that rest among them, and none is absent for that.
 
    In between the threads walk, some calls at a time. A walk has to give, in the order of buckets and ascending in each, all keys that
    rest, and those of its own thread that are in the set all the while; of its own thread's keys it gives none that isn't there at that
@@ -43,6 +44,7 @@ struct round {
     uint64_t unspread;           /* its inverse: the number of a key is key * unspread */
     uint32_t small_budgets;      /* of 256 calls, how many have one */
     uint32_t look_ups, inserts;  /* of 256 calls; the others are removes */
+    uint32_t changes;            /* of 256 look-ups and inserts, how many change a value */
     uint32_t walks;              /* of 256 turns, how many go on with a walk, by up to 64 calls */
     long calls;                  /* of each thread */
     int with_still, drops, fills;
@@ -67,6 +69,13 @@ struct worker {
     struct walk walk;
     long walks; /* that came to their end */
 };
+
+/* A call. The last two give a key another value, if it is there, or in any case: in a set a look-up and an insert. */
+enum kind { LOOK_UP, INSERT, REMOVE, CHANGE, PUT };
+#ifndef OF_VALUES
+#define value_change vbr_has
+#define value_put vbr_insert
+#endif
 
 static struct worker workers[THREADS];
 static unsigned char held[MOST]; /* which keys were in the set as the round began */
@@ -108,26 +117,37 @@ static void stand_still(int signal_number) {
     nanosleep(&time, NULL);
 }
 
-static int32_t call(struct worker *w, int kind, uint32_t number, uint32_t budget) {
+static int adds(enum kind kind) { return kind == INSERT || kind == PUT; }
+
+static int32_t call(struct worker *w, enum kind kind, uint32_t number, uint32_t budget) {
     uint64_t key = key_of(w->round, number);
-    int32_t answer = kind == 0   ? vbr_has(&w->handle, key, budget)
-                     : kind == 1 ? vbr_insert(&w->handle, key, budget)
-                                 : vbr_remove(&w->handle, key, budget);
-    if (answer == VBR_YES && kind == 1) w->balance[number]++;
-    if (answer == VBR_YES && kind == 2) w->balance[number]--, w->walk.due[number] = 0;
+    int32_t answer = kind == LOOK_UP  ? vbr_has(&w->handle, key, budget)
+                     : kind == INSERT ? vbr_insert(&w->handle, key, budget)
+                     : kind == REMOVE ? vbr_remove(&w->handle, key, budget)
+                     : kind == CHANGE ? value_change(&w->handle, key, budget)
+                                      : value_put(&w->handle, key, budget);
+    if (answer == VBR_YES && adds(kind)) w->balance[number]++;
+    if (answer == VBR_YES && kind == REMOVE) w->balance[number]--, w->walk.due[number] = 0;
     return answer;
 }
 
-/* What is wrong with the answer, or nothing. `before`: whether an own key was in the set. */
-static const char *fault(const struct worker *w, int kind, int own, int before, uint32_t budget, int32_t answer) {
-    const struct round *r = w->round;
-    if (answer > VBR_YES || answer < VBR_EPOCH_SPENT) return "an answer that no call has";
-    if (answer == VBR_OUT_OF_STEPS && budget >= AMPLE) return "too few steps with an ample budget";
-    if (answer < VBR_OUT_OF_STEPS && kind != 1) return "a refusal that only inserts have";
-    if (answer < VBR_OUT_OF_STEPS && own && before) return "an insert of a key that is there was refused";
+/* What is wrong with a refusal for want of a slot or an epoch, or nothing. `is_known`, `before`: as for an answer. */
+static const char *fault_of_refusal(const struct round *r, enum kind kind, int is_known, int before, int32_t answer) {
+    if (kind == LOOK_UP || kind == REMOVE) return "a refusal of a call that stores nothing";
+    if (kind == INSERT && is_known && before) return "an insert of a key that is there was refused";
+    if (kind == CHANGE && is_known && !before) return "a change of an absent key was refused";
     if (answer == VBR_NO_SLOT && is_ample(r)) return "no slot in an ample set";
     if (answer == VBR_EPOCH_SPENT && r->last_epoch == VBR_MAX_EPOCH) return "the greatest epoch is spent";
-    if (own && answer >= 0 && answer != (kind == 1 ? !before : before)) return "a wrong answer on a key of one thread";
+    return NULL;
+}
+
+/* What is wrong with the answer, or nothing. `is_known`: the key is the thread's own, or rests; then `before`: whether it was in
+   the set. */
+static const char *fault(const struct worker *w, enum kind kind, int is_known, int before, uint32_t budget, int32_t answer) {
+    if (answer > VBR_YES || answer < VBR_EPOCH_SPENT) return "an answer that no call has";
+    if (answer == VBR_OUT_OF_STEPS && budget >= AMPLE) return "too few steps with an ample budget";
+    if (answer < VBR_OUT_OF_STEPS) return fault_of_refusal(w->round, kind, is_known, before, answer);
+    if (is_known && answer >= 0 && answer != (adds(kind) ? !before : before)) return "a wrong answer on a key that no other thread inserts or removes";
     return NULL;
 }
 
@@ -195,26 +215,35 @@ static void walk_some(struct worker *w) {
     for (uint64_t count = 1 + (next(&w->random) & 63); count > 0 && !w->wrong; count--) w->wrong = walk_on(w, budget_of(w->round, next(&w->random)));
 }
 
+/* The kind of a call by random numbers. */
+static enum kind kind_of(const struct round *r, uint32_t mix, uint32_t changes) {
+    if (mix < r->look_ups) return changes < r->changes ? CHANGE : LOOK_UP;
+    if (mix < r->look_ups + r->inserts) return changes < r->changes ? PUT : INSERT;
+    return REMOVE;
+}
+
+/* A call at random. What rests is looked up and changed alone, and so is a key of another thread. */
+static void make_call(struct worker *w) {
+    const struct round *r = w->round;
+    uint64_t x = next(&w->random);
+    uint32_t number = (uint32_t)((x >> 32) * all_keys(r) >> 32), budget = budget_of(r, x);
+    enum kind kind = kind_of(r, x & 255, x >> 24 & 255);
+    int is_own = is_ours(w, number), is_resting = number >= r->keys;
+    if (is_resting || (owner_of(r, number) >= 0 && !is_own)) kind = (x >> 24 & 255) < r->changes ? CHANGE : LOOK_UP;
+    int before = is_own ? held[number] + w->balance[number] : is_resting;
+    int32_t answer = call(w, kind, number, budget);
+    w->made++;
+    if (answer < 0 && answer >= -3) w->refused[-answer]++;
+    w->wrong = fault(w, kind, is_own || is_resting, before, budget, answer);
+    w->wrong_key = number;
+}
+
 static void *work(void *of) {
     struct worker *w = of;
     const struct round *r = w->round;
     for (long i = 0; i < r->calls && !w->wrong && w->refused[3] < SPENT_LIMIT; i++) {
         if ((next(&w->random) & 255) < r->walks) walk_some(w);
-        if (w->wrong) break;
-        uint64_t x = next(&w->random);
-        uint32_t number = (uint32_t)((x >> 32) * r->keys >> 32);
-        uint32_t mix = x & 255;
-        int kind = mix < r->look_ups ? 0 : mix < r->look_ups + r->inserts ? 1 : 2;
-        uint32_t budget = budget_of(r, x);
-        int owner = owner_of(r, number);
-        if (kind && owner >= 0 && owner != w->number) kind = 0;
-        int own = owner == w->number;
-        int before = own ? held[number] + w->balance[number] : 0;
-        int32_t answer = call(w, kind, number, budget);
-        w->made++;
-        if (answer < 0 && answer >= -3) w->refused[-answer]++;
-        w->wrong = fault(w, kind, own, before, budget, answer);
-        w->wrong_key = number;
+        if (!w->wrong) make_call(w);
     }
     while (w->walk.is_on && !w->wrong) w->wrong = walk_on(w, AMPLE);
     atomic_fetch_sub(&working, 1);
@@ -251,6 +280,7 @@ static struct round plan(uint64_t *random, const struct round *old, int carries)
     r.small_budgets = (x >> 37 & 3) == 0 ? 64 : 0;
     r.look_ups = (uint32_t)(x >> 40 & 1 ? 128 : x >> 41 & 1 ? 230 : 0);
     r.inserts = (256 - r.look_ups) / 2;
+    r.changes = (uint32_t)(x >> 53 & 1 ? 128 : x >> 54 & 1 ? 30 : 0);
     r.walks = x >> 51 & 1 ? 8 : x >> 52 & 1 ? 2 : 0;
     r.calls = 20000 + (long)(next(random) % 180000);
     r.with_still = x >> 42 & 1;

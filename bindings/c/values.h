@@ -1,12 +1,14 @@
 /* A set made of a map: with `-include bindings/c/values.h` a client of sets runs over maps, and values are seen to besides.
 
-   Each insert stores a value that no other one has, and it is known of each value which key it was stored with and how far it
-   has come. So whatever a get, a remove, a walk or a report tells has to be
+   Each call that stores a value has one that no other call has, and it is known of each value which key it was stored with and
+   how far it has come. So whatever a call or a report tells has to be
    - a value that was stored, and with this key: not one of another key, a part of one, or none;
-   - of an insert that is not refused, nor answered no;
-   - not taken out by another remove, and of a get or a walk, not taken out before the call began.
+   - of a call that is not refused, nor answered that it stored nothing;
+   - not taken out by another call, and where it isn't taken out now, not taken out before the call began.
    A program that meets another one ends with what is wrong. A set that opens with keys of the last report gives each the value
-   that it had there.
+   that it had there. Some inserts are get_or_inserts, and some removes find the value first, and expect it. A client that says so
+   changes values, by value_change and value_put: each value is stored once, and leaves once, by a remove, for another value, or
+   with the report.
 
    It orders no threads but as the map does: its own accesses are relaxed, or acquire nothing that is released, which is
    enough on x86-64, where each exchange is a whole fence. */
@@ -23,7 +25,7 @@ enum { VALUES = 1 << 20, VALUE_BLOCK = 1 << 10, MOST_ENTRIES = 1 << 20 };
 /* How far a value has come. One that was taken out has TAKEN and the time of that. */
 enum { PENDING = 1, SEEN, STORED, REFUSED, TAKEN = 16 };
 
-/* A value, from the beginning of its insert until the place is given to another one. */
+/* A value, from the beginning of the call that stores it until the place is given to another one. */
 struct value_place {
     _Atomic uint64_t value, key, since, stage;
 };
@@ -51,7 +53,7 @@ static inline void value_is_wrong(const char *what, uint64_t key, uint64_t value
     exit(1);
 }
 
-/* A number that no other insert has. A thread takes a block of them at a time; one that ends where it is tried makes a signal
+/* A number that no other value has. A thread takes a block of them at a time; one that ends where it is tried makes a signal
    handler's number another. */
 static inline uint64_t value_number(void) {
     static _Thread_local _Atomic uint64_t next;
@@ -67,7 +69,7 @@ static inline int value_is_in_use(const struct value_place *it) {
     return stage == PENDING || stage == SEEN || stage == STORED;
 }
 
-/* A value for an insert of this key, at a place whose last value isn't in the map. */
+/* A value for this key, at a place whose last value isn't in the map. */
 static inline struct value_place *value_begins(uint64_t key) {
     for (int turns = 0; turns < VALUES; turns++) {
         uint64_t number = value_number();
@@ -84,12 +86,12 @@ static inline struct value_place *value_begins(uint64_t key) {
     return NULL;
 }
 
-/* The insert of a value is answered. */
-static inline void value_ends(struct value_place *it, vbr_answer answer) {
-    if (answer == VBR_YES) {
+/* The call with a value is answered. */
+static inline void value_ends(struct value_place *it, int is_stored) {
+    if (is_stored) {
         if (!value_moves(it, PENDING, STORED)) value_moves(it, SEEN, STORED); /* or it is taken out by now */
     } else if (!value_moves(it, PENDING, REFUSED)) {
-        value_is_wrong("a value was told whose insert isn't answered yes", value_read(&it->key), value_read(&it->value));
+        value_is_wrong("a value was told that isn't stored", value_read(&it->key), value_read(&it->value));
     }
 }
 
@@ -102,12 +104,18 @@ static inline struct value_place *value_told(uint64_t key, uint64_t value, uint6
     if (first != value && first != 0 && since < began) value_is_wrong("a value that was gone long ago", key, value);
     if (first != value || value_read(&it->value) != value) return NULL;
     if (its_key != key) value_is_wrong("a value of another key", key, value);
-    if (stage == REFUSED) value_is_wrong("a value whose insert isn't answered yes", key, value);
+    if (stage == REFUSED) value_is_wrong("a value that isn't stored", key, value);
     if (stage >= TAKEN && stage - TAKEN <= began) value_is_wrong("a value that was taken out before", key, value);
     return it;
 }
 
-/* A value is taken out, by a remove or the end of its map. */
+/* A value is told, and stays where it is. */
+static inline void value_is_found(uint64_t key, uint64_t value, uint64_t began) {
+    struct value_place *it = value_told(key, value, began);
+    if (it) value_moves(it, PENDING, SEEN);
+}
+
+/* A value is taken out, by a remove, for another value, or by the end of its map. */
 static inline void value_is_taken(uint64_t key, uint64_t value, uint64_t began) {
     struct value_place *it = value_told(key, value, began);
     if (!it) value_is_wrong("a value that was taken out is taken out", key, value);
@@ -116,14 +124,66 @@ static inline void value_is_taken(uint64_t key, uint64_t value, uint64_t began) 
     if (stage != PENDING && stage != SEEN && stage != STORED) value_is_wrong("a value is taken out twice", key, value);
 }
 
+/* Whether it is this thread's turn to make a call in another way, which it may where the budget is no matter of single steps. */
+static inline int value_takes_turns(uint32_t budget) {
+    static _Thread_local unsigned turns;
+    return budget >= 100000 && turns++ % 2;
+}
+
+/* The value of a key, if it is there. */
+static inline vbr_answer value_get(vbr_map_handle *handle, uint64_t key, uint32_t budget, uint64_t *value) {
+    uint64_t began = value_read(&value_time);
+    vbr_answer answer = vbr_map_get(handle, key, budget, value);
+    if (answer == VBR_YES) value_is_found(key, *value, began);
+    else if (*value) value_is_wrong("a get that isn't answered yes has written", key, *value);
+    return answer;
+}
+
+/* What a call tells that stores this value, or changes the one found: that one is taken out, or stays, or there is none. */
+static inline void value_is_changed(struct value_place *it, vbr_answer answer, uint64_t found, uint64_t began, int is_taken, int is_stored) {
+    uint64_t key = value_read(&it->key), value = value_read(&it->value);
+    if (found == value) value_is_wrong("a call tells the value that it is to store", key, value);
+    if ((answer == VBR_YES || answer == VBR_OTHER) != (found != 0)) value_is_wrong("a call tells a value where none is there, or none where one is", key, found);
+    if (found && is_taken) value_is_taken(key, found, began);
+    if (found && !is_taken) value_is_found(key, found, began);
+    value_ends(it, is_stored);
+}
+
+/* The insert of a key that is absent, or the value that it has. */
+static inline vbr_answer value_get_or_insert(vbr_map_handle *handle, uint64_t key, uint32_t budget) {
+    struct value_place *it = value_begins(key);
+    uint64_t found = 0, began = value_read(&value_time);
+    vbr_answer answer = vbr_map_get_or_insert(handle, key, value_read(&it->value), &found, budget);
+    value_is_changed(it, answer, found, began, 0, answer == VBR_NO);
+    return answer == VBR_NO ? VBR_YES : answer == VBR_YES ? VBR_NO : answer;
+}
+
 VBR_NODISCARD static inline vbr_answer value_insert(vbr_map_handle *handle, uint64_t key, uint32_t budget) {
+    if (value_takes_turns(budget)) return value_get_or_insert(handle, key, budget);
     struct value_place *it = value_begins(key);
     vbr_answer answer = vbr_map_insert(handle, key, value_read(&it->value), budget);
-    value_ends(it, answer);
+    value_ends(it, answer == VBR_YES);
+    return answer;
+}
+
+/* A key is taken out with the value that it was found to have; first not, with one that it doesn't have. */
+static inline vbr_answer value_remove_if(vbr_map_handle *handle, uint64_t key, uint32_t budget) {
+    uint64_t expected = VALUE_MIXER, found = 0, began = value_read(&value_time); /* nobody stores the first of all numbers */
+    vbr_answer answer = vbr_map_remove_if(handle, key, expected, &found, budget);
+    if (answer == VBR_YES) value_is_wrong("a value is taken out that nobody expects", key, found);
+    while (answer == VBR_OTHER) {
+        if (found == expected) value_is_wrong("a value is told to be another one than it is", key, found);
+        value_is_found(key, found, began);
+        expected = found, found = 0, began = value_read(&value_time);
+        answer = vbr_map_remove_if(handle, key, expected, &found, budget);
+    }
+    if (found != (answer == VBR_YES ? expected : 0)) value_is_wrong("what a remove of an expected value has written", key, found);
+    if (answer == VBR_YES) value_is_taken(key, found, began);
     return answer;
 }
 
 VBR_NODISCARD static inline vbr_answer value_remove(vbr_map_handle *handle, uint64_t key, uint32_t budget) {
+    if (value_takes_turns(budget)) return value_remove_if(handle, key, budget);
     uint64_t value = 0, began = value_read(&value_time);
     vbr_answer answer = vbr_map_remove(handle, key, budget, &value);
     if (answer == VBR_YES) value_is_taken(key, value, began);
@@ -133,22 +193,49 @@ VBR_NODISCARD static inline vbr_answer value_remove(vbr_map_handle *handle, uint
 
 /* Every other look-up is a get, where the budget is no matter of single steps. */
 VBR_NODISCARD static inline vbr_answer value_look_up(vbr_map_handle *handle, uint64_t key, uint32_t budget) {
-    static _Thread_local unsigned turns;
-    if (budget < 100000 || turns++ % 2) return vbr_map_has(handle, key, budget);
-    uint64_t value = 0, began = value_read(&value_time);
-    vbr_answer answer = vbr_map_get(handle, key, budget, &value);
-    struct value_place *it = answer == VBR_YES ? value_told(key, value, began) : NULL;
-    if (it) value_moves(it, PENDING, SEEN);
-    if (answer != VBR_YES && value) value_is_wrong("a get that isn't answered yes has written", key, value);
+    if (!value_takes_turns(budget)) return vbr_map_has(handle, key, budget);
+    return value_get(handle, key, budget, &(uint64_t){0});
+}
+
+/* Another value in place of the one that a key was found to have; first of one that it doesn't have. */
+static inline vbr_answer value_exchange(vbr_map_handle *handle, uint64_t key, uint32_t budget) {
+    uint64_t expected = VALUE_MIXER;
+    for (;;) {
+        struct value_place *it = value_begins(key);
+        uint64_t found = 0, began = value_read(&value_time);
+        vbr_answer answer = vbr_map_compare_exchange(handle, key, expected, value_read(&it->value), &found, budget);
+        if (found && (answer == VBR_YES) != (found == expected)) value_is_wrong("a value is exchanged that isn't expected, or one that is isn't", key, found);
+        if (expected == VALUE_MIXER && answer < VBR_OUT_OF_STEPS) value_is_wrong("an exchange of a value that isn't there wants a slot", key, expected);
+        value_is_changed(it, answer, found, began, answer == VBR_YES, answer == VBR_YES);
+        if (answer != VBR_OTHER) return answer;
+        expected = found;
+    }
+}
+
+/* Gives a key another value: yes if it is there. */
+VBR_NODISCARD static inline vbr_answer value_change(vbr_map_handle *handle, uint64_t key, uint32_t budget) {
+    if (value_takes_turns(budget)) return value_exchange(handle, key, budget);
+    struct value_place *it = value_begins(key);
+    uint64_t found = 0, began = value_read(&value_time);
+    vbr_answer answer = vbr_map_replace(handle, key, value_read(&it->value), &found, budget);
+    value_is_changed(it, answer, found, began, 1, answer == VBR_YES);
     return answer;
+}
+
+/* Gives a key a value, whether it is there or not: yes if it was absent, as of an insert. */
+VBR_NODISCARD static inline vbr_answer value_put(vbr_map_handle *handle, uint64_t key, uint32_t budget) {
+    struct value_place *it = value_begins(key);
+    uint64_t found = 0, began = value_read(&value_time);
+    vbr_answer answer = vbr_map_put(handle, key, value_read(&it->value), &found, budget);
+    value_is_changed(it, answer, found, began, 1, answer >= 0);
+    return answer == VBR_NO ? VBR_YES : answer == VBR_YES ? VBR_NO : answer;
 }
 
 /* A key that a walk gives has its value. */
 VBR_NODISCARD static inline vbr_answer value_next(vbr_map_handle *handle, vbr_cursor *cursor, uint32_t budget, uint64_t *key) {
     uint64_t value = 0, before = *key, began = value_read(&value_time);
     vbr_answer answer = vbr_map_next(handle, cursor, budget, key, &value);
-    struct value_place *it = answer == VBR_YES ? value_told(*key, value, began) : NULL;
-    if (it) value_moves(it, PENDING, SEEN);
+    if (answer == VBR_YES) value_is_found(*key, value, began);
     if (answer != VBR_YES && (value || *key != before)) value_is_wrong("a walk that gives no key has written", *key, value);
     return answer;
 }
@@ -223,6 +310,7 @@ VBR_NODISCARD static inline vbr_answer value_close_all(vbr_map_handle *handles, 
 #undef vbr_slots
 #undef vbr_buckets
 
+#define OF_VALUES
 #define vbr_handle vbr_map_handle
 #define vbr_open value_open
 #define vbr_open_with value_open_with

@@ -46,6 +46,9 @@ static int example() {
     return 0;
 }
 
+// A function that takes the pass of a handle, or of one on loan.
+static int added(vbr::pass &mine, std::uint64_t key) { return mine.insert(key, 100000) == vbr::answer::yes; }
+
 // A call of each kind, as the comments of vbr.hpp have them.
 static int calls() {
     constexpr vbr::shape shape{1024 + 2 * 64, 1024, vbr::max_epoch};
@@ -251,7 +254,7 @@ static int exceptions() {
         } catch (const std::runtime_error &) {
             caught = true;
         }
-        CHECK(caught && kept.insert(last, 100000) == vbr::answer::yes);
+        CHECK(caught && added(kept, last));
         vbr::closed closed = kept.close();
         CHECK(closed.answer == vbr::close_answer::last && closed.report->keys == (std::vector<std::uint64_t>{0, 1, 2}));
     }
@@ -295,7 +298,7 @@ static int loans() {
     vbr::lender lender(std::move(opened.handles));
     {
         vbr::loan one = lender.lend(), two = lender.lend(), none = lender.lend();
-        CHECK(one && two && !none && one->insert(1000, 100000) == vbr::answer::yes);
+        CHECK(one && two && !none && added(*one, 1000));
     }
     std::atomic<int> wrong{0};
     std::vector<std::thread> threads;

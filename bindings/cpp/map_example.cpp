@@ -1,4 +1,4 @@
-// The map in C++: the examples of vbr.hpp (bindings/headers sees that their lines are here), ranges of entries, walks, closes, ends of handles, exceptions, and loans.
+// The map in C++: the examples of vbr.hpp (bindings/headers sees that their lines are here), values that change, ranges of entries, walks, closes, ends of handles, exceptions, and loans.
 #include "vbr.hpp"
 
 #include <array>
@@ -6,6 +6,7 @@
 #include <cstdio>
 #include <map>
 #include <stdexcept>
+#include <string>
 #include <thread>
 #include <type_traits>
 
@@ -30,9 +31,11 @@ static int example() {
     if (opened != vbr::open_answer::done) return 1;
     vbr::answer added = handles[0].insert(5, 70, 100000); // yes: 5 was absent, and now has the value 70
     vbr::found there = handles[1].get(5, 100000);         // yes: there.value is 70
-    vbr::found taken = handles[1].remove(5, 100000);      // yes: taken.value is 70
+    vbr::found was = handles[0].replace(5, 71, 100000);   // yes: was.value is 70, and 5 has 71
+    vbr::found taken = handles[1].remove(5, 100000);      // yes: taken.value is 71
+    CHECK(was.answer == vbr::answer::yes && was.value == 70u);
     CHECK(added == vbr::answer::yes && there.answer == vbr::answer::yes && there.value == 70u);
-    CHECK(taken.answer == vbr::answer::yes && taken.value == 70u);
+    CHECK(taken.answer == vbr::answer::yes && taken.value == 71u);
     CHECK(handles[0].close().answer == vbr::close_answer::others_are_open && told(handles[1].close(), {}));
     CHECK(handles[0].get(5, 100000).answer == vbr::answer::empty && !handles[0].get(5, 100000).value);
     return 0;
@@ -65,6 +68,56 @@ static int calls() {
     return 0;
 }
 
+// Whether a call answered so, with this value or none.
+static bool is(const vbr::found &told, vbr::answer wanted, std::optional<std::uint64_t> value = std::nullopt) {
+    return told.answer == wanted && told.value == value;
+}
+
+// The calls that do one thing or another by what is there, as the comments of vbr.hpp have them.
+static int changes() {
+    constexpr std::uint32_t budget = 100000;
+    auto opened = vbr::open_map_with(vbr::shape::for_keys(8, 1), 1, {{6, 60}});
+    CHECK(opened.answer == vbr::open_answer::done);
+    vbr::map_handle mine = std::move(opened.handles[0]);
+    int puts = 0, changed = 0;
+    vbr::found was = mine.replace(6, 61, budget); // yes: 6 had was.value, and has 61
+    CHECK(is(was, vbr::answer::yes, 60) && is(mine.replace(7, 70, budget), vbr::answer::no));
+    if (!vbr::is_refusal(mine.put(7, 70, budget).answer)) puts++; // 7 has 70, whether it was there or not
+    CHECK(puts == 1 && is(mine.put(7, 71, budget), vbr::answer::yes, 70) && mine.get(7, budget).value == 71u);
+    std::uint64_t has = mine.get_or_insert(8, 80, budget).value.value_or(80); // but for a refusal
+    CHECK(has == 80 && is(mine.get_or_insert(8, 81, budget), vbr::answer::yes, 80));
+    vbr::found left = mine.remove_if(6, 60, budget); // other: 6 has left.value, and is still there
+    CHECK(is(left, vbr::answer::other, 61) && is(mine.compare_exchange(6, 60, 62, budget), vbr::answer::other, 61));
+    if (mine.compare_exchange(6, 61, 62, budget).answer == vbr::answer::yes) changed++; // 6 had 61, and has 62
+    CHECK(changed == 1 && is(mine.compare_exchange(9, 61, 62, budget), vbr::answer::no) && is(mine.remove_if(9, 61, budget), vbr::answer::no));
+    auto half = [](std::uint64_t value) { return value % 2 ? std::nullopt : std::optional(value / 2); };
+    vbr::found before = mine.fetch_update(6, half, budget); // yes: 6 had before.value, and has half of it
+    CHECK(is(before, vbr::answer::yes, 62) && is(mine.fetch_update(6, half, budget), vbr::answer::no) && mine.get(6, budget).value == 31u);
+    CHECK(is(mine.fetch_update(9, half, budget), vbr::answer::no) && is(mine.fetch_update(7, half, 1), vbr::answer::out_of_steps));
+    CHECK(is(mine.remove_if(7, 71, budget), vbr::answer::yes, 71) && is(mine.replace(6, 1, 1), vbr::answer::out_of_steps));
+    CHECK(std::string(vbr::to_string(left.answer)) == "another value" && !vbr::is_refusal(left.answer));
+    CHECK(told(mine.close(), {{6, 31}, {8, 80}}) && is(mine.put(6, 1, budget), vbr::answer::empty) && is(mine.fetch_update(6, half, budget), vbr::answer::empty));
+    return 0;
+}
+
+// Four threads add to the same values: no update of one loses another's.
+static int updates() {
+    constexpr std::uint64_t THREADS = 4, KEYS = 3, EACH = 30000;
+    auto opened = vbr::open_map_with(vbr::shape::for_keys(8, THREADS), THREADS, {{0, 0}, {1, 0}, {2, 0}});
+    CHECK(opened.answer == vbr::open_answer::done);
+    std::atomic<int> wrong{0};
+    std::vector<std::thread> threads;
+    for (vbr::map_handle &each : opened.handles)
+        threads.emplace_back([&each, &wrong] {
+            for (std::uint64_t i = 0; i < EACH; i++)
+                if (each.fetch_update(i % KEYS, [](std::uint64_t value) { return std::optional(value + 1); }, 1000000).answer != vbr::answer::yes) wrong++;
+        });
+    for (std::thread &thread : threads) thread.join();
+    for (std::uint64_t key = 0; key < KEYS; key++) CHECK(opened.handles[key].get(key, 100000).value == THREADS * EACH / KEYS);
+    CHECK(wrong == 0);
+    return 0;
+}
+
 static int refusals() {
     vbr::shape small{2, 1, 1};
     auto [opened, handles] = vbr::open_map(small, 1);
@@ -73,6 +126,7 @@ static int refusals() {
     CHECK(one.insert(1, 10, 1000) == vbr::answer::yes && one.insert(2, 20, 1000) == vbr::answer::yes);
     vbr::answer full = one.insert(3, 30, 1000);
     CHECK(full == vbr::answer::no_slot && vbr::is_refusal(full) && one.get(3, 1000).answer == vbr::answer::no);
+    CHECK(is(one.replace(1, 11, 1000), vbr::answer::no_slot) && is(one.fetch_update(1, [](std::uint64_t value) { return std::optional(value + 1); }, 1000), vbr::answer::no_slot));
     CHECK(one.remove(1, 1000).value == 10u && one.insert(3, 30, 1000) == vbr::answer::epoch_spent);
     CHECK(vbr::open_map(vbr::shape{}, 1).answer == vbr::open_answer::bad_shape);
     CHECK(vbr::open_map(small, 0).answer == vbr::open_answer::bad_count && vbr::open_map(small, 65).handles.empty());
@@ -199,6 +253,9 @@ static int exceptions() {
     return 0;
 }
 
+// A function that takes the pass of a handle, or of one on loan.
+static std::uint64_t got(vbr::map_pass &mine, std::uint64_t key) { return mine.get(key, 100000).value.value_or(0); }
+
 // Threads that borrow two handles: each stores keys of its own, and takes back what it stored.
 static int loans() {
     auto opened = vbr::open_map(vbr::shape::for_keys(1000, 2), 2);
@@ -206,7 +263,7 @@ static int loans() {
     vbr::map_lender lender(std::move(opened.handles));
     {
         vbr::map_loan mine = lender.lend();
-        CHECK(mine && mine->insert(1000, 1, 100000) == vbr::answer::yes);
+        CHECK(mine && mine->insert(1000, 1, 100000) == vbr::answer::yes && got(*mine, 1000) == 1);
     }
     std::atomic<int> wrong{0};
     std::vector<std::thread> threads;
@@ -238,7 +295,7 @@ static int loans() {
 }
 
 int main() {
-    if (example() || calls() || refusals() || ranges() || walks() || renewals() || ends() || exceptions() || loans()) return 1;
+    if (example() || calls() || changes() || updates() || refusals() || ranges() || walks() || renewals() || ends() || exceptions() || loans()) return 1;
     std::puts("example of maps in C++: passed");
     return 0;
 }

@@ -1,5 +1,6 @@
 // Memory that vbr.hpp is refused: it throws std::bad_alloc, and all stays as it was; and the closes that need none ask for none.
-// Memory that the library is refused while it closes a set: all handles stay as they were. A set is closed by vbr_close_all.
+// Memory that the library is refused while it closes a set: all handles stay as they were, those of a lender too, which lends on. A
+// set is closed by vbr_close_all.
 // Link with -Wl,--wrap=malloc,--wrap=vbr_close,--wrap=vbr_map_close.
 #include "vbr.hpp"
 
@@ -31,16 +32,20 @@ vbr_answer __wrap_vbr_map_close(vbr_map_handle *, vbr_entry *, std::size_t, vbr_
 }
 }
 
-[[gnu::noinline]] void *operator new(std::size_t size) {
+[[gnu::noinline]] void *operator new(std::size_t size, std::align_val_t alignment) {
     asked++;
-    void *block = refuses || granted == 0 ? nullptr : __real_malloc(size);
+    const std::size_t to = static_cast<std::size_t>(alignment);
+    void *block = refuses || granted == 0 ? nullptr : std::aligned_alloc(to, (size + to - 1) / to * to);
     if (granted > 0) granted--;
     if (!block) throw std::bad_alloc();
     return block;
 }
 
+[[gnu::noinline]] void *operator new(std::size_t size) { return operator new(size, std::align_val_t{alignof(std::max_align_t)}); }
 [[gnu::noinline]] void operator delete(void *block) noexcept { std::free(block); }
 [[gnu::noinline]] void operator delete(void *block, std::size_t) noexcept { std::free(block); }
+[[gnu::noinline]] void operator delete(void *block, std::align_val_t) noexcept { std::free(block); }
+[[gnu::noinline]] void operator delete(void *block, std::size_t, std::align_val_t) noexcept { std::free(block); }
 
 // Whether a call throws where there is no memory.
 template <class Call>
@@ -126,8 +131,40 @@ static int sets() {
     return 0;
 }
 
+// A lender that is refused memory: it leaves the handles where they were, and when it is closed it goes on to lend all of them.
+template <class Lender, class Opened, class Adds>
+static int lent(Opened opened, const Adds &adds) {
+    CHECK(throws([&] { Lender none(std::move(opened.handles)); }));
+    CHECK(opened.handles.size() == 3 && opened.handles[0].is_open() && opened.handles[2].is_open());
+    Lender lender(std::move(opened.handles));
+    for (std::uint64_t key = 5; key < 8; key++) {
+        if (key == 7) {
+            CHECK(throws([&] { static_cast<void>(lender.close()); }));
+        } else {
+            library_refuses = true;
+            auto refused = lender.close();
+            library_refuses = false;
+            CHECK(refused.answer == vbr::close_answer::no_memory && !refused.report);
+        }
+        auto first = lender.lend(), second = lender.lend(), third = lender.lend();
+        CHECK(first && second && third && !lender.lend() && lender.handles() == 3);
+        CHECK(adds(*first, key) && second->has(key, 100000) == vbr::answer::yes && third->has(key, 100000) == vbr::answer::yes);
+    }
+    auto last = lender.close();
+    CHECK(last.answer == vbr::close_answer::last && last.report->free == lender.slots() - 3 && !lender.lend());
+    return 0;
+}
+
 int main() {
     if (sets() || maps()) return 1;
+    if (lent<vbr::lender>(vbr::open(vbr::shape::for_keys(1000, 3), 3), [](vbr::pass &mine, std::uint64_t key) {
+            return mine.insert(key, 100000) == vbr::answer::yes;
+        }))
+        return 1;
+    if (lent<vbr::map_lender>(vbr::open_map(vbr::shape::for_keys(1000, 3), 3), [](vbr::map_pass &mine, std::uint64_t key) {
+            return mine.insert(key, ~key, 100000) == vbr::answer::yes;
+        }))
+        return 1;
     CHECK(closed_alone == 0);
     std::puts("refused memory in C++: passed");
     return 0;

@@ -14,7 +14,8 @@
        if (opened != vbr::open_answer::done) return 1;
        vbr::answer added = handles[0].insert(5, 70, 100000); // yes: 5 was absent, and now has the value 70
        vbr::found there = handles[1].get(5, 100000);         // yes: there.value is 70
-       vbr::found taken = handles[1].remove(5, 100000);      // yes: taken.value is 70
+       vbr::found was = handles[0].replace(5, 71, 100000);   // yes: was.value is 70, and 5 has 71
+       vbr::found taken = handles[1].remove(5, 100000);      // yes: taken.value is 71
 
    All keys, one after another, while other threads make calls; vbr.h says under "Walks" which are given, and how often:
 
@@ -29,7 +30,7 @@
 
    A handle may go to another thread by whatever orders the two. Where a thread ends, or an exception leaves a function, the
    handles that it owned end too, which closes them; nothing is lost. What vbr.h says of cancelled threads, signals and forks
-   holds here as well: a signal handler inserts, removes, looks up and walks, and opens, closes and ends no handle. */
+   holds here as well: a signal handler inserts, removes, changes values, looks up and walks, and opens, closes and ends no handle. */
 #ifndef VBR_HPP
 #define VBR_HPP
 
@@ -91,9 +92,10 @@ struct shape {
 enum class [[nodiscard]] answer : std::int32_t {
     no = VBR_NO,
     yes = VBR_YES,
+    other = VBR_OTHER,               /* compare_exchange, remove_if: the key is there with another value; nothing was changed */
     out_of_steps = VBR_OUT_OF_STEPS, /* the budget is spent; no call was made; a greater budget may help; a cursor keeps how far it has come */
-    no_slot = VBR_NO_SLOT,           /* insert: the key is absent, and the handle found no slot; no call was made */
-    epoch_spent = VBR_EPOCH_SPENT,   /* insert: the key is absent and the last epoch is spent; no call was made; renew the set */
+    no_slot = VBR_NO_SLOT,           /* the handle found no slot for a node; no call was made; insert, get_or_insert: the key is absent */
+    epoch_spent = VBR_EPOCH_SPENT,   /* a node is wanted and the last epoch is spent; no call was made; renew the set */
     empty = VBR_EMPTY                /* the handle is empty */
 };
 
@@ -103,7 +105,7 @@ enum class [[nodiscard]] answer : std::int32_t {
        if (got.value) sum += *got.value; // got.answer is yes */
 struct [[nodiscard]] found {
     vbr::answer answer;
-    std::optional<std::uint64_t> value; /* there where the answer is yes */
+    std::optional<std::uint64_t> value; /* there where the answer is yes or other: what the key had */
 };
 
 /* Where a walk stands: before the first key, or after the one that was given last. A copy keeps the place. With another handle, or
@@ -144,7 +146,8 @@ enum class [[nodiscard]] close_answer : std::int32_t {
     last = VBR_YES,            /* the set is closed, and there is a report */
     empty = VBR_EMPTY,         /* the handle is empty */
     no_memory = VBR_NO_MEMORY, /* it is the last, and stays as it was */
-    lost = VBR_LOST            /* it was the last, and a pass is not there; no program is known to get it */
+    lost = VBR_LOST,           /* it was the last, and a pass is not there; no program is known to get it */
+    on_loan = 256              /* of a lender: a handle is on loan, and all stays as it was */
 };
 
 /* Whether a call was refused, so that none was made.
@@ -159,6 +162,7 @@ constexpr const char *to_string(answer told) noexcept {
     switch (told) {
     case answer::no: return "no";
     case answer::yes: return "yes";
+    case answer::other: return "another value";
     case answer::out_of_steps: return "out of steps";
     case answer::no_slot: return "no slot was found";
     case answer::epoch_spent: return "the last epoch is spent";
@@ -256,6 +260,9 @@ struct shared {
     typename Calls::raw parked[max_handles] = {};
 };
 
+template <class Handle>
+class lending; /* vbr_lend.hpp */
+
 } // namespace detail
 
 /* All keys of a set, or all entries of a map, one after another: an input range, which a handle gives. It asks again by itself
@@ -313,7 +320,7 @@ public:
 
 private:
     template <class>
-    friend class basic_handle;
+    friend class basic_pass;
     basic_walk(typename Calls::raw *of, cursor *from, std::uint32_t steps, answer &last) noexcept : handle(of), kept(from), budget(steps), told(&last) {}
 
     /* Whether there is a next item. */
@@ -333,28 +340,15 @@ private:
     answer *told;
 };
 
-/* What a handle to a set and one to a map have in common; each may be empty. One thread at a time makes calls with it. Its end
-   closes it without a report, which takes no memory and loses nothing: the handle that is closed last is told the keys.
+/* The right of one thread at a time to make calls on a set or a map: what a handle owns and a loan lends, so a function that takes a
+   pass takes either. It stays where it is: it is neither moved nor copied, and a call by it closes nothing.
 
-       vbr::handle mine = std::move(most.handles[0]); // handles are moved, and never copied */
+       static int added(vbr::pass &mine, std::uint64_t key) { return mine.insert(key, 100000) == vbr::answer::yes; } */
 template <class Calls>
-class basic_handle {
+class basic_pass {
 public:
-    basic_handle() noexcept = default;
-    basic_handle(basic_handle &&other) noexcept : number(other.number), shared(std::move(other.shared)), raw(std::exchange(other.raw, {})) {}
-    basic_handle(const basic_handle &) = delete;
-    basic_handle &operator=(const basic_handle &) = delete;
-    ~basic_handle() { end(); }
-
-    basic_handle &operator=(basic_handle &&other) noexcept {
-        if (this != &other) {
-            end();
-            raw = std::exchange(other.raw, {});
-            number = other.number;
-            shared = std::move(other.shared);
-        }
-        return *this;
-    }
+    basic_pass(const basic_pass &) = delete;
+    basic_pass &operator=(const basic_pass &) = delete;
 
     /* Whether there is a set behind it.
 
@@ -389,74 +383,19 @@ public:
     std::uint32_t slots() noexcept { return Calls::slots(&raw); }
     std::uint32_t buckets() noexcept { return Calls::buckets(&raw); }
 
-    /* Closes the handle, and leaves it empty. The last one of its set gives the report, whose keys take memory then and
-       only then; where there is none it stays open.
-
-           vbr::closed told = mine.close(); // told.report is there where told.answer is last */
-    typename Calls::closed close() {
-        if (!is_open()) return {close_answer::empty, std::nullopt};
-        if (!is_last()) return {close_answer::others_are_open, std::nullopt};
-        return close_last();
-    }
-
-private:
-    template <class Opened, class Open>
-    friend Opened open_by(const shape &, std::size_t, const Open &);
-
-    /* Whether all others are closed. If not, this one is then closed too: it is parked for the last one. */
-    bool is_last() noexcept {
-        if (shared->open.load(std::memory_order_acquire) == 1) return true;
-        shared->parked[number] = raw;
-        if (shared->open.fetch_sub(1, std::memory_order_acq_rel) == 1) {
-            shared->open.store(1, std::memory_order_relaxed);
-            shared->parked[number] = {};
-            return true;
-        }
-        raw = {};
-        shared.reset();
-        return false;
-    }
-
-    /* Closes all handles of the set at once. Where it is refused memory they stay as they were. */
-    typename Calls::closed close_last() {
-        std::vector<typename Calls::item> items(shared->slots);
-        vbr_totals totals = {};
-        std::swap(shared->parked[number], raw);
-        vbr_answer code = Calls::close_all(shared->parked, shared->count, items.data(), items.size(), &totals);
-        std::swap(shared->parked[number], raw);
-        if (code == VBR_NO_MEMORY) return {close_answer::no_memory, std::nullopt};
-        end_last();
-        if (code != VBR_YES) return {close_answer::lost, std::nullopt};
-        items.resize(totals.live);
-        items.shrink_to_fit();
-        return {close_answer::last, typename Calls::report{std::move(items), totals.epoch, totals.marked, totals.free}};
-    }
-
-    void end() noexcept {
-        if (is_open() && is_last()) end_last();
-    }
-
-    /* Drops all handles, empty ones too, which takes no memory. */
-    void end_last() noexcept {
-        for (typename Calls::raw &other : shared->parked) Calls::drop(&other);
-        Calls::drop(&raw);
-        shared.reset();
-    }
-
-    using calls = Calls;
-    std::size_t number = 0;
-    std::shared_ptr<detail::shared<Calls>> shared;
-
 protected:
+    using calls = Calls;
+    basic_pass() noexcept = default;
+    ~basic_pass() = default;
     basic_walk<Calls> walk(cursor *at, std::uint32_t budget, answer &told) noexcept { return {&raw, at, budget, told}; }
 
     typename Calls::raw raw = {};
 };
 
-/* A handle to a set, or an empty one.
+/* That of a handle to a set.
 
-       vbr::handle mine = std::move(most.handles[0]); // handles are moved, and never copied */
-class handle : public basic_handle<detail::set_calls> {
+       static int added(vbr::pass &mine, std::uint64_t key) { return mine.insert(key, 100000) == vbr::answer::yes; } */
+class pass : public basic_pass<detail::set_calls> {
 public:
     /* Adds a key: yes if it was absent.
 
@@ -479,10 +418,10 @@ public:
     basic_walk<detail::set_calls> keys(cursor &at, std::uint32_t budget, answer &told) noexcept { return walk(&at, budget, told); }
 };
 
-/* A handle to a map, or an empty one.
+/* That of a handle to a map.
 
-       vbr::map_handle mine = std::move(some.handles[0]); // handles are moved, and never copied */
-class map_handle : public basic_handle<detail::map_calls> {
+       static std::uint64_t got(vbr::map_pass &mine, std::uint64_t key) { return mine.get(key, 100000).value.value_or(0); } */
+class map_pass : public basic_pass<detail::map_calls> {
 public:
     /* Adds a key with its value: yes if the key was absent. If it was there, it keeps the value that it has.
 
@@ -509,6 +448,74 @@ public:
         return found_by(told, value);
     }
 
+    /* Gives a key that is there another value: yes with the one that it had; no if it was absent, and then nothing was changed.
+       No call finds the key absent meanwhile.
+
+           vbr::found was = mine.replace(6, 61, budget); // yes: 6 had was.value, and has 61 */
+    found replace(std::uint64_t key, std::uint64_t value, std::uint32_t budget) noexcept {
+        std::uint64_t had = 0;
+        vbr_answer told = vbr_map_replace(&raw, key, value, &had, budget);
+        return found_by(told, had);
+    }
+
+    /* Gives a key this value: yes with the one that it had; no if it was absent, and it is then inserted.
+
+           if (!vbr::is_refusal(mine.put(7, 70, budget).answer)) puts++; // 7 has 70, whether it was there or not */
+    found put(std::uint64_t key, std::uint64_t value, std::uint32_t budget) noexcept {
+        std::uint64_t had = 0;
+        vbr_answer told = vbr_map_put(&raw, key, value, &had, budget);
+        return found_by(told, had);
+    }
+
+    /* The value of a key, which is inserted with this one where it is absent: yes with the value that it has; no if it was
+       absent, and it is then inserted.
+
+           std::uint64_t has = mine.get_or_insert(8, 80, budget).value.value_or(80); // but for a refusal */
+    found get_or_insert(std::uint64_t key, std::uint64_t value, std::uint32_t budget) noexcept {
+        std::uint64_t has = 0;
+        vbr_answer told = vbr_map_get_or_insert(&raw, key, value, &has, budget);
+        return found_by(told, has);
+    }
+
+    /* Gives a key another value if it has the one that is expected: yes, with that one; other, with the one that it has; or no
+       if it is absent. But for yes nothing was changed.
+
+           if (mine.compare_exchange(6, 61, 62, budget).answer == vbr::answer::yes) changed++; // 6 had 61, and has 62 */
+    found compare_exchange(std::uint64_t key, std::uint64_t expected, std::uint64_t value, std::uint32_t budget) noexcept {
+        std::uint64_t had = 0;
+        vbr_answer told = vbr_map_compare_exchange(&raw, key, expected, value, &had, budget);
+        return found_by(told, had);
+    }
+
+    /* Takes a key out if it has the value that is expected: yes, with that one; other, with the one that it has; or no if it is
+       absent. But for yes nothing was changed.
+
+           vbr::found left = mine.remove_if(6, 60, budget); // other: 6 has left.value, and is still there */
+    found remove_if(std::uint64_t key, std::uint64_t expected, std::uint32_t budget) noexcept {
+        std::uint64_t had = 0;
+        vbr_answer told = vbr_map_remove_if(&raw, key, expected, &had, budget);
+        return found_by(told, had);
+    }
+
+    /* Gives a key the value that `update` makes of the one that it has, as std::optional<std::uint64_t>: yes with the value before;
+       no, and nothing is changed, if the key is absent or `update` makes none. No update of another thread is lost: where one comes
+       in between, `update` is asked again, with the value that it left. Each call that it takes has this budget.
+
+           auto half = [](std::uint64_t value) { return value % 2 ? std::nullopt : std::optional(value / 2); };
+           vbr::found before = mine.fetch_update(6, half, budget); // yes: 6 had before.value, and has half of it */
+    template <class Update>
+    found fetch_update(std::uint64_t key, Update &&update, std::uint32_t budget) {
+        found seen = get(key, budget);
+        while (seen.value) {
+            std::optional<std::uint64_t> next = update(*seen.value);
+            if (!next) return {answer::no, std::nullopt};
+            found told = compare_exchange(key, *seen.value, *next, budget);
+            if (told.answer != answer::other) return told;
+            seen = told;
+        }
+        return seen;
+    }
+
     /* All entries, one after another, each call in at most `budget` steps. What the last call answered is then in `told`.
 
            for (auto [key, value] : mine.entries(budget, told)) sum += key * value; */
@@ -521,9 +528,129 @@ public:
 
 private:
     static found found_by(vbr_answer told, std::uint64_t value) noexcept {
-        return {answer{static_cast<std::int32_t>(told)}, told == VBR_YES ? std::optional(value) : std::nullopt};
+        return {answer{static_cast<std::int32_t>(told)}, told > VBR_NO ? std::optional(value) : std::nullopt};
     }
 };
+
+/* What a handle to a set and one to a map have in common; each may be empty. One thread at a time makes calls with it, by its pass. Its
+   end closes it without a report, which takes no memory and loses nothing: the handle that is closed last is told the keys.
+
+       vbr::handle mine = std::move(most.handles[0]); // handles are moved, and never copied */
+template <class Pass>
+class basic_handle : public Pass {
+    using calls = typename Pass::calls;
+    using items = std::vector<typename calls::item>;
+
+public:
+    using pass_type = Pass;
+    using closed_type = typename calls::closed;
+
+    basic_handle() noexcept = default;
+    basic_handle(basic_handle &&other) noexcept { takes(other); }
+    ~basic_handle() { end(); }
+
+    basic_handle &operator=(basic_handle &&other) noexcept {
+        if (this != &other) {
+            end();
+            takes(other);
+        }
+        return *this;
+    }
+
+    /* Closes the handle, and leaves it empty. The last one of its set gives the report, whose keys take memory then and
+       only then; where there is none it stays open.
+
+           vbr::closed told = mine.close(); // told.report is there where told.answer is last */
+    closed_type close() {
+        if (!this->is_open()) return {close_answer::empty, std::nullopt};
+        if (!is_last()) return {close_answer::others_are_open, std::nullopt};
+        return close_last(items(shared->slots));
+    }
+
+private:
+    template <class Opened, class Open>
+    friend Opened open_by(const shape &, std::size_t, const Open &);
+    template <class Handle>
+    friend class detail::lending;
+
+    void takes(basic_handle &other) noexcept {
+        raw = std::exchange(other.raw, {});
+        number = other.number;
+        shared = std::move(other.shared);
+    }
+
+    /* Whether all others are closed. If not, this one is then closed too: it is parked for the last one. */
+    bool is_last() noexcept {
+        if (shared->open.load(std::memory_order_acquire) == 1) return true;
+        shared->parked[number] = raw;
+        if (shared->open.fetch_sub(1, std::memory_order_acq_rel) == 1) {
+            shared->open.store(1, std::memory_order_relaxed);
+            shared->parked[number] = {};
+            return true;
+        }
+        raw = {};
+        shared.reset();
+        return false;
+    }
+
+    /* Closes handles of one set, which are open, all of them or none; `at` gives each by its number. */
+    template <class At>
+    static closed_type close_all(std::size_t count, const At &at) {
+        basic_handle &last = at(count - 1);
+        items room(last.shared->slots);
+        for (std::size_t i = 0; i + 1 < count; i++) at(i).is_last(); // parked, since the last one is open
+        if (!last.is_last()) return {close_answer::others_are_open, std::nullopt};
+        closed_type told = last.close_last(std::move(room));
+        for (std::size_t i = 0; i + 1 < count && told.answer == close_answer::no_memory; i++) at(i).open_again(last);
+        return told;
+    }
+
+    /* Takes the handle, which was parked, back from the last one that is open. */
+    void open_again(const basic_handle &last) noexcept {
+        shared = last.shared;
+        raw = std::exchange(shared->parked[number], {});
+        shared->open.fetch_add(1, std::memory_order_relaxed);
+    }
+
+    /* Closes all handles of the set at once. Where it is refused memory they stay as they were. */
+    closed_type close_last(items room) {
+        vbr_totals totals = {};
+        std::swap(shared->parked[number], raw);
+        vbr_answer code = calls::close_all(shared->parked, shared->count, room.data(), room.size(), &totals);
+        std::swap(shared->parked[number], raw);
+        if (code == VBR_NO_MEMORY) return {close_answer::no_memory, std::nullopt};
+        end_last();
+        if (code != VBR_YES) return {close_answer::lost, std::nullopt};
+        room.resize(totals.live);
+        room.shrink_to_fit();
+        return {close_answer::last, typename calls::report{std::move(room), totals.epoch, totals.marked, totals.free}};
+    }
+
+    void end() noexcept {
+        if (this->is_open() && is_last()) end_last();
+    }
+
+    /* Drops all handles, empty ones too, which takes no memory. */
+    void end_last() noexcept {
+        for (typename calls::raw &other : shared->parked) calls::drop(&other);
+        calls::drop(&raw);
+        shared.reset();
+    }
+
+    using Pass::raw;
+    std::size_t number = 0;
+    std::shared_ptr<detail::shared<calls>> shared;
+};
+
+/* A handle to a set, or an empty one.
+
+       vbr::handle mine = std::move(most.handles[0]); // handles are moved, and never copied */
+using handle = basic_handle<pass>;
+
+/* A handle to a map, or an empty one.
+
+       vbr::map_handle mine = std::move(some.handles[0]); // handles are moved, and never copied */
+using map_handle = basic_handle<map_pass>;
 
 /* What an opening answers, with as many handles as were asked for if it is done, and none otherwise.
 
@@ -664,91 +791,8 @@ map_opened open_map_with(const shape &wanted, std::size_t count, const Entries &
     }
 }
 
-template <class Handle>
-class basic_lender;
-
-/* A handle on loan, or none; its end gives it back. It is tested by `if (loan)` and used as a pointer.
-
-       vbr::loan mine = lender.lend();
-       if (!mine) { // all are lent at the moment */
-template <class Handle>
-class [[nodiscard]] basic_loan {
-public:
-    basic_loan(basic_loan &&other) noexcept : owner(std::exchange(other.owner, nullptr)), number(other.number) {}
-    basic_loan &operator=(basic_loan &&) = delete;
-    ~basic_loan() {
-        if (owner) owner->free.fetch_or(std::uint64_t{1} << number, std::memory_order_release);
-    }
-    explicit operator bool() const noexcept { return owner != nullptr; }
-    Handle &operator*() const noexcept { return owner->owned[number]; }
-    Handle *operator->() const noexcept { return &**this; }
-
-private:
-    friend class basic_lender<Handle>;
-    basic_loan(basic_lender<Handle> *from, std::size_t which) noexcept : owner(from), number(which) {}
-    basic_lender<Handle> *owner;
-    std::size_t number;
-};
-
-/* Lends handles of a set or a map, up to 64, to threads that come and go: at once or not at all, without a lock. A loan and its
-   return are one atomic operation each on a word that all threads share, so keep a loan for as many calls as can be.
-
-       vbr::lender lender(std::move(opened.handles)); */
-template <class Handle>
-class basic_lender {
-public:
-    explicit basic_lender(std::vector<Handle> handles) noexcept : owned(std::move(handles)) {
-        std::size_t count = owned.size();
-        free.store(count >= max_handles ? ~std::uint64_t{0} : (std::uint64_t{1} << count) - 1, std::memory_order_relaxed);
-    }
-    basic_lender(const basic_lender &) = delete;
-    basic_lender &operator=(const basic_lender &) = delete;
-
-    /* A free handle, or none where each was lent at a moment of the call. It tries each handle at most once.
-
-           vbr::loan mine = lender.lend(); */
-    basic_loan<Handle> lend() noexcept {
-        std::uint64_t untried = ~std::uint64_t{0}, seen = free.load(std::memory_order_relaxed);
-        while (seen & untried) {
-            std::size_t number = 0;
-            while (!((seen & untried) >> number & 1)) number++;
-            std::uint64_t bit = std::uint64_t{1} << number;
-            seen = free.fetch_and(~bit, std::memory_order_acquire);
-            if (seen & bit) return basic_loan<Handle>(this, number);
-            untried &= ~bit;
-        }
-        return basic_loan<Handle>(nullptr, 0);
-    }
-
-    /* Closes all handles, and gives the report. There is no loan meanwhile.
-
-           vbr::closed closed = lender.close(); */
-    auto close() {
-        decltype(std::declval<Handle &>().close()) last{close_answer::empty, std::nullopt};
-        for (Handle &each : owned)
-            if (each.is_open()) last = each.close();
-        return last;
-    }
-
-private:
-    friend class basic_loan<Handle>;
-    std::vector<Handle> owned;
-    std::atomic<std::uint64_t> free{0};
-};
-
-/* Those of a set.
-
-       vbr::lender lender(std::move(opened.handles)); */
-using lender = basic_lender<handle>;
-using loan = basic_loan<handle>;
-
-/* Those of a map.
-
-       vbr::map_lender lender(std::move(opened.handles));
-       vbr::map_loan mine = lender.lend(); */
-using map_lender = basic_lender<map_handle>;
-using map_loan = basic_loan<map_handle>;
-
 } // namespace vbr
+
+#include "vbr_lend.hpp"
 
 #endif

@@ -7,11 +7,12 @@
      before it removed one before what a thread does that then finds it absent;
    - that what was done before a handle was closed comes before what the last close tells.
 
-   Of maps it is told the same, where a get is a look-up, and besides that a value was written. A call of a walk is told to write
-   its cursor, and one that gives a key finds it, and writes it. So a right program is silent,
+   Of maps it is told the same, where a get is a look-up, and besides that a value was written. A call that may give a key
+   another value is told as a remove and an insert. A call of a walk is told to write its cursor, and one that gives a key finds
+   it, and writes it. So a right program is silent,
    and one that reads what it didn't look up, or what is absent, is reported. The sanitizer has a place for each of 16,384
-   groups of keys, whatever the set, and takes an insert or a remove that is answered no or refused for one that is answered
-   yes: where keys of a group meet, or after such an answer, it may miss a race. */
+   groups of keys, whatever the set, and takes a call that would have changed something, and is answered otherwise or refused,
+   for one that has: where keys of a group meet, or after such an answer, it may miss a race. */
 #ifndef VBR_TSAN_H
 #define VBR_TSAN_H
 
@@ -67,14 +68,20 @@ static inline vbr_answer vbr_tsan_added(uint64_t key, vbr_answer answer) {
 
 /* What comes before an answer that tells whether a key was there, and that a value was written beside it. */
 static inline vbr_answer vbr_tsan_found(uint64_t key, vbr_answer answer) {
-    if (answer == VBR_YES) __tsan_acquire(vbr_tsan_there(key));
+    if (answer == VBR_YES || answer == VBR_OTHER) __tsan_acquire(vbr_tsan_there(key));
     if (answer == VBR_NO) __tsan_acquire(vbr_tsan_gone(key));
     return answer;
 }
 
 static inline vbr_answer vbr_tsan_given(uint64_t *value, vbr_answer answer) {
-    if (answer == VBR_YES) __tsan_write8(value);
+    if ((answer == VBR_YES || answer == VBR_OTHER) && value) __tsan_write8(value);
     return answer;
+}
+
+/* What a call comes after that may remove a value and insert another one. */
+static inline void vbr_tsan_changes(uint64_t key) {
+    __tsan_release(vbr_tsan_there(key));
+    __tsan_release(vbr_tsan_gone(key));
 }
 
 /* What a call of a walk writes, and what comes before the key that it gives. */
@@ -121,6 +128,36 @@ VBR_NODISCARD static inline vbr_answer vbr_tsan_map_remove(vbr_map_handle *handl
 VBR_NODISCARD static inline vbr_answer vbr_tsan_map_get(vbr_map_handle *handle, uint64_t key, uint32_t budget, uint64_t *value) VBR_NOEXCEPT {
     vbr_tsan_map_uses(handle);
     return vbr_tsan_given(value, vbr_tsan_found(key, vbr_map_get(handle, key, budget, value)));
+}
+
+VBR_NODISCARD static inline vbr_answer vbr_tsan_map_replace(vbr_map_handle *handle, uint64_t key, uint64_t value, uint64_t *found, uint32_t budget) VBR_NOEXCEPT {
+    vbr_tsan_map_uses(handle);
+    vbr_tsan_changes(key);
+    return vbr_tsan_given(found, vbr_tsan_found(key, vbr_map_replace(handle, key, value, found, budget)));
+}
+
+VBR_NODISCARD static inline vbr_answer vbr_tsan_map_put(vbr_map_handle *handle, uint64_t key, uint64_t value, uint64_t *found, uint32_t budget) VBR_NOEXCEPT {
+    vbr_tsan_map_uses(handle);
+    vbr_tsan_changes(key);
+    return vbr_tsan_given(found, vbr_tsan_found(key, vbr_map_put(handle, key, value, found, budget)));
+}
+
+VBR_NODISCARD static inline vbr_answer vbr_tsan_map_get_or_insert(vbr_map_handle *handle, uint64_t key, uint64_t value, uint64_t *found, uint32_t budget) VBR_NOEXCEPT {
+    vbr_tsan_map_uses(handle);
+    __tsan_release(vbr_tsan_there(key));
+    return vbr_tsan_given(found, vbr_tsan_found(key, vbr_map_get_or_insert(handle, key, value, found, budget)));
+}
+
+VBR_NODISCARD static inline vbr_answer vbr_tsan_map_compare_exchange(vbr_map_handle *handle, uint64_t key, uint64_t expected, uint64_t value, uint64_t *found, uint32_t budget) VBR_NOEXCEPT {
+    vbr_tsan_map_uses(handle);
+    vbr_tsan_changes(key);
+    return vbr_tsan_given(found, vbr_tsan_found(key, vbr_map_compare_exchange(handle, key, expected, value, found, budget)));
+}
+
+VBR_NODISCARD static inline vbr_answer vbr_tsan_map_remove_if(vbr_map_handle *handle, uint64_t key, uint64_t expected, uint64_t *found, uint32_t budget) VBR_NOEXCEPT {
+    vbr_tsan_map_uses(handle);
+    __tsan_release(vbr_tsan_gone(key));
+    return vbr_tsan_given(found, vbr_tsan_found(key, vbr_map_remove_if(handle, key, expected, found, budget)));
 }
 
 VBR_NODISCARD static inline vbr_answer vbr_tsan_map_has(vbr_map_handle *handle, uint64_t key, uint32_t budget) VBR_NOEXCEPT {
@@ -192,6 +229,11 @@ VBR_TSAN_CALLS(map_, vbr_entry)
 #define vbr_map_insert(handle, key, value, budget) vbr_tsan_map_insert(handle, key, value, budget)
 #define vbr_map_remove(handle, key, budget, value) vbr_tsan_map_remove(handle, key, budget, value)
 #define vbr_map_get(handle, key, budget, value) vbr_tsan_map_get(handle, key, budget, value)
+#define vbr_map_replace(handle, key, value, found, budget) vbr_tsan_map_replace(handle, key, value, found, budget)
+#define vbr_map_put(handle, key, value, found, budget) vbr_tsan_map_put(handle, key, value, found, budget)
+#define vbr_map_get_or_insert(handle, key, value, found, budget) vbr_tsan_map_get_or_insert(handle, key, value, found, budget)
+#define vbr_map_compare_exchange(handle, key, expected, value, found, budget) vbr_tsan_map_compare_exchange(handle, key, expected, value, found, budget)
+#define vbr_map_remove_if(handle, key, expected, found, budget) vbr_tsan_map_remove_if(handle, key, expected, found, budget)
 #define vbr_map_has(handle, key, budget) vbr_tsan_map_has(handle, key, budget)
 #define vbr_map_next(handle, cursor, budget, key, value) vbr_tsan_map_next(handle, cursor, budget, key, value)
 #define vbr_map_close(handle, entries, room, report) vbr_tsan_map_close(handle, entries, room, report)

@@ -6,7 +6,8 @@
 // An input is bytes, which are read as calls: openings with good and bad numbers, calls with budgets of all sizes, closings
 // in any order, on handles that are empty or in use, with memory that is refused. While the other handles stand still, as
 // they do here, a budget that vbr.h promises to be enough is enough: so each refusal is known to be due, or isn't made. No two
-// inserts store the same value, so one of an earlier insert is told from that of the last. Walks go on by any cursor, with other
+// calls store the same value, so one that was stored before is told from the last; calls that expect a value expect that, or
+// another one. Walks go on by any cursor, with other
 // calls in between: each gives the next key of the map in the order of buckets, and by how many steps is known too, but for removed
 // nodes that may still be in their lists.
 // Link with -Wl,--wrap=malloc,--wrap=realloc,--wrap=free.
@@ -58,7 +59,19 @@ extern "C" void __wrap_free(void *block) {
 // Where a value is written that a call gives, and what stands there before.
 static constexpr uint64_t NO_VALUE = 0xabcdef;
 
-enum Kind { INSERT, REMOVE, HAS, GET };
+// Those from REPLACE on are of maps alone.
+enum Kind { INSERT, REMOVE, HAS, GET, REPLACE, PUT, GET_OR_INSERT, COMPARE_EXCHANGE, REMOVE_IF };
+
+// A call: its key, and of a map the value that it stores and the one that it expects.
+struct Request {
+    Kind kind;
+    uint64_t key, value, expected;
+};
+
+static bool expects(Kind kind) { return kind == COMPARE_EXCHANGE || kind == REMOVE_IF; }
+static bool removes(Kind kind) { return kind == REMOVE || kind == REMOVE_IF; }
+static bool only_looks(Kind kind) { return kind == HAS || kind == GET; }
+static bool gives(Kind kind) { return kind != INSERT && kind != HAS; }
 
 // A set: its items are keys, and it gives no values.
 struct Sets {
@@ -73,13 +86,15 @@ struct Sets {
     static constexpr auto open_with = vbr_open_with;
     static constexpr auto close = vbr_close;
     static constexpr auto drop = vbr_drop;
-    static int call(Kind kind, Handle *handle, uint64_t key, uint32_t budget, uint64_t *) {
-        return kind == INSERT ? vbr_insert(handle, key, budget) : kind == REMOVE ? vbr_remove(handle, key, budget) : vbr_has(handle, key, budget);
+    static int call(const Request &it, Handle *handle, uint32_t budget, uint64_t *) {
+        return it.kind == INSERT   ? vbr_insert(handle, it.key, budget)
+               : it.kind == REMOVE ? vbr_remove(handle, it.key, budget)
+                                   : vbr_has(handle, it.key, budget);
     }
     static int next(Handle *handle, vbr_cursor *cursor, uint32_t budget, uint64_t *key, uint64_t *) { return vbr_next(handle, cursor, budget, key); }
 };
 
-// A map: an insert stores the value that it is given, and removes and gets give one.
+// A map: some calls store the value that they are given, and some tell the one that is there, or was.
 struct Maps {
     using Handle = vbr_map_handle;
     using Item = vbr_entry;
@@ -92,11 +107,19 @@ struct Maps {
     static constexpr auto open_with = vbr_map_open_with;
     static constexpr auto close = vbr_map_close;
     static constexpr auto drop = vbr_map_drop;
-    static int call(Kind kind, Handle *handle, uint64_t key, uint32_t budget, uint64_t *value) {
-        return kind == INSERT   ? vbr_map_insert(handle, key, *value, budget)
-               : kind == REMOVE ? vbr_map_remove(handle, key, budget, value)
-               : kind == GET    ? vbr_map_get(handle, key, budget, value)
-                                : vbr_map_has(handle, key, budget);
+    static int call(const Request &it, Handle *handle, uint32_t budget, uint64_t *found) {
+        switch (it.kind) {
+            case INSERT: return vbr_map_insert(handle, it.key, it.value, budget);
+            case REMOVE: return vbr_map_remove(handle, it.key, budget, found);
+            case HAS: return vbr_map_has(handle, it.key, budget);
+            case GET: return vbr_map_get(handle, it.key, budget, found);
+            case REPLACE: return vbr_map_replace(handle, it.key, it.value, found, budget);
+            case PUT: return vbr_map_put(handle, it.key, it.value, found, budget);
+            case GET_OR_INSERT: return vbr_map_get_or_insert(handle, it.key, it.value, found, budget);
+            case COMPARE_EXCHANGE: return vbr_map_compare_exchange(handle, it.key, it.expected, it.value, found, budget);
+            case REMOVE_IF: return vbr_map_remove_if(handle, it.key, it.expected, found, budget);
+        }
+        return VBR_EMPTY;
     }
     static constexpr auto next = vbr_map_next;
 };
@@ -146,7 +169,24 @@ struct Model {
     size_t handles, open;
     std::map<uint64_t, uint64_t> keys;  // each with its value
     std::map<uint64_t, uint64_t> marked;  // by bucket: how many removed nodes may still be in its list
-    uint64_t all_marked = 0, inserts = 0;
+    uint64_t all_marked = 0, inserts = 0;  // how many calls may have put a node into a list, each of which may advance the epoch
+
+    // What a call finds: no, yes, or the key with another value than the one that it expects.
+    int finds(const Request &it) const {
+        auto there = keys.find(it.key);
+        if (there == keys.end()) return VBR_NO;
+        return expects(it.kind) && there->second != it.expected ? VBR_OTHER : VBR_YES;
+    }
+
+    // Whether a call stores a value where it finds that.
+    static bool stores(Kind kind, int found) {
+        switch (kind) {
+            case INSERT: case GET_OR_INSERT: return found == VBR_NO;
+            case REPLACE: case COMPARE_EXCHANGE: return found == VBR_YES;
+            case PUT: return true;
+            default: return false;
+        }
+    }
 
     // Where a key belongs: the upper half of its product with an odd number, as a part of the buckets.
     uint64_t bucket_of(uint64_t key) const { return (key * 0x9E3779B97F4A7C15 >> 32) * buckets >> 32; }
@@ -252,9 +292,9 @@ private:
     void step() {
         uint8_t x = byte();
         switch (x % 16) {
-            case 0: case 1: case 2: case 3: return call(INSERT, cell(), key());
+            case 0: case 1: case 2: case 3: return call(Of::HAS_VALUES ? storing(x) : INSERT, cell(), key());
             case 4: return x & 64 ? walk(cell()) : call(INSERT, cell(), key());
-            case 5: case 6: case 7: return call(REMOVE, cell(), key());
+            case 5: case 6: case 7: return call(Of::HAS_VALUES && x & 128 ? REMOVE_IF : REMOVE, cell(), key());
             case 8: return call(HAS, cell(), key());
             case 9: return call(Of::HAS_VALUES ? GET : HAS, cell(), key());
             case 10: return x & 64 ? walk(cell()) : burst(cell(), key(), byte());
@@ -263,6 +303,12 @@ private:
             case 14: return drop(cell());
             default: allowed = byte() % 8; return x & 16 ? open(cell(), x & 32) : close(cell(), MOST_KEYS);
         }
+    }
+
+    // The kind of a call that stores a value: half of them are inserts.
+    static Kind storing(uint8_t x) {
+        static const Kind others[] = {REPLACE, PUT, GET_OR_INSERT, COMPARE_EXCHANGE};
+        return x & 128 ? others[x / 16 % 4] : INSERT;
     }
 
     // Large sets take long to open: they come seldom, and once an input; that of most slots, which takes more than 1 GB,
@@ -289,8 +335,15 @@ private:
         return x < 128 ? VBR_MAX_EPOCH : x < 240 ? 1 + x % 20 : some[x % 4];
     }
 
-    // A value that no other insert stored.
+    // A value that no other call stored.
     uint64_t fresh_value() { return ++values * 0x9E3779B97F4A7C15; }
+
+    // The value that a call expects: mostly the one that is there, or else some that were stored before, or will be.
+    uint64_t expected_value(const Model &m, uint64_t key) {
+        uint8_t x = byte();
+        auto there = m.keys.find(key);
+        return x < 160 && there != m.keys.end() ? there->second : (values + 1 - x % 32) * 0x9E3779B97F4A7C15;
+    }
 
     // What to open with: mostly the keys ascend.
     std::vector<typename Of::Item> opening_items() {
@@ -345,7 +398,9 @@ private:
     // The steps that are promised to be enough.
     static uint64_t enough(const Model &m, Kind kind, uint64_t key) {
         uint64_t n = m.nodes_in(m.bucket_of(key)), words = (m.slots + 63) / 64;
-        return kind == HAS || kind == GET ? 5 * n + 11 : kind == REMOVE ? 9 * n + 11 : std::max(18 * n + 82, 18 * n + words + 20);
+        if (only_looks(kind)) return 5 * n + 11;
+        if (removes(kind)) return 9 * n + 11;
+        return std::max(18 * n + 82, 18 * n + words + 20) + 2 * (kind == COMPARE_EXCHANGE);
     }
 
     uint32_t budget(const Model &m, Kind kind, uint64_t key) {
@@ -358,54 +413,66 @@ private:
     }
 
     // Whether a value was given where a key is there with it, and nothing was written otherwise.
-    static void check_value(const Model &m, Kind kind, uint64_t key, int answer, uint64_t told) {
-        bool gives = Of::HAS_VALUES && (kind == REMOVE || kind == GET) && answer == VBR_YES;
-        if (kind != INSERT && told != (gives ? m.keys.at(key) : NO_VALUE)) fail("the value that a call gives");
+    static void check_value(const Model &m, const Request &it, int answer, uint64_t told) {
+        bool is_given = Of::HAS_VALUES && gives(it.kind) && (answer == VBR_YES || answer == VBR_OTHER);
+        if (told != (is_given ? m.keys.at(it.key) : NO_VALUE)) fail("the value that a call gives");
     }
 
-    static int what(Kind kind) { return kind == GET ? 8 : 2 + kind; }
+    static int what(Kind kind) { return kind < GET ? 2 + kind : kind == GET ? 8 : 7 + kind; }
+
+    // A call, which is not always told where to write what it finds, where it may be told nowhere.
+    int make(const Request &it, size_t cell, uint32_t budget, uint64_t *found) {
+        bool is_told = it.kind < REPLACE || values % 8 != 7;
+        int answer = Of::call(it, &cells[cell], budget, is_told ? found : nullptr);
+        if (!is_told && models[cell] && (answer == VBR_YES || answer == VBR_OTHER)) *found = models[cell]->keys.at(it.key);
+        return answer;
+    }
 
     void call(Kind kind, size_t cell, uint64_t key) {
+        uint64_t found = NO_VALUE;
         if (!models[cell]) {
-            uint64_t value = NO_VALUE;
-            int answer = Of::call(kind, &cells[cell], key, byte(), &value);
-            if (answer != VBR_EMPTY || value != NO_VALUE) fail("a call of an empty handle");
+            int answer = make({kind, key, 0, 0}, cell, byte(), &found);
+            if (answer != VBR_EMPTY || found != NO_VALUE) fail("a call of an empty handle");
             return saw(what(kind), answer, 0);
         }
         Model &m = *models[cell];
         uint32_t budget = this->budget(m, kind, key);
-        uint64_t most = enough(m, kind, key);
-        bool there = m.keys.count(key) != 0;
-        m.inserts += kind == INSERT;
-        uint64_t value = kind == INSERT ? fresh_value() : NO_VALUE;
-        int answer = Of::call(kind, &cells[cell], key, budget, &value);
+        uint64_t most = enough(m, kind, key), expected = expects(kind) ? expected_value(m, key) : 0;
+        Request it{kind, key, removes(kind) || only_looks(kind) ? 0 : fresh_value(), expected};
+        int there = m.finds(it);
+        m.inserts += Model::stores(kind, there);
+        int answer = make(it, cell, budget, &found);
         check(m, kind, answer, there, budget, most);
-        check_value(m, kind, key, answer, value);
-        saw(what(kind), answer, there | (budget < most) << 1 | (m.keys.size() > 8) << 2 | (m.handles > 1) << 3 |
-                                  (m.slots < 8) << 4 | (m.all_marked > 0) << 5 | (m.open < m.handles) << 6);
-        if (kind == INSERT && answer == VBR_YES) m.keys[key] = value;
-        if (kind == REMOVE && answer == VBR_YES) {
-            m.keys.erase(key);
-            if (budget < most + 9) m.marked[m.bucket_of(key)]++, m.all_marked++;  // its node may still be in the list
-        }
+        check_value(m, it, answer, found);
+        saw(what(kind), answer, there | (budget < most) << 2 | (m.keys.size() > 8) << 3 | (m.handles > 1) << 4 |
+                                  (m.slots < 8) << 5 | (m.all_marked > 0) << 6 | (m.open < m.handles) << 7);
+        if (answer >= 0) change(m, it, there, budget < most + 9);
+    }
+
+    // What an answered call does; a node that it takes out may still be in its list where the budget is short.
+    static void change(Model &m, const Request &it, int there, bool is_short) {
+        bool stores = Model::stores(it.kind, there), takes = there == VBR_YES && (stores || removes(it.kind));
+        if (takes && is_short) m.marked[m.bucket_of(it.key)]++, m.all_marked++;
+        if (stores) m.keys[it.key] = it.value;
+        else if (takes) m.keys.erase(it.key);
     }
 
     // Whether the answer is the set's, or a refusal that is due.
-    void check(const Model &m, Kind kind, int answer, bool there, uint32_t budget, uint64_t most) const {
+    void check(const Model &m, Kind kind, int answer, int there, uint32_t budget, uint64_t most) const {
         if (budget < 8 && answer != VBR_OUT_OF_STEPS) fail("a call within less than eight steps");
         switch (answer) {
-            case VBR_NO: case VBR_YES:
-                if ((answer == VBR_YES) != (kind == INSERT ? !there : there)) fail("a wrong answer");
+            case VBR_NO: case VBR_YES: case VBR_OTHER:
+                if (answer != (kind == INSERT ? !there : there)) fail("a wrong answer");
                 return;
             case VBR_OUT_OF_STEPS:
                 if (budget >= most) fail("too few steps, with a budget that is promised to be enough");
                 return;
             case VBR_NO_SLOT:
-                if (kind != INSERT || there) fail("a refusal that only inserts of absent keys have");
+                if (!Model::stores(kind, there)) fail("a refusal that only calls have which store a value");
                 if (m.slots >= m.keys.size() + m.all_marked + 64 * m.handles) fail("no slot, and some are free");
                 return;
             case VBR_EPOCH_SPENT:
-                if (kind != INSERT || there) fail("a refusal that only inserts of absent keys have");
+                if (!Model::stores(kind, there)) fail("a refusal that only calls have which store a value");
                 if (m.inserts < m.last_epoch) fail("the epoch is spent, after too few inserts");
                 return;
             default: fail("an answer that no call has");
@@ -491,9 +558,10 @@ private:
     }
 
     // Inserts and removes of one key in turn: slots are used again, and the epoch moves. In a map a second insert stores nothing,
-    // and a get tells what the first one stored.
+    // and a get tells what the first one stored; then the key has other values.
     void burst(size_t cell, uint64_t key, int count) {
-        static const std::vector<Kind> turn = Of::HAS_VALUES ? std::vector{INSERT, INSERT, GET, REMOVE} : std::vector{INSERT, REMOVE};
+        static const std::vector<Kind> turn = Of::HAS_VALUES ? std::vector{INSERT, INSERT, GET, REPLACE, COMPARE_EXCHANGE, PUT, REMOVE_IF, REMOVE}
+                                                             : std::vector{INSERT, REMOVE};
         for (size_t i = 0; i < static_cast<size_t>(count % 64); i++) call(turn[i % turn.size()], cell, key);
     }
 

@@ -4,7 +4,8 @@
 //!
 //! A page is looked up in a map from pages to frames. Where it is there, that is a hit, and the frame counts as used. Where it
 //! isn't, CLOCK finds a frame: a hand goes round the frames, and takes the first that wasn't used since it came by. The page
-//! there is written back, if it was changed, and leaves the index; the new one goes into the index, and is read into the frame.
+//! there is written back, if it was changed, and leaves the index with its frame (`remove_if`); the new one goes into the index,
+//! unless another thread has put it there first (`get_or_insert`), and is read into the frame.
 //! Each frame has a latch, which is shared by those who read its page, and held alone by who changes it, writes it back or
 //! brings another one in; the index has none.
 //!
@@ -21,7 +22,7 @@ use std::sync::atomic::Ordering::{Acquire, Relaxed, Release};
 use std::sync::atomic::{AtomicBool, AtomicU64, AtomicUsize};
 use std::sync::{Mutex, RwLock, RwLockWriteGuard};
 use std::thread;
-use vbr::{ample_budget, Entry, Map, MapHandle, Refusal, Shape};
+use vbr::{ample_budget, Compared, Entry, Map, MapHandle, Refusal, Shape};
 
 const FRAMES: usize = 512;
 const PAGES: u64 = 4_096;
@@ -214,27 +215,27 @@ impl<'c> Worker<'c> {
         }
     }
 
-    /// Brings a page into a frame and reads or changes it there, unless another thread has brought it in meanwhile.
+    /// Brings a page into a frame and reads or changes it there; or tries to where another thread has brought it in meanwhile.
     fn bring_in(&mut self, index: &mut MapHandle, request: Request) -> Result<bool, Refusal> {
         let (number, mut frame) = self.free_frame(index)?;
-        let inserted = self.insert(index, request.page, number);
-        if inserted == Ok(true) {
-            // It is read only now: until then others could bring it in, change it and write it back.
-            let contents = *self.cache.disk[request.page as usize].lock().expect("a disk");
-            *frame = Frame { page: Some(request.page), contents, is_dirty: false };
-            if request.is_change {
-                self.cache.change_in(&mut frame, request.page);
-            }
-        } else {
+        let there = self.find_or_insert(index, request.page, number);
+        if there != Ok(None) {
             self.spare.push(number);
+            return Ok(there?.is_some_and(|other| self.cache.serve_in(other as usize, request)));
         }
-        inserted
+        // It is read only now: until then others could bring it in, change it and write it back.
+        let contents = *self.cache.disk[request.page as usize].lock().expect("a disk");
+        *frame = Frame { page: Some(request.page), contents, is_dirty: false };
+        if request.is_change {
+            self.cache.change_in(&mut frame, request.page);
+        }
+        Ok(true)
     }
 
-    /// Puts a page and its frame into the index, and says whether the page wasn't there.
-    fn insert(&mut self, index: &mut MapHandle, page: u64, number: usize) -> Result<bool, Refusal> {
+    /// The frame that a page has in the index; none where it wasn't there, and then it is put there with this one.
+    fn find_or_insert(&mut self, index: &mut MapHandle, page: u64, number: usize) -> Result<Option<u64>, Refusal> {
         loop {
-            match with_steps(&mut self.tired, FIRST_BUDGET, |budget| index.insert(page, number as u64, budget)) {
+            match with_steps(&mut self.tired, FIRST_BUDGET, |budget| index.get_or_insert(page, number as u64, budget)) {
                 Err(Refusal::NoSlot) => self.full += 1,
                 told => return told,
             }
@@ -270,8 +271,8 @@ impl<'c> Worker<'c> {
                 Some(page) => {
                     // Before it leaves the index: a checkpoint that doesn't meet it there takes it for written.
                     self.cache.write_back(&mut frame);
-                    let there = with_steps(&mut self.tired, AMPLE, |budget| index.remove(page, budget))?;
-                    assert_eq!(there, Some(number as u64));
+                    let there = with_steps(&mut self.tired, AMPLE, |budget| index.remove_if(page, number as u64, budget))?;
+                    assert_eq!(there, Compared::Equal);
                     frame.page = None;
                     return Ok((number, frame));
                 }

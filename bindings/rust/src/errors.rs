@@ -1,5 +1,5 @@
 //! Why a set or a map isn't opened, a call isn't answered, and a handle isn't closed.
-use crate::{Handle, HandleOf, Kind, ShapeError};
+use crate::{Handle, HandleOf, Kind, ShapeError, Table};
 use core::error::Error;
 use core::fmt;
 
@@ -36,17 +36,18 @@ pub enum Refusal {
     /// [`ample_budget`](crate::ample_budget) is enough in short buckets. A look-up or a remove with steps enough alone runs out
     /// of them only where others inserted or removed in the key's bucket meanwhile, or advanced the epoch.
     OutOfSteps,
-    /// An insert of an absent key found no slot: its handle had none of its own, and none was found in the shared pool.
-    /// Other handles may keep free ones. Remove keys, let a handle that has free slots make the insert, or make it again;
-    /// a greater budget alone doesn't help.
+    /// An insert of an absent key, or a call that gives a key another value, found no slot: its handle had none of its own, and
+    /// none was found in the shared pool. Other handles may keep free ones. Remove keys, let a handle that has free slots make the
+    /// call, or make it again; a greater budget alone doesn't help.
     NoSlot,
-    /// An insert of an absent key would have needed an epoch beyond the last one. Renew the set or the map, as
-    /// [`Set::open_with`](crate::Set::open_with) and [`Map::open_with`](crate::Map::open_with) show; until then look-ups and
-    /// removes are answered as ever.
+    /// An insert of an absent key, or a call that gives a key another value, would have needed an epoch beyond the last one.
+    /// Renew the set or the map, as [`Set::open_with`](crate::Set::open_with) and [`Map::open_with`](crate::Map::open_with)
+    /// show; until then look-ups and removes are answered as ever.
     EpochSpent,
 }
 
-/// Why the last handle got no report: of a map's as `CloseError<MapHandle>`.
+/// Why the last handle got no report: of a map's as `CloseError<MapHandle>`, and of a set that lends its handles as
+/// `CloseError<Set>`.
 ///
 /// ```
 /// # use vbr::{CloseError, Handle, Report};
@@ -66,11 +67,12 @@ pub enum CloseError<H = Handle> {
     /// It was the last handle, and a pass of the set or map is not there. The set or map is gone. No program is known to get
     /// this, so there is no example of it: a handle that is dropped is closed, and one that is forgotten keeps its set open.
     Lost,
-    /// There is no memory for the report. The handle is as it was, and can be closed again.
+    /// There is no memory for the report. The handle, or the set with all its handles, is as it was, and can be closed again.
     Memory(Unclosed<H>),
 }
 
-/// A handle that couldn't be closed, within an error that threads may share: a map's as `Unclosed<MapHandle>`.
+/// A handle that couldn't be closed, within an error that threads may share: a map's as `Unclosed<MapHandle>`; or as
+/// `Unclosed<Set>` a set that lends its handles.
 ///
 /// ```
 /// # use vbr::{Handle, Unclosed};
@@ -81,10 +83,34 @@ pub enum CloseError<H = Handle> {
 #[derive(Debug)]
 pub struct Unclosed<H = Handle>(pub(crate) H);
 
-// SAFETY: a reference to it gives nothing but its name.
-unsafe impl<K: Kind> Sync for Unclosed<HandleOf<K>> {}
+// SAFETY: it has a handle or a set, and a reference to it gives nothing but the name.
+unsafe impl<H> Sync for Unclosed<H> {}
 
-impl<H> Unclosed<H> {
+impl<K: Kind> Unclosed<Table<K>> {
+    /// The set, which lends its handles again, or is closed again.
+    ///
+    /// ```
+    /// # use vbr::{CloseError, Report, Set};
+    /// /// Closes a set that lends its handles, and waits for memory where there is none.
+    /// fn close(mut set: Set) -> Option<Report> {
+    ///     loop {
+    ///         match set.close() {
+    ///             Err(CloseError::Memory(unclosed)) => set = unclosed.into_table(),
+    ///             other => return other.ok(),
+    ///         }
+    ///         std::thread::yield_now();
+    ///     }
+    /// }
+    /// # let set = Set::lending(vbr::Shape::for_keys(8, 1), 1)?;
+    /// # assert!(close(set).is_some());
+    /// # Ok::<(), vbr::OpenError>(())
+    /// ```
+    pub fn into_table(self) -> Table<K> {
+        self.0
+    }
+}
+
+impl<K: Kind> Unclosed<HandleOf<K>> {
     /// The handle, to go on with, or to be closed again.
     ///
     /// ```
@@ -103,7 +129,7 @@ impl<H> Unclosed<H> {
     /// # assert!(close(handle).is_some());
     /// # Ok::<(), vbr::OpenError>(())
     /// ```
-    pub fn into_handle(self) -> H {
+    pub fn into_handle(self) -> HandleOf<K> {
         self.0
     }
 }

@@ -1,4 +1,4 @@
-//! Handles: opened together, and closed one by one.
+//! Handles: opened together, and closed one by one or all at once; and their passes, which make the calls.
 use crate::library::{answer, answer_with, Raw, ReportNumbers};
 use crate::{CloseError, Cursor, Iter, Kind, OpenError, Refusal, Shape, Unclosed, MAX_HANDLES};
 use alloc::boxed::Box;
@@ -8,12 +8,14 @@ use core::ffi::c_void;
 use core::fmt;
 use core::marker::PhantomData;
 use core::mem::swap;
+use core::ops::{Deref, DerefMut};
 use core::ptr::{null_mut, NonNull};
+use core::slice;
 use core::sync::atomic::{AtomicPtr, AtomicUsize, Ordering};
 
 /// A handle to a set, by the name of [`Handle`](crate::Handle), or to a map, by that of [`MapHandle`](crate::MapHandle): a pass,
-/// the right of one thread at a time to make calls, and a share of the set. What is said here of a set and its keys is so of a
-/// map and its entries.
+/// the right of one thread at a time to make calls, and a share of the set. The calls are those of the pass, to which it
+/// derefs: [`PassOf`]. What is said here of a set and its keys is so of a map and its entries.
 ///
 /// It may go to another thread, and is neither `Clone` nor `Sync`. One that is dropped is closed, and nothing is lost by it: the
 /// handle that is closed last gets the report. Where the last one is dropped, the set goes with it.
@@ -37,6 +39,48 @@ pub struct HandleOf<K: Kind> {
 // SAFETY: the library proves `Send` of its `Handle`, which `raw` is, and what is shared changes by atomic steps alone.
 unsafe impl<K: Kind> Send for HandleOf<K> {}
 
+/// The calls that a handle makes: the right of one thread at a time to make them. A [`HandleOf`] owns its pass, and a loan
+/// ([`LentBy`](crate::LentBy)) has that of the handle on loan; both deref to it, so a function that takes a pass takes either.
+///
+/// A pass is reached by reference alone. It has no size, so that none can be put in the place of another: handles stay in the
+/// sets that lend them, whatever a borrower does. It is neither `Clone` nor `Sync`.
+///
+/// ```
+/// use vbr::{Pass, Refusal, Set, Shape};
+///
+/// fn visit(pass: &mut Pass, page: u64) -> Result<bool, Refusal> {
+///     pass.insert(page, 100_000)
+/// }
+///
+/// let mut handle = Set::open(Shape::for_keys(8, 1), 1)?.remove(0);
+/// assert!(visit(&mut handle, 5)?);
+/// let set = Set::lending(Shape::for_keys(8, 1), 1)?;
+/// let mut lent = set.lend().expect("a free handle");
+/// assert!(visit(&mut lent, 5)?);
+/// # Ok::<(), Box<dyn std::error::Error>>(())
+/// ```
+///
+/// ```compile_fail
+/// # let shape = vbr::Shape::for_keys(8, 1);
+/// let (one, other) = (vbr::Set::lending(shape, 1).unwrap(), vbr::Set::lending(shape, 1).unwrap());
+/// let (mut lent, mut another) = (one.lend().unwrap(), other.lend().unwrap());
+/// std::mem::swap(&mut *lent, &mut *another);
+/// ```
+///
+/// ```compile_fail
+/// fn is_sync<T: ?Sized + Sync>() {}
+/// is_sync::<vbr::Pass>();
+/// ```
+#[repr(transparent)]
+pub struct PassOf<K: Kind> {
+    kind: PhantomData<K>,
+    /// The handle as the library has it, the only one of the slice.
+    raw: [UnsafeCell<Raw>],
+}
+
+// SAFETY: the library proves `Send` of its `Handle`, which `raw` is.
+unsafe impl<K: Kind> Send for PassOf<K> {}
+
 /// What the handles of a set or a map share: how many are open, and those that were closed. So the last one is known before
 /// the library is asked for the report: it closes all of them at once, and memory is needed for one report alone.
 struct Shared {
@@ -45,6 +89,14 @@ struct Shared {
     count: usize,
     slots: u32,
     parked: [AtomicPtr<c_void>; MAX_HANDLES],
+}
+
+/// Why a set or a map that is closed tells no report.
+pub(crate) enum Unreported {
+    /// There is no memory for it, and all handles stay as they were.
+    Memory,
+    /// A pass is not there.
+    Lost,
 }
 
 /// What a set or a map held when it was closed.
@@ -71,12 +123,15 @@ impl<K: Kind> HandleOf<K> {
             K::OPEN_WITH(raw, count, slots, buckets, last_epoch, items.as_ptr(), items.len())
         })
     }
+}
 
-    /// The handle as the calls of the library take it. A call may have it where nothing else does meanwhile: the handle isn't
+/// The calls that sets and maps have alike.
+impl<K: Kind> PassOf<K> {
+    /// The handle as the calls of the library take it. A call may have it where nothing else does meanwhile: the pass isn't
     /// `Sync`, and no call lends it to anybody.
     #[inline]
     pub(crate) fn raw(&self) -> *mut Raw {
-        self.raw.get()
+        UnsafeCell::raw_get(self.raw.as_ptr())
     }
 
     /// Whether a key is there, in at most `budget` steps, all of them loads. While the other handles stand still, 5n + 11 are
@@ -96,7 +151,7 @@ impl<K: Kind> HandleOf<K> {
     /// [`Refusal::OutOfSteps`] alone. No call was made then.
     #[inline]
     pub fn has(&self, key: u64, budget: u32) -> Result<bool, Refusal> {
-        // SAFETY: one thread at a time has the handle, which is not `Sync`, and the call lends it to nobody.
+        // SAFETY: one thread at a time has the pass, which is not `Sync`, and the call lends it to nobody.
         answer(unsafe { K::HAS(self.raw(), key, budget) })
     }
 
@@ -108,12 +163,12 @@ impl<K: Kind> HandleOf<K> {
     /// What isn't said is that they were there together at one moment, as those of a report were: a key that is inserted or
     /// removed meanwhile is given or not.
     ///
-    /// The walk borrows the handle, which can look keys up meanwhile. Other handles make any calls; with [`HandleOf::next`] this
+    /// The walk borrows the handle, which can look keys up meanwhile. Other handles make any calls; with [`PassOf::next`] this
     /// one does too.
     ///
     /// ```
     /// # use vbr::{Refusal, Set, Shape};
-    /// fn count_even(handle: &vbr::Handle) -> Result<u64, Refusal> {
+    /// fn count_even(handle: &vbr::Pass) -> Result<u64, Refusal> {
     ///     let mut count = 0;
     ///     for key in handle.iter(100_000) {
     ///         count += u64::from(key? % 2 == 0);
@@ -149,12 +204,12 @@ impl<K: Kind> HandleOf<K> {
     /// Of an item [`Refusal::OutOfSteps`] alone, where a whole call didn't come to a later bucket, as [`Iter`] says. While the
     /// other handles stand still that is so only if the budget is below 5n + 11, with n nodes in the bucket.
     #[inline]
-    pub fn iter(&self, budget: u32) -> Iter<'_, HandleOf<K>> {
+    pub fn iter(&self, budget: u32) -> Iter<'_, K> {
         Iter::new(self, budget)
     }
 
     /// The next key of a walk, in at most `budget` steps, all of them loads; `None` at its end. The cursor is after the key
-    /// then. A walk begins at [`Cursor::first`], and what [`HandleOf::iter`] says of one is so of these calls of one handle.
+    /// then. A walk begins at [`Cursor::first`], and what [`PassOf::iter`] says of one is so of these calls of one handle.
     ///
     /// It makes three steps for each bucket that it enters, three for a removed node that is still in its list, and five for
     /// another; and of a map two more, to read the value. After the last node of a bucket the cursor is before the next bucket.
@@ -198,7 +253,7 @@ impl<K: Kind> HandleOf<K> {
     }
 
     /// The last epoch that the handle read in a call; 1 before its first. It makes no step, so others may have advanced the
-    /// epoch since. Renew the set before it comes to [`HandleOf::last_epoch`].
+    /// epoch since. Renew the set before it comes to [`PassOf::last_epoch`].
     ///
     /// ```
     /// # use vbr::{Set, Shape};
@@ -254,7 +309,9 @@ impl<K: Kind> HandleOf<K> {
         // SAFETY: as for `has`.
         unsafe { K::BUCKETS(self.raw()) }
     }
+}
 
+impl<K: Kind> HandleOf<K> {
     /// Closes the handle. The answer is `None` while other handles of the set are open; the last one is told what is in the set.
     /// It alone takes memory: for each slot 8 bytes of a set, 16 of a map, of which what isn't needed is given back where there is
     /// memory for the keys alone; and while it runs as much as the words of the set, and 9 bytes for each slot, or 17 of a map.
@@ -278,11 +335,33 @@ impl<K: Kind> HandleOf<K> {
             return Ok(None);
         };
         // SAFETY: this is the last handle, which frees it when it is dropped.
-        let shared = unsafe { shared.as_ref() };
-        let mut items = Vec::new();
-        if items.try_reserve_exact(shared.slots as usize).is_err() {
-            return Err(CloseError::Memory(Unclosed(self)));
+        match self.close_last(unsafe { shared.as_ref() }) {
+            Ok(report) => Ok(Some(report)),
+            Err(Unreported::Memory) => Err(CloseError::Memory(Unclosed(self))),
+            Err(Unreported::Lost) => Err(CloseError::Lost),
         }
+    }
+
+    /// Closes all handles of a set at once, which are open. Where it is refused memory they stay as they were.
+    pub(crate) fn close_all(handles: &mut [impl AsMut<Self>]) -> Result<K::Report, Unreported> {
+        let (last, others) = handles.split_last_mut().ok_or(Unreported::Lost)?;
+        for other in others.iter_mut() {
+            other.as_mut().last();
+        }
+        let last = last.as_mut();
+        let shared = last.last().ok_or(Unreported::Lost)?;
+        // SAFETY: this is the last handle, which frees it when it is dropped.
+        let told = last.close_last(unsafe { shared.as_ref() });
+        if let Err(Unreported::Memory) = told {
+            others.iter_mut().for_each(|other| other.as_mut().open_again(shared));
+        }
+        told
+    }
+
+    /// Closes all handles of a set by the last one. Where it is refused memory they stay as they were.
+    fn close_last(&mut self, shared: &Shared) -> Result<K::Report, Unreported> {
+        let mut items = Vec::new();
+        items.try_reserve_exact(shared.slots as usize).map_err(|_| Unreported::Memory)?;
         items.resize(shared.slots as usize, K::Item::default());
         let mut all = shared.take_parked();
         swap(&mut all[self.number], self.raw.get_mut());
@@ -297,11 +376,20 @@ impl<K: Kind> HandleOf<K> {
             1 => {
                 let ReportNumbers { epoch, live, marked, free } = told;
                 items.truncate(live as usize);
-                Ok(Some(K::report(Contents { items: fitted(items), epoch, marked, free })))
+                Ok(K::report(Contents { items: fitted(items), epoch, marked, free }))
             }
-            -8 => Err(CloseError::Memory(Unclosed(self))),
-            _ => Err(CloseError::Lost),
+            -8 => Err(Unreported::Memory),
+            _ => Err(Unreported::Lost),
         }
+    }
+
+    /// Takes the handle, which was parked, back from the last one that is open.
+    fn open_again(&mut self, at: NonNull<Shared>) {
+        // SAFETY: it is freed by the handle that is closed last, and one is open.
+        let shared = unsafe { at.as_ref() };
+        self.raw.get_mut().0 = shared.parked[self.number].swap(null_mut(), Ordering::Relaxed);
+        shared.open.fetch_add(1, Ordering::Relaxed);
+        self.shared = Some(at);
     }
 
     /// What the handles share, if all others are closed. If not, this one is closed then too: it is parked.
@@ -336,9 +424,33 @@ impl Shared {
     }
 }
 
+impl<K: Kind> Deref for HandleOf<K> {
+    type Target = PassOf<K>;
+
+    #[inline]
+    fn deref(&self) -> &PassOf<K> {
+        // SAFETY: a pass is a slice of such cells by another name.
+        unsafe { &*(slice::from_ref(&self.raw) as *const [UnsafeCell<Raw>] as *const PassOf<K>) }
+    }
+}
+
+impl<K: Kind> DerefMut for HandleOf<K> {
+    #[inline]
+    fn deref_mut(&mut self) -> &mut PassOf<K> {
+        // SAFETY: a pass is a slice of such cells by another name, and `&mut` is exclusive.
+        unsafe { &mut *(slice::from_mut(&mut self.raw) as *mut [UnsafeCell<Raw>] as *mut PassOf<K>) }
+    }
+}
+
+impl<K: Kind> fmt::Debug for PassOf<K> {
+    fn fmt(&self, f: &mut fmt::Formatter<'_>) -> fmt::Result {
+        f.debug_struct(K::NAMES[2]).finish_non_exhaustive()
+    }
+}
+
 impl<K: Kind> fmt::Debug for HandleOf<K> {
     fn fmt(&self, f: &mut fmt::Formatter<'_>) -> fmt::Result {
-        f.debug_struct(K::NAMES.1).finish_non_exhaustive()
+        f.debug_struct(K::NAMES[1]).finish_non_exhaustive()
     }
 }
 

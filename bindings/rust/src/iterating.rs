@@ -1,9 +1,9 @@
 //! Going over all keys while other threads make calls.
-use crate::{Handle, HandleOf, Kind, Refusal};
+use crate::{Keys, Kind, PassOf, Refusal};
 use core::fmt;
 use core::iter::FusedIterator;
 
-/// Where a walk over all keys stands: before the first key, after one, or at the end. [`HandleOf::next`] takes it on, and no
+/// Where a walk over all keys stands: before the first key, after one, or at the end. [`PassOf::next`] takes it on, and no
 /// thread that makes calls holds it up.
 ///
 /// It is plain: it can be copied and kept, and the walk goes on from a copy as well. With another handle of the set it is
@@ -43,8 +43,8 @@ impl Cursor {
     }
 }
 
-/// A walk over all keys of a set, or over all entries of a map, each a key and its value, as [`HandleOf::iter`] begins it: of a
-/// map's as `Iter<'_, MapHandle>`.
+/// A walk over all keys of a set, or over all entries of a map, each a key and its value, as [`PassOf::iter`] begins it: of a
+/// map's as `Iter<'_, Entries>`.
 ///
 /// Each call of the library has the same budget of steps. One that is refused and has come further is made again, as often as
 /// need be. Where a whole call didn't come to a later bucket, the item is `Err(`[`Refusal::OutOfSteps`]`)`. The walk isn't over
@@ -53,8 +53,8 @@ impl Cursor {
 /// ever. Behind the last key it gives `None` for good.
 ///
 /// ```
-/// # use vbr::{Iter, MapHandle, Refusal};
-/// fn sum_of_values(mut entries: Iter<'_, MapHandle>) -> Result<u64, Refusal> {
+/// # use vbr::{Entries, Iter, Refusal};
+/// fn sum_of_values(mut entries: Iter<'_, Entries>) -> Result<u64, Refusal> {
 ///     entries.try_fold(0, |sum, entry| Ok(sum + entry?.1))
 /// }
 /// # let entries = [(5, 70), (7, 71)].map(vbr::Entry::from);
@@ -63,26 +63,26 @@ impl Cursor {
 /// # Ok::<(), Box<dyn std::error::Error>>(())
 /// ```
 #[must_use = "a walk makes no call before it is asked for a key"]
-pub struct Iter<'h, H = Handle> {
-    handle: &'h H,
+pub struct Iter<'h, K: Kind = Keys> {
+    pass: &'h PassOf<K>,
     cursor: Cursor,
     budget: u32,
 }
 
-impl<'h, H> Iter<'h, H> {
-    pub(crate) fn new(handle: &'h H, budget: u32) -> Iter<'h, H> {
-        Iter { handle, cursor: Cursor::first(), budget }
+impl<'h, K: Kind> Iter<'h, K> {
+    pub(crate) fn new(pass: &'h PassOf<K>, budget: u32) -> Iter<'h, K> {
+        Iter { pass, cursor: Cursor::first(), budget }
     }
 }
 
-impl<K: Kind> Iterator for Iter<'_, HandleOf<K>> {
+impl<K: Kind> Iterator for Iter<'_, K> {
     type Item = Result<K::Given, Refusal>;
 
     #[inline]
     fn next(&mut self) -> Option<Result<K::Given, Refusal>> {
         loop {
             let before = self.cursor;
-            let told = self.handle.next(&mut self.cursor, self.budget);
+            let told = self.pass.next(&mut self.cursor, self.budget);
             if told.is_ok() || self.cursor == before {
                 return told.transpose();
             }
@@ -90,9 +90,9 @@ impl<K: Kind> Iterator for Iter<'_, HandleOf<K>> {
     }
 }
 
-impl<K: Kind> FusedIterator for Iter<'_, HandleOf<K>> {}
+impl<K: Kind> FusedIterator for Iter<'_, K> {}
 
-impl<H> fmt::Debug for Iter<'_, H> {
+impl<K: Kind> fmt::Debug for Iter<'_, K> {
     fn fmt(&self, f: &mut fmt::Formatter<'_>) -> fmt::Result {
         f.debug_struct("Iter").field("cursor", &self.cursor).field("budget", &self.budget).finish_non_exhaustive()
     }

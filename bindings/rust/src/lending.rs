@@ -1,68 +1,113 @@
 //! Handles on loan.
-use crate::{Handle, OpenError, MAX_HANDLES};
-use alloc::boxed::Box;
-use alloc::vec::Vec;
-use core::cell::UnsafeCell;
-use core::fmt;
-use core::marker::PhantomData;
-use core::ops::{Deref, DerefMut};
-use core::sync::atomic::{AtomicU64, Ordering};
+use crate::handle::Unreported;
+use crate::waiting::Waiters;
+use crate::{HandleOf, Keys, Kind, OpenError, PassOf, Table};
+use std::cell::{Cell, UnsafeCell};
+use std::fmt;
+use std::ops::{Deref, DerefMut};
+use std::ptr::NonNull;
+use std::sync::atomic::{AtomicBool, Ordering};
+use std::sync::Arc;
+use std::time::Instant;
 
 /// The handles of one set or map, which it lends.
-pub(crate) struct Lender<H> {
-    handles: Box<[UnsafeCell<H>]>,
-    /// A bit for each handle that isn't lent.
-    free: AtomicU64,
+pub(crate) struct Lender<K: Kind> {
+    places: Box<[Place<K>]>,
+    waiters: Waiters,
 }
 
-// SAFETY: a handle is reached by whoever took its bit, one thread at a time, and may be sent to any thread.
-unsafe impl<H: Send> Sync for Lender<H> {}
+/// A handle, and whether it is lent, on cache lines of their own.
+#[repr(align(128))]
+struct Place<K: Kind> {
+    is_lent: AtomicBool,
+    handle: UnsafeCell<HandleOf<K>>,
+}
 
-impl<H> Lender<H> {
+// SAFETY: a handle is reached by whoever set `is_lent`, one thread at a time, and may be sent to any thread.
+unsafe impl<K: Kind> Sync for Place<K> {}
+
+thread_local! {
+    /// The number of the handle that this thread was lent last, by any lender: it tries that one first. So threads that are no
+    /// more than handles come to have one each, and no two write the same cache line.
+    static LAST: Cell<usize> = const { Cell::new(0) };
+}
+
+impl<K: Kind> Lender<K> {
     /// Keeps the handles of one set or map.
-    pub(crate) fn of(handles: Vec<H>) -> Result<Lender<H>, OpenError> {
-        let mut cells = Vec::new();
-        if cells.try_reserve_exact(handles.len()).is_err() {
-            return Err(OpenError::Memory);
-        }
-        cells.extend(handles.into_iter().map(UnsafeCell::new));
-        let free = AtomicU64::new(u64::MAX >> (MAX_HANDLES - cells.len()));
-        Ok(Lender { handles: cells.into_boxed_slice(), free })
+    pub(crate) fn of(handles: Vec<HandleOf<K>>) -> Result<Lender<K>, OpenError> {
+        let mut places = Vec::new();
+        places.try_reserve_exact(handles.len()).map_err(|_| OpenError::Memory)?;
+        let free = |handle| Place { is_lent: AtomicBool::new(false), handle: UnsafeCell::new(handle) };
+        places.extend(handles.into_iter().map(free));
+        Ok(Lender { places: places.into_boxed_slice(), waiters: Waiters::default() })
     }
 
-    /// A free handle, or none where each was lent at a moment of the call.
+    /// How many handles there are.
+    pub(crate) fn count(&self) -> usize {
+        self.places.len()
+    }
+
+    /// The number of a free handle, which is lent now, or none where each was lent at a moment of the call.
     #[inline]
-    pub(crate) fn lend(&self) -> Option<Lent<'_, H>> {
-        let mut untried = u64::MAX;
-        let mut free = self.free.load(Ordering::Relaxed);
-        while free & untried != 0 {
-            let number = (free & untried).trailing_zeros();
-            free = self.free.fetch_and(!(1 << number), Ordering::Acquire);
-            if free >> number & 1 == 1 {
-                return Some(Lent { lender: self, number, exclusive: PhantomData });
-            }
-            untried &= !(1 << number);
+    pub(crate) fn take(&self) -> Option<usize> {
+        let last = LAST.get();
+        if self.places.get(last).is_some_and(Place::take) {
+            return Some(last);
         }
-        None
+        self.take_another(last)
     }
 
-    /// All handles, of which none is lent any more.
-    pub(crate) fn into_handles(self) -> impl Iterator<Item = H> {
-        self.handles.into_vec().into_iter().map(UnsafeCell::into_inner)
+    /// The same by a thread that isn't lent the one it had last.
+    #[cold]
+    fn take_another(&self, last: usize) -> Option<usize> {
+        let count = self.count();
+        let number = (1..=count).map(|it| (last + it) % count).find(|it| self.places[*it].take())?;
+        LAST.set(number);
+        Some(number)
+    }
+
+    /// The number of a handle, which is lent now, as soon as one is free; none where none was until the deadline.
+    #[inline]
+    pub(crate) fn take_until(&self, deadline: impl FnOnce() -> Option<Instant>) -> Option<usize> {
+        self.take().or_else(|| self.waiters.wait(deadline(), || self.take()))
+    }
+
+    /// Closes all handles, and tells what was in the set. Where it is refused memory they stay as they were.
+    pub(crate) fn close(&mut self) -> Result<K::Report, Unreported> {
+        HandleOf::close_all(&mut self.places)
     }
 }
 
-/// A handle on loan from its [`Set`](crate::Set), or from its [`Map`](crate::Map) as `Lent<MapHandle>`. It goes back when this
-/// is dropped, and what was done with it comes before what the next borrower does.
+impl<K: Kind> Place<K> {
+    /// Whether the handle was free; it is lent then.
+    #[inline]
+    fn take(&self) -> bool {
+        !self.is_lent.load(Ordering::Relaxed) && !self.is_lent.swap(true, Ordering::Acquire)
+    }
+}
+
+impl<K: Kind> AsMut<HandleOf<K>> for Place<K> {
+    fn as_mut(&mut self) -> &mut HandleOf<K> {
+        self.handle.get_mut()
+    }
+}
+
+/// A handle on loan, by the name of [`Lent`] from a set or a map that outlives it, or by that of [`OwnedLent`] with a share of
+/// its own of the set or the map. It goes back when this is dropped, in whatever thread, and what was done with it comes before
+/// what the next borrower does. One that is forgotten ([`core::mem::forget`]) isn't lent again; it is closed with its set.
+///
+/// It derefs to the handle's pass ([`PassOf`]), which makes all calls and doesn't close: so the handle stays where it is.
 ///
 /// It may go to another thread, and is not `Sync`.
 ///
 /// ```
-/// # use vbr::{Handle, Set, Shape};
-/// let set = Set::lending(Shape::for_keys(8, 1), 1)?;
-/// let mut mine = set.lend().expect("the one handle");
-/// let handle: &mut Handle = &mut mine;
-/// assert!(handle.insert(5, 100_000)?);
+/// # use vbr::{Entry, Kind, LentBy, Map, Refusal, Shape, Table};
+/// /// How many items there are, by a loan of either kind.
+/// fn count<K: Kind, T: std::ops::Deref<Target = Table<K>>>(mine: &LentBy<K, T>) -> Result<u64, Refusal> {
+///     mine.iter(100_000).map(|each| each.map(|_| 1)).sum()
+/// }
+/// let map = Map::lending_with(Shape::for_keys(8, 1), 1, &[Entry { key: 5, value: 70 }])?;
+/// assert_eq!(count(&map.lend().expect("the one handle"))?, 1);
 /// # Ok::<(), Box<dyn std::error::Error>>(())
 /// ```
 ///
@@ -73,40 +118,104 @@ impl<H> Lender<H> {
 ///
 /// ```compile_fail
 /// fn is_sync<T: Sync>() {}
-/// is_sync::<vbr::Lent<'static, vbr::MapHandle>>();
+/// is_sync::<vbr::OwnedLent<vbr::Entries>>();
 /// ```
-pub struct Lent<'s, H = Handle> {
-    lender: &'s Lender<H>,
-    number: u32,
-    exclusive: PhantomData<&'s mut H>,
+#[must_use = "it goes back where it is dropped"]
+pub struct LentBy<K: Kind, T: Deref<Target = Table<K>>> {
+    table: T,
+    number: usize,
+    /// Where the handle is, in the table: so a call loads no more words than by a handle of one's own.
+    place: NonNull<Place<K>>,
 }
 
-impl<H> Deref for Lent<'_, H> {
-    type Target = H;
+// SAFETY: a loan is a handle, which may be sent, and a table, which threads share.
+unsafe impl<K: Kind, T: Deref<Target = Table<K>> + Send> Send for LentBy<K, T> {}
+
+/// A handle on loan from its [`Set`](crate::Set), or from its [`Map`](crate::Map) as `Lent<Entries>`.
+///
+/// ```
+/// # use vbr::{Lent, Set, Shape};
+/// let set = Set::lending(Shape::for_keys(8, 1), 1)?;
+/// let mut mine: Lent = set.lend().expect("the one handle");
+/// assert!(mine.insert(5, 100_000)?);
+/// # Ok::<(), Box<dyn std::error::Error>>(())
+/// ```
+pub type Lent<'t, K = Keys> = LentBy<K, &'t Table<K>>;
+
+/// A handle on loan that keeps its set, or as `OwnedLent<Entries>` its map, until it is dropped: for a task that outlives the
+/// function that begins it.
+///
+/// ```
+/// # use std::sync::Arc;
+/// # use vbr::{OwnedLent, Set, Shape};
+/// let set = Arc::new(Set::lending(Shape::for_keys(8, 1), 1)?);
+/// let mut mine: OwnedLent = set.lend_owned().expect("the one handle");
+/// let task = std::thread::spawn(move || mine.insert(5, 100_000));
+/// assert!(task.join().expect("a task that ends")?);
+/// assert_eq!(Arc::into_inner(set).expect("no loan is left").close()?.keys, [5]);
+/// # Ok::<(), Box<dyn std::error::Error>>(())
+/// ```
+pub type OwnedLent<K = Keys> = LentBy<K, Arc<Table<K>>>;
+
+impl<K: Kind, T: Deref<Target = Table<K>>> LentBy<K, T> {
+    /// The loan of the handle with this number, which was taken from this table.
+    #[inline]
+    pub(crate) fn of(table: T, number: usize) -> LentBy<K, T> {
+        let place = NonNull::from(&table.lender.places[number]);
+        LentBy { table, number, place }
+    }
+
+    /// The number of the handle, from 0 on and below [`Table::handles`]: for data that lies beside each handle. While it is on
+    /// loan no other loan of the set has this number.
+    ///
+    /// ```
+    /// # use vbr::{Set, Shape};
+    /// # use std::sync::atomic::{AtomicU64, Ordering};
+    /// let set = Set::lending(Shape::for_keys(8, 2), 2)?;
+    /// let calls: Vec<AtomicU64> = (0..set.handles()).map(|_| AtomicU64::new(0)).collect();
+    /// let mine = set.lend().expect("two are free");
+    /// calls[mine.number()].fetch_add(1, Ordering::Relaxed);
+    /// # Ok::<(), vbr::OpenError>(())
+    /// ```
+    #[inline]
+    pub fn number(&self) -> usize {
+        self.number
+    }
 
     #[inline]
-    fn deref(&self) -> &H {
-        // SAFETY: this has the handle's bit, and is not `Sync`.
-        unsafe { &*self.lender.handles[self.number as usize].get() }
+    fn place(&self) -> &Place<K> {
+        // SAFETY: the table is there as long as this is, and its places stay where they are.
+        unsafe { self.place.as_ref() }
     }
 }
 
-impl<H> DerefMut for Lent<'_, H> {
+impl<K: Kind, T: Deref<Target = Table<K>>> Deref for LentBy<K, T> {
+    type Target = PassOf<K>;
+
     #[inline]
-    fn deref_mut(&mut self) -> &mut H {
-        // SAFETY: this has the handle's bit, and `&mut` is exclusive.
-        unsafe { &mut *self.lender.handles[self.number as usize].get() }
+    fn deref(&self) -> &PassOf<K> {
+        // SAFETY: the handle is lent to this alone, which is not `Sync`.
+        unsafe { &*self.place().handle.get() }
     }
 }
 
-impl<H> Drop for Lent<'_, H> {
+impl<K: Kind, T: Deref<Target = Table<K>>> DerefMut for LentBy<K, T> {
+    #[inline]
+    fn deref_mut(&mut self) -> &mut PassOf<K> {
+        // SAFETY: the handle is lent to this alone, and `&mut` is exclusive.
+        unsafe { &mut *self.place().handle.get() }
+    }
+}
+
+impl<K: Kind, T: Deref<Target = Table<K>>> Drop for LentBy<K, T> {
     #[inline]
     fn drop(&mut self) {
-        self.lender.free.fetch_or(1 << self.number, Ordering::Release);
+        self.place().is_lent.store(false, Ordering::Release);
+        self.table.lender.waiters.wake_one();
     }
 }
 
-impl<H> fmt::Debug for Lent<'_, H> {
+impl<K: Kind, T: Deref<Target = Table<K>>> fmt::Debug for LentBy<K, T> {
     fn fmt(&self, f: &mut fmt::Formatter<'_>) -> fmt::Result {
         f.debug_struct("Lent").field("number", &self.number).finish_non_exhaustive()
     }

@@ -25,7 +25,7 @@
 //!
 //! Where a call returns before another one begins, by a lock, a channel, a join, or a release and an acquire, it
 //! stands before that one in the history whose answers the later caller gets: once a thread is told that a
-//! key was inserted, and nobody removes it, [`Handle::has`] answers yes.
+//! key was inserted, and nobody removes it, [`PassOf::has`] answers yes.
 //!
 //! What a thread wrote before it inserted a key can be read by a thread that then finds the key. ThreadSanitizer doesn't see
 //! into the library, and this crate tells it nothing, as the header for C does: under it what is ordered by the set alone may
@@ -34,8 +34,11 @@
 //! # Maps
 //!
 //! [`Map`] has a value beside each key. It is opened, used and closed as a [`Set`], and what is said here of sets and their
-//! handles is so of maps and theirs. A key keeps the value that it was inserted with until it is removed; [`MapHandle::get`]
-//! and [`MapHandle::remove`] give it. [`Table`] and [`HandleOf`] have the calls of both, for either [`Kind`].
+//! handles is so of maps and theirs. [`MapPass::get`] and [`MapPass::remove`] give the value of a key. [`MapPass::insert`]
+//! leaves the value of a key that is there; [`MapPass::replace`], [`MapPass::put`], [`MapPass::compare_exchange`] and
+//! [`MapPass::fetch_update`] change it at one moment, so nobody finds the key absent. [`MapPass::get_or_insert`] and
+//! [`MapPass::remove_if`] do one thing or another by what is there. [`Table`], [`HandleOf`] and [`PassOf`] have the calls of
+//! both, for either [`Kind`].
 //!
 //! ```
 //! use vbr::{Entry, Map, Shape};
@@ -46,7 +49,8 @@
 //! assert!(first.insert(5, 70, 100_000)?);
 //! assert!(!first.insert(5, 71, 100_000)?); // 5 keeps its value
 //! assert_eq!(second.get(5, 100_000)?, Some(70));
-//! assert_eq!(first.remove(5, 100_000)?, Some(70));
+//! assert_eq!(first.replace(5, 71, 100_000)?, Some(70));
+//! assert_eq!(first.remove(5, 100_000)?, Some(71));
 //! assert!(first.insert(7, 72, 100_000)?);
 //! assert!(first.close()?.is_none());
 //! assert_eq!(second.close()?.expect("the last handle").entries, [Entry { key: 7, value: 72 }]);
@@ -57,7 +61,7 @@
 //!
 //! # Going over all keys
 //!
-//! [`HandleOf::iter`] goes over all keys, and of a map over all entries, while other threads make calls. Each key that
+//! [`PassOf::iter`] goes over all keys, and of a map over all entries, while other threads make calls. Each key that
 //! is there all the while is given, once, and none that wasn't there at a moment of its call. What isn't said is that they were
 //! there together at one moment.
 //!
@@ -78,7 +82,7 @@
 //! # Ok::<(), Box<dyn std::error::Error>>(())
 //! ```
 //!
-//! Between the calls of [`HandleOf::next`], which has a [`Cursor`] in place of an iterator, the handle itself makes other calls
+//! Between the calls of [`PassOf::next`], which has a [`Cursor`] in place of an iterator, the handle itself makes other calls
 //! too.
 //!
 //! # Threads
@@ -86,23 +90,47 @@
 //! A handle is no thread's: it may be moved to another one at any time, by whatever Rust has for that, and the library
 //! keeps nothing for each thread. Where a thread ends or panics, the handles that it owns are dropped, which closes them:
 //! nothing is lost, and the last handle of the set still gets the report. A handle that is forgotten
-//! ([`core::mem::forget`]) is never closed, and neither is its set. Threads that come and go, or are more than 64, borrow
-//! handles by [`Set::lend`]. After a fork the child uses no handle, unless the process had one thread.
+//! ([`core::mem::forget`]) is never closed, and neither is its set. After a fork the child uses no handle, unless the process
+//! had one thread.
+//!
+//! Threads that come and go, or are more than 64, borrow handles of a [`Set`] that lends them: [`Set::lend`] gives a free handle
+//! or none, [`Set::lend_wait`] and [`Set::lend_timeout`] wait for one, and [`Set::lend_owned`] and its kin give a loan with a
+//! share of the set, for tasks. A loan makes all calls of its handle, by the [`Pass`], and goes back when it is dropped.
+//!
+//! ```
+//! use std::sync::Arc;
+//! use vbr::{ample_budget, Set, Shape};
+//!
+//! let set = Arc::new(Set::lending(Shape::for_keys(1_024, 2), 2)?);
+//! let budget = ample_budget(set.slots());
+//! let tasks: Vec<_> = (0..8)
+//!     .map(|page| {
+//!         let set = Arc::clone(&set);
+//!         std::thread::spawn(move || set.lend_wait().insert(page, budget))
+//!     })
+//!     .collect();
+//! for task in tasks {
+//!     assert!(task.join().expect("a task that ends")?);
+//! }
+//! assert_eq!(set.lend_wait().iter(budget).count(), 8);
+//! # Ok::<(), Box<dyn std::error::Error>>(())
+//! ```
 //!
 //! No call is a point of cancellation; but Rust doesn't say what becomes of a thread that is cancelled (`pthread_cancel`),
-//! so cancel none that has a handle. A call in which a signal comes goes on afterwards. The handler may insert, remove and
-//! look up with a handle that nothing else uses; it opens, closes and drops none, since these take memory or free it.
+//! so cancel none that has a handle. A call in which a signal comes goes on afterwards. The handler may insert, remove, change
+//! values and look up with a handle that nothing else uses; it opens, closes and drops none, since these take memory or free it,
+//! and borrows none, since a return takes a lock where threads wait.
 //!
 //! How many keys are in the set at one moment isn't told while threads run. Count the inserts and removes that are answered
 //! yes, count the keys that a walk gives, or read the report of the last close.
 //!
 //! The exports of the library ask nothing of their caller but what the types here say: a handle is moved
 //! and never copied, and one call at a time has it, since it is not `Sync`.
-#![no_std]
 #![warn(missing_docs)]
 
 extern crate alloc;
 
+mod changing;
 mod errors;
 mod handle;
 mod iterating;
@@ -113,14 +141,16 @@ mod map;
 mod set;
 mod shape;
 mod table;
+mod waiting;
 
+pub use changing::Compared;
 pub use errors::{CloseError, OpenError, Refusal, Unclosed};
-pub use handle::HandleOf;
+pub use handle::{HandleOf, PassOf};
 pub use iterating::{Cursor, Iter};
 pub use kind::{Entries, Keys, Kind};
-pub use lending::Lent;
-pub use map::{Entry, Map, MapHandle, MapReport};
-pub use set::{Handle, Report, Set};
+pub use lending::{Lent, LentBy, OwnedLent};
+pub use map::{Entry, Map, MapHandle, MapPass, MapReport};
+pub use set::{Handle, Pass, Report, Set};
 pub use shape::{Shape, ShapeError};
 pub use table::Table;
 

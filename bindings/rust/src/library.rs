@@ -1,6 +1,6 @@
 //! The calls of the library, and which of them are those of a set and which those of a map.
 use crate::handle::Contents;
-use crate::{Cursor, Entries, Entry, Keys, MapReport, Refusal, Report};
+use crate::{Compared, Cursor, Entries, Entry, Keys, MapReport, Refusal, Report};
 use core::ffi::c_void;
 
 /// As C sees a handle: one pointer, null where it is empty.
@@ -53,6 +53,18 @@ extern "C" {
     pub(crate) fn vbr_map_insert(handle: *mut Raw, key: u64, value: u64, budget: u32) -> i32;
     pub(crate) fn vbr_map_remove(handle: *mut Raw, key: u64, budget: u32, value: *mut u64) -> i32;
     pub(crate) fn vbr_map_get(handle: *mut Raw, key: u64, budget: u32, value: *mut u64) -> i32;
+    pub(crate) fn vbr_map_replace(handle: *mut Raw, key: u64, value: u64, found: *mut u64, budget: u32) -> i32;
+    pub(crate) fn vbr_map_put(handle: *mut Raw, key: u64, value: u64, found: *mut u64, budget: u32) -> i32;
+    pub(crate) fn vbr_map_get_or_insert(handle: *mut Raw, key: u64, value: u64, found: *mut u64, budget: u32) -> i32;
+    pub(crate) fn vbr_map_compare_exchange(
+        handle: *mut Raw,
+        key: u64,
+        expected: u64,
+        value: u64,
+        found: *mut u64,
+        budget: u32,
+    ) -> i32;
+    pub(crate) fn vbr_map_remove_if(handle: *mut Raw, key: u64, expected: u64, found: *mut u64, budget: u32) -> i32;
     fn vbr_map_has(handle: *mut Raw, key: u64, budget: u32) -> i32;
     fn vbr_map_next(handle: *mut Raw, cursor: *mut Cursor, budget: u32, key: *mut u64, value: *mut u64) -> i32;
     fn vbr_map_epoch(handle: *mut Raw) -> u64;
@@ -65,8 +77,8 @@ extern "C" {
 
 /// The calls of the library that sets and maps have alike, over what they open with, what a walk gives, and what a close tells.
 pub(crate) trait Calls<Item, Given, Told> {
-    /// The names of a table and of its handles.
-    const NAMES: (&'static str, &'static str);
+    /// The names of a table, of its handles and of their passes.
+    const NAMES: [&'static str; 3];
 
     const OPEN: unsafe extern "C" fn(*mut Raw, usize, u32, u32, u64) -> i32;
     const OPEN_WITH: unsafe extern "C" fn(*mut Raw, usize, u32, u32, u64, *const Item, usize) -> i32;
@@ -90,7 +102,7 @@ pub(crate) trait Calls<Item, Given, Told> {
 }
 
 impl Calls<u64, u64, Report> for Keys {
-    const NAMES: (&'static str, &'static str) = ("Set", "Handle");
+    const NAMES: [&'static str; 3] = ["Set", "Handle", "Pass"];
 
     const OPEN: unsafe extern "C" fn(*mut Raw, usize, u32, u32, u64) -> i32 = vbr_open;
     const OPEN_WITH: unsafe extern "C" fn(*mut Raw, usize, u32, u32, u64, *const u64, usize) -> i32 = vbr_open_with;
@@ -113,7 +125,7 @@ impl Calls<u64, u64, Report> for Keys {
 }
 
 impl Calls<Entry, (u64, u64), MapReport> for Entries {
-    const NAMES: (&'static str, &'static str) = ("Map", "MapHandle");
+    const NAMES: [&'static str; 3] = ["Map", "MapHandle", "MapPass"];
 
     const OPEN: unsafe extern "C" fn(*mut Raw, usize, u32, u32, u64) -> i32 = vbr_map_open;
     const OPEN_WITH: unsafe extern "C" fn(*mut Raw, usize, u32, u32, u64, *const Entry, usize) -> i32 = vbr_map_open_with;
@@ -153,4 +165,14 @@ pub(crate) fn answer_with<T: Default>(call: impl FnOnce(&mut T) -> i32) -> Resul
     let mut given = T::default();
     let there = answer(call(&mut given))?;
     Ok(there.then_some(given))
+}
+
+/// The answer of a call that compares the value of a key, and writes it where the key is there.
+#[inline]
+pub(crate) fn compared(call: impl FnOnce(&mut u64) -> i32) -> Result<Compared, Refusal> {
+    let mut found = 0;
+    match call(&mut found) {
+        2 => Ok(Compared::Other(found)),
+        code => Ok(if answer(code)? { Compared::Equal } else { Compared::Absent }),
+    }
 }

@@ -1,13 +1,13 @@
 //! Maps: what is of them alone.
 use crate::library::{answer, answer_with, vbr_map_get, vbr_map_insert, vbr_map_remove};
-use crate::{Entries, HandleOf, Kind, Refusal, Table};
+use crate::{Entries, HandleOf, Kind, PassOf, Refusal, Table};
 use alloc::vec::Vec;
 
 /// A map from keys to values. It is used through its handles: [`Map::open`] gives them, and [`Map::lending`] keeps them and
 /// lends them. Its calls are those of a [`Table`].
 ///
-/// A key keeps the value that it was inserted with until it is removed. To change it, remove the key and insert it again:
-/// another thread may find it absent in between, or insert it first.
+/// A key keeps its value until it is removed or gets another one: [`MapPass::insert`] leaves the value of a key that is there,
+/// and [`MapPass::replace`] and [`MapPass::put`] change it at one moment.
 ///
 /// Slots, buckets, budgets and refusals are those of a set; a slot takes 40 bytes in place of 32.
 ///
@@ -19,14 +19,14 @@ use alloc::vec::Vec;
 /// ```
 pub type Map = Table<Entries>;
 
-/// A handle to a map, as a [`Handle`](crate::Handle) is one to a set. Its calls are those of [`HandleOf`], and
-/// [`MapHandle::get`], and those that insert and remove an entry.
+/// A handle to a map, as a [`Handle`](crate::Handle) is one to a set. Its calls are those of its [`MapPass`], and
+/// [`HandleOf::close`].
 ///
 /// ```
-/// # use vbr::{MapHandle, Refusal};
-/// fn frame_of(index: &MapHandle, page: u64) -> Result<Option<u64>, Refusal> {
-///     index.get(page, 100_000)
-/// }
+/// # use vbr::{Map, MapHandle, Shape};
+/// let mut handle: MapHandle = Map::open(Shape::for_keys(8, 1), 1)?.remove(0);
+/// assert!(handle.insert(5, 70, 100_000)?);
+/// # Ok::<(), Box<dyn std::error::Error>>(())
 /// ```
 ///
 /// ```compile_fail
@@ -40,6 +40,17 @@ pub type Map = Table<Entries>;
 /// ```
 pub type MapHandle = HandleOf<Entries>;
 
+/// The pass of a handle to a map: the calls of [`PassOf`], and [`MapPass::get`], and those that insert, remove and
+/// change an entry.
+///
+/// ```
+/// # use vbr::{MapPass, Refusal};
+/// fn frame_of(index: &MapPass, page: u64) -> Result<Option<u64>, Refusal> {
+///     index.get(page, 100_000)
+/// }
+/// ```
+pub type MapPass = PassOf<Entries>;
+
 impl Kind for Entries {
     type Item = Entry;
     type Given = (u64, u64);
@@ -47,7 +58,7 @@ impl Kind for Entries {
 }
 
 /// The calls of maps alone.
-impl HandleOf<Entries> {
+impl PassOf<Entries> {
     /// Adds a key with its value, in at most `budget` steps, and says whether the key was absent. Where it was there, it
     /// keeps the value that it has. A step is one atomic operation on one word. While the other handles stand still,
     /// 18n + slots + 82 are enough, with n nodes in the bucket of the key.
@@ -71,8 +82,8 @@ impl HandleOf<Entries> {
         answer(unsafe { vbr_map_insert(self.raw(), key, value, budget) })
     }
 
-    /// Takes a key out, in at most `budget` steps, and gives the value that it was inserted with, if it was there: that of
-    /// the entry that this call took, and no other one. While the other handles stand still, 9n + 11 are enough, with n nodes
+    /// Takes a key out, in at most `budget` steps, and gives the value that it had, if it was there: that of the entry that this
+    /// call took, and no other one. While the other handles stand still, 9n + 11 are enough, with n nodes
     /// in the bucket of the key.
     ///
     /// Where it was there, its node has left its list, unless the budget ended first: then the next insert or remove that
@@ -95,10 +106,10 @@ impl HandleOf<Entries> {
         answer_with(|value| unsafe { vbr_map_remove(self.raw(), key, budget, value) })
     }
 
-    /// The value that a key was inserted with, if the key is in the map, in at most `budget` steps, all of them loads. While
-    /// the other handles stand still, 5n + 11 are enough, with n nodes in the bucket of the key.
+    /// The value of a key, if the key is in the map, in at most `budget` steps, all of them loads. While the other handles stand
+    /// still, 5n + 11 are enough, with n nodes in the bucket of the key.
     ///
-    /// It takes `&self`, as [`MapHandle::has`] does.
+    /// It takes `&self`, as [`MapPass::has`] does.
     ///
     /// ```
     /// # use vbr::{Entry, Map, Shape};
@@ -113,7 +124,7 @@ impl HandleOf<Entries> {
     /// [`Refusal::OutOfSteps`] alone. No call was made then.
     #[inline]
     pub fn get(&self, key: u64, budget: u32) -> Result<Option<u64>, Refusal> {
-        // SAFETY: one thread at a time has the handle, which is not `Sync`, and the call lends it to nobody; nothing else
+        // SAFETY: one thread at a time has the pass, which is not `Sync`, and the call lends it to nobody; nothing else
         // has the value.
         answer_with(|value| unsafe { vbr_map_get(self.raw(), key, budget, value) })
     }
@@ -153,7 +164,7 @@ pub struct MapReport {
 pub struct Entry {
     /// The key.
     pub key: u64,
-    /// The value that it was inserted with.
+    /// The value that it has.
     pub value: u64,
 }
 

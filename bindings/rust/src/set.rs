@@ -1,6 +1,6 @@
 //! Sets: what is of them alone.
 use crate::library::{answer, vbr_insert, vbr_remove};
-use crate::{HandleOf, Keys, Kind, Refusal, Table};
+use crate::{HandleOf, Keys, Kind, PassOf, Refusal, Table};
 use alloc::vec::Vec;
 
 /// A set. It is used through its handles: [`Set::open`] gives them, and [`Set::lending`] keeps them and lends them. Its calls are
@@ -14,14 +14,14 @@ use alloc::vec::Vec;
 /// ```
 pub type Set = Table<Keys>;
 
-/// A handle to a set: the right of one thread at a time to make calls, and a share of the set. Its calls are those of
-/// [`HandleOf`], and [`Handle::insert`] and [`Handle::remove`] of keys.
+/// A handle to a set: the right of one thread at a time to make calls, and a share of the set. Its calls are those of its
+/// [`Pass`], and [`HandleOf::close`].
 ///
 /// ```
-/// # use vbr::{Handle, Refusal};
-/// fn visit(handle: &mut Handle, page: u64) -> Result<bool, Refusal> {
-///     handle.insert(page, 100_000)
-/// }
+/// # use vbr::{Handle, Set, Shape};
+/// let mut handle: Handle = Set::open(Shape::for_keys(8, 1), 1)?.remove(0);
+/// assert!(handle.insert(5, 100_000)?);
+/// # Ok::<(), Box<dyn std::error::Error>>(())
 /// ```
 ///
 /// ```compile_fail
@@ -35,6 +35,16 @@ pub type Set = Table<Keys>;
 /// ```
 pub type Handle = HandleOf<Keys>;
 
+/// The pass of a handle to a set: the calls of [`PassOf`], and [`Pass::insert`] and [`Pass::remove`] of keys.
+///
+/// ```
+/// # use vbr::{Pass, Refusal};
+/// fn visit(pass: &mut Pass, page: u64) -> Result<bool, Refusal> {
+///     pass.insert(page, 100_000)
+/// }
+/// ```
+pub type Pass = PassOf<Keys>;
+
 impl Kind for Keys {
     type Item = u64;
     type Given = u64;
@@ -42,7 +52,7 @@ impl Kind for Keys {
 }
 
 /// The calls of sets alone.
-impl HandleOf<Keys> {
+impl PassOf<Keys> {
     /// Adds a key, in at most `budget` steps, and says whether it was absent. A step is one atomic operation on one word. While
     /// the other handles stand still, 18n + slots + 82 are enough, with n nodes in the bucket of the key.
     ///

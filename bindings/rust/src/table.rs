@@ -1,8 +1,10 @@
 //! A set or a map, which opens handles or lends them.
-use crate::lending::{Lender, Lent};
-use crate::{CloseError, HandleOf, Kind, OpenError, Shape};
-use alloc::vec::Vec;
-use core::fmt;
+use crate::handle::Unreported;
+use crate::lending::Lender;
+use crate::{CloseError, HandleOf, Kind, Lent, LentBy, OpenError, OwnedLent, Shape, Unclosed};
+use std::fmt;
+use std::sync::Arc;
+use std::time::{Duration, Instant};
 
 /// A set, which is a `Table<Keys>` by the name of [`Set`](crate::Set), or a map, which is a `Table<Entries>` by that of
 /// [`Map`](crate::Map). It is used through its handles: [`Table::open`] gives them, and [`Table::lending`] keeps them and lends
@@ -16,8 +18,10 @@ use core::fmt;
 /// assert!(set.lend().expect("two are free").has(5, 100_000)?);
 /// # Ok::<(), Box<dyn std::error::Error>>(())
 /// ```
+#[repr(align(64))] // who is lent a handle reads it, so nothing that others write is on its cache line
 pub struct Table<K: Kind> {
-    lender: Lender<HandleOf<K>>,
+    pub(crate) lender: Lender<K>,
+    shape: Shape,
 }
 
 impl<K: Kind> Table<K> {
@@ -93,13 +97,7 @@ impl<K: Kind> Table<K> {
     /// std::thread::scope(|scope| {
     ///     for page in 0..8 {
     ///         let set = &set;
-    ///         scope.spawn(move || loop {
-    ///             // None where all four are lent at the moment
-    ///             if let Some(mut handle) = set.lend() {
-    ///                 break handle.insert(page, ample_budget(shape.slots));
-    ///             }
-    ///             std::thread::yield_now();
-    ///         });
+    ///         scope.spawn(move || set.lend_wait().insert(page, ample_budget(shape.slots)));
     ///     }
     /// });
     /// assert_eq!(set.close()?.keys, [0, 1, 2, 3, 4, 5, 6, 7]);
@@ -110,7 +108,7 @@ impl<K: Kind> Table<K> {
     ///
     /// Those of [`Table::open`].
     pub fn lending(shape: Shape, handles: usize) -> Result<Table<K>, OpenError> {
-        Ok(Table { lender: Lender::of(HandleOf::open(shape, handles)?)? })
+        Ok(Table { lender: Lender::of(HandleOf::open(shape, handles)?)?, shape })
     }
 
     /// Opens a set of these keys, as [`Table::open_with`] does, that lends its handles.
@@ -126,15 +124,60 @@ impl<K: Kind> Table<K> {
     ///
     /// Those of [`Table::open_with`].
     pub fn lending_with(shape: Shape, handles: usize, items: &[K::Item]) -> Result<Table<K>, OpenError> {
-        Ok(Table { lender: Lender::of(HandleOf::open_with(shape, handles, items)?)? })
+        Ok(Table { lender: Lender::of(HandleOf::open_with(shape, handles, items)?)?, shape })
+    }
+
+    /// How many slots the set has.
+    ///
+    /// ```
+    /// # use vbr::{ample_budget, Set, Shape};
+    /// let set = Set::lending(Shape::for_keys(1_000, 2), 2)?;
+    /// let budget = ample_budget(set.slots());
+    /// assert_eq!((set.slots(), budget), (1_128, 100_017));
+    /// # Ok::<(), vbr::OpenError>(())
+    /// ```
+    pub fn slots(&self) -> u32 {
+        self.shape.slots
+    }
+
+    /// How many buckets the set has.
+    ///
+    /// ```
+    /// # use vbr::{Set, Shape};
+    /// assert_eq!(Set::lending(Shape::for_keys(1_000, 2), 2)?.buckets(), 1_024);
+    /// # Ok::<(), vbr::OpenError>(())
+    /// ```
+    pub fn buckets(&self) -> u32 {
+        self.shape.buckets
+    }
+
+    /// The last epoch of the set.
+    ///
+    /// ```
+    /// # use vbr::{Set, Shape};
+    /// assert_eq!(Set::lending(Shape::new(8, 2, 100), 1)?.last_epoch(), 100);
+    /// # Ok::<(), vbr::OpenError>(())
+    /// ```
+    pub fn last_epoch(&self) -> u64 {
+        self.shape.last_epoch
+    }
+
+    /// How many handles the set lends.
+    ///
+    /// ```
+    /// # use vbr::{Set, Shape};
+    /// assert_eq!(Set::lending(Shape::for_keys(8, 3), 3)?.handles(), 3);
+    /// # Ok::<(), vbr::OpenError>(())
+    /// ```
+    pub fn handles(&self) -> usize {
+        self.lender.count()
     }
 
     /// A free handle, or `None` where each was lent at a moment of the call. It tries each handle at most once, takes no lock
-    /// and no memory, and never waits. At most 64 are lent at a time.
+    /// and no memory, and never waits: [`Table::lend_wait`] does. At most 64 are lent at a time.
     ///
-    /// A loan and its return are one atomic operation each on a word that all threads share: a look-up with a loan of its own
-    /// takes several times as long as one without, and more where several threads borrow at the same time. So keep a loan for as
-    /// many calls as can be, and keep none while the thread waits for something else.
+    /// A thread is lent the handle that it had last, where that is free: a loan and its return are then one atomic exchange on
+    /// a word that other threads don't write. Keep no loan while the thread waits for something else.
     ///
     /// ```
     /// # use vbr::{Map, Shape};
@@ -147,11 +190,101 @@ impl<K: Kind> Table<K> {
     /// # Ok::<(), Box<dyn std::error::Error>>(())
     /// ```
     #[inline]
-    pub fn lend(&self) -> Option<Lent<'_, HandleOf<K>>> {
-        self.lender.lend()
+    pub fn lend(&self) -> Option<Lent<'_, K>> {
+        self.lender.take().map(|number| LentBy::of(self, number))
     }
 
-    /// Closes all handles, and tells what was in the set.
+    /// A free handle, as soon as there is one: where each is lent, the thread sleeps until one is given back. Who has a loan
+    /// itself may wait for ever. Threads that wait have no order: a thread that comes later may be lent a handle before.
+    ///
+    /// ```
+    /// # use vbr::{Set, Shape};
+    /// let set = Set::lending(Shape::for_keys(8, 1), 1)?;
+    /// std::thread::scope(|scope| {
+    ///     for key in 0..4 {
+    ///         let set = &set;
+    ///         scope.spawn(move || set.lend_wait().insert(key, 100_000));
+    ///     }
+    /// });
+    /// assert_eq!(set.close()?.keys, [0, 1, 2, 3]);
+    /// # Ok::<(), Box<dyn std::error::Error>>(())
+    /// ```
+    #[inline]
+    pub fn lend_wait(&self) -> Lent<'_, K> {
+        LentBy::of(self, self.number_awaited())
+    }
+
+    /// A free handle, as [`Table::lend_wait`] gives it, or `None` where each was lent until the time was over.
+    ///
+    /// ```
+    /// # use std::time::Duration;
+    /// # use vbr::{Set, Shape};
+    /// let set = Set::lending(Shape::for_keys(8, 1), 1)?;
+    /// let mine = set.lend_timeout(Duration::from_secs(1)).expect("the one handle");
+    /// assert!(set.lend_timeout(Duration::from_millis(1)).is_none());
+    /// # Ok::<(), vbr::OpenError>(())
+    /// ```
+    #[inline]
+    pub fn lend_timeout(&self, limit: Duration) -> Option<Lent<'_, K>> {
+        self.number_within(limit).map(|number| LentBy::of(self, number))
+    }
+
+    /// As [`Table::lend`], with a share of the set: the loan may outlive the caller's. Beside the loan it costs two atomic
+    /// additions on a word that all threads share.
+    ///
+    /// ```
+    /// # use std::sync::Arc;
+    /// # use vbr::{Set, Shape};
+    /// let set = Arc::new(Set::lending(Shape::for_keys(8, 1), 1)?);
+    /// let mine = set.lend_owned().expect("the one handle");
+    /// assert!(set.lend_owned().is_none());
+    /// drop(set);
+    /// assert!(!mine.has(5, 100_000)?); // the set is there until its last loan is dropped
+    /// # Ok::<(), Box<dyn std::error::Error>>(())
+    /// ```
+    #[inline]
+    pub fn lend_owned(self: &Arc<Self>) -> Option<OwnedLent<K>> {
+        self.lender.take().map(|number| LentBy::of(Arc::clone(self), number))
+    }
+
+    /// As [`Table::lend_wait`], with a share of the set.
+    ///
+    /// ```
+    /// # use std::sync::Arc;
+    /// # use vbr::{Set, Shape};
+    /// let set = Arc::new(Set::lending(Shape::for_keys(8, 1), 1)?);
+    /// let tasks: Vec<_> = (0..4)
+    ///     .map(|key| {
+    ///         let mut mine = set.lend_owned_wait();
+    ///         std::thread::spawn(move || mine.insert(key, 100_000))
+    ///     })
+    ///     .collect();
+    /// for task in tasks {
+    ///     assert!(task.join().expect("a task that ends")?);
+    /// }
+    /// # Ok::<(), Box<dyn std::error::Error>>(())
+    /// ```
+    #[inline]
+    pub fn lend_owned_wait(self: &Arc<Self>) -> OwnedLent<K> {
+        LentBy::of(Arc::clone(self), self.number_awaited())
+    }
+
+    /// As [`Table::lend_timeout`], with a share of the set.
+    ///
+    /// ```
+    /// # use std::{sync::Arc, time::Duration};
+    /// # use vbr::{Set, Shape};
+    /// let set = Arc::new(Set::lending(Shape::for_keys(8, 1), 1)?);
+    /// let mine = set.lend_owned_timeout(Duration::from_secs(1)).expect("the one handle");
+    /// assert!(set.lend_owned_timeout(Duration::from_millis(1)).is_none());
+    /// # Ok::<(), vbr::OpenError>(())
+    /// ```
+    #[inline]
+    pub fn lend_owned_timeout(self: &Arc<Self>, limit: Duration) -> Option<OwnedLent<K>> {
+        self.number_within(limit).map(|number| LentBy::of(Arc::clone(self), number))
+    }
+
+    /// Closes all handles, those of loans that were forgotten too, and tells what was in the set.
     ///
     /// ```
     /// # use vbr::{Entry, Map, Shape};
@@ -163,19 +296,27 @@ impl<K: Kind> Table<K> {
     ///
     /// # Errors
     ///
-    /// [`CloseError::Memory`], with the last handle, which has the set then; and [`CloseError::Lost`].
-    pub fn close(self) -> Result<K::Report, CloseError<HandleOf<K>>> {
-        for handle in self.lender.into_handles() {
-            if let Some(report) = handle.close()? {
-                return Ok(report);
-            }
-        }
-        Err(CloseError::Lost)
+    /// [`CloseError::Memory`], with the set as it was, which lends all its handles again; and [`CloseError::Lost`].
+    pub fn close(mut self) -> Result<K::Report, CloseError<Table<K>>> {
+        self.lender.close().map_err(|why| match why {
+            Unreported::Memory => CloseError::Memory(Unclosed(self)),
+            Unreported::Lost => CloseError::Lost,
+        })
+    }
+
+    #[inline]
+    fn number_awaited(&self) -> usize {
+        self.lender.take_until(|| None).expect("without a deadline the wait ends with a handle")
+    }
+
+    #[inline]
+    fn number_within(&self, limit: Duration) -> Option<usize> {
+        self.lender.take_until(|| Instant::now().checked_add(limit))
     }
 }
 
 impl<K: Kind> fmt::Debug for Table<K> {
     fn fmt(&self, f: &mut fmt::Formatter<'_>) -> fmt::Result {
-        f.debug_struct(K::NAMES.0).finish_non_exhaustive()
+        f.debug_struct(K::NAMES[0]).finish_non_exhaustive()
     }
 }

@@ -2,8 +2,9 @@
 mod both;
 
 use both::Both;
-use vbr::{ample_budget, CloseError, Entries, Handle, HandleOf, Iter, Keys, Lent, Map, MapHandle, MapReport, OpenError};
-use vbr::{Refusal, Report, Set, Shape, ShapeError, Table, Unclosed, MAX_BUCKETS, MAX_EPOCH, MAX_SLOTS};
+use vbr::{ample_budget, CloseError, Entries, Handle, HandleOf, Iter, Keys, Lent, Map, MapHandle, MapPass, MapReport};
+use vbr::{OpenError, OwnedLent, Pass, Refusal, Report, Set, Shape, ShapeError, Table, Unclosed};
+use vbr::{MAX_BUCKETS, MAX_EPOCH, MAX_SLOTS};
 
 const BUDGET: u32 = 100_000;
 
@@ -216,6 +217,7 @@ fn errors_pass_as_any_error<K: Both>() {
     is_any::<ShapeError>();
     is_any::<Refusal>();
     is_any::<CloseError<HandleOf<K>>>();
+    is_any::<CloseError<Table<K>>>();
     fn runs<K: Both>() -> Result<(), Box<dyn std::error::Error + Send + Sync>> {
         let mut handle = Table::<K>::open(Shape::for_keys(8, 1), 1)?.remove(0);
         K::insert(&mut handle, 5, BUDGET)?;
@@ -242,25 +244,28 @@ fn names() {
     fn names<K: Both>() -> String {
         let set = Table::<K>::lending(Shape::for_keys(8, 1), 1).expect("a set");
         let lent = set.lend().expect("a free handle");
-        format!("{set:?} {:?}", *lent)
+        let handle = Table::<K>::open(Shape::for_keys(8, 1), 1).expect("a set").remove(0);
+        format!("{set:?} {handle:?} {:?} {lent:?}", &*lent)
     }
-    assert_eq!(names::<Keys>(), "Set { .. } Handle { .. }");
-    assert_eq!(names::<Entries>(), "Map { .. } MapHandle { .. }");
+    assert_eq!(names::<Keys>(), "Set { .. } Handle { .. } Pass { .. } Lent { number: 0, .. }");
+    assert_eq!(names::<Entries>(), "Map { .. } MapHandle { .. } MapPass { .. } Lent { number: 0, .. }");
 }
 
 /// The names of sets and of maps serve as types without a parameter, and as paths to calls.
 #[test]
 fn names_as_paths() {
-    type Lenders<'s> = (Option<Lent<'s>>, Option<Lent<'s, MapHandle>>, Option<Iter<'s>>, Option<Iter<'s, MapHandle>>);
+    type Loans<'s> = (Option<Lent<'s>>, Option<Lent<'s, Entries>>, Option<OwnedLent>, Option<OwnedLent<Entries>>);
+    type Walks<'s> = (Option<Iter<'s>>, Option<Iter<'s, Entries>>);
     type Closed = (Result<Option<Report>, CloseError>, Result<Option<MapReport>, CloseError<MapHandle>>);
-    let none: Lenders = (None, None, None, None);
-    assert!(none.0.is_none() && none.1.is_none() && none.2.is_none() && none.3.is_none());
+    let (loans, walks): (Loans, Walks) = Default::default();
+    assert!(loans.0.is_none() && loans.1.is_none() && loans.2.is_none() && loans.3.is_none());
+    assert!(walks.0.is_none() && walks.1.is_none());
     let shape = Shape::for_keys(8, 1);
     let mut handles = (Set::open(shape, 1).expect("a set").remove(0), Map::open(shape, 1).expect("a map").remove(0));
-    let (insert, insert_entry) = (Handle::insert, MapHandle::insert);
+    let (insert, insert_entry) = (Pass::insert, MapPass::insert);
     assert_eq!(insert(&mut handles.0, 5, BUDGET), Ok(true));
     assert_eq!(insert_entry(&mut handles.1, 5, 70, BUDGET), Ok(true));
-    assert_eq!(MapHandle::get(&handles.1, 5, BUDGET), Ok(Some(70)));
+    assert_eq!(MapPass::get(&handles.1, 5, BUDGET), Ok(Some(70)));
     let closed: Closed = (Handle::close(handles.0), MapHandle::close(handles.1));
     assert_eq!(closed.0.expect("a report").expect("the only handle").keys, [5]);
     assert_eq!(closed.1.expect("a report").expect("the only handle").entries, [(5, 70).into()]);

@@ -1,32 +1,269 @@
-//! Handles that are lent: at once or not at all, to one thread at a time.
+//! Handles that are lent: at once or not at all, or as soon as one is free; to one thread at a time, and to no other set.
+mod both;
+
+use both::Both;
+use std::cell::Cell;
 use std::collections::BTreeMap;
+use std::mem;
+use std::sync::atomic::{compiler_fence, AtomicBool, AtomicU64, Ordering};
+use std::sync::Arc;
 use std::thread;
-use vbr::{ample_budget, OpenError, Set, Shape};
+use std::time::{Duration, Instant};
+use vbr::{ample_budget, Keys, Lent, OpenError, OwnedLent, Pass, Set, Shape, Table, MAX_EPOCH};
 
-const KEYS: u64 = 64;
+const SOME: u64 = 64;
+const BUDGET: u32 = 100_000;
+const AT_LAST: Duration = Duration::from_secs(600);
 
-#[test]
-fn each_handle_once() {
-    let set = Set::lending(Shape::for_keys(100, 3), 3).expect("a set");
+of_sets_and_maps! {
+    each_handle_once
+    what_a_set_was_opened_with
+    loans_that_are_swapped
+    loans_that_are_forgotten
+    loans_that_other_threads_drop
+    a_loan_that_is_waited_for
+    a_wait_that_is_over
+    loans_that_own_their_set
+    tasks_that_wait
+}
+
+fn lending<K: Both>(handles: usize, keys: &[u64]) -> Table<K> {
+    Table::lending_with(Shape::for_keys(100, handles), handles, &K::items(keys)).expect("a set")
+}
+
+fn keys_of<K: Both>(set: Table<K>) -> Vec<u64> {
+    K::report(set.close().expect("a report")).0.keys
+}
+
+fn each_handle_once<K: Both>() {
+    let set = lending::<K>(3, &[]);
     let (first, second, third) = (set.lend(), set.lend(), set.lend());
     assert!(first.is_some() && second.is_some() && third.is_some() && set.lend().is_none());
     drop(second);
     let again = set.lend();
     assert!(again.is_some() && set.lend().is_none());
     drop((first, again, third));
-    assert_eq!(set.close().expect("a report").keys, []);
-    let all = Set::lending_with(Shape::for_keys(100, 64), 64, &[1, 2]).expect("a set");
+    assert_eq!(keys_of(set), []);
+    let all = lending::<K>(64, &[1, 2]);
     let loans: Vec<_> = (0..64).map(|_| all.lend().expect("a free handle")).collect();
-    assert!(all.lend().is_none());
+    let mut numbers: Vec<_> = loans.iter().map(|it| it.number()).collect();
+    numbers.sort();
+    assert!(all.lend().is_none() && numbers.into_iter().eq(0..64));
     drop(loans);
-    assert_eq!(all.close().expect("a report").keys, [1, 2]);
-    assert_eq!(Set::lending(Shape::for_keys(100, 1), 0).unwrap_err(), OpenError::Handles);
-    assert_eq!(Set::lending_with(Shape::for_keys(100, 1), 1, &[2, 1]).unwrap_err(), OpenError::Keys);
+    assert_eq!(keys_of(all), [1, 2]);
+    assert_eq!(Table::<K>::lending(Shape::for_keys(100, 1), 0).unwrap_err(), OpenError::Handles);
+    assert_eq!(Table::<K>::lending_with(Shape::for_keys(100, 1), 1, &K::items(&[2, 1])).unwrap_err(), OpenError::Keys);
+}
+
+fn what_a_set_was_opened_with<K: Both>() {
+    let set = Table::<K>::lending(Shape::new(100, 8, 50), 3).expect("a set");
+    let loans = [set.lend(), set.lend(), set.lend()];
+    assert_eq!((set.slots(), set.buckets(), set.last_epoch(), set.handles()), (100, 8, 50, 3));
+    let lent = loans[0].as_ref().expect("a free handle");
+    assert_eq!((lent.slots(), lent.buckets(), lent.last_epoch()), (100, 8, 50));
+    let other = Table::<K>::lending(Shape::for_keys(1, 1), 1).expect("a set");
+    assert_eq!((other.slots(), other.buckets(), other.last_epoch(), other.handles()), (65, 1, MAX_EPOCH, 1));
+}
+
+/// Each loan goes back where it is from; what it lends can't be swapped, as the page of a pass shows.
+fn loans_that_are_swapped<K: Both>() {
+    let (one, other) = (lending::<K>(1, &[1]), lending::<K>(1, &[2]));
+    let (mut lent, mut another) = (one.lend().expect("a free handle"), other.lend().expect("a free handle"));
+    mem::swap(&mut lent, &mut another);
+    assert_eq!((lent.has(2, BUDGET), K::insert(&mut another, 3, BUDGET)), (Ok(true), Ok(true)));
+    drop(lent);
+    assert!(one.lend().is_none() && other.lend().is_some());
+    drop(another);
+    assert!(one.lend().is_some());
+    assert_eq!((keys_of(one), keys_of(other)), (vec![1, 3], vec![2]));
+}
+
+fn loans_that_are_forgotten<K: Both>() {
+    let set = lending::<K>(2, &[1]);
+    let mut forgotten = set.lend().expect("two are free");
+    assert_eq!(K::insert(&mut forgotten, 5, BUDGET), Ok(true));
+    mem::forget(forgotten);
+    for _ in 0..3 {
+        let mut lent = set.lend().expect("one is free");
+        assert!(K::insert(&mut lent, 6, BUDGET).is_ok() && set.lend().is_none());
+    }
+    assert!(set.lend_timeout(Duration::ZERO).is_some());
+    assert_eq!(keys_of(set), [1, 5, 6]);
+}
+
+fn loans_that_other_threads_drop<K: Both>() {
+    let set = lending::<K>(2, &[]);
+    for key in 0..20 {
+        let mut lent = set.lend().expect("two are free");
+        K::insert(&mut lent, key, BUDGET).expect("room");
+        thread::scope(|scope| {
+            scope.spawn(move || drop(lent));
+        });
+        let both = [set.lend().expect("two are free"), set.lend().expect("one is free")];
+        assert!(both.iter().all(|it| it.has(key, BUDGET) == Ok(true)) && set.lend().is_none());
+    }
+    assert_eq!(keys_of(set).len(), 20);
+}
+
+/// Eight threads wait for two handles, and none is left waiting. What each did with a handle is there for the next one, also in
+/// plain memory beside the handle.
+fn a_loan_that_is_waited_for<K: Both>() {
+    struct Beside(Vec<Cell<u64>>);
+    // SAFETY: each number is one thread's at a time.
+    unsafe impl Sync for Beside {}
+    let (set, beside) = (lending::<K>(2, &[]), &Beside((0..2).map(|_| Cell::new(0)).collect()));
+    thread::scope(|scope| {
+        for thread in 0..8 {
+            let set = &set;
+            scope.spawn(move || {
+                for round in 0..5_000 {
+                    let mut lent = if round % 2 == 0 { set.lend_wait() } else { set.lend_timeout(AT_LAST).expect("in time") };
+                    let calls = &beside.0[lent.number()];
+                    calls.set(calls.get() + 1);
+                    assert_eq!(K::insert(&mut lent, thread, BUDGET), Ok(true));
+                    assert_eq!(K::remove(&mut lent, thread, BUDGET), Ok(true));
+                    if round % 64 == 0 {
+                        thread::yield_now();
+                    }
+                }
+            });
+        }
+    });
+    assert_eq!(beside.0.iter().map(Cell::get).sum::<u64>(), 8 * 5_000);
+    assert!(set.lend().is_some() && keys_of(set).is_empty());
+}
+
+/// A number that one thread tells another.
+#[repr(align(128))]
+struct Step(AtomicU64);
+
+impl Step {
+    fn tell(&self, number: u64) {
+        self.0.store(number, Ordering::Release);
+    }
+
+    fn wait_for(&self, number: u64) {
+        for turns in 0.. {
+            if self.0.load(Ordering::Acquire) >= number {
+                break;
+            }
+            if turns % 256 == 255 {
+                thread::yield_now();
+            }
+        }
+    }
+}
+
+/// A handle is given back just as another thread begins to wait for it: either that one sees it, or it is woken. What is written
+/// before the return, to lines that the other thread wrote, makes the return come late.
+#[test]
+fn a_return_as_another_begins_to_wait() {
+    const ROUNDS: u64 = 5_000;
+    let set = lending::<Keys>(1, &[]);
+    let [lent, waits, done] = [(); 3].map(|_| Step(AtomicU64::new(0)));
+    let lines: Vec<Step> = (0..128).map(|_| Step(AtomicU64::new(0))).collect();
+    let write_all = |round| lines.iter().for_each(|it| it.0.store(round, Ordering::Relaxed));
+    thread::scope(|scope| {
+        scope.spawn(|| {
+            for round in 1..=ROUNDS {
+                let mine = set.lend_wait();
+                lent.tell(round);
+                waits.wait_for(round);
+                (0..round * 37 % 2_000).for_each(|_| compiler_fence(Ordering::SeqCst));
+                write_all(round);
+                drop(mine);
+                done.wait_for(round);
+            }
+        });
+        let mut is_late = false;
+        for round in 1..=ROUNDS {
+            lent.wait_for(round);
+            write_all(0);
+            waits.tell(round);
+            let begun = Instant::now();
+            drop(set.lend_timeout(Duration::from_millis(if is_late { 1 } else { 60_000 })));
+            is_late |= begun.elapsed() > Duration::from_secs(50);
+            done.tell(round);
+        }
+        assert!(!is_late);
+    });
+}
+
+/// Threads that wait in vain leave nothing behind, and a wait isn't over before its time.
+fn a_wait_that_is_over<K: Both>() {
+    let (set, limit) = (lending::<K>(1, &[]), Duration::from_millis(30));
+    let kept = set.lend_wait();
+    thread::scope(|scope| {
+        for _ in 0..4 {
+            scope.spawn(|| {
+                let begun = Instant::now();
+                assert!(set.lend_timeout(limit).is_none() && begun.elapsed() >= limit);
+                assert!(set.lend_timeout(Duration::ZERO).is_none() && set.lend().is_none());
+            });
+        }
+    });
+    let waits = AtomicBool::new(true);
+    thread::scope(|scope| {
+        scope.spawn(|| {
+            assert!(set.lend_timeout(Duration::MAX).is_some());
+            waits.store(false, Ordering::Relaxed);
+        });
+        thread::sleep(limit);
+        assert!(waits.load(Ordering::Relaxed));
+        drop(kept);
+    });
+    assert!(!waits.into_inner() && set.lend().is_some());
+}
+
+fn loans_that_own_their_set<K: Both>() {
+    let set = Arc::new(lending::<K>(2, &[1]));
+    let mut first = set.lend_owned().expect("two are free");
+    let second = set.lend_owned_timeout(AT_LAST).expect("one is free");
+    assert!(set.lend_owned().is_none() && set.lend().is_none() && set.lend_owned_timeout(Duration::ZERO).is_none());
+    assert_ne!(first.number(), second.number());
+    drop(second);
+    let set = Arc::try_unwrap(set).expect_err("a loan has a share");
+    let task = thread::spawn(move || K::insert(&mut first, 5, BUDGET));
+    assert_eq!(task.join().expect("a task that ends"), Ok(true));
+    assert_eq!(keys_of(Arc::into_inner(set).expect("no loan is left")), [1, 5]);
+    let last = Arc::new(lending::<K>(1, &[7])).lend_owned_wait();
+    assert_eq!(thread::spawn(move || last.has(7, BUDGET)).join().expect("a task that ends"), Ok(true));
+}
+
+/// More tasks than handles, each with a loan of its own that was waited for before it began.
+fn tasks_that_wait<K: Both>() {
+    let (set, made) = (Arc::new(lending::<K>(3, &[])), Arc::new(AtomicU64::new(0)));
+    let tasks: Vec<_> = (0..60)
+        .map(|key| {
+            let (mut lent, made) = (set.lend_owned_wait(), Arc::clone(&made));
+            thread::spawn(move || {
+                assert_eq!(K::insert(&mut lent, key, BUDGET), Ok(true));
+                made.fetch_add(1, Ordering::Relaxed);
+            })
+        })
+        .collect();
+    tasks.into_iter().for_each(|task| task.join().expect("a task that ends"));
+    assert_eq!((made.load(Ordering::Relaxed), keys_of(Arc::into_inner(set).expect("no loan is left")).len()), (60, 60));
+}
+
+/// Loans go to other threads, and those with a share wherever a task goes; a pass is taken from either, and from a handle.
+#[test]
+fn loans_are_sent() {
+    fn is_sent<T: Send>() {}
+    fn is_a_task<T: Send + 'static>() {}
+    is_sent::<Lent<'_>>();
+    is_a_task::<OwnedLent>();
+    fn visits(pass: &mut Pass) -> bool {
+        pass.insert(5, BUDGET).is_ok_and(|_| pass.has(5, BUDGET) == Ok(true))
+    }
+    let set = Arc::new(Set::lending(Shape::for_keys(8, 1), 1).expect("a set"));
+    assert!(visits(&mut set.lend_wait()) && visits(&mut set.lend_owned_wait()));
+    assert!(visits(&mut Set::open(Shape::for_keys(8, 1), 1).expect("a set")[0]));
 }
 
 #[test]
 fn the_answers_of_many_borrowers_balance() {
-    let shape = Shape::for_keys(KEYS as u32, 3);
+    let shape = Shape::for_keys(SOME as u32, 3);
     let (set, budget) = (Set::lending(shape, 3).expect("a set"), ample_budget(shape.slots));
     let mut sum = BTreeMap::new();
     thread::scope(|scope| {
@@ -36,17 +273,12 @@ fn the_answers_of_many_borrowers_balance() {
                 scope.spawn(move || {
                     let mut random = 88_172_645_463_325_252 + seed;
                     let mut balance = BTreeMap::new();
-                    let mut made = 0;
-                    while made < 20_000 {
-                        let Some(mut handle) = set.lend() else {
-                            thread::yield_now();
-                            continue;
-                        };
-                        made += 1;
+                    for _ in 0..20_000 {
+                        let mut handle = set.lend_wait();
                         random ^= random << 13;
                         random ^= random >> 7;
                         random ^= random << 17;
-                        let key = (random >> 32) % KEYS;
+                        let key = (random >> 32) % SOME;
                         if random >> 40 & 1 == 0 {
                             *balance.entry(key).or_insert(0) += i32::from(handle.insert(key, budget).expect("room"));
                         } else {

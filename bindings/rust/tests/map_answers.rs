@@ -1,5 +1,5 @@
-//! What the calls of maps alone answer: values, of a get and of a remove, and entries of reports.
-use vbr::{ample_budget, CloseError, Entry, Map, MapHandle, OpenError, Refusal, Shape, Unclosed};
+//! What the calls of maps alone answer: values, of a get, a remove, and calls that change them, and entries of reports.
+use vbr::{ample_budget, CloseError, Compared, Entry, Map, MapHandle, OpenError, Refusal, Shape, Unclosed};
 
 const BUDGET: u32 = 100_000;
 
@@ -59,6 +59,55 @@ fn budgets_of_a_get_that_are_enough_alone() {
         assert_eq!(handle.insert(key, 10 * key, BUDGET), Ok(true));
         assert_eq!(handle.remove(key, 9 * (nodes + 1) + 11), Ok(Some(10 * key)));
         assert_eq!(value.map(|value| handle.insert(key, value, BUDGET)), value.map(|_| Ok(true)));
+    }
+}
+
+#[test]
+fn values_that_change() {
+    let mut handles = Map::open_with(Shape::for_keys(8, 2), 2, &entries([(5, 50), (7, 70)])).expect("a map");
+    let other = handles.pop().expect("two handles");
+    let mut handle = handles.pop().expect("two handles");
+    assert_eq!((handle.replace(5, 51, BUDGET), handle.replace(6, 60, BUDGET)), (Ok(Some(50)), Ok(None)));
+    assert_eq!((other.get(5, BUDGET), other.get(6, BUDGET)), (Ok(Some(51)), Ok(None)));
+    assert_eq!((handle.put(5, 52, BUDGET), handle.put(6, 60, BUDGET)), (Ok(Some(51)), Ok(None)));
+    assert_eq!((other.get(5, BUDGET), other.get(6, BUDGET)), (Ok(Some(52)), Ok(Some(60))));
+    assert_eq!((handle.get_or_insert(5, 53, BUDGET), handle.get_or_insert(8, 80, BUDGET)), (Ok(Some(52)), Ok(None)));
+    assert_eq!((other.get(5, BUDGET), other.get(8, BUDGET)), (Ok(Some(52)), Ok(Some(80))));
+    assert_eq!(handle.compare_exchange(5, 51, 53, BUDGET), Ok(Compared::Other(52)));
+    assert_eq!(handle.compare_exchange(5, 52, 53, BUDGET), Ok(Compared::Equal));
+    assert_eq!(handle.compare_exchange(9, 52, 53, BUDGET), Ok(Compared::Absent));
+    assert_eq!(handle.remove_if(5, 52, BUDGET), Ok(Compared::Other(53)));
+    assert_eq!(other.get(5, BUDGET), Ok(Some(53)));
+    assert_eq!(
+        (handle.remove_if(5, 53, BUDGET), handle.remove_if(5, 53, BUDGET)),
+        (Ok(Compared::Equal), Ok(Compared::Absent))
+    );
+    assert_eq!(handle.fetch_update(7, |value| Some(value * 2), BUDGET), Ok(Some(70)));
+    assert_eq!(handle.fetch_update(7, |value| (value < 100).then_some(0), BUDGET), Ok(None));
+    assert_eq!(handle.fetch_update(5, Some, BUDGET), Ok(None));
+    drop(handle);
+    assert_eq!(other.close().expect("a report").expect("the last handle").entries, entries([(6, 60), (7, 140), (8, 80)]));
+}
+
+#[test]
+fn refused_changes_leave_the_value() {
+    for (slots, is_spent) in [(2, false), (3, true)] {
+        let refusal = if is_spent { Refusal::EpochSpent } else { Refusal::NoSlot };
+        let mut handle = Map::open_with(Shape::new(slots, 1, 1), 1, &entries([(5, 50), (7, 70)])).expect("a map").remove(0);
+        if is_spent {
+            assert_eq!((handle.insert(9, 90, BUDGET), handle.remove(9, BUDGET)), (Ok(true), Ok(Some(90))));
+        }
+        assert_eq!((handle.replace(5, 51, BUDGET), handle.put(5, 51, BUDGET)), (Err(refusal), Err(refusal)));
+        assert_eq!((handle.put(6, 60, BUDGET), handle.get_or_insert(6, 60, BUDGET)), (Err(refusal), Err(refusal)));
+        assert_eq!(handle.compare_exchange(5, 50, 51, BUDGET), Err(refusal));
+        assert_eq!(handle.fetch_update(5, |value| Some(value + 1), BUDGET), Err(refusal));
+        assert_eq!(
+            (handle.replace(5, 51, 1), handle.remove_if(5, 50, 1)),
+            (Err(Refusal::OutOfSteps), Err(Refusal::OutOfSteps))
+        );
+        assert_eq!((handle.replace(6, 60, BUDGET), handle.get_or_insert(7, 71, BUDGET)), (Ok(None), Ok(Some(70))));
+        assert_eq!(handle.remove_if(7, 70, BUDGET), Ok(Compared::Equal));
+        assert_eq!(handle.close().expect("a report").expect("the only handle").entries, entries([(5, 50)]));
     }
 }
 

@@ -1,9 +1,9 @@
-//! Four threads on one map, whose epoch is spent again and again: each value tells the insert that stored it, and is given only
-//! as the answers allow.
+//! Four threads on one map, whose epoch is spent again and again: each value tells the call that stored it, and is given only
+//! as the answers allow. And threads that count in the same entries.
 use std::collections::HashSet;
 use std::sync::atomic::{AtomicBool, Ordering};
 use std::thread;
-use vbr::{Entry, Map, MapHandle, Refusal, Shape, MAX_EPOCH};
+use vbr::{Compared, Entry, Map, MapHandle, MapPass, Refusal, Shape, MAX_EPOCH};
 
 const THREADS: u64 = 4;
 const KEYS: u64 = 64;
@@ -15,11 +15,11 @@ struct Worker {
     number: u64,
     random: u64,
     round: u64,
-    /// The values of its inserts that were answered yes, those that its removes gave, and those that its gets gave.
+    /// The values that it stored, those that it took out, by a remove or another value, and those that it found.
     stored: Vec<u64>,
     removed: Vec<u64>,
     got: HashSet<u64>,
-    /// Of each key the values that this thread has removed, and none may give again.
+    /// The values that this thread has taken out, and none may give again.
     gone: HashSet<u64>,
 }
 
@@ -40,32 +40,109 @@ impl Worker {
             self.random ^= self.random << 13;
             self.random ^= self.random >> 7;
             self.random ^= self.random << 17;
-            self.call(handle, (self.random >> 8) % KEYS, self.random % 4, is_spent);
+            self.call(handle, (self.random >> 8) % KEYS, self.random % 8, is_spent);
             self.round += 1;
         }
     }
 
-    fn call(&mut self, handle: &mut MapHandle, key: u64, kind: u64, is_spent: &AtomicBool) {
-        match kind {
-            0 | 1 => match handle.insert(key, self.value_of(key), BUDGET) {
-                Ok(true) => self.stored.push(self.value_of(key)),
-                Ok(false) => {}
-                Err(Refusal::EpochSpent) => is_spent.store(true, Ordering::Relaxed),
-                Err(refusal) => panic!("{refusal}"),
-            },
-            2 => {
-                if let Some(value) = handle.remove(key, BUDGET).expect("steps") {
-                    self.check(key, value);
-                    self.removed.push(value);
-                    self.gone.insert(value);
-                }
-            }
-            _ => {
-                if let Some(value) = handle.get(key, BUDGET).expect("steps") {
-                    self.check(key, value);
-                    self.got.insert(value);
-                }
-            }
+    fn call(&mut self, handle: &mut MapPass, key: u64, kind: u64, is_spent: &AtomicBool) {
+        let made = match kind {
+            0 => self.insert(handle, key),
+            1 | 2 => self.remove(handle, key, kind == 1),
+            3 => self.get(handle, key),
+            4 => self.replace(handle, key),
+            5 => self.put(handle, key),
+            6 => self.get_or_insert(handle, key),
+            _ => self.exchange(handle, key),
+        };
+        match made {
+            Err(Refusal::EpochSpent) => is_spent.store(true, Ordering::Relaxed),
+            told => told.expect("steps and slots"),
+        }
+    }
+
+    fn insert(&mut self, handle: &mut MapPass, key: u64) -> Result<(), Refusal> {
+        let value = self.value_of(key);
+        if handle.insert(key, value, BUDGET)? {
+            self.stored.push(value);
+        }
+        Ok(())
+    }
+
+    /// Takes a key out, or, if it is to compare, takes it out with the value that it found.
+    fn remove(&mut self, handle: &mut MapPass, key: u64, compares: bool) -> Result<(), Refusal> {
+        let removed = if compares { self.compared(handle, key)? } else { handle.remove(key, BUDGET)? };
+        self.take(key, removed);
+        Ok(())
+    }
+
+    fn compared(&mut self, handle: &mut MapPass, key: u64) -> Result<Option<u64>, Refusal> {
+        let Some(value) = self.find(handle, key)? else {
+            return Ok(None);
+        };
+        match handle.remove_if(key, value, BUDGET)? {
+            Compared::Equal => return Ok(Some(value)),
+            Compared::Other(other) => assert_ne!(other, value),
+            Compared::Absent => {}
+        }
+        Ok(None)
+    }
+
+    fn get(&mut self, handle: &mut MapPass, key: u64) -> Result<(), Refusal> {
+        self.find(handle, key).map(|_| ())
+    }
+
+    fn replace(&mut self, handle: &mut MapPass, key: u64) -> Result<(), Refusal> {
+        let value = self.value_of(key);
+        let before = handle.replace(key, value, BUDGET)?;
+        self.stored.extend(before.map(|_| value));
+        self.take(key, before);
+        Ok(())
+    }
+
+    fn put(&mut self, handle: &mut MapPass, key: u64) -> Result<(), Refusal> {
+        let value = self.value_of(key);
+        let before = handle.put(key, value, BUDGET)?;
+        self.stored.push(value);
+        self.take(key, before);
+        Ok(())
+    }
+
+    fn get_or_insert(&mut self, handle: &mut MapPass, key: u64) -> Result<(), Refusal> {
+        let value = self.value_of(key);
+        match handle.get_or_insert(key, value, BUDGET)? {
+            Some(there) => self.found(key, there),
+            None => self.stored.push(value),
+        }
+        Ok(())
+    }
+
+    fn exchange(&mut self, handle: &mut MapPass, key: u64) -> Result<(), Refusal> {
+        let value = self.value_of(key);
+        let before = handle.fetch_update(key, |_| Some(value), BUDGET)?;
+        self.stored.extend(before.map(|_| value));
+        self.take(key, before);
+        Ok(())
+    }
+
+    fn find(&mut self, handle: &mut MapPass, key: u64) -> Result<Option<u64>, Refusal> {
+        let there = handle.get(key, BUDGET)?;
+        if let Some(value) = there {
+            self.found(key, value);
+        }
+        Ok(there)
+    }
+
+    fn found(&mut self, key: u64, value: u64) {
+        self.check(key, value);
+        self.got.insert(value);
+    }
+
+    fn take(&mut self, key: u64, before: Option<u64>) {
+        if let Some(value) = before {
+            self.check(key, value);
+            self.removed.push(value);
+            self.gone.insert(value);
         }
     }
 
@@ -101,10 +178,10 @@ fn play(workers: &mut [Worker], shape: Shape) -> (Vec<Entry>, u32) {
 fn check(workers: &[Worker], left: Vec<Entry>) {
     let stored: HashSet<u64> = workers.iter().flat_map(|it| &it.stored).copied().collect();
     assert_eq!(stored.len(), workers.iter().map(|it| it.stored.len()).sum::<usize>());
-    assert!(workers.iter().all(|it| it.got.is_subset(&stored)), "a value of an insert that was answered no, or refused");
+    assert!(workers.iter().all(|it| it.got.is_subset(&stored)), "a value that a call gave and didn't store");
     let mut there = stored;
     for value in workers.iter().flat_map(|it| &it.removed) {
-        assert!(there.remove(value), "a value that no insert stored, or that was removed twice");
+        assert!(there.remove(value), "a value that nobody stored, or that was taken out twice");
     }
     assert!(left.iter().all(|entry| entry.value >> 48 == entry.key));
     assert!(left.windows(2).all(|pair| pair[0].key < pair[1].key));
@@ -143,11 +220,31 @@ fn the_values_of_many_borrowers_balance() {
                     };
                     worker.random =
                         worker.random.wrapping_mul(6_364_136_223_846_793_005).wrapping_add(1_442_695_040_888_963_407);
-                    worker.call(&mut handle, (worker.random >> 40) % KEYS, worker.random >> 33 & 3, never);
+                    worker.call(&mut handle, (worker.random >> 40) % KEYS, worker.random >> 33 & 7, never);
                     worker.round += 1;
                 }
             });
         }
     });
     check(&workers, map.close().expect("a report").entries);
+}
+
+#[test]
+fn no_update_is_lost() {
+    const EACH: u64 = 30_000;
+    let entries: Vec<_> = (0..3).map(|key| Entry { key, value: 0 }).collect();
+    let mut handles = Map::open_with(Shape::for_keys(8, THREADS as usize), THREADS as usize, &entries).expect("a map");
+    thread::scope(|scope| {
+        for handle in &mut handles {
+            scope.spawn(|| {
+                for turn in 0..EACH {
+                    assert!(handle
+                        .fetch_update(turn % 3, |count| Some(count + 1), BUDGET)
+                        .expect("steps and slots")
+                        .is_some());
+                }
+            });
+        }
+    });
+    assert!((0..3).all(|key| handles[0].get(key, BUDGET) == Ok(Some(THREADS * EACH / 3))));
 }

@@ -78,6 +78,7 @@ of_sets_and_maps! {
     one_report_and_no_loss
     a_report_that_there_is_no_memory_to_shorten
     a_close_that_the_library_refuses
+    a_set_that_lends_its_handles_closes_all_or_none
 }
 
 /// How many bytes a key of a report takes, and an entry.
@@ -144,4 +145,24 @@ fn a_close_that_the_library_refuses<K: Both>() {
     let mut handles = Table::<K>::open(shape, 2).expect("a set");
     drop(handles.pop());
     assert!(refused_in_the_library(|| handles.remove(0).close()).is_err());
+}
+
+fn a_set_that_lends_its_handles_closes_all_or_none<K: Both>() {
+    let shape = Shape::for_keys(1_000, 3);
+    let mut set = Table::<K>::lending_with(shape, 3, &K::items(&[1, 2])).expect("a set");
+    std::mem::forget(set.lend());
+    for (key, by_the_library) in [(5, false), (6, true), (7, true)] {
+        let told = if by_the_library { refused_in_the_library(|| set.close()) } else { refused(|| set.close()) };
+        let Err(CloseError::Memory(unclosed)) = told else {
+            panic!("a report without memory");
+        };
+        set = unclosed.into_table();
+        let (mut first, second) = (set.lend().expect("two are free"), set.lend().expect("one is free"));
+        assert_eq!((K::insert(&mut first, key, 100_000), second.has(key, 100_000)), (Ok(true), Ok(true)));
+        assert!(set.lend().is_none());
+    }
+    let (report, _) = K::report(set.close().expect("memory"));
+    assert_eq!((report.keys, report.free), (vec![1, 2, 5, 6, 7], shape.slots - 5));
+    let dropped = Table::<K>::lending(shape, 3).expect("a set");
+    assert!(refused_in_the_library(|| dropped.close()).is_err());
 }

@@ -189,7 +189,7 @@ pub extern "C" fn vbr_map_close(
 /// what the map held and its entries, ascending by key, in front of `entries`.
 ///
 /// ```c file=bindings/c/map_example.c
-/// vbr_answer closed = vbr_map_close_all(map, 2, entries, 8, &report); /* VBR_YES: entries[0] is {5, 70} */
+/// vbr_answer closed = vbr_map_close_all(map, 2, entries, 8, &report); /* VBR_YES: entries[0] is {5, 72} */
 /// ```
 #[unsafe(no_mangle)]
 pub extern "C" fn vbr_map_close_all(

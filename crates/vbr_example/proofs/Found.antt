@@ -125,7 +125,7 @@ found set message p q r reply told caught answers none =
     let call : Call = (set_call q.trace.who Has message.page reply) in
     let start : Start = r.trace.start in
     let keys : Keys = opening_keys start in
-    let f = caught.later call q.trace r.trace (record { table = refl; start = refl; passes = refl; who = refl }) ([], sym (append-nil q.trace.seen)) answers in
+    let f = caught.later (call ∷ []) q.trace r.trace (record { table = refl; start = refl; passes = refl; who = refl }) ([], sym (append-nil q.trace.seen)) answers in
     let front : List Call = calls_of start message.token.seen in
     let history : calls_of start r.trace.seen ≡ (front ++ f.between) ++ call ∷ f.more = f.stands ∙ ap (λ (d : Start). (calls_of d message.token.seen ++ f.between) ++ call ∷ f.more) (sym answers.same.start) in
     let legal : IsLegal keys ((front ++ f.between) ++ call ∷ f.more) = subst (IsLegal keys) history answers.legal in

@@ -3,7 +3,7 @@ use Rattle.vbr_list.proofs.Names.{◌≡◌, ◌≢◌, ℕ, ◌+◌, ◌*◌, �
 use Rattle.vbr_list.proofs.Names.{AddsNone, advances, AdvancesNone, At, Begins, begins_refl, begins_run, begins_trans, bucket_of, changed_disturbed, ChangesNone, disturbances, disturbances_grow, disturbances_paid, EpochMoved, Event, found, FreshIfMoved, Held, held_in_kept, HeldIn, incarnations_after, is_advance, IsAdvance, IsAlone, IsFresh, IsHeld, IsLost, IsMovedOrLost, IsOpenIn, IsRun, IsSame, IsStart, Keeps, keeps_on, known_open, knows, link_loaded, link_of, link_shown_at, LoadLink, LostExchange, Marked, met, met_bound, met_bound_quiet, met_later, met_on, moved_by_others, moved_disturbed, OnlyEventsOf, own_between, own_calls, own_changes, own_entries, own_unchanged, PassView, Quiet, quiet_on, Rollback, RollsBack, run_agrees, shown_there, since, StampsFreshly, StandsNow, Start, Step, Trace, undisturbed_by_itself, word_of, word_of-link_of, world_after}
 use Rattle.vbr_list.specs.Helping.{OpensPlace}
 use Rattle.vbr_list.specs.Budgets.{listed_for}
-use Rattle.vbr_list.specs.Disturbed.{changed_after, disturbed_after, disturbed, enough_among, enough_to_insert_among, enough_to_search_among, most_disturbed}
+use Rattle.vbr_list.specs.Disturbed.{changed_after, disturbed_after, disturbed, enough_among, enough_to_insert_among, enough_to_search_among, enough_to_store_among, most_disturbed}
 use Rattle.vbr_list.specs.declared.found.Found.{Found}
 use Rattle.vbr_list.specs.Walking.{KnowsEpoch, LosesFound, LosesHeld, LosesNext, LosesPlace, MovesEpoch, MovesOn, NextStandsStill, StandsStill, StoodOpen, met_since, nodes_after}
 
@@ -337,3 +337,6 @@ enough_to_search_more nodes times most le = mul-le (times + 1) (9 * (nodes + tim
 
 pub enough_to_insert_more : (nodes times most taking : ℕ) → times ≤ most → enough_to_insert_among nodes times taking ≤ enough_to_insert_among nodes most taking
 enough_to_insert_more nodes times most taking le = let x = mul-le times (9 * (nodes + times) + 7) most (9 * (nodes + most) + 7) le (omega (arith, le)) in omega (arith, x, le)
+
+pub enough_to_store_more : (nodes times most taking : ℕ) → times ≤ most → enough_to_store_among nodes times taking ≤ enough_to_store_among nodes most taking
+enough_to_store_more nodes times most taking le = let x = mul-le times (9 * (nodes + times) + 12) most (9 * (nodes + most) + 12) le (omega (arith, le)) in omega (arith, x, le)

@@ -22,8 +22,10 @@ mod Sufficing
 mod Tiring
 mod LonePasses
 mod Told
+mod Expected
 mod Marks
 mod ValueReads
+mod ReadFirst
 mod FoundValues
 mod Stores
 mod Wants

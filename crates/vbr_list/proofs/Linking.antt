@@ -1,7 +1,7 @@
 -- A slot in hand: search after search for the key, until the call is answered or its budget has no room.
 use Rattle.vbr_list.proofs.Names.{◌≡◌, ℕ, ◌+◌, ◌≤◌, Bool, false, is_err, Option, Result, IfOk, None, Some, sym, ◌∙◌, subst, arith, Bor, option_copied}
 use Rattle.vbr_list.proofs.Names.{CountsSteps, Ghosts, had_back, had_grown, had_on, HandView, HasStill, Held, IsGap, IsSucc, KeepsIn, Know, knows, Made, none_back, none_on, PassLaw, PassView, PutsBack, Quiet, quiet_on, set_call, TakesNoSlot, Took, Trace}
-use Rattle.vbr_list.specs.Inserting.{CountsWithin, denied, DeniesNone, HasHandAndRoom, Links}
+use Rattle.vbr_list.specs.Inserting.{CountsWithin, denied, AnswersNone, HasHandAndRoom, Links}
 use Rattle.vbr_list.specs.Pieces.{GoesOn, IsSameCall, pass_in, trace_in}
 use Rattle.vbr_list.specs.Places.{IsCur, IsEnd, Locates}
 use Rattle.vbr_list.specs.Traversing.{Finds, LastWalk, LocatesFor}
@@ -84,7 +84,7 @@ lost_then each {b} {c} {d} {e} law so went x few quiet has had found finds loses
 -- ---- an answer no, and the end of the budget
 
 -- the answer was lost: the slot is in hand again
-pub denied_then : {N : Type 0} {kind : Ghosts N} → (each : ℕ) → 1 ≤ each → {b c d e : PendingCall N kind} {hand : HandView} → PassLaw (pass_in b) → IsLinking (3 + each) b c hand → GoesOn c d → IsSameCall d e → e.used ≡ d.used + 1 → KeepsIn (pass_in d) (pass_in e) 1 → (found : Found) → Finds c d found → DeniesNone d e found → IsLinking (3 + each) b e hand
+pub denied_then : {N : Type 0} {kind : Ghosts N} → (each : ℕ) → 1 ≤ each → {b c d e : PendingCall N kind} {hand : HandView} → PassLaw (pass_in b) → IsLinking (3 + each) b c hand → GoesOn c d → IsSameCall d e → e.used ≡ d.used + 1 → KeepsIn (pass_in d) (pass_in e) 1 → (found : Found) → Finds c d found → AnswersNone d e found → IsLinking (3 + each) b e hand
 denied_then each one {d = d} {e = e} law so went same used keeps found finds lost =
     lost_then each law so went (takes_on 1 same used keeps.took keeps.takes_no_slot) (omega (arith, used, one)) lost.quiet
     (has_denied so went keeps)

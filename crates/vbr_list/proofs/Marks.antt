@@ -11,7 +11,7 @@ use Rattle.vbr_list.specs.Traversing.{Finds, LastWalk, SearchTires}
 use Rattle.vbr_list.specs.Walking.{KnowsEpoch, LosesPlace, StandsStill, WalksAgain, met_since, nodes_after}
 use Rattle.vbr_list.specs.declared.call.PendingCall.{PendingCall}
 use Rattle.vbr_list.specs.declared.found.Found.{Found}
-use Rattle.vbr_list.proofs.Disturbing.{alone_undisturbed, changed_same, disturbed_same, grows_disturbed, loses_place_disturb, met_before, met_less, run_at, run_to, same_between, unchanged_at, undisturbed}
+use Rattle.vbr_list.proofs.Disturbing.{alone_undisturbed, changed_same, disturbed_same, grows_disturbed, loses_place_disturb, met_before, met_less, met_quiet, run_at, run_to, same_between, unchanged_at, undisturbed}
 use Rattle.vbr_list.proofs.Going.{by_either}
 use Rattle.vbr_list.proofs.Preparing.{if_failed}
 use Rattle.vbr_list.proofs.Walking.{HasRepeated}
@@ -195,29 +195,28 @@ late_few lost t t2 m1 m2 m3 n d used mid marked ended now more x y z e g l k j f
     let w = mul-le (lost + t + t2 + 1) (9 * (n + d) + 6) d (9 * (n + d) + 6) f (omega arith) in
     omega (arith, x, y, z, e, g, u, v, v2, w)
 
-module _ (p q m r : Trace) (is : IsStart p.start) (key : ℕ) (sq : IsSame p q) (sm : IsSame q m) (a : Begins p.seen q.seen) (b : Begins q.seen m.seen) {call : Call} (made : Made call p r) (op : call.op ≡ Remove) (on : Begins m.seen r.seen) where
+module _ (p q m r : Trace) (is : IsStart p.start) (key : ℕ) (sq : IsSame p q) (sm : IsSame q m) (a : Begins p.seen q.seen) (b : Begins q.seen m.seen) (quiet : Quiet p m) {call : Call} (made : Made call p r) (on : Begins m.seen r.seen) where
   ok : IsRun p.start p.passes r.seen
   ok = run_at p r made.same made.is_run
 
-  met_all : met_since p r key ≤ listed_for p key + disturbed p r key
-  met_all = met_removed p r is ok key made op
+  ok_m : IsRun p.start p.passes m.seen
+  ok_m = begins_run p.start p.passes m.seen r.seen on ok
+
+  met_some : met_since p m key ≤ listed_for p key + disturbed p r key
+  met_some = let x = met_quiet p m is ok_m key quiet in let grows = grows_disturbed p r is ok key m.seen on in omega (arith, x, grows)
 
   met_first : met_since p q key ≤ listed_for p key + disturbed p r key
-  met_first = let low = met_before p r is ok key q a (begins_trans q.seen m.seen r.seen b on) in let all = met_all in omega (arith, low, all)
+  met_first = let low = met_before p m is ok_m key q a b in let some = met_some in omega (arith, low, some)
 
   met_mid : met_since q m key ≤ listed_for p key + disturbed p r key
-  met_mid =
-      let less = met_less p m is (begins_run p.start p.passes m.seen r.seen on ok) key q sq a b in
-      let low = met_before p r is ok key m (begins_trans p.seen q.seen m.seen a b) on in
-      let all = met_all in
-      omega (arith, less, low, all)
+  met_mid = let less = met_less p m is ok_m key q sq a b in let some = met_some in omega (arith, less, some)
 
   -- a node that was marked and has left is in the list no more
-  pub left_fewer : Leaves p r key → IsAlone p r → listed_for r key < listed_for p key
-  left_fewer left alone =
+  pub left_fewer : call.op ≡ Remove → Leaves p r key → IsAlone p r → listed_for r key < listed_for p key
+  left_fewer op left alone =
       let b = bucket_of p.start.shape key in
       let less = marked_fewer p.start p.passes p.seen r.seen is ok made.seen p.who key b left in
-      let all = met_all in
+      let all = met_removed p r is ok key made op in
       let none = alone_undisturbed p r key alone in
       let P : Start → Type 0 = λ s. ahead (record r { start = s }) (bucket_of s.shape key) (Head (bucket_of s.shape key)) < listed_for p key in
       subst P (sym made.same.start) (omega (arith, less, all, none))
@@ -233,7 +232,7 @@ module _ (p q m r : Trace) (is : IsStart p.start) (key : ℕ) (sq : IsSame p q) 
         let grows = grows_disturbed p r is ok key m.seen on in
         soon_few x.lost w.lost (met_since p q key) (met_since q m key) (listed_for p key) (disturbed p r key) used mid now (steps_to_value_of p.start) x.repeats.paid w.repeats.paid few met_first met_mid (omega (arith, before, since_q, here, there, grows))
 
-    module _ (told : Found) (last : LastWalk q m key used mid told) {now : ℕ} (late : MarksAndSearches (steps_to_value_of m.start + 1) m r key mid now told.pred) where
+    module _ (op : call.op ≡ Remove) (told : Found) (last : LastWalk q m key used mid told) {now : ℕ} (late : MarksAndSearches (steps_to_value_of m.start + 1) m r key mid now told.pred) where
       rounds : x.lost + last.lost + late.searches.walks.lost + 1 ≤ disturbed p r key
       rounds = let few = late_rounds p q m r is ok key sq sm x told last late in omega (arith, few)
 
@@ -245,13 +244,13 @@ module _ (p q m r : Trace) (is : IsStart p.start) (key : ℕ) (sq : IsSame p q) 
           let start = ap steps_to_value_of (same_on sq sm).start in
           let marked_few = late.few in
           let met_last = met_less p r is ok key e (same_searched p q m r is ok key sq sm x told last late) (begins_trans p.seen m.seen e.seen (begins_trans p.seen q.seen m.seen a b) to_e) late.searches.then.seen in
-          let all = met_all in
+          let all = met_removed p r is ok key made op in
           late_few x.lost last.lost late.searches.walks.lost (met_since p q key) (met_since q m key) (met_since e r key) (listed_for p key) (disturbed p r key) used mid late.used late.searches.used now (steps_to_value_of p.start) x.repeats.paid last.repeats.paid (omega (arith, marked_few, start)) late.searches.few late.searches.walks.repeats.paid met_first met_mid (omega (arith, met_last, all)) rounds
 
-    module _ {P : Type 0} (told : Found) (last : LastWalk q m key used mid told) {now : ℕ} (w : WalksAgain 9 q m key used mid) (paid : P ⊎ MarksAndSearches (steps_to_value_of m.start + 1) m r key mid now told.pred) where
+    module _ {P : Type 0} (told : Found) (last : LastWalk q m key used mid told) {now : ℕ} (w : WalksAgain 9 q m key used mid) (paid : P ⊎ ((call.op ≡ Remove) × MarksAndSearches (steps_to_value_of m.start + 1) m r key mid now told.pred)) where
       -- the one or the other
       pub remove_paid : (P → now ≤ mid + (steps_to_value_of p.start + 7)) → now ≤ remove_costs_among (listed_for p key) (disturbed p r key) (steps_to_value_of p.start)
-      remove_paid soon = by_either paid (λ few. soon_paid w now (soon few)) (λ late. late_paid told last late)
+      remove_paid soon = by_either paid (λ few. soon_paid w now (soon few)) (λ late. late_paid late.0 told last late.1)
 
       -- one that nothing disturbed was soon, and its last search had ended soon
       pub remove_alone : IsAlone p r → P × (mid ≤ 9 * listed_for p key + 3)
@@ -259,4 +258,4 @@ module _ (p q m r : Trace) (is : IsStart p.start) (key : ℕ) (sq : IsSame p q) 
           let none = alone_undisturbed p r key alone in
           let steps = steps_to_value_of p.start in
           let most = undisturbed (λ t. mid + (steps + 7) ≤ remove_costs_among (listed_for p key) t steps) key (soon_paid w (mid + (steps + 7)) (omega arith)) alone in
-          (by_either paid (λ soon. soon) (λ late. absurd (let some = rounds told last late in omega (arith, some, none))), omega (arith, most))
+          (by_either paid (λ soon. soon) (λ late. absurd (let some = rounds late.0 told last late.1 in omega (arith, some, none))), omega (arith, most))

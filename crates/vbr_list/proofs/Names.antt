@@ -1,5 +1,4 @@
 -- What proofs of this crate name of std and of the crates below it, from one place.
-pub use mathlib.Core.Bool.{beq}
 pub use Rattle.std.specs.Borrow.{Bor}
 pub use Rattle.std.specs.List.{AllByRecursion}
 pub use Rattle.std.specs.Option.{is_none, is_some, option_copied}

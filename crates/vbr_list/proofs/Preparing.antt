@@ -1,8 +1,10 @@
 -- The steps of an insert, and what its refusals say.
 use Rattle.vbr_list.proofs.Names.{◌≡◌, ◌≢◌, ℕ, ◌+◌, ◌-◌, ◌<◌, ◌≤◌, Bool, true, false, List, [], ◌∷◌, length, Result, Ok, Err, inl, refl, sym, ◌∙◌, subst, arith, IfOk, IfErr, is_err, is_ok}
-use Rattle.vbr_list.proofs.Names.{Begins, counts_on, CountsSteps, EpochSpent, Ghosts, had_grown, had_on, IsRun, IsSame, IsSpent, LeavesRoom, Made, made_on, missed_after, needed_after, none_on, NoSlot, Op, OutOfSteps, PassView, Quiet, Refusal, set_call, shared_taken, shares_more, slots_kept_on, Start, TakesNoSlot, Took, took_all, TookWithin, Trace, WasSo}
+use Rattle.vbr_list.proofs.Names.{Begins, counts_on, CountsSteps, EpochSpent, Ghosts, had_grown, had_on, IsRun, IsSame, IsSpent, LeavesRoom, Made, made_on, missed_after, needed_after, none_on, NoSlot, Op, OutOfSteps, PassView, Quiet, Refusal, set_call, shared_taken, shares_more, slots_kept_on, Start, TakesNoSlot, Took, took_all, TookWithin, Trace}
 use Rattle.vbr_machine.specs.declared.history.Call.{Call as ListedCall}
-use Rattle.vbr_list.specs.Inserting.{CountsWithin, InsertIsShort, InsertShowsSpent, Prepares, TakesNone, WasFoundFor}
+use Rattle.vbr_list.specs.Inserting.{CountsWithin, InsertIsShort, InsertShowsSpent, Prepares, TakesNone}
+use Rattle.vbr_list.specs.Wanted.{WasWantedFor}
+use Rattle.vbr_list.specs.declared.wanted.Wanted.TheVariants.{Absent}
 use Rattle.vbr_list.specs.Pieces.{GoesOn, HasRoom, IsSameCall, pass_in, trace_in}
 use Rattle.vbr_list.specs.Refusals.{IsRefusedInsert}
 use Rattle.vbr_list.specs.declared.call.PendingCall.{PendingCall}
@@ -75,14 +77,8 @@ takes_after p q r quiet some x more NoSlot y = record {
 }
 takes_after p q r quiet some x more (EpochSpent epoch) y = record { spent = y.spent; since = y.since; counts = within_on x y.counts.counts y.counts.within.0 y.counts.within.1; room = y.room }
 
--- it comes where the key was found as it was wanted
-pub found_for : {p q : Trace} {key : ℕ} {wanted : Bool} → WasSo p q key wanted → (refusal : Refusal) → WasFoundFor wanted p q key refusal
-found_for so (OutOfSteps used) = tt
-found_for so NoSlot = so
-found_for so (EpochSpent epoch) = so
-
 -- a refusal behind no steps is one of the whole call
-pub refused_first : (p q : PassView) (key budget : ℕ) (refusal : Refusal) → TakesNone p q 0 budget refusal → WasFoundFor false p.trace q.trace key refusal → IsRefusedInsert p q key budget refusal
+pub refused_first : (p q : PassView) (key budget : ℕ) (refusal : Refusal) → TakesNone p q 0 budget refusal → WasWantedFor Absent p.trace q.trace key refusal → IsRefusedInsert p q key budget refusal
 refused_first p q key budget (OutOfSteps used) x so = record { took = took_all x.counts.counts; within = x.counts.within.1; short = x.short }
 refused_first p q key budget NoSlot x so = record { absent = so; empty = x.empty; still = x.still; outside = x.outside }
 refused_first p q key budget (EpochSpent epoch) x so = record { absent = so; spent = x.spent; room = record { steps = x.since; room = x.room; took = took_all x.counts.counts } }

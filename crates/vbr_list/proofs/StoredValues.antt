@@ -15,9 +15,8 @@ use Rattle.vbr_list.specs.declared.wanted.Wanted.{Wanted}
 use Rattle.vbr_list.proofs.Disturbing.{alone_undisturbed, run_at}
 use Rattle.vbr_list.proofs.Going.{room_left}
 use Rattle.vbr_list.proofs.LateSearches.{late_disturbs, late_paid}
-use Rattle.vbr_list.proofs.LonePasses.{are_alone}
 use Rattle.vbr_list.proofs.Preparing.{within_all, within_most, within_on}
-use Rattle.vbr_list.proofs.Stores.{had_since, has_made, HasMade, makes_on, store_lone, store_lone_costs, store_ready, store_refused_second, two_made}
+use Rattle.vbr_list.proofs.Stores.{are_alone, had_since, has_made, HasMade, makes_on, store_lone, store_lone_costs, store_ready, store_refused_second, two_made}
 use Rattle.vbr_list.proofs.Sufficing.{lacks, lone, never_refused, slot_later}
 use Rattle.vbr_list.proofs.Sweeping.{leaves_replaced_since}
 use Rattle.vbr_list.proofs.Walking.{both_lack, both_paid}

@@ -1,18 +1,18 @@
 -- The calls of a store, its slots and its steps, and what its refusals say.
-use Rattle.vbr_list.proofs.Names.{◌≡◌, ◌≢◌, ℕ, ◌+◌, ◌*◌, ◌≤◌, Bool, true, false, List, [], ◌∷◌, Option, Some, None, Result, Ok, Err, inl, inr, sym, ap, refl, ◌∙◌, arith, mul-le, subst, IfErr, if◌then◌else◌}
-use Rattle.vbr_list.proofs.Names.{Begins, begins_trans, birth_in_hand, Call, ChangesNone, counts_on, EpochSpent, Get, grows_same, had_grown, HandView, HasAllButOne, HasStill, Held, incarnations_after, IsAlone, IsRun, IsSame, IsStart, Keeps, knows, LostExchange, MadeTwo, made_then, made_on, most_to_take, NoSlot, OutOfSteps, PassView, Quiet, Refusal, Remove, Start, took_all, TookWithin, Trace, two_before, two_on}
+use Rattle.vbr_list.proofs.Names.{◌≡◌, ◌≢◌, ℕ, ◌+◌, ◌*◌, ◌<◌, ◌≤◌, Bool, true, false, List, [], ◌∷◌, ◌++◌, Option, Some, None, Result, Ok, Err, sym, ap, refl, ◌∙◌, arith, mul-le, subst, IfErr, if◌then◌else◌}
+use Rattle.vbr_list.proofs.Names.{Begins, birth_in_hand, Call, counts_on, EpochSpent, Get, grows_same, had_grown, HandView, HasAllButOne, HasStill, IsAlone, IsRun, IsSame, IsStart, made_by, MadeTwo, made_then, made_on, most_to_take, NoSlot, OutOfSteps, PassView, Quiet, Refusal, Remove, took_all, TookWithin, Trace, two_before, two_on}
+use Rattle.vbr_list.specs.Alone.{AreAnsweredAlone}
 use Rattle.vbr_list.specs.Budgets.{IsAnsweredOrSpent, LacksSteps, enough_to_store, listed_for, store_costs}
 use Rattle.vbr_list.specs.Disturbed.{disturbed, enough_to_store_among, steps_to_prepare, store_costs_among}
 use Rattle.vbr_list.specs.Inserting.{CountsWithin, HasHandAndRoom, InsertIsShort, SearchedFor, SearchesInVain, TakesNone}
 use Rattle.vbr_list.specs.Pieces.{KeepsHand}
-use Rattle.vbr_list.specs.Settling.{SearchesWith, WasWantedFor, had_node}
+use Rattle.vbr_list.specs.Settling.{SearchesWith, had_node}
 use Rattle.vbr_list.specs.Storing.{HasUnlessStored, HasUnstored, IsRefusedStore, Makes, replaced, stored_calls, storing_calls}
 use Rattle.vbr_list.specs.Told.{given_call, stored_call}
-use Rattle.vbr_list.specs.Walking.{LosesFound, LosesNext, LosesPlace, MovesOn, WalksAgain}
-use Rattle.vbr_list.specs.Wanted.{steps_to_compare, wants}
-use Rattle.vbr_list.specs.declared.found.Found.{Found}
+use Rattle.vbr_list.specs.Walking.{WalksAgain}
+use Rattle.vbr_list.specs.Wanted.{WasWantedFor, steps_to_compare, wants}
 use Rattle.vbr_list.specs.declared.wanted.Wanted.{Wanted}
-use Rattle.vbr_list.proofs.Disturbing.{lost_place_later}
+use Rattle.vbr_list.proofs.LonePasses.{alone_all}
 use Rattle.vbr_list.proofs.Sufficing.{lacks_more, lone, took_more}
 use Rattle.vbr_list.proofs.Walking.{HasRepeated, once_paid, searches_until, vain_lacks}
 
@@ -50,6 +50,16 @@ has_made p q (one ∷ []) made = record { same = made.same; seen = made.seen; is
 has_made p q (one ∷ two ∷ []) made = record { same = made.same; seen = made.seen; is_run = made.is_run }
 has_made p q (one ∷ two ∷ three ∷ more) made = absurd made
 
+calls_made : (p q : Trace) (calls : List Call) → Makes calls p q → made_by q ≡ made_by p ++ calls
+calls_made p q [] made = absurd made
+calls_made p q (one ∷ []) made = made.calls
+calls_made p q (one ∷ two ∷ []) made = made.calls
+calls_made p q (one ∷ two ∷ three ∷ more) made = absurd made
+
+-- of a pass that is its table's only one, they are answered as by a plain map
+pub are_alone : (p q : Trace) (calls : List Call) → IsStart p.start → p.who < p.passes → Makes calls p q → AreAnsweredAlone p calls
+are_alone p q calls start low made = let has = has_made p q calls made in alone_all calls start low has.same has.is_run (calls_made p q calls made)
+
 -- by whether what was there is as it is wanted
 pub stored_where : (who key value : ℕ) (wanted : Wanted) (there : Option ℕ) → wants wanted there ≡ true → stored_calls who key value wanted there ≡ storing_calls who key value there
 stored_where who key value wanted there is = ap (λ (stores : Bool). if stores then storing_calls who key value there else given_call who Get key there ∷ []) is
@@ -71,31 +81,6 @@ two_made who key value wanted None is made = absurd (cc)
 two_made {p} {q} who key value wanted (Some old) is made =
     let M : List Call → Type 0 = λ calls. Makes calls p q in
     (old, subst M (stored_where who key value wanted (Some old) is) made)
-
--- ---- what is lost
-
--- the epoch has moved since what only read
-pub moves_later : {p q r : Trace} → Quiet p q → (knows q).epoch ≡ (knows p).epoch → MovesOn q r → MovesOn p r
-moves_later {p} {q} {r} quiet epoch m = record {
-  moment = m.moment;
-  from = begins_trans p.seen q.seen m.moment quiet.seen m.from;
-  to = m.to;
-  other = λ e. m.other (ap (λ (start : Start). (incarnations_after start m.moment).epoch) quiet.same.start ∙ e ∙ sym epoch);
-}
-
--- so it is of a place
-place_later : (p q r : Trace) (held : Held) → Quiet p q → Keeps (knows p) (knows q) → ChangesNone p q → LosesPlace q r held → LosesPlace p r held
-place_later p q r held quiet keeps none (inl moves) = inl (moves_later quiet keeps.epoch moves)
-place_later p q r held quiet keeps none (inr lost) = lost_place_later held (LostExchange lost.0) quiet keeps none lost.1 lost.2
-
-next_later : (p q r : Trace) (next : Option Held) → Quiet p q → Keeps (knows p) (knows q) → ChangesNone p q → LosesNext q r next → LosesNext p r next
-next_later p q r None quiet keeps none lost = lost
-next_later p q r (Some node) quiet keeps none lost = place_later p q r node quiet keeps none lost
-
--- and of what was found
-pub found_later : (p q r : Trace) (found : Found) → Quiet p q → Keeps (knows p) (knows q) → ChangesNone p q → LosesFound q r found → LosesFound p r found
-found_later p q r found quiet keeps none (inl lost) = inl (place_later p q r found.pred quiet keeps none lost)
-found_later p q r found quiet keeps none (inr lost) = inr (next_later p q r found.cur quiet keeps none lost)
 
 -- ---- slots
 

@@ -6,9 +6,9 @@ use Rattle.vbr_list.specs.Found.{CurStood, IsFound}
 use Rattle.vbr_list.specs.Inserting.{Searches, SearchesFor, SearchesInVain}
 use Rattle.vbr_list.specs.Pieces.{GoesOn, trace_in}
 use Rattle.vbr_list.specs.Places.{IsCur, IsEnd}
-use Rattle.vbr_list.specs.Settling.{AsksMet, IsMet, Meeting, MeetsOther, MeetsWanted, ReadsWanted, TellsOther, WasWantedFor, has_wanted}
+use Rattle.vbr_list.specs.Settling.{AsksMet, IsMet, Meeting, MeetsOther, MeetsWanted, ReadsWanted, TellsOther, has_wanted}
 use Rattle.vbr_list.specs.Telling.{IsFoundValue, IsThere}
-use Rattle.vbr_list.specs.Wanted.{WasWanted, steps_to_compare, wants}
+use Rattle.vbr_list.specs.Wanted.{WasWanted, WasWantedFor, steps_to_compare, wants}
 use Rattle.vbr_list.specs.declared.call.PendingCall.{PendingCall}
 use Rattle.vbr_list.specs.declared.found.Found.{Found}
 use Rattle.vbr_list.specs.declared.storing.Met.{Met}

@@ -1,5 +1,5 @@
--- An insert, piece by piece: it takes a slot once it has found the key absent, and then links it. A replacement takes one by the same piece, once it has found the key present. Only contracts of private functions cite this.
-use Rattle.std.specs.Prelude.{◌≡◌, ℕ, ◌+◌, ◌*◌, ◌<◌, ◌≤◌, Bool, true, false, not, length, Option, Some, None}
+-- An insert, piece by piece: it takes a slot once it has found the key absent, and then links it. A store takes one by the same piece. Only contracts of private functions cite this.
+use Rattle.std.specs.Prelude.{◌≡◌, ℕ, ◌+◌, ◌*◌, ◌<◌, ◌≤◌, Bool, true, false, length, Option, Some, None}
 use Rattle.vbr_words.specs.declared.nodes.Nodes.{Ghosts}
 use Rattle.vbr_machine.specs.Runs.{Begins}
 use Rattle.vbr_machine.specs.declared.history.Op.{Op}
@@ -15,10 +15,11 @@ use Rattle.vbr_at_table.specs.KeptSlots.{HasStill, KeepsSlots, SharesWhereFull, 
 use Rattle.vbr_at_table.specs.Refusals.{HasNoSlot, IsSpent}
 use Rattle.vbr_at_table.specs.Steps.{CountsSteps}
 use Rattle.vbr_at_table.specs.declared.budget.TheConstants.{PIECE}
-use Rattle.vbr_at_table.specs.Moments.{WasSo}
 use Rattle.vbr_list.specs.Budgets.{LacksSteps}
 use Rattle.vbr_list.specs.Disturbed.{disturbed_after, steps_for_slot}
 use Rattle.vbr_list.specs.Walking.{LosesFound, met_since}
+use Rattle.vbr_list.specs.Wanted.{WasWantedFor}
+use Rattle.vbr_list.specs.declared.wanted.Wanted.TheVariants.{Absent}
 use Rattle.vbr_list.specs.Pieces.{IsSameCall, Replies, pass_in, trace_in}
 use Rattle.vbr_list.specs.declared.call.PendingCall.{PendingCall}
 use Rattle.vbr_list.specs.declared.found.Found.{Found}
@@ -55,12 +56,6 @@ TakesNone p q before budget (OutOfSteps used) = RunsShort p.trace q.trace before
 TakesNone p q before budget NoSlot = HasNoSlot p q
 TakesNone p q before budget (EpochSpent epoch) = InsertShowsSpent p q before budget epoch
 
--- a refusal that isn't for want of steps comes where the key was found as it was wanted
-abbrev pub WasFoundFor : Bool → Trace → Trace → ℕ → Refusal → Type 0
-WasFoundFor wanted p q key (OutOfSteps used) = Unit {0}
-WasFoundFor wanted p q key NoSlot = WasSo p q key wanted
-WasFoundFor wanted p q key (EpochSpent epoch) = WasSo p q key wanted
-
 -- a refusal for want of steps, and no other
 abbrev pub InsertIsShort : PassView → PassView → ℕ → ℕ → Refusal → Type 0
 InsertIsShort p q before budget (OutOfSteps used) = RunsShort p.trace q.trace before used budget
@@ -74,13 +69,13 @@ abbrev pub denied : Bool → Op
 denied true = Insert
 denied false = Remove
 
--- the pass has answered no, and its hand is empty
-pub record AnswersNo {N : Type 0} {kind : Ghosts N} (op : Op) (c d : PendingCall N kind) : Type 0 where
-  pub made : Replies op c d false
+-- the pass has answered an insert with no, and its hand is empty
+pub record AnswersNo {N : Type 0} {kind : Ghosts N} (c d : PendingCall N kind) : Type 0 where
+  pub made : Replies Insert c d false
   pub spent : (pass_in d).hand ≡ None
 
--- it hasn't, and no call was made, as what was found is lost
-pub record DeniesNone {N : Type 0} {kind : Ghosts N} (c d : PendingCall N kind) (found : Found) : Type 0 where
+-- nothing was answered, and no call was made, as what was found is lost
+pub record AnswersNone {N : Type 0} {kind : Ghosts N} (c d : PendingCall N kind) (found : Found) : Type 0 where
   pub quiet : Quiet (trace_in c) (trace_in d)
   pub loses : LosesFound (trace_in c) (trace_in d) found
 
@@ -129,22 +124,22 @@ SearchesInVain p q key before budget more (OutOfSteps used) = SearchesFor p q ke
 SearchesInVain p q key before budget more NoSlot = Unit {0}
 SearchesInVain p q key before budget more (EpochSpent epoch) = Unit {0}
 
--- the pass has answered no, as the key was found otherwise than it was wanted; or it has made no call, and has a slot in hand
-abbrev pub IsPrepared : {N : Type 0} {kind : Ghosts N} → Bool → PendingCall N kind → PendingCall N kind → Option HandView → Type 0
-IsPrepared wanted c d None = AnswersNo (denied (not wanted)) c d
-IsPrepared wanted c d (Some hand) = Quiet (trace_in c) (trace_in d) × HasHandAndRoom (pass_in d) hand
+-- the pass has answered no, as the key was found present; or it has made no call, and has a slot in hand
+abbrev pub IsPrepared : {N : Type 0} {kind : Ghosts N} → PendingCall N kind → PendingCall N kind → Option HandView → Type 0
+IsPrepared c d None = AnswersNo c d
+IsPrepared c d (Some hand) = Quiet (trace_in c) (trace_in d) × HasHandAndRoom (pass_in d) hand
 
 -- so it is, once it has come to the key and then taken a slot
-pub record PreparesHand {N : Type 0} {kind : Ghosts N} (wanted : Bool) (c d : PendingCall N kind) (hand : Option HandView) : Type 0 where
-  pub is : IsPrepared wanted c d hand
+pub record PreparesHand {N : Type 0} {kind : Ghosts N} (c d : PendingCall N kind) (hand : Option HandView) : Type 0 where
+  pub is : IsPrepared c d hand
   pub searched : SearchedFor (trace_in c) (trace_in d) c.key c.used d.used (steps_for_slot (pass_in c) (trace_in d) + 3)
 
 -- it isn't; a budget with seven steps more has enough
-pub record PreparesNone {N : Type 0} {kind : Ghosts N} (wanted : Bool) (c d : PendingCall N kind) (refusal : Refusal) : Type 0 where
+pub record PreparesNone {N : Type 0} {kind : Ghosts N} (c d : PendingCall N kind) (refusal : Refusal) : Type 0 where
   pub quiet : Quiet (trace_in c) (trace_in d)
   pub hand : (pass_in d).hand ≡ None
   pub says : TakesNone (pass_in c) (pass_in d) c.used c.budget refusal
-  pub so : WasFoundFor wanted (trace_in c) (trace_in d) c.key refusal
+  pub so : WasWantedFor Absent (trace_in c) (trace_in d) c.key refusal
   pub searches : SearchesInVain (trace_in c) (trace_in d) c.key c.used c.budget (steps_for_slot (pass_in c) (trace_in d) + 10) refusal
 
 -- ---- the slot is linked

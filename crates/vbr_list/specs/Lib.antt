@@ -8,6 +8,7 @@ pub mod Alone
 pub mod Told
 pub mod Wanted
 pub mod Sparing
+pub mod Expecting
 pub mod Pieces
 pub mod Nearing
 pub mod Walking

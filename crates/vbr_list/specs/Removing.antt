@@ -11,7 +11,6 @@ use Rattle.vbr_machine.specs.Membership.{HeldIn, KeyAt, StandsBehind}
 use Rattle.vbr_machine.specs.Removals.{IsTakenOut}
 use Rattle.vbr_machine.specs.Runs.{Begins}
 use Rattle.vbr_machine.specs.declared.event.Event.{Event}
-use Rattle.vbr_machine.specs.declared.history.Op.TheVariants.{Remove}
 use Rattle.vbr_slots.specs.Alone.{nodes}
 use Rattle.vbr_slots.specs.Calls.{IsSame, Quiet}
 use Rattle.vbr_slots.specs.Views.{Trace, knows}
@@ -20,6 +19,7 @@ use Rattle.vbr_at_table.specs.declared.held.Held.{Held}
 use Rattle.vbr_at_table.specs.declared.held.Marked.{Marked}
 use Rattle.vbr_at_table.specs.declared.rollback.Rollback.{Rollback}
 use Rattle.vbr_list.specs.Budgets.{steps_to_value_of}
+use Rattle.vbr_list.specs.Expecting.{op_to_remove, takes_out}
 use Rattle.vbr_list.specs.Helping.{MayHelp}
 use Rattle.vbr_list.specs.Leaving.{Leaves, WasClear}
 use Rattle.vbr_list.specs.Pieces.{Gives, HasRoom, trace_in}
@@ -44,10 +44,10 @@ Clears c d = HasRoom d → WasClear (trace_in c) (trace_in d) c.key
 abbrev pub steps_to_remove : Start → ℕ
 steps_to_remove start = steps_to_value_of start + 7
 
--- the answer takes so many steps, and where it is yes, the node that it marked has left its list, if the budget had room to unlink it once its value was read and it was marked
-pub record RemovesSoon {N : Type 0} {kind : Ghosts N} (c d : PendingCall N kind) (answer : Option ℕ) : Type 0 where
+-- the answer takes so many steps, and where the node was taken out, it has left its list, if the budget had room to unlink it once its value was read and it was marked
+pub record RemovesSoon {N : Type 0} {kind : Ghosts N} (expected : Option ℕ) (c d : PendingCall N kind) (answer : Option ℕ) : Type 0 where
   pub few : d.used ≤ c.used + steps_to_remove (trace_in c).start
-  pub leaves : is_some answer ≡ true → c.used + steps_to_value_of (trace_in c).start + 9 ≤ c.budget → Leaves (trace_in c) (trace_in d) c.key
+  pub leaves : takes_out expected answer ≡ true → c.used + steps_to_value_of (trace_in c).start + 9 ≤ c.budget → Leaves (trace_in c) (trace_in d) c.key
 
 -- past the mark of another node a place shows what it showed before; and where that is the link which is held of it, it is open
 pub record MarksBehind (p q : Trace) (key : ℕ) (pred : Held) : Type 0 where
@@ -89,11 +89,20 @@ pub record MarksAndSearches (most : ℕ) (p q : Trace) (key before since : ℕ) 
   pub few : used ≤ before + most
   pub searches : SearchesOn marked q key used since pred
 
--- the remove is answered, and gives the value that was read of the node where nodes have values; where that is yes, the node that it marked has left its list, unless the budget has no room for one more piece; it is answered soon, but for a search once the place before the node was lost
-pub record RemoveAnswers {N : Type 0} {kind : Ghosts N} (c d : PendingCall N kind) (found : Found) (answer : Option ℕ) : Type 0 where
-  pub made : Gives Remove c d answer
-  pub unlists : is_some answer ≡ true → HasRoom d → Leaves (trace_in c) (trace_in d) c.key
-  pub paid : RemovesSoon c d answer ⊎ MarksAndSearches (steps_to_value_of (trace_in c).start + 1) (trace_in c) (trace_in d) c.key c.used d.used found.pred
+-- a value is expected only where nodes have values
+abbrev pub MayExpect : {N : Type 0} {kind : Ghosts N} → PendingCall N kind → Option ℕ → Type 0
+MayExpect c expected = is_some expected ≡ true → (trace_in c).start.shape.values ≡ true
+
+-- a node was taken out, and a search followed once the place before it was lost
+pub record RemovesLate {N : Type 0} {kind : Ghosts N} (expected : Option ℕ) (c d : PendingCall N kind) (found : Found) (answer : Option ℕ) : Type 0 where
+  pub taken : takes_out expected answer ≡ true
+  pub late : MarksAndSearches (steps_to_value_of (trace_in c).start + 1) (trace_in c) (trace_in d) c.key c.used d.used found.pred
+
+-- the remove is answered, and gives the value that was read of the node where nodes have values; where the node was taken out, it has left its list, unless the budget has no room for one more piece; it is answered soon, but for a search once the place before the node was lost
+pub record RemoveAnswers {N : Type 0} {kind : Ghosts N} (expected : Option ℕ) (c d : PendingCall N kind) (found : Found) (answer : Option ℕ) : Type 0 where
+  pub made : Gives (op_to_remove expected answer) c d answer
+  pub unlists : takes_out expected answer ≡ true → HasRoom d → Leaves (trace_in c) (trace_in d) c.key
+  pub paid : RemovesSoon expected c d answer ⊎ RemovesLate expected c d found answer
 
 -- it isn't answered in three steps at most, and no call was made, as what was found is lost
 pub record RemoveRollsBack {N : Type 0} {kind : Ghosts N} (c d : PendingCall N kind) (found : Found) (rollback : Rollback) : Type 0 where

@@ -16,7 +16,7 @@ use Rattle.vbr_list.specs.Removing.{MarksAndSearches}
 use Rattle.vbr_list.specs.Storing.{Makes, replaced, stored_calls, storing_calls}
 use Rattle.vbr_list.specs.Telling.{ReadsFound, TellsThere}
 use Rattle.vbr_list.specs.Walking.{LosesFound, met_since}
-use Rattle.vbr_list.specs.Wanted.{WasWanted, steps_to_compare, wants}
+use Rattle.vbr_list.specs.Wanted.{WasWanted, WasWantedFor, steps_to_compare, wants}
 use Rattle.vbr_list.specs.declared.call.PendingCall.{PendingCall}
 use Rattle.vbr_list.specs.declared.found.Found.{Found}
 use Rattle.vbr_list.specs.declared.storing.Met.{Met}
@@ -26,7 +26,6 @@ use Rattle.vbr_list.specs.declared.storing.Prepared.TheVariants.{Ready, Told as 
 use Rattle.vbr_list.specs.declared.wanted.Wanted.{Wanted}
 use Rattle.vbr_list.specs.declared.wanted.Wanted.TheVariants.{Absent, Present, Anything, Value}
 use Rattle.vbr_at_table.specs.declared.refusal.Refusal.{Refusal}
-use Rattle.vbr_at_table.specs.declared.refusal.Refusal.TheVariants.{OutOfSteps, NoSlot, EpochSpent}
 
 -- ---- without a slot in hand
 
@@ -114,12 +113,6 @@ pub record HasAnswered {N : Type 0} {kind : Ghosts N} (wanted : Wanted) (c d : P
 abbrev pub IsPreparedStore : {N : Type 0} {kind : Ghosts N} → Wanted → PendingCall N kind → PendingCall N kind → Prepared → Type 0
 IsPreparedStore wanted c d (Ready hand) = HasPrepared wanted c d hand
 IsPreparedStore wanted c d (Answered there) = HasAnswered wanted c d there
-
--- a refusal that isn't for want of steps comes where the key was as it is wanted
-abbrev pub WasWantedFor : Wanted → Trace → Trace → ℕ → Refusal → Type 0
-WasWantedFor wanted p q key (OutOfSteps used) = Unit {0}
-WasWantedFor wanted p q key NoSlot = WasWanted wanted p q key
-WasWantedFor wanted p q key (EpochSpent epoch) = WasWanted wanted p q key
 
 -- neither; a budget with seven steps more has enough
 pub record PreparesNoStore {N : Type 0} {kind : Ghosts N} (wanted : Wanted) (c d : PendingCall N kind) (refusal : Refusal) : Type 0 where

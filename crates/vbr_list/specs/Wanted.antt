@@ -2,6 +2,8 @@
 use Rattle.std.specs.Prelude.{ℕ, ◌==◌, Bool, true, false, Option, Some, None}
 use Rattle.vbr_slots.specs.Views.{Trace}
 use Rattle.vbr_at_table.specs.Moments.{WasEntry, WasSo}
+use Rattle.vbr_at_table.specs.declared.refusal.Refusal.{Refusal}
+use Rattle.vbr_at_table.specs.declared.refusal.Refusal.TheVariants.{OutOfSteps, NoSlot, EpochSpent}
 use Rattle.vbr_list.specs.declared.wanted.Wanted.{Wanted}
 use Rattle.vbr_list.specs.declared.wanted.Wanted.TheVariants.{Absent, Present, Anything, Value}
 
@@ -21,6 +23,12 @@ WasWanted Absent p q key = WasSo p q key false
 WasWanted Present p q key = WasSo p q key true
 WasWanted Anything p q key = Unit {0}
 WasWanted (Value value) p q key = WasEntry p q key value
+
+-- a refusal that isn't for want of steps comes where it was
+abbrev pub WasWantedFor : Wanted → Trace → Trace → ℕ → Refusal → Type 0
+WasWantedFor wanted p q key (OutOfSteps used) = Unit {0}
+WasWantedFor wanted p q key NoSlot = WasWanted wanted p q key
+WasWantedFor wanted p q key (EpochSpent epoch) = WasWanted wanted p q key
 
 -- the steps of reading a value before a slot is taken: two where one value is wanted, else none
 abbrev pub steps_to_compare : Wanted → ℕ

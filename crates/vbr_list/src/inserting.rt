@@ -81,7 +81,7 @@ fn insert_by<N: Nodes>(
 {
     let call = &mut begin!(slots, stepper, key, budget, 0);
     call.at.law();
-    let mut hand = match call.prepare(false) {
+    let mut hand = match call.prepare() {
         Ok(Some(hand)) => hand,
         Ok(None) => return (Ok(false), call.used),
         Err(refusal) => return (Err(refusal), call.used),

@@ -1,15 +1,15 @@
 //! Removes.
-ghost use Rattle.std.specs.Prelude.{◌≡◌, ◌+◌, ◌≤◌, true, None, IfOk, IfErr, is_some};
+ghost use Rattle.std.specs.Prelude.{◌≡◌, ◌+◌, ◌≤◌, true, Some, None, IfOk, IfErr, is_some};
 ghost use Rattle.vbr_machine.specs.declared.history.Op.TheVariants.{Remove};
 ghost use Rattle.vbr_slots.specs.AtTables.{IsSameTable, pass_of, trace_of};
 ghost use Rattle.vbr_slots.specs.Calls.{Took};
 ghost use Rattle.vbr_slots.specs.Views.{IsOf};
 ghost use Rattle.vbr_at_table.specs.declared.budget.TheConstants.{PIECE};
+ghost use Rattle.vbr_list.specs.Expecting.{CallsRemoveIf, removal_in, takes_out};
 ghost use Rattle.vbr_list.specs.Sparing.{Calls, CallsAs, CallsRemove};
 ghost use Rattle.vbr_list.specs.Leaving.{SparesRemove, Sweeps, WasClear};
 ghost use Rattle.vbr_list.specs.Pieces.{Goes, GoesOn, HasRoom, Settles, trace_in};
-ghost use Rattle.vbr_list.specs.Removing.{Clears, IsMarkedFor, RemoveAnswers, RemoveRollsBack, UnlinksOrSearches};
-ghost use Rattle.vbr_list.specs.Told.{given_in};
+ghost use Rattle.vbr_list.specs.Removing.{Clears, IsMarkedFor, MayExpect, RemoveAnswers, RemoveRollsBack, UnlinksOrSearches};
 ghost use Rattle.vbr_list.specs.Traversing.{LocatesFor};
 ghost use Rattle.vbr_list.specs.Walking.{WalksAgain};
 
@@ -85,14 +85,19 @@ impl<N: Nodes> PendingCall<'_, N> {
 
     // Marks the node that was found, once its value was read where nodes have values: the key is
     // removed, and nothing rolls back past that. Then takes the node out of its list, as far as the
-    // budget has room.
-    #[inline]
-    fn mark_and_unlink(&mut self, found: &Found) -> Result<Option<u64>, Rollback>
+    // budget has room. Where another value is expected, it answers a get with the one that was read.
+    #[inline(always)]
+    fn mark_and_unlink(
+        &mut self,
+        found: &Found,
+        expected: Option<u64>,
+    ) -> Result<Option<u64>, Rollback>
+        requires expects { MayExpect self.old expected }
         requires locates { LocatesFor self.old found.now }
         requires present { found.now.present ≡ true }
         requires room { HasRoom self.old }
         ensures settles { Settles self.old self.new }
-        ensures answers { IfOk result (RemoveAnswers self.old self.new found.now) }
+        ensures answers { IfOk result (RemoveAnswers expected self.old self.new found.now) }
         ensures rolls { IfErr result (RemoveRollsBack self.old self.new found.now) }
     {
         let Some(cur) = &found.cur else {
@@ -102,6 +107,10 @@ impl<N: Nodes> PendingCall<'_, N> {
         let read = value_if_any(&mut self.at, cur);
         self.used += steps_to_value_of(self.at.slots);
         let value = read?;
+        if !takes_out(expected, value) {
+            self.tell_found(found, Some(value))?;
+            return Ok(Some(value));
+        }
         let outcome = mark(&mut self.at, cur);
         self.used += 1;
         let marked = outcome?;
@@ -111,21 +120,41 @@ impl<N: Nodes> PendingCall<'_, N> {
         Ok(Some(value))
     }
 
-    // Answers a remove by what was found.
-    #[inline]
-    fn settle_remove(&mut self, found: &Found) -> Result<Option<u64>, Rollback>
+    // Answers a remove by what was found; where a value is expected and none is there, a get.
+    #[inline(always)]
+    fn settle_remove(
+        &mut self,
+        found: &Found,
+        expected: Option<u64>,
+    ) -> Result<Option<u64>, Rollback>
+        requires expects { MayExpect self.old expected }
         requires locates { LocatesFor self.old found.now }
         requires room { HasRoom self.old }
         ensures settles { Settles self.old self.new }
-        ensures answers { IfOk result (RemoveAnswers self.old self.new found.now) }
+        ensures answers { IfOk result (RemoveAnswers expected self.old self.new found.now) }
         ensures rolls { IfErr result (RemoveRollsBack self.old self.new found.now) }
     {
         self.at.law();
         if found.present {
-            return self.mark_and_unlink(found);
+            return self.mark_and_unlink(found, expected);
         }
-        self.answer_no(found)?;
+        if expected.is_some() {
+            self.tell_found(found, None)?;
+        } else {
+            self.answer_no(found)?;
+        }
         Ok(None)
+    }
+}
+
+// Whether a value that is there is taken out: any, or the one that is expected.
+#[inline(always)]
+fn takes_out(expected: Option<u64>, value: u64) -> bool
+    ensures { result ≡ takes_out expected (Some value) }
+{
+    match expected {
+        Some(asked) => asked == value,
+        None => true,
     }
 }
 
@@ -150,7 +179,7 @@ pub fn remove(slots: &Slots, pass: &mut Pass, key: u64, budget: u32) -> Result<b
         |stepper|
             requires own { IsOf stepper.old.trace slots.now }
             requires empty_hand { stepper.old.hand ≡ None }
-        { remove_by(slots, stepper, key, budget) },
+        { remove_by(slots, stepper, key, None, budget) },
     );
     is_yes(answer)
 }
@@ -176,22 +205,52 @@ pub fn remove_entry(
         |stepper|
             requires own { IsOf stepper.old.trace slots.now }
             requires empty_hand { stepper.old.hand ≡ None }
-        { remove_by(slots, stepper, key, budget) },
+        { remove_by(slots, stepper, key, None, budget) },
     )
 }
 
-// The remove of a key, with its value where nodes have values; and how many steps were made.
+/// As [`remove_entry`], but takes the key out only where its value is the one that is expected, and gives
+/// what was there, which is that value exactly where it took the key out. Else it is a get of what was
+/// there, another value or none: its point is one load, after the value was read in an epoch that stood.
+/// Its refusal, the budget that is enough and the steps of an answer are those of [`remove_entry`].
+pub fn remove_if(
+    slots: &Slots<Entries>,
+    pass: &mut Pass,
+    key: u64,
+    expected: u64,
+    budget: u32,
+) -> Result<Option<u64>, Refusal>
+    requires own { IsOf pass.old.trace slots.now }
+    requires empty_hand { pass.old.hand ≡ None }
+    ensures { CallsRemoveIf pass.old pass.new key expected budget result }
+{
+    pass.law();
+    slots.kind();
+    pass.during(
+        |stepper|
+            requires own { IsOf stepper.old.trace slots.now }
+            requires empty_hand { stepper.old.hand ≡ None }
+            requires values { slots.now.start.shape.values ≡ true }
+        { remove_by(slots, stepper, key, Some(expected), budget) },
+    )
+}
+
+// The remove of a key, of any value or of the one that is expected, with its value where nodes have
+// values; and how many steps were made.
+#[inline(always)]
 fn remove_by<N: Nodes>(
     slots: &Slots<N>,
     stepper: &mut Stepper,
     key: u64,
+    expected: Option<u64>,
     budget: u32,
 ) -> (Result<Option<u64>, Refusal>, u32)
     requires own { IsOf stepper.old.trace slots.now }
     requires empty_hand { stepper.old.hand ≡ None }
+    requires expects { is_some expected ≡ true → slots.now.start.shape.values ≡ true }
     ensures took { Took stepper.old.trace stepper.new.trace result.1 }
-    ensures calls { CallsAs (given_in stepper.old.trace Remove key)
-        (SparesRemove is_some stepper.old stepper.new key budget)
+    ensures calls { CallsAs (removal_in stepper.old.trace key expected)
+        (SparesRemove (takes_out expected) stepper.old stepper.new key budget)
         stepper.old stepper.new budget result.0 }
 {
     let mut call = begin!(slots, stepper, key, budget, 0);
@@ -200,7 +259,7 @@ fn remove_by<N: Nodes>(
         let Some(found) = call.reach() else {
             return (Err(Refusal::OutOfSteps { used: call.used }), call.used);
         };
-        if let Ok(answer) = call.settle_remove(&found) {
+        if let Ok(answer) = call.settle_remove(&found, expected) {
             return (Ok(answer), call.used);
         }
     }

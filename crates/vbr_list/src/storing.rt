@@ -202,17 +202,17 @@ impl<N: Nodes> PendingCall<'_, N> {
         let Ok(there) = self.read_found(found) else {
             return Err(hand);
         };
-        if wanted.wants(there) {
-            return match self.change(found, there, value, hand) {
-                Ok(()) => Ok(there),
-                Err(back) => Err(back),
-            };
+        if !wanted.wants(there) {
+            if self.tell_found(found, there).is_err() {
+                return Err(hand);
+            }
+            give_back(&mut self.at, hand);
+            return Ok(there);
         }
-        if self.tell_found(found, there).is_err() {
-            return Err(hand);
+        match self.change(found, there, value, hand) {
+            Ok(()) => Ok(there),
+            Err(back) => Err(back),
         }
-        give_back(&mut self.at, hand);
-        Ok(there)
     }
 
     // Stores the value by the slot in hand, if what is there is as it is wanted then, else answers a get;

@@ -1,8 +1,9 @@
-//! What an insert and a replacement do first: they take a slot, once the key was found as it is wanted.
+//! What an insert does before it links a node: it answers no, or takes a slot once the key was found
+//! absent. A remove of an absent key answers no by the same piece, and a store takes its slot so.
 ghost use Rattle.std.specs.Prelude.{◌≡◌, ◌+◌, ◌≤◌, false, length, None, IfOk, IfErr};
 ghost use Rattle.vbr_slots.specs.Calls.{Quiet};
 ghost use Rattle.vbr_at_table.specs.Answering.{KeepsIn};
-ghost use Rattle.vbr_list.specs.Inserting.{DeniesNone, Prepares, PreparesHand, PreparesNone, Provides, ProvidesNone, denied};
+ghost use Rattle.vbr_list.specs.Inserting.{AnswersNone, Prepares, PreparesHand, PreparesNone, Provides, ProvidesNone, denied};
 ghost use Rattle.vbr_list.specs.Pieces.{HasRoom, IsSameCall, Replies, pass_in, trace_in};
 ghost use Rattle.vbr_list.specs.Traversing.{LocatesFor};
 
@@ -25,7 +26,7 @@ impl<N: Nodes> PendingCall<'_, N> {
         ensures used { self.new.used ≡ self.old.used + 1 }
         ensures made { IfOk result
             (λ _. Replies (denied found.now.present) self.old self.new false) }
-        ensures rolls { IfErr result (λ _. DeniesNone self.old self.new found.now) }
+        ensures rolls { IfErr result (λ _. AnswersNone self.old self.new found.now) }
     {
         self.at.law();
         self.used += 1;
@@ -62,21 +63,21 @@ impl<N: Nodes> PendingCall<'_, N> {
         }
     }
 
-    /// Looks for the key without a hand: a hand, once the key was found as it is wanted, present or absent;
-    /// or none, and the answer is no.
+    /// Looks for the key without a hand: a hand, once the key was found absent; or none, and the answer is
+    /// no.
     #[inline(always)]
-    pub(crate) fn prepare(&mut self, wanted: bool) -> Result<Option<Hand>, Refusal>
+    pub(crate) fn prepare(&mut self) -> Result<Option<Hand>, Refusal>
         requires empty_hand { (pass_in self.old).hand ≡ None }
         ensures prepares { Prepares self.old self.new }
-        ensures prepared { IfOk result (PreparesHand wanted self.old self.new) }
-        ensures refused { IfErr result (PreparesNone wanted self.old self.new) }
+        ensures prepared { IfOk result (PreparesHand self.old self.new) }
+        ensures refused { IfErr result (PreparesNone self.old self.new) }
     {
         self.at.law();
         loop {
             let Some(found) = self.search() else {
                 return Err(Refusal::OutOfSteps { used: self.used });
             };
-            if found.present == wanted {
+            if !found.present {
                 let hand = self.provide()?;
                 return Ok(Some(hand));
             }

@@ -4,7 +4,7 @@ ghost use Rattle.std.specs.Prelude.{◌≡◌, ◌+◌, ◌<◌, true, IfOk, IfE
 ghost use Rattle.vbr_at_table.specs.Answering.{KeepsIn};
 ghost use Rattle.vbr_at_table.specs.Reading.{ReadsIn};
 ghost use Rattle.vbr_list.specs.Budgets.{steps_where};
-ghost use Rattle.vbr_list.specs.Inserting.{DeniesNone};
+ghost use Rattle.vbr_list.specs.Inserting.{AnswersNone};
 ghost use Rattle.vbr_list.specs.Pieces.{HasRoom, IsSameCall, pass_in, trace_in};
 ghost use Rattle.vbr_list.specs.Telling.{KnowsThere, LosesRead, ReadsFound, TellsThere};
 ghost use Rattle.vbr_list.specs.Traversing.{LocatesFor};
@@ -54,7 +54,7 @@ impl<N: Nodes> PendingCall<'_, N> {
         ensures keeps { KeepsIn (pass_in self.old) (pass_in self.new) 1 }
         ensures used { self.new.used ≡ self.old.used + 1 }
         ensures told { IfOk result (λ _. TellsThere self.old self.new there) }
-        ensures lost { IfErr result (λ _. DeniesNone self.old self.new found.now) }
+        ensures lost { IfErr result (λ _. AnswersNone self.old self.new found.now) }
     {
         self.at.law();
         self.used += 1;

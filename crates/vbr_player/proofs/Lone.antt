@@ -18,7 +18,7 @@ use Rattle.vbr_list.specs.Budgets.{LacksSteps, enough_to_insert, enough_to_look_
 use Rattle.vbr_list.specs.Sparing.{Spares, SparesInsert}
 use Rattle.vbr_at_table.specs.declared.refusal.Refusal.{Refusal}
 use Rattle.vbr_at_table.specs.declared.refusal.Refusal.TheVariants.{OutOfSteps, NoSlot, EpochSpent}
-use Rattle.vbr_set.specs.MapCalls.{MapAnswers}
+use Rattle.vbr_set.specs.MapCalls.{MapAnswersAll}
 use Rattle.vbr_set.specs.Members.{Called, MemberView, CalledBy}
 use Rattle.vbr_set.specs.Names.{HasSafeRun, listed_for, most_to_take}
 use Rattle.vbr_script.specs.declared.script.Kind.{Kind}
@@ -125,7 +125,7 @@ called_untired : (set : TableView) (budget : ℕ) (op : Op) (p q : MemberView) (
 called_untired set budget op p q key (Ok reply) one enough same called = tt
 called_untired set budget op p q key (Err refusal) one enough same called = refused_untired set budget p q refusal one enough same called.quiet called.safe (lacks op p.pass q.pass key budget refusal called.spares)
 
-entry_untired : {A : Type 0} {told : A → Call} {SparesSo : Result A Refusal → Type 0} (set : TableView) (budget : ℕ) (p q : MemberView) (answer : Result A Refusal) → set.passes ≡ 1 → ample set.start ≤ budget → IsSame (new_trace set 0) p.pass.trace → CalledBy MapAnswers told SparesSo p q budget answer → ((refusal : Refusal) → SparesSo (Err refusal) → LacksAmple p.pass q.pass budget refusal) → IfErr answer (λ refusal. reply_refused refusal ≢ Tired)
+entry_untired : {A : Type 0} {told : A → List Call} {SparesSo : Result A Refusal → Type 0} (set : TableView) (budget : ℕ) (p q : MemberView) (answer : Result A Refusal) → set.passes ≡ 1 → ample set.start ≤ budget → IsSame (new_trace set 0) p.pass.trace → CalledBy MapAnswersAll told SparesSo p q budget answer → ((refusal : Refusal) → SparesSo (Err refusal) → LacksAmple p.pass q.pass budget refusal) → IfErr answer (λ refusal. reply_refused refusal ≢ Tired)
 entry_untired set budget p q (Ok reply) one enough same called lacks = tt
 entry_untired set budget p q (Err refusal) one enough same called lacks = refused_untired set budget p q refusal one enough same called.quiet called.safe (lacks refusal called.spares)
 

@@ -20,8 +20,8 @@ use Rattle.vbr_list.specs.Told.{given_by, given_call, stored_call}
 use Rattle.vbr_at_table.specs.declared.refusal.Refusal.{Refusal}
 use Rattle.vbr_at_table.specs.declared.refusal.Refusal.TheVariants.{OutOfSteps, NoSlot, EpochSpent}
 use Rattle.vbr_set.specs.Answers.{Answers}
-use Rattle.vbr_set.specs.MapCalls.{InsertsEntry, MapAnswers}
-use Rattle.vbr_set.specs.Members.{MemberView, Called, CalledBy}
+use Rattle.vbr_set.specs.MapCalls.{InsertsEntry, MapAnswersAll}
+use Rattle.vbr_set.specs.Members.{MemberView, Called, CalledBy, one}
 use Rattle.vbr_set.specs.Names.{TookWithin}
 use Rattle.vbr_script.specs.declared.script.Kind.{Kind}
 use Rattle.vbr_script.specs.declared.script.Kind.TheVariants.{Set, Map}
@@ -121,7 +121,7 @@ inserted line p q budget (Ok false) who called =
 inserted line p q budget (Err refusal) who called = refused Map (record line { op = Insert }) refusal budget p q called.set called.quiet called.steps (insert_tells Map p.pass q.pass line.key budget refusal called.safe.safe called.spares.refused)
 
 -- a call that gives the value of an entry
-given : {SparesSo : Result (Option ℕ) Refusal → Type 0} (op : Op) (line : Line) (p q : MemberView) (budget : ℕ) (answer : Result (Option ℕ) Refusal) → line.worker ≡ p.pass.trace.who → CalledBy MapAnswers (given_call p.pass.trace.who op line.key) SparesSo p q budget answer → gives_value Map op ≡ true → ((value : Option ℕ) → given_by op value ≡ value) → ((refusal : Refusal) → SparesSo (Err refusal) → IsTired p.pass q.pass budget refusal) → Replied Map (record line { op = op }) (reply_given answer) budget p q
+given : {SparesSo : Result (Option ℕ) Refusal → Type 0} (op : Op) (line : Line) (p q : MemberView) (budget : ℕ) (answer : Result (Option ℕ) Refusal) → line.worker ≡ p.pass.trace.who → CalledBy MapAnswersAll (one (given_call p.pass.trace.who op line.key)) SparesSo p q budget answer → gives_value Map op ≡ true → ((value : Option ℕ) → given_by op value ≡ value) → ((refusal : Refusal) → SparesSo (Err refusal) → IsTired p.pass q.pass budget refusal) → Replied Map (record line { op = op }) (reply_given answer) budget p q
 given op line p q budget (Ok (Some value)) who called gives same tired =
     let asked = record line { op = op } in
     let is : given_call p.pass.trace.who op line.key (Some value) ∷ [] ≡ answer_of Map asked (Value value) = λ i. record { who = sym who i; op = op; key = line.key; reply = true; value = same (Some value) i } ∷ [] in

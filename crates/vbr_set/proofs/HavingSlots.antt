@@ -17,7 +17,7 @@ use Rattle.vbr_set.specs.MapCalls.{IsCall, IsMapCall, IsSetCall}
 use Rattle.vbr_set.specs.Room.{HasAllSlots}
 use Rattle.vbr_set.specs.Tokens.{CatchesUp}
 
-all_kept : (p q : PassView) → KeepsSlots p q → HasAllSlots p → HasAllSlots q
+pub all_kept : (p q : PassView) → KeepsSlots p q → HasAllSlots p → HasAllSlots q
 all_kept p q kept all = record { free = λ slot m. kept.free slot (m, λ before. all.free slot before); stamped = λ slot u. all.stamped slot (kept.stamped slot u) }
 
 -- what a call of a set keeps, or one of a map
@@ -28,8 +28,10 @@ set_kept Has m n (key, budget, answer, c) = c.spares.takes_no_slot.kept
 set_kept Get m n (key, budget, answer, c) = absurd c.spares
 
 map_kept : (op : Op) (m n : MemberView) → IsMapCall op m n → KeepsSlots m.pass n.pass
-map_kept Insert m n (key, value, budget, answer, c) = c.spares.kept
-map_kept Remove m n (key, budget, answer, c) = c.spares.takes_no_slot.kept
+map_kept Insert m n (inl (key, value, budget, answer, c)) = c.spares.kept
+map_kept Insert m n (inr (key, value, wanted, budget, answer, c)) = c.spares.0
+map_kept Remove m n (inl (key, budget, answer, c)) = c.spares.takes_no_slot.kept
+map_kept Remove m n (inr (key, expected, budget, answer, c)) = c.spares.takes_no_slot.kept
 map_kept Has m n call = set_kept Has m n call
 map_kept Get m n (key, budget, answer, c) = c.spares.takes_no_slot.kept
 

@@ -23,16 +23,16 @@ use Rattle.vbr_slots.proofs.Lemmas.{same_refl}
 use Rattle.vbr_at_table.specs.Advances.{AdvancesWhereNeeded}
 use Rattle.vbr_at_table.specs.Counts.{advances, is_advance}
 use Rattle.vbr_at_table.proofs.Lemmas.{did_none}
-use Rattle.vbr_list.specs.Budgets.{listed_for}
 use Rattle.vbr_list.specs.Cursors.{SeesMore}
-use Rattle.vbr_list.specs.Disturbed.{disturbed, steps_for_slot}
+use Rattle.vbr_list.specs.Disturbed.{disturbed}
 use Rattle.vbr_at_table.specs.declared.refusal.Refusal.{Refusal}
-use Rattle.vbr_list.proofs.Lemmas.{enough_among_more, enough_to_insert_more, enough_to_search_more, lacks_more, sees_on}
-use Rattle.vbr_set.specs.Answers.{Answers}
-use Rattle.vbr_set.specs.MapCalls.{IsCall, IsMapCall, IsSetCall, MapAnswers}
+use Rattle.vbr_list.proofs.Lemmas.{sees_on}
+use Rattle.vbr_set.specs.Answers.{AnswersAll}
+use Rattle.vbr_set.specs.MapCalls.{IsCall, IsMapCall, IsSetCall, MapAnswersAll}
 use Rattle.vbr_set.specs.Members.{CalledBy, MemberView}
-use Rattle.vbr_set.specs.Stretches.{BeganIn, CameBy, PassesComeByCalls, Stretch, StretchesDisturb, StretchesMakeProgress, inserts_begun, most_disturbed_by}
+use Rattle.vbr_set.specs.Stretches.{BeganIn, CameBy, MapStretchesMakeProgress, PassesComeByCalls, Stretch, StretchesDisturb, StretchesMakeProgress, inserts_begun, most_disturbed_by}
 use Rattle.vbr_set.specs.Tokens.{CatchesUp}
+use Rattle.vbr_set.proofs.Progress.{fewer_to_look_up, fewer_to_search, lacks_to_insert, lacks_to_store}
 use Rattle.vbr_set.proofs.PassSums.{one_in_sum, sum_both, sum_no_more, sum_same}
 
 -- ---- steps that would advance the epoch
@@ -119,17 +119,19 @@ stretches_disturb = disturbed_by
 pub stretches_progress : StretchesMakeProgress
 stretches_progress =
     record {
-      look_up = λ p q inserts key budget refusal law stretch called.
-          let less = called.spares.disturbed_within in
-          let more = enough_among_more (listed_for p.trace key) (disturbed p.trace q.trace key) (most_disturbed_by inserts p.trace q.trace) (disturbed_by p q inserts key law stretch) in
-          omega (arith, less, more);
-      remove = λ p q inserts key budget refusal law stretch called.
-          let less = called.spares.disturbed_within in
-          let more = enough_to_search_more (listed_for p.trace key) (disturbed p.trace q.trace key) (most_disturbed_by inserts p.trace q.trace) (disturbed_by p q inserts key law stretch) in
-          omega (arith, less, more);
-      insert = λ p q inserts key budget refusal law stretch called.
-          let more = enough_to_insert_more (listed_for p.trace key) (disturbed p.trace q.trace key) (most_disturbed_by inserts p.trace q.trace) (steps_for_slot p q.trace) (disturbed_by p q inserts key law stretch) in
-          lacks_more _ _ budget refusal more called.spares.disturbed_within;
+      look_up = λ p q inserts key budget refusal law stretch c. fewer_to_look_up _ _ _ budget (disturbed_by p q inserts key law stretch) c.spares.disturbed_within;
+      remove = λ p q inserts key budget refusal law stretch c. fewer_to_search _ _ _ budget (disturbed_by p q inserts key law stretch) c.spares.disturbed_within;
+      insert = λ p q inserts key budget refusal law stretch c. lacks_to_insert _ _ _ budget (disturbed_by p q inserts key law stretch) _ refusal c.spares.disturbed_within;
+    }
+
+pub map_stretches_progress : MapStretchesMakeProgress
+map_stretches_progress =
+    record {
+      get = λ p q inserts key budget refusal law stretch c. fewer_to_look_up _ _ _ budget (disturbed_by p q inserts key law stretch) c.calls.spares.disturbed_within;
+      remove_entry = λ p q inserts key budget refusal law stretch c. fewer_to_search _ _ _ budget (disturbed_by p q inserts key law stretch) c.calls.spares.disturbed_within;
+      remove_if = λ p q inserts key expected budget refusal law stretch c. fewer_to_search _ _ _ budget (disturbed_by p q inserts key law stretch) c.calls.spares.disturbed_within;
+      insert_entry = λ p q inserts key value budget refusal law stretch c. lacks_to_insert _ _ _ budget (disturbed_by p q inserts key law stretch) _ refusal c.calls.spares.disturbed_within;
+      store = λ p q inserts key value wanted budget refusal law stretch c. lacks_to_store _ _ _ budget (disturbed_by p q inserts key law stretch) _ refusal c.spares.disturbed_within;
     }
 
 -- ---- the calls
@@ -146,28 +148,30 @@ record GoesOn (p q : Trace) : Type 0 where
   begins : Begins p.seen q.seen
   is_run : IsRun q.start q.passes q.seen
 
-module _ {A : Type 0} (Leaves : Call → Trace → Trace → Type 0) (goes : (call : Call) (p q : Trace) → Leaves call p q → GoesOn p q) (told : A → Call) (SparesSo : Result A Refusal → Type 0) where
-  sees_called : (m n : MemberView) (budget : ℕ) (answer : Result A Refusal) → PassLaw m.pass → CalledBy Leaves told SparesSo m n budget answer → SeesMore m.pass.trace n.pass.trace
+module _ {A : Type 0} (Leave : List Call → Trace → Trace → Type 0) (goes : (calls : List Call) (p q : Trace) → Leave calls p q → GoesOn p q) (told : A → List Call) (SparesSo : Result A Refusal → Type 0) where
+  sees_called : (m n : MemberView) (budget : ℕ) (answer : Result A Refusal) → PassLaw m.pass → CalledBy Leave told SparesSo m n budget answer → SeesMore m.pass.trace n.pass.trace
   sees_called m n budget (Ok reply) law c = let on = goes (told reply) m.pass.trace n.pass.trace c.answers in record { same = c.same; begins = on.begins; is_run = on.is_run }
   sees_called m n budget (Err refusal) law c = record { same = c.same; begins = c.quiet.seen; is_run = c.quiet.is_run law.is_run }
 
-set_goes : (call : Call) (p q : Trace) → Answers call p q → GoesOn p q
-set_goes call p q a = record { begins = a.begins; is_run = a.is_run }
+set_goes : (calls : List Call) (p q : Trace) → AnswersAll calls p q → GoesOn p q
+set_goes calls p q a = record { begins = a.begins; is_run = a.is_run }
 
-map_goes : (call : Call) (p q : Trace) → MapAnswers call p q → GoesOn p q
-map_goes call p q a = set_goes call p q a.answers
+map_goes : (calls : List Call) (p q : Trace) → MapAnswersAll calls p q → GoesOn p q
+map_goes calls p q a = set_goes calls p q a.answers
 
 came_set : (op : Op) (m n : MemberView) → PassLaw m.pass → IsSetCall op m n → CameBy (inserts_begun op) m.pass n.pass
-came_set Insert m n law (key, budget, answer, c) = record { sees = sees_called Answers set_goes _ _ m n budget answer law c; advances = one_for_an_insert m.pass n.pass c.spares.advances }
-came_set Remove m n law (key, budget, answer, c) = record { sees = sees_called Answers set_goes _ _ m n budget answer law c; advances = none_else m.pass n.pass c.spares.takes_no_slot.count }
-came_set Has m n law (key, budget, answer, c) = record { sees = sees_called Answers set_goes _ _ m n budget answer law c; advances = none_else m.pass n.pass c.spares.takes_no_slot.count }
+came_set Insert m n law (key, budget, answer, c) = record { sees = sees_called AnswersAll set_goes _ _ m n budget answer law c; advances = one_for_an_insert m.pass n.pass c.spares.advances }
+came_set Remove m n law (key, budget, answer, c) = record { sees = sees_called AnswersAll set_goes _ _ m n budget answer law c; advances = none_else m.pass n.pass c.spares.takes_no_slot.count }
+came_set Has m n law (key, budget, answer, c) = record { sees = sees_called AnswersAll set_goes _ _ m n budget answer law c; advances = none_else m.pass n.pass c.spares.takes_no_slot.count }
 came_set Get m n law (key, budget, answer, c) = absurd c.spares
 
 came_map : (op : Op) (m n : MemberView) → PassLaw m.pass → IsMapCall op m n → CameBy (inserts_begun op) m.pass n.pass
-came_map Insert m n law (key, value, budget, answer, c) = record { sees = sees_called MapAnswers map_goes _ _ m n budget answer law c; advances = one_for_an_insert m.pass n.pass c.spares.advances }
-came_map Remove m n law (key, budget, answer, c) = record { sees = sees_called MapAnswers map_goes _ _ m n budget answer law c; advances = none_else m.pass n.pass c.spares.takes_no_slot.count }
+came_map Insert m n law (inl (key, value, budget, answer, c)) = record { sees = sees_called MapAnswersAll map_goes _ _ m n budget answer law c; advances = one_for_an_insert m.pass n.pass c.spares.advances }
+came_map Insert m n law (inr (key, value, wanted, budget, answer, c)) = record { sees = sees_called MapAnswersAll map_goes _ _ m n budget answer law c; advances = one_for_an_insert m.pass n.pass c.spares.1.advances }
+came_map Remove m n law (inl (key, budget, answer, c)) = record { sees = sees_called MapAnswersAll map_goes _ _ m n budget answer law c; advances = none_else m.pass n.pass c.spares.takes_no_slot.count }
+came_map Remove m n law (inr (key, expected, budget, answer, c)) = record { sees = sees_called MapAnswersAll map_goes _ _ m n budget answer law c; advances = none_else m.pass n.pass c.spares.takes_no_slot.count }
 came_map Has m n law call = came_set Has m n law call
-came_map Get m n law (key, budget, answer, c) = record { sees = sees_called MapAnswers map_goes _ _ m n budget answer law c; advances = none_else m.pass n.pass c.spares.takes_no_slot.count }
+came_map Get m n law (key, budget, answer, c) = record { sees = sees_called MapAnswersAll map_goes _ _ m n budget answer law c; advances = none_else m.pass n.pass c.spares.takes_no_slot.count }
 
 came_called : (op : Op) (m n : MemberView) → PassLaw m.pass → IsCall op m n → CameBy (inserts_begun op) m.pass n.pass
 came_called op m n law (inl call) = came_set op m n law call

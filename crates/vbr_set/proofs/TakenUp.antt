@@ -1,5 +1,5 @@
--- Where a lone insert finds no slot, all slots are taken up.
-use Rattle.std.proofs.Common.{◌≡◌, ◌≢◌, ℕ, ◌+◌, ◌-◌, ◌*◌, ◌<◌, ◌≤◌, List, [], length, Err, arith, subst, ap, ◌∙◌, inl, inr}
+-- Where a lone insert or store finds no slot, all slots are taken up.
+use Rattle.std.proofs.Common.{◌≡◌, ◌≢◌, ℕ, ◌+◌, ◌-◌, ◌*◌, ◌<◌, ◌≤◌, List, [], length, None, arith, subst, ap, ◌∙◌, inl, inr}
 use Rattle.vbr_machine.specs.Start.{Start}
 use Rattle.vbr_machine.specs.History.{set_after}
 use Rattle.vbr_machine.specs.Keys.{AreKeysOf}
@@ -7,23 +7,23 @@ use Rattle.vbr_machine.specs.Nodes.{marked_after}
 use Rattle.vbr_machine.specs.Opened.{opening_keys}
 use Rattle.vbr_machine.specs.Whereabouts.{InSharedPool, InSet, number_at, number_had}
 use Rattle.vbr_machine.specs.declared.history.Call.{Call}
-use Rattle.vbr_machine.specs.declared.history.Op.TheVariants.{Insert}
 use Rattle.vbr_machine.proofs.Lemmas.{add_up, run_agrees, somewhere}
 use Rattle.vbr_slots.specs.Alone.{IsAlone}
+use Rattle.vbr_slots.specs.Calls.{IsSame}
 use Rattle.vbr_slots.specs.PassLaw.{PassLaw}
 use Rattle.vbr_slots.specs.Views.{PassView}
 use Rattle.vbr_slots.specs.declared.pass.TheConstants.{POOL}
 use Rattle.vbr_at_table.specs.Counts.{flags_raised}
-use Rattle.vbr_at_table.specs.KeptSlots.{SharesWhereFull}
+use Rattle.vbr_at_table.specs.KeptSlots.{KeepsSlots, SharesWhereFull}
+use Rattle.vbr_at_table.specs.Refusals.{HasNoSlot}
 use Rattle.vbr_list.specs.Refusals.{FoundNoSlot}
 use Rattle.vbr_at_table.specs.declared.refusal.Refusal.TheVariants.{NoSlot}
-use Rattle.vbr_at_table.specs.declared.refusal.Refusal.{Refusal}
 use Rattle.vbr_set.specs.Histories.{calls_of}
 use Rattle.vbr_set.specs.MapCalls.{InsertRefused}
-use Rattle.vbr_set.specs.Members.{Called, MemberView}
+use Rattle.vbr_set.specs.Members.{MemberView}
 use Rattle.vbr_set.specs.Room.{AreTakenUp, HasAllSlots, OthersAreBetweenCalls}
 use Rattle.vbr_set.proofs.CountedKeys.{counted_keys}
-use Rattle.vbr_set.proofs.HavingSlots.{all_called}
+use Rattle.vbr_set.proofs.HavingSlots.{all_kept}
 use Rattle.vbr_set.proofs.RoomLeft.{none_had, none_in_shared_pool}
 use Rattle.vbr_set.proofs.RoomOfOthers.{had_between, sum_but_at_most, sum_but_none}
 
@@ -32,10 +32,21 @@ none_raised : (p q : PassView) → q.pool ≡ [] → SharesWhereFull 2 p q → f
 none_raised p q empty (inl same) = same
 none_raised p q empty (inr full) = absurd (let none = ap (length {A = ℕ}) empty in omega arith)
 
--- an insert that is refused in a map tells what one of a set does
-as_of_set : (m n : MemberView) (key budget : ℕ) (refusal : Refusal) → InsertRefused m n key budget refusal → Called Insert m n key budget (Err refusal)
-as_of_set m n key budget refusal (inl c) = c
-as_of_set m n key budget refusal (inr (value, c)) = record { set = c.set; same = c.same; answers = tt; alone = tt; quiet = c.quiet; safe = c.safe; hand = c.hand; steps = c.steps; spares = c.spares }
+-- what an insert or a store tells that finds no slot
+record ToldNone (m n : MemberView) : Type 0 where
+  same : IsSame m.pass.trace n.pass.trace
+  hand : n.pass.hand ≡ None
+  none : HasNoSlot m.pass n.pass
+  shared : SharesWhereFull 2 m.pass n.pass
+  kept : KeepsSlots m.pass n.pass
+
+found_none : {p q : PassView} {key : ℕ} → FoundNoSlot p q key → HasNoSlot p q
+found_none x = record { empty = x.empty; still = x.still; outside = x.outside }
+
+told_none : (m n : MemberView) (key budget : ℕ) → InsertRefused m n key budget NoSlot → ToldNone m n
+told_none m n key budget (inl c) = record { same = c.same; hand = c.hand; none = found_none c.spares.refused; shared = c.spares.shared; kept = c.spares.kept }
+told_none m n key budget (inr (inl (value, c))) = record { same = c.same; hand = c.hand; none = found_none c.spares.refused; shared = c.spares.shared; kept = c.spares.kept }
+told_none m n key budget (inr (inr (value, wanted, c))) = record { same = c.same; hand = c.hand; none = c.spares.1.refused.none; shared = c.spares.1.shared; kept = c.spares.0 }
 
 module _ (m n : MemberView) (key budget : ℕ) (law : PassLaw n.pass) (all : HasAllSlots m.pass) (refused : InsertRefused m n key budget NoSlot) (alone : IsAlone m.pass.trace n.pass.trace) where
   abbrev p : PassView
@@ -44,17 +55,14 @@ module _ (m n : MemberView) (key budget : ℕ) (law : PassLaw n.pass) (all : Has
   abbrev q : PassView
   q = n.pass
 
-  c : Called Insert m n key budget (Err NoSlot)
-  c = as_of_set m n key budget NoSlot refused
-
-  found : FoundNoSlot p q key
-  found = c.spares.refused
+  c : ToldNone m n
+  c = told_none m n key budget refused
 
   none_shared : number_at q.trace.start q.trace.seen InSharedPool ≡ 0
-  none_shared = ap (λ (start : Start). number_at start q.trace.seen InSharedPool) c.same.start ∙ none_in_shared_pool alone c.same.who (none_raised p q found.still c.spares.shared) found.outside
+  none_shared = ap (λ (start : Start). number_at start q.trace.seen InSharedPool) c.same.start ∙ none_in_shared_pool alone c.same.who (none_raised p q c.none.still c.shared) c.none.outside
 
   none_own : number_had q.trace.start q.trace.seen q.trace.who ≡ 0
-  none_own = none_had q (all_called Insert m n all (inl (key, budget, Err NoSlot, c))) found.still c.hand
+  none_own = none_had q (all_kept p q c.kept all) c.none.still c.hand
 
   in_set : (keys : List ℕ) → AreKeysOf keys (set_after (opening_keys q.trace.start) (calls_of q.trace.start q.trace.seen)) → length keys ≡ number_at q.trace.start q.trace.seen InSet
   in_set keys are =

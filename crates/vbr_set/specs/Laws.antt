@@ -19,11 +19,14 @@ use Rattle.vbr_slots.specs.Views.{Did, KeepsPool, PassView, TableView, Trace, ne
 use Rattle.vbr_slots.specs.declared.pass.TheConstants.{POOL}
 use Rattle.vbr_at_table.specs.KeptSlots.{UnlinkedInTurn}
 use Rattle.vbr_list.specs.Budgets.{LacksSteps, listed_for}
-use Rattle.vbr_list.specs.Disturbed.{enough_among, enough_to_insert_among, enough_to_search_among, most_disturbed, steps_for_slot}
-use Rattle.vbr_list.specs.Sparing.{Calls}
+use Rattle.vbr_list.specs.Disturbed.{enough_among, enough_to_insert_among, enough_to_search_among, enough_to_store_among, most_disturbed, steps_for_slot, steps_to_prepare}
+use Rattle.vbr_list.specs.Expecting.{CallsRemoveIf}
+use Rattle.vbr_list.specs.Sparing.{Calls, CallsGet, CallsInsert, CallsRemove}
+use Rattle.vbr_list.specs.Storing.{CallsStore}
+use Rattle.vbr_list.specs.declared.wanted.Wanted.{Wanted}
 use Rattle.vbr_at_table.specs.declared.refusal.Refusal.{Refusal}
 use Rattle.vbr_at_table.specs.declared.refusal.Refusal.TheVariants.{NoSlot}
-use Rattle.vbr_set.specs.Answers.{Answers}
+use Rattle.vbr_set.specs.Answers.{AnswersAll}
 use Rattle.vbr_set.specs.Histories.{calls_of}
 use Rattle.vbr_set.specs.MapCalls.{InsertRefused, IsCall}
 use Rattle.vbr_set.specs.Members.{MemberView}
@@ -44,6 +47,19 @@ RemovesMakeProgress = (p q : PassView) (key budget : ℕ) (refusal : Refusal) �
 abbrev pub InsertsMakeProgress : Type 0
 InsertsMakeProgress = (p q : PassView) (key budget : ℕ) (refusal : Refusal) → PassLaw p → Calls Insert p q key budget (Err refusal) → LacksSteps (enough_to_insert_among (listed_for p.trace key) (most_disturbed p.trace q.trace) (steps_for_slot p q.trace)) budget refusal
 
+-- so it is of the calls of a map: a remove by its value is one, and a store has five steps more than an insert for each time that it is disturbed, and two more where it compares
+pub record MapsMakeProgress : Type 0 where
+  pub get : (p q : PassView) (key budget : ℕ) (refusal : Refusal) → PassLaw p → CallsGet p q key budget (Err refusal)
+      → budget < enough_among (listed_for p.trace key) (most_disturbed p.trace q.trace)
+  pub remove_entry : (p q : PassView) (key budget : ℕ) (refusal : Refusal) → PassLaw p → CallsRemove p q key budget (Err refusal)
+      → budget < enough_to_search_among (listed_for p.trace key) (most_disturbed p.trace q.trace)
+  pub remove_if : (p q : PassView) (key expected budget : ℕ) (refusal : Refusal) → PassLaw p → CallsRemoveIf p q key expected budget (Err refusal)
+      → budget < enough_to_search_among (listed_for p.trace key) (most_disturbed p.trace q.trace)
+  pub insert_entry : (p q : PassView) (key value budget : ℕ) (refusal : Refusal) → PassLaw p → CallsInsert p q key value budget (Err refusal)
+      → LacksSteps (enough_to_insert_among (listed_for p.trace key) (most_disturbed p.trace q.trace) (steps_for_slot p q.trace)) budget refusal
+  pub store : (p q : PassView) (key value : ℕ) (wanted : Wanted) (budget : ℕ) (refusal : Refusal) → PassLaw p → CallsStore p q key value wanted budget (Err refusal)
+      → LacksSteps (enough_to_store_among (listed_for p.trace key) (most_disturbed p.trace q.trace) (steps_to_prepare wanted p q.trace)) budget refusal
+
 -- ---- tokens
 
 -- who catches up with the last token of a chain catches up with the first
@@ -52,13 +68,13 @@ TokensHandOn =
     (set : TableView) (first : SeenView) (tokens : List SeenView) (p q : PassView)
     → IsChain first tokens → CatchesUp set p (end_of first tokens) q → CatchesUp set p first q
 
--- a call that was answered before a token was made stands before each call that is answered after somebody caught up with it, or with one further down its chain
+-- a call that was answered before a token was made stands before each call that is answered after somebody caught up with it, or with one further down its chain; so do calls that were answered together
 abbrev pub CallsStayInOrder : Type 0
 CallsStayInOrder =
-    (set : TableView) (one other : Call) (g h k : Trace) (first : SeenView) (tokens : List SeenView) (p q : PassView) (r s : Trace)
-    → Answers one g h → IsSame h k → Begins h.seen k.seen → IsTokenOf set k first → IsChain first tokens
-    → CatchesUp set p (end_of first tokens) q → IsSame q.trace r → Begins q.trace.seen r.seen → Answers other r s
-    → Precedes one other (calls_of s.start s.seen)
+    (set : TableView) (ones others : List Call) (g h k : Trace) (first : SeenView) (tokens : List SeenView) (p q : PassView) (r s : Trace)
+    → AnswersAll ones g h → IsSame h k → Begins h.seen k.seen → IsTokenOf set k first → IsChain first tokens
+    → CatchesUp set p (end_of first tokens) q → IsSame q.trace r → Begins q.trace.seen r.seen → AnswersAll others r s
+    → Precedes ones others (calls_of s.start s.seen)
 
 -- ---- room
 
@@ -80,14 +96,14 @@ pub record PassesUnlinkInTurn : Type 0 where
 abbrev pub OneUnstampedAtEachMoment : Type 0
 OneUnstampedAtEachMoment = (p : Trace) (moment : List Event) → UnlinkedInTurn p → Begins moment p.seen → number_at p.start moment (Unstamped p.who) ≤ 1
 
--- a pass that has all its slots was told that there is no slot for an insert, and no other pass made a step meanwhile
+-- a pass that has all its slots was told that there is no slot for an insert or a store, and no other pass made a step meanwhile
 pub record FoundNoSlot (m n : MemberView) (key budget : ℕ) : Type 0 where
   pub law : PassLaw n.pass
   pub has_all : HasAllSlots m.pass
   pub refused : InsertRefused m n key budget NoSlot
   pub alone : IsAlone m.pass.trace n.pass.trace
 
--- an insert that is alone finds no slot only where all slots are taken up
+-- an insert or a store that is alone finds no slot only where all slots are taken up
 abbrev pub NoSlotAlone : Type 0
 NoSlotAlone = (m n : MemberView) (key budget : ℕ) → FoundNoSlot m n key budget → AreTakenUp n.pass.trace
 

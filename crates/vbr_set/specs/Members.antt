@@ -1,5 +1,5 @@
 -- What contracts see of a member of a set, and of its calls.
-use Rattle.std.specs.Prelude.{◌≡◌, ℕ, Bool, Result, IfOk, IfErr, List, map, None}
+use Rattle.std.specs.Prelude.{◌≡◌, ℕ, Bool, Result, IfOk, IfErr, List, [], ◌∷◌, map, None}
 use Rattle.vbr_machine.specs.Start.{Start}
 use Rattle.vbr_machine.specs.History.{set_call}
 use Rattle.vbr_machine.specs.declared.history.Call.{Call}
@@ -8,10 +8,9 @@ use Rattle.vbr_slots.specs.Calls.{IsSame, Quiet}
 use Rattle.vbr_slots.specs.Views.{PassView, TableView, Trace, new_passes}
 use Rattle.vbr_at_table.specs.Steps.{TookWithin}
 use Rattle.vbr_at_table.specs.Soundness.{HasSafeRun}
-use Rattle.vbr_list.specs.Alone.{AnswersAlone}
 use Rattle.vbr_list.specs.Sparing.{Spares}
 use Rattle.vbr_at_table.specs.declared.refusal.Refusal.{Refusal}
-use Rattle.vbr_set.specs.Answers.{Answers}
+use Rattle.vbr_set.specs.Answers.{AnswerAlone, AnswersAll}
 
 -- a member: its set, and its pass
 pub record MemberView : Type 0 where
@@ -33,18 +32,22 @@ pub record AreNew (start : Start) (count : ℕ) (members : List MemberView) : Ty
   pub counted : set.passes ≡ count
   pub are : members ≡ new_members set count
 
--- the member is the same pass of the same set or map; where the call was answered, the call that the answer tells leaves what an answer leaves, and alone it got the reply of a plain set; where it was refused, it made no call; in each case what its pass has then seen is a safe run; it has no slot in hand; and it made no more steps than its budget
-pub record CalledBy {A : Type 0} (Leaves : Call → Trace → Trace → Type 0) (told : A → Call) (SparesSo : Result A Refusal → Type 0) (m n : MemberView) (budget : ℕ) (answer : Result A Refusal) : Type 0 where
+-- the one call that an answer tells
+abbrev pub one : {A : Type 0} → (A → Call) → A → List Call
+one told reply = told reply ∷ []
+
+-- the member is the same pass of the same set or map; where the call was answered, what the answer tells leaves what answers leave, and alone it has the replies of a plain set; where it was refused, it made no call; in each case what its pass has then seen is a safe run; it has no slot in hand; and it made no more steps than its budget
+pub record CalledBy {A : Type 0} (Leave : List Call → Trace → Trace → Type 0) (told : A → List Call) (SparesSo : Result A Refusal → Type 0) (m n : MemberView) (budget : ℕ) (answer : Result A Refusal) : Type 0 where
   pub set : n.set ≡ m.set
   pub same : IsSame m.pass.trace n.pass.trace
-  pub answers : IfOk answer (λ reply. Leaves (told reply) m.pass.trace n.pass.trace)
-  pub alone : IfOk answer (λ reply. AnswersAlone m.pass.trace (told reply).op (told reply).key (told reply).reply)
+  pub answers : IfOk answer (λ reply. Leave (told reply) m.pass.trace n.pass.trace)
+  pub alone : IfOk answer (λ reply. AnswerAlone m.pass.trace (told reply))
   pub quiet : IfErr answer (λ refusal. Quiet m.pass.trace n.pass.trace)
   pub safe : HasSafeRun n.pass.trace
   pub hand : n.pass.hand ≡ None
   pub steps : TookWithin m.pass.trace n.pass.trace budget
   pub spares : SparesSo answer
 
--- so it is of a call of a set: its answer stands in one legal history of what its pass has then seen, once, behind its calls before
+-- so it is of a call of a set: its answer tells one call, which stands in one legal history of what its pass has then seen, once, behind its calls before
 abbrev pub Called : Op → MemberView → MemberView → ℕ → ℕ → Result Bool Refusal → Type 0
-Called op m n key budget answer = CalledBy Answers (set_call m.pass.trace.who op key) (Spares op m.pass n.pass key budget) m n budget answer
+Called op m n key budget answer = CalledBy AnswersAll (one (set_call m.pass.trace.who op key)) (Spares op m.pass n.pass key budget) m n budget answer

@@ -15,8 +15,11 @@ use Rattle.vbr_at_table.specs.Counts.{advances}
 use Rattle.vbr_at_table.specs.KeptSlots.{TakesNoSlot}
 use Rattle.vbr_list.specs.Budgets.{LacksSteps, listed_for}
 use Rattle.vbr_list.specs.Cursors.{SeesMore}
-use Rattle.vbr_list.specs.Disturbed.{disturbed, enough_among, enough_to_insert_among, enough_to_search_among, steps_for_slot}
-use Rattle.vbr_list.specs.Sparing.{Calls}
+use Rattle.vbr_list.specs.Disturbed.{disturbed, enough_among, enough_to_insert_among, enough_to_search_among, enough_to_store_among, steps_for_slot, steps_to_prepare}
+use Rattle.vbr_list.specs.Expecting.{CallsRemoveIf}
+use Rattle.vbr_list.specs.Sparing.{Calls, CallsGet, CallsInsert, CallsRemove}
+use Rattle.vbr_list.specs.Storing.{CallsStore}
+use Rattle.vbr_list.specs.declared.wanted.Wanted.{Wanted}
 use Rattle.vbr_at_table.specs.declared.refusal.Refusal.{Refusal}
 use Rattle.vbr_set.specs.MapCalls.{IsCall}
 use Rattle.vbr_set.specs.Members.{MemberView}
@@ -24,7 +27,7 @@ use Rattle.vbr_set.specs.Tokens.{CatchesUp}
 
 -- ---- what one pass did
 
--- how many inserts a call begins
+-- how many inserts a call begins: a store begins one, as an insert does
 abbrev pub inserts_begun : Op → ℕ
 inserts_begun Insert = 1
 inserts_begun _ = 0
@@ -80,3 +83,16 @@ pub record StretchesMakeProgress : Type 0 where
       → Calls Remove p q key budget (Err refusal) → budget < enough_to_search_among (listed_for p.trace key) (most_disturbed_by inserts p.trace q.trace)
   pub insert : (p q : PassView) (inserts : ℕ → ℕ) (key budget : ℕ) (refusal : Refusal) → PassLaw p → Stretch p.trace q.trace inserts
       → Calls Insert p q key budget (Err refusal) → LacksSteps (enough_to_insert_among (listed_for p.trace key) (most_disturbed_by inserts p.trace q.trace) (steps_for_slot p q.trace)) budget refusal
+
+-- so it is of the calls of a map
+pub record MapStretchesMakeProgress : Type 0 where
+  pub get : (p q : PassView) (inserts : ℕ → ℕ) (key budget : ℕ) (refusal : Refusal) → PassLaw p → Stretch p.trace q.trace inserts
+      → CallsGet p q key budget (Err refusal) → budget < enough_among (listed_for p.trace key) (most_disturbed_by inserts p.trace q.trace)
+  pub remove_entry : (p q : PassView) (inserts : ℕ → ℕ) (key budget : ℕ) (refusal : Refusal) → PassLaw p → Stretch p.trace q.trace inserts
+      → CallsRemove p q key budget (Err refusal) → budget < enough_to_search_among (listed_for p.trace key) (most_disturbed_by inserts p.trace q.trace)
+  pub remove_if : (p q : PassView) (inserts : ℕ → ℕ) (key expected budget : ℕ) (refusal : Refusal) → PassLaw p → Stretch p.trace q.trace inserts
+      → CallsRemoveIf p q key expected budget (Err refusal) → budget < enough_to_search_among (listed_for p.trace key) (most_disturbed_by inserts p.trace q.trace)
+  pub insert_entry : (p q : PassView) (inserts : ℕ → ℕ) (key value budget : ℕ) (refusal : Refusal) → PassLaw p → Stretch p.trace q.trace inserts
+      → CallsInsert p q key value budget (Err refusal) → LacksSteps (enough_to_insert_among (listed_for p.trace key) (most_disturbed_by inserts p.trace q.trace) (steps_for_slot p q.trace)) budget refusal
+  pub store : (p q : PassView) (inserts : ℕ → ℕ) (key value : ℕ) (wanted : Wanted) (budget : ℕ) (refusal : Refusal) → PassLaw p → Stretch p.trace q.trace inserts
+      → CallsStore p q key value wanted budget (Err refusal) → LacksSteps (enough_to_store_among (listed_for p.trace key) (most_disturbed_by inserts p.trace q.trace) (steps_to_prepare wanted p q.trace)) budget refusal

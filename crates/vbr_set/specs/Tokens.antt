@@ -9,7 +9,7 @@ use Rattle.vbr_slots.specs.Calls.{IsSame, Quiet, made_by}
 use Rattle.vbr_slots.specs.Tokens.{SeenView, Since}
 use Rattle.vbr_slots.specs.Views.{IsOf, KeepsPool, PassView, TableView, Trace}
 use Rattle.vbr_at_table.specs.Soundness.{HasSafeRun}
-use Rattle.vbr_set.specs.Answers.{Answers}
+use Rattle.vbr_set.specs.Answers.{AnswersAll, Follows}
 use Rattle.vbr_set.specs.Histories.{calls_of, ExchangesAreRight, ReadsAreRight}
 
 -- ---- histories
@@ -18,18 +18,12 @@ use Rattle.vbr_set.specs.Histories.{calls_of, ExchangesAreRight, ReadsAreRight}
 abbrev pub BeginsWith : List Call → List Call → Type 0
 BeginsWith first calls = (more : List Call) × (calls ≡ first ++ more)
 
--- a history begins with these calls, and the call stands in it behind all of them
-pub record Follows (first : List Call) (call : Call) (calls : List Call) : Type 0 where
-  pub between : List Call
-  pub more : List Call
-  pub stands : calls ≡ (first ++ between) ++ call ∷ more
-
--- one call stands in a history before another
-pub record Precedes (one other : Call) (calls : List Call) : Type 0 where
+-- calls of one answer stand in a history before those of another
+pub record Precedes (ones others history : List Call) : Type 0 where
   pub first : List Call
   pub between : List Call
   pub more : List Call
-  pub stands : calls ≡ first ++ one ∷ (between ++ other ∷ more)
+  pub stands : history ≡ first ++ (ones ++ (between ++ (others ++ more)))
 
 -- ---- tokens
 
@@ -40,9 +34,9 @@ pub record IsTokenOf (set : TableView) (p : Trace) (token : SeenView) : Type 0 w
   pub seen : token.seen ≡ p.seen
   pub own : own_calls p.start token.seen p.who ≡ made_by p
 
--- each call that the pass is answered from now on stands behind all of these, in the legal history that it then has
+-- what the pass is answered from now on stands behind all of these, in the legal history that it then has
 abbrev pub EachFollows : List Call → Trace → Type 0
-EachFollows first q = (call : Call) (r s : Trace) → IsSame q r → Begins q.seen r.seen → Answers call r s → Follows first call (calls_of s.start s.seen)
+EachFollows first q = (calls : List Call) (r s : Trace) → IsSame q r → Begins q.seen r.seen → AnswersAll calls r s → Follows first calls (calls_of s.start s.seen)
 
 -- the pass, which is of the set, made no step and no call: it has seen what others did since, and knows and keeps what it knew and kept; what it has then seen is a safe run that begins with what the token tells; its calls are legal from the opening keys, and begin with those that the token tells; and each call that the pass is answered from now on stands behind all of these
 pub record CatchesUp (set : TableView) (p : PassView) (token : SeenView) (q : PassView) : Type 0 where

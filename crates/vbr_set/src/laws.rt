@@ -1,5 +1,5 @@
 //! The laws of tokens, and of progress. Each function says its law in its contract, and does nothing.
-ghost use Rattle.vbr_set.specs.Laws.{CallsStayInOrder, InsertsMakeProgress, LookUpsMakeProgress, RemovesMakeProgress, TokensHandOn};
+ghost use Rattle.vbr_set.specs.Laws.{CallsStayInOrder, InsertsMakeProgress, LookUpsMakeProgress, MapsMakeProgress, RemovesMakeProgress, TokensHandOn};
 
 /// A law: who catches up with the last token of a chain catches up with the first, through any number
 /// of callers that each caught up with a token before they made the next.
@@ -33,4 +33,11 @@ pub fn removes_make_progress()
 /// meanwhile the bound is one more.
 pub fn inserts_make_progress()
     ensures { InsertsMakeProgress }
+{}
+
+/// A law: so it is of the calls of a map. A get goes as a look-up, and a remove by its value as a remove; a
+/// store has five steps more than an insert for each time that it was disturbed, and two more where it
+/// compares the value.
+pub fn maps_make_progress()
+    ensures { MapsMakeProgress }
 {}

@@ -58,7 +58,7 @@ pub use list_error::ListError;
 pub use renew_error::RenewError;
 pub use report::{MapReport, Report};
 pub use set_ref::VbrSetRef;
-pub use vbr_list::{Cursor, Refusal};
+pub use vbr_list::{Cursor, Refusal, Wanted};
 pub use vbr_machine::{Call, Op};
 pub use vbr_slots::{CloseError, OpenError, Pass, Seen};
 pub use vbr_words::link::MAX_SLOTS;
@@ -70,7 +70,7 @@ use vbr_words::{Entries, Keys};
 pub type VbrSet = set::VbrSet<Keys>;
 
 /// A map from `u64` keys to `u64` values, shared by the passes that were opened with it. The value of a key
-/// is fixed until the key is removed.
+/// stays until the key is removed or gets another.
 pub type VbrMap = set::VbrSet<Entries>;
 
 /// A member of a set: one of its passes, with a share of the set.

@@ -1,9 +1,10 @@
 //! The laws of a stretch of a run: how often the calls of all passes can have disturbed one of them.
 //! Each function says its law in its contract, and does nothing.
-ghost use Rattle.vbr_set.specs.Stretches.{PassesComeByCalls, StretchesDisturb, StretchesMakeProgress};
+ghost use Rattle.vbr_set.specs.Stretches.{MapStretchesMakeProgress, PassesComeByCalls, StretchesDisturb, StretchesMakeProgress};
 
-/// A law: an insert, answered or refused, makes at most one step that would advance the epoch; each
-/// other call makes none, and so it is of going over keys, of meeting others and of catching up.
+/// A law: an insert or a store, answered or refused, makes at most one step that would advance the
+/// epoch; each other call makes none, and so it is of going over keys, of meeting others and of
+/// catching up.
 pub fn passes_come_by_calls()
     ensures { PassesComeByCalls }
 {}
@@ -21,4 +22,9 @@ pub fn stretches_disturb()
 /// disturbances: a look-up, a remove or an insert.
 pub fn stretches_make_progress()
     ensures { StretchesMakeProgress }
+{}
+
+/// A law: so it is of the calls of a map.
+pub fn map_stretches_make_progress()
+    ensures { MapStretchesMakeProgress }
 {}

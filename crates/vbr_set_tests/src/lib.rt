@@ -24,6 +24,8 @@ mod set;
 #[cfg(test)]
 mod seventy_slots;
 #[cfg(test)]
+mod stores;
+#[cfg(test)]
 mod threads;
 #[cfg(test)]
 mod tokens;

@@ -4,6 +4,7 @@ ghost use Rattle.std.specs.List.Sorted.{IsStrictlyIncreasing};
 ghost use Rattle.vbr_machine.specs.Maps.{keys_listed, map_start};
 ghost use Rattle.vbr_machine.specs.Start.{ArePaired, set_start, start_with};
 ghost use Rattle.vbr_slots.specs.Openings.{Opens};
+ghost use Rattle.vbr_slots.specs.Tried.{first_tried};
 
 use crate::laying::opening_words;
 use crate::pass::Pass;
@@ -18,6 +19,7 @@ use std::error::Error;
 use std::fmt;
 use std::marker::PhantomData;
 use vbr_machine::keys_and_values;
+use vbr_words::flags::{FLAGS, flag_words};
 use vbr_words::{Entries, Nodes, Shape};
 
 /// Why a table isn't opened. The tests are made in this order.
@@ -131,6 +133,23 @@ impl Slots<Entries> {
     }
 }
 
+// The slot with which a pass of so many begins to look for a free one: where keys are spread, the passes
+// begin with flag words that lie as far apart as may be, so that those which fill a table at once don't
+// all change one word.
+fn first_tried(opening: Opening, who: u32) -> u32
+    requires who { who < opening.passes }
+    requires few { opening.passes ≤ 64 }
+    ensures first { result ≡ first_tried opening.shape opening.passes who }
+    ensures low { result < opening.shape.slots }
+{
+    let shape = opening.shape;
+    let _slots = shape.slots();
+    if !shape.is_spread() {
+        return 0;
+    }
+    FLAGS * (who * flag_words(&shape) / opening.passes)
+}
+
 impl<N: Nodes> Slots<N> {
     // A table with these keys, and with a value for each where nodes have values.
     fn build(
@@ -168,7 +187,7 @@ impl<N: Nodes> Slots<N> {
                 runner,
                 pool: Pool::new(),
                 hand: None,
-                tried: 0,
+                tried: first_tried(opening, who),
             };
             let Ok(()) = passes.push(Pass { stepper, steps: 0 }) else {
                 return Err(OpenError::Memory);

@@ -6,22 +6,25 @@ use crate::running_table::{close_two, open_two_with_values};
 use std::alloc::Global;
 use std::process::Abort;
 use std::test::Fail;
-use vbr_list::{Refusal, get, has, insert_entry, remove_entry};
+use vbr_list::{Refusal, Wanted, get, has, insert_entry, remove_entry, store};
 use vbr_slots::{Pass, Slots};
 use vbr_words::{Entries, Shape};
 
-// A call of a map, with its key, and what it is answered.
+/// A call of a map, with its key, and what it is answered.
 #[derive(Clone, Copy)]
-enum Made {
+pub(crate) enum Made {
     Insert(u64, u64, Result<bool, Refusal>),
     Remove(u64, Result<Option<u64>, Refusal>),
     Get(u64, Result<Option<u64>, Refusal>),
     Has(u64, Result<bool, Refusal>),
+    Store(u64, u64, Wanted, Result<Option<u64>, Refusal>),
+    // A store that is refused for want of steps, after however many.
+    Tired(u64, u64, Wanted),
 }
 
-// What is made on a table with two passes, 0 and 1, or looked at there.
+/// What is made on a table with two passes, 0 and 1, or looked at there.
 #[derive(Clone, Copy)]
-enum Row<'a> {
+pub(crate) enum Row<'a> {
     // A call of a pass, with its budget.
     Call(u32, u32, Made),
     // How many steps the last call made.
@@ -54,6 +57,11 @@ fn expect_value(
     assert_eq!(rt; told, answer, "{made} {key}");
 }
 
+// Compares a refusal for want of steps.
+fn expect_tired(rt: &impl Abort, told: Result<Option<u64>, Refusal>) {
+    assert!(rt; matches!(told, Err(Refusal::OutOfSteps { .. })));
+}
+
 // Makes a call, compares what it is answered, and tells how many steps it made.
 fn call(rt: &impl Abort, slots: &Slots<Entries>, pass: &mut Pass, budget: u32, made: Made) -> u64
     requires own { IsOf pass.old.trace slots.now }
@@ -78,6 +86,14 @@ fn call(rt: &impl Abort, slots: &Slots<Entries>, pass: &mut Pass, budget: u32, m
         Made::Has(key, answer) => {
             let told = has(slots, pass, key, budget);
             expect_answer(rt, told, answer, "has", key);
+        }
+        Made::Store(key, value, wanted, answer) => {
+            let told = store(slots, pass, key, value, wanted, budget);
+            expect_value(rt, told, answer, "store", key);
+        }
+        Made::Tired(key, value, wanted) => {
+            let told = store(slots, pass, key, value, wanted, budget);
+            expect_tired(rt, told);
         }
     }
     pass.steps().saturating_sub(before)
@@ -125,8 +141,8 @@ fn words_after(
     Ok(close_two(alloc, slots, a, b).ok_or("not closed")?)
 }
 
-// Makes rows on a fresh table with two passes.
-fn expect(
+/// Makes rows on a fresh table with two passes.
+pub(crate) fn expect(
     rt: &impl Abort,
     alloc: Global,
     shape: (u32, u32, u64),

@@ -25,6 +25,8 @@ mod running_table;
 #[cfg(test)]
 mod standing_still;
 #[cfg(test)]
+mod stores;
+#[cfg(test)]
 mod values;
 #[cfg(test)]
 mod words;

@@ -196,6 +196,15 @@ impl Shape {
         self.values
     }
 
+    /// Whether keys are spread over the buckets, as [`Shape::spread_over`] has it.
+    #[inline]
+    pub fn is_spread(&self) -> bool
+        ensures spread { result ≡ self.now.spread }
+        ensures shape { IsShape self.now }
+    {
+        self.spread
+    }
+
     /// The number of slots.
     #[inline]
     pub fn slots(&self) -> u32

@@ -62,4 +62,8 @@ impl Map for DashEntries {
     fn remove(&self, key: u64) -> Option<u64> {
         DashMap::remove(self, &key).map(|(_, value)| value)
     }
+
+    fn replace(&self, key: u64, value: u64) -> Option<u64> {
+        DashMap::insert(self, key, value)
+    }
 }

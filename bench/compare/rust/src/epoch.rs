@@ -152,6 +152,13 @@ impl Map for EpochMap {
     fn remove(&self, key: u64) -> Option<u64> {
         self.take_out(key)
     }
+
+    /// In between others find the key absent, and where another thread inserts it first that one's value stays.
+    fn replace(&self, key: u64, value: u64) -> Option<u64> {
+        let old = self.take_out(key);
+        self.add(key, value);
+        old
+    }
 }
 
 impl<V> Drop for EpochTable<V> {

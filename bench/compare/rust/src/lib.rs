@@ -1,4 +1,4 @@
-//! The peers in Rust, for the comparison: sets and maps, each behind five functions for C, and dashmap's behind a sixth.
+//! The peers in Rust, for the comparison: sets and maps behind functions for C.
 mod dash;
 mod epoch;
 
@@ -19,6 +19,8 @@ pub trait Map {
     fn get(&self, key: u64) -> Option<u64>;
     fn insert(&self, key: u64, value: u64) -> bool;
     fn remove(&self, key: u64) -> Option<u64>;
+    /// Of a key that is there; gives the value that it had.
+    fn replace(&self, key: u64, value: u64) -> Option<u64>;
 }
 
 /// Writes a value where there is one, and says whether there is.
@@ -57,7 +59,7 @@ macro_rules! export_set {
 }
 
 macro_rules! export_map {
-    ($map:ty, $open:ident, $close:ident, $get:ident, $insert:ident, $remove:ident) => {
+    ($map:ty, $open:ident, $close:ident, $get:ident, $insert:ident, $remove:ident, $replace:ident) => {
         #[no_mangle]
         pub extern "C" fn $open(buckets: usize, keys: usize) -> Box<$map> {
             Box::new(<$map as Map>::open(buckets, keys))
@@ -80,13 +82,34 @@ macro_rules! export_map {
         pub extern "C" fn $remove(map: &$map, key: u64, value: &mut u64) -> bool {
             give(Map::remove(map, key), value)
         }
+
+        #[no_mangle]
+        pub extern "C" fn $replace(map: &$map, key: u64, value: u64, old: &mut u64) -> bool {
+            give(Map::replace(map, key, value), old)
+        }
     };
 }
 
 export_set!(EpochSet, epoch_set_open, epoch_set_close, epoch_set_has, epoch_set_insert, epoch_set_remove);
 export_set!(DashKeys, dash_set_open, dash_set_close, dash_set_has, dash_set_insert, dash_set_remove);
-export_map!(EpochMap, epoch_map_open, epoch_map_close, epoch_map_get, epoch_map_insert, epoch_map_remove);
-export_map!(DashEntries, dash_map_open, dash_map_close, dash_map_get, dash_map_insert, dash_map_remove);
+export_map!(
+    EpochMap,
+    epoch_map_open,
+    epoch_map_close,
+    epoch_map_get,
+    epoch_map_insert,
+    epoch_map_remove,
+    epoch_map_replace
+);
+export_map!(
+    DashEntries,
+    dash_map_open,
+    dash_map_close,
+    dash_map_get,
+    dash_map_insert,
+    dash_map_remove,
+    dash_map_replace
+);
 
 /// Calls a function with each key, and with what it is to have besides.
 #[no_mangle]

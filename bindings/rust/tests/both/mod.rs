@@ -1,6 +1,6 @@
 //! Tests that are made of sets and of maps, by one text: in a map each key has the value that [`value_of`] says.
 #![allow(dead_code, reason = "each test uses some of it")]
-use vbr::{Entries, Entry, HandleOf, Keys, Kind, MapReport, Refusal, Report};
+use vbr::{Entries, Entry, Keys, Kind, MapReport, PassOf, Refusal, Report};
 
 /// The value that a map has with a key in these tests.
 pub fn value_of(key: u64) -> u64 {
@@ -20,8 +20,8 @@ pub fn key_of((key, value): (u64, u64)) -> u64 {
 pub trait Both: Kind {
     fn item(key: u64) -> Self::Item;
     fn key(given: Self::Given) -> u64;
-    fn insert(handle: &mut HandleOf<Self>, key: u64, budget: u32) -> Result<bool, Refusal>;
-    fn remove(handle: &mut HandleOf<Self>, key: u64, budget: u32) -> Result<bool, Refusal>;
+    fn insert(pass: &mut PassOf<Self>, key: u64, budget: u32) -> Result<bool, Refusal>;
+    fn remove(pass: &mut PassOf<Self>, key: u64, budget: u32) -> Result<bool, Refusal>;
 
     /// The report as that of a set, and how many items there is room for.
     fn report(told: Self::Report) -> (Report, usize);
@@ -40,12 +40,12 @@ impl Both for Keys {
         given
     }
 
-    fn insert(handle: &mut HandleOf<Keys>, key: u64, budget: u32) -> Result<bool, Refusal> {
-        handle.insert(key, budget)
+    fn insert(pass: &mut PassOf<Keys>, key: u64, budget: u32) -> Result<bool, Refusal> {
+        pass.insert(key, budget)
     }
 
-    fn remove(handle: &mut HandleOf<Keys>, key: u64, budget: u32) -> Result<bool, Refusal> {
-        handle.remove(key, budget)
+    fn remove(pass: &mut PassOf<Keys>, key: u64, budget: u32) -> Result<bool, Refusal> {
+        pass.remove(key, budget)
     }
 
     fn report(told: Report) -> (Report, usize) {
@@ -63,12 +63,12 @@ impl Both for Entries {
         key_of(given)
     }
 
-    fn insert(handle: &mut HandleOf<Entries>, key: u64, budget: u32) -> Result<bool, Refusal> {
-        handle.insert(key, value_of(key), budget)
+    fn insert(pass: &mut PassOf<Entries>, key: u64, budget: u32) -> Result<bool, Refusal> {
+        pass.insert(key, value_of(key), budget)
     }
 
-    fn remove(handle: &mut HandleOf<Entries>, key: u64, budget: u32) -> Result<bool, Refusal> {
-        Ok(handle.remove(key, budget)?.is_some_and(|value| key_of((key, value)) == key))
+    fn remove(pass: &mut PassOf<Entries>, key: u64, budget: u32) -> Result<bool, Refusal> {
+        Ok(pass.remove(key, budget)?.is_some_and(|value| key_of((key, value)) == key))
     }
 
     fn report(MapReport { entries, epoch, marked, free }: MapReport) -> (Report, usize) {

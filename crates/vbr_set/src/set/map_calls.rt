@@ -1,24 +1,25 @@
-//! The calls of a map: inserts, removes and gets.
+//! The calls of a map: inserts, removes, gets and stores.
 ghost use Rattle.std.specs.Prelude.{◌≡◌, None};
 ghost use Rattle.vbr_slots.specs.Views.{IsOf};
-ghost use Rattle.vbr_set.specs.MapCalls.{GetsEntry, InsertsEntry, RemovesEntry};
+ghost use Rattle.vbr_set.specs.MapCalls.{GetsEntry, InsertsEntry, RemovesEntry, RemovesIf, StoresEntry};
 ghost use Rattle.vbr_set.specs.Members.{as_member};
 
 use crate::set::VbrSet;
-use vbr_list::{Refusal, get, insert_entry, remove_entry};
+use vbr_list::{Refusal, Wanted, get, insert_entry, remove_entry, remove_if, store};
 use vbr_machine::laws::a_run_is_a_map;
 use vbr_slots::Pass;
 use vbr_words::Entries;
 
 impl VbrSet<Entries> {
     /// Adds a key with its value, in at most `budget` steps, and says whether the key was absent. Where it
-    /// was present, its value stays: the value of a key is fixed until the key is removed.
+    /// was present, its value stays: [`VbrMap::store`] is the call that changes it.
     ///
     /// It is the insert of a set, [`VbrSet::insert`], which has the source, with a step more to store the
     /// value, so that an answer takes at most one more; budgets and refusals are those. After each the pass has made no call and has no slot in
     /// hand, and no history has the call.
     ///
     /// [`VbrSet::insert`]: crate::VbrSet::insert
+    /// [`VbrMap::store`]: crate::VbrMap::store
     #[inline]
     pub fn insert(
         &self,
@@ -40,7 +41,7 @@ impl VbrSet<Entries> {
     }
 
     /// Takes a key out, in at most `budget` steps, and gives the value that was stored with it, if it was
-    /// there. The value is read before the node is marked, and fixed since the node was published.
+    /// there. The value is read before the node is marked, and is that of the node since it was published.
     ///
     /// It is the remove of a set, [`VbrSet::remove`], which has the source; budgets and refusals are those.
     /// An answer takes two steps more: while the other passes stand still, at most 9n + 12.
@@ -76,6 +77,86 @@ impl VbrSet<Entries> {
         a_run_is_a_map();
         pass.law();
         let answer = get(&self.slots, pass, key, budget);
+        pass.law();
+        answer
+    }
+
+    /// Takes a key out where its value is the one that is expected, in at most `budget` steps, and gives
+    /// what was there: the value that the key had, or none where it was absent. So the key was taken out
+    /// exactly where the value that is expected is given. Else the call is a get of what was there.
+    ///
+    /// It goes the way of [`VbrMap::remove`], which compares the value once it has read it; budgets,
+    /// refusals and what an answer takes are those.
+    ///
+    /// [`VbrMap::remove`]: crate::VbrMap::remove
+    #[inline]
+    pub fn remove_if(
+        &self,
+        pass: &mut Pass,
+        key: u64,
+        expected: u64,
+        budget: u32,
+    ) -> Result<Option<u64>, Refusal>
+        requires own { IsOf pass.old.trace self.now }
+        requires empty_hand { pass.old.hand ≡ None }
+        ensures { RemovesIf (as_member self.now pass.old) (as_member self.now pass.new)
+            key expected budget result }
+    {
+        a_run_is_a_map();
+        pass.law();
+        let answer = remove_if(&self.slots, pass, key, expected, budget);
+        pass.law();
+        answer
+    }
+
+    /// Gives a key a value where what is there is as it is wanted, in at most `budget` steps, and gives
+    /// what was there: the value that the key had, or none where it was absent. So the value was stored
+    /// exactly where [`Wanted::wants`] what is given.
+    ///
+    /// The answer's point is one step, and where the key was there that is two calls of the history, next to
+    /// each other: the key is removed with its value, and inserted with the new one, and no call of
+    /// another pass stands between. Where what was there isn't as it is wanted, nothing changes, and the
+    /// call is a get.
+    ///
+    /// A new value has a new node, so a replacement needs one slot more than the map has keys. The node
+    /// that it replaced has left its list when the call returns, unless less than eight steps are left of
+    /// the budget, and its slot is back, in the pass's own pool while that has room.
+    ///
+    /// The budgets that are enough are those of [`VbrMap::insert`], and two steps more for
+    /// [`Wanted::Value`]: while the other passes stand still, 18n + slots + 82, with n nodes in the key's
+    /// bucket, and 18n + 82 with a slot in the pass's own pool, unless the epoch is spent. What is answered
+    /// took at most six steps more than is enough, and with eight more a node that was replaced has left
+    /// its list.
+    ///
+    /// # Errors
+    ///
+    /// After each the pass has made no call and has no slot in hand, no history has the call, and what was
+    /// there stays.
+    ///
+    /// - OutOfSteps: the steps that were made leave less than eight of the budget.
+    /// - NoSlot: what was there was as it is wanted, the own pool was empty, and each slot was outside the
+    ///   shared pool at a moment of the call.
+    /// - EpochSpent: what was there was as it is wanted, the epoch is the last, and each slot of the own
+    ///   pool is stamped with it. The budget had room to advance it.
+    ///
+    /// [`VbrMap::insert`]: crate::VbrMap::insert
+    #[inline]
+    pub fn store(
+        &self,
+        pass: &mut Pass,
+        key: u64,
+        value: u64,
+        wanted: Wanted,
+        budget: u32,
+    ) -> Result<Option<u64>, Refusal>
+        requires own { IsOf pass.old.trace self.now }
+        requires empty_hand { pass.old.hand ≡ None }
+        ensures { StoresEntry (as_member self.now pass.old) (as_member self.now pass.new)
+            key value wanted budget result }
+    {
+        a_run_is_a_map();
+        pass.law();
+        let answer = store(&self.slots, pass, key, value, wanted, budget);
         pass.law();
         answer
     }

@@ -1,8 +1,8 @@
-//! The calls of a pass with a reference to its map: inserts, removes and gets.
-ghost use Rattle.vbr_set.specs.MapCalls.{GetsEntry, InsertsEntry, RemovesEntry};
+//! The calls of a pass with a reference to its map: inserts, removes, gets and stores.
+ghost use Rattle.vbr_set.specs.MapCalls.{ExchangesEntry, GetsEntry, GetsOrInsertsEntry, InsertsEntry, PutsEntry, RemovesEntry, RemovesIf, ReplacesEntry};
 
 use crate::set_ref::VbrSetRef;
-use vbr_list::Refusal;
+use vbr_list::{Refusal, Wanted};
 use vbr_words::Entries;
 
 impl<'s> VbrSetRef<'s, Entries> {
@@ -58,5 +58,109 @@ impl<'s> VbrSetRef<'s, Entries> {
         ensures { GetsEntry self.old self.new key budget result }
     {
         self.set.get(&mut self.pass, key, budget)
+    }
+
+    /// Takes a key out where its value is the one that is expected, in at most `budget` steps, and gives
+    /// what was there: it took the key out exactly where that is `Some(expected)`. It is
+    /// [`VbrMap::remove_if`], which has the source.
+    ///
+    /// # Errors
+    ///
+    /// OutOfSteps alone. The pass has made no call then, and can go on at once.
+    ///
+    /// [`VbrMap::remove_if`]: crate::VbrMap::remove_if
+    #[inline]
+    pub fn remove_if(
+        &mut self,
+        key: u64,
+        expected: u64,
+        budget: u32,
+    ) -> Result<Option<u64>, Refusal>
+        ensures { RemovesIf self.old self.new key expected budget result }
+    {
+        self.set.remove_if(&mut self.pass, key, expected, budget)
+    }
+
+    /// Gives a key that is there another value, in at most `budget` steps, and gives the value that it had;
+    /// none where the key is absent, and then it stays so. It is [`VbrMap::store`] where
+    /// [`Wanted::Present`] is wanted, which has the source: a replacement needs one slot more than the map
+    /// has keys, and the old one is back when it returns.
+    ///
+    /// # Errors
+    ///
+    /// OutOfSteps, NoSlot and EpochSpent, as there. After each the pass has made no call, what was there
+    /// stays, and it can go on at once.
+    ///
+    /// [`VbrMap::store`]: crate::VbrMap::store
+    #[inline]
+    pub fn replace(&mut self, key: u64, value: u64, budget: u32) -> Result<Option<u64>, Refusal>
+        ensures { ReplacesEntry self.old self.new key value budget result }
+    {
+        self.set
+            .store(&mut self.pass, key, value, Wanted::Present, budget)
+    }
+
+    /// Gives a key a value, in at most `budget` steps, whether it is there or not, and gives the value that
+    /// it had, if it was there. It is [`VbrMap::store`] where [`Wanted::Anything`] is wanted, which
+    /// has the source. It takes a slot in each case.
+    ///
+    /// # Errors
+    ///
+    /// OutOfSteps, NoSlot and EpochSpent, as there. After each the pass has made no call, what was there
+    /// stays, and it can go on at once.
+    ///
+    /// [`VbrMap::store`]: crate::VbrMap::store
+    #[inline]
+    pub fn put(&mut self, key: u64, value: u64, budget: u32) -> Result<Option<u64>, Refusal>
+        ensures { PutsEntry self.old self.new key value budget result }
+    {
+        self.set
+            .store(&mut self.pass, key, value, Wanted::Anything, budget)
+    }
+
+    /// Gives a key another value where it has the one that is expected, in at most `budget` steps, and gives
+    /// what was there: the value was exchanged exactly where that is `Some(expected)`. It is
+    /// [`VbrMap::store`] where [`Wanted::Value`] is wanted, which has the source.
+    ///
+    /// # Errors
+    ///
+    /// OutOfSteps, NoSlot and EpochSpent, as there. After each the pass has made no call, what was there
+    /// stays, and it can go on at once.
+    ///
+    /// [`VbrMap::store`]: crate::VbrMap::store
+    #[inline]
+    pub fn compare_exchange(
+        &mut self,
+        key: u64,
+        expected: u64,
+        value: u64,
+        budget: u32,
+    ) -> Result<Option<u64>, Refusal>
+        ensures { ExchangesEntry self.old self.new key expected value budget result }
+    {
+        self.set.store(&mut self.pass, key, value, Wanted::Value(expected), budget)
+    }
+
+    /// Gives a key a value where it is absent, in at most `budget` steps, and gives what was there: none
+    /// where the value was stored, else the value that the key has. It is [`VbrMap::store`] where
+    /// [`Wanted::Absent`] is wanted, which has the source.
+    ///
+    /// # Errors
+    ///
+    /// OutOfSteps, NoSlot and EpochSpent, as there. After each the pass has made no call, what was there
+    /// stays, and it can go on at once.
+    ///
+    /// [`VbrMap::store`]: crate::VbrMap::store
+    #[inline]
+    pub fn get_or_insert(
+        &mut self,
+        key: u64,
+        value: u64,
+        budget: u32,
+    ) -> Result<Option<u64>, Refusal>
+        ensures { GetsOrInsertsEntry self.old self.new key value budget result }
+    {
+        self.set
+            .store(&mut self.pass, key, value, Wanted::Absent, budget)
     }
 }

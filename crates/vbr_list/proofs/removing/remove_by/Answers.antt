@@ -1,18 +1,25 @@
-use Rattle.vbr_list.proofs.Names.{rules, refl, ◌∙◌, arith, ap, ◌≡◌, ℕ, ◌+◌, ◌≤◌, subst, ◌⊎◌}
-use Rattle.vbr_list.proofs.Names.{counts_on, none_on, quiet_on, Remove, same_on, took_all}
-use Rattle.vbr_list.proofs.Going.{call_on, goes_on, room_left, tries_on, within_call, within_of}
+use Rattle.vbr_list.proofs.Names.{rules, ◌∙◌, arith, ap, ◌≡◌, ℕ, ◌+◌, ◌≤◌, subst, inl, inr, ◌⊎◌}
+use Rattle.vbr_list.proofs.Names.{counts_on, none_on, quiet_on, Remove, same_on, Start, took_all}
+use Rattle.vbr_list.proofs.Going.{by_either, call_on, goes_on, room_left, tries_on, within_call, within_of}
 use Rattle.vbr_list.proofs.Clearing.{leaves_since}
 use Rattle.vbr_list.proofs.Disturbing.{run_at, undisturbed}
 use Rattle.vbr_list.proofs.Walking.{search_round_on}
 use Rattle.vbr_list.proofs.LonePasses.{alone}
 use Rattle.vbr_list.specs.Disturbed.{disturbed, remove_costs_among}
 use Rattle.vbr_list.specs.Budgets.{listed_for, remove_costs, steps_to_value_of}
+use Rattle.vbr_list.specs.Expecting.{op_to_remove}
 use Rattle.vbr_list.specs.Leaving.{Leaves}
 use Rattle.vbr_list.specs.Removing.{MarksAndSearches, RemovesSoon}
+use Rattle.vbr_list.proofs.Expected.{taken_removes}
 use Rattle.vbr_list.proofs.Marks.{left_fewer, remove_alone, remove_paid}
 use Rattle.vbr_list.proofs.Tiring.{remove_tires}
 use Rattle.vbr_list.proofs.Told.{given_same, told_since}
 use Rattle.vbr_list.proofs.removing.remove_by.Goals as goal
+
+pub settle_remove-requires-clause-expects : goal.settle_remove-requires-clause-expects
+settle_remove-requires-clause-expects g c = λ some.
+    let same = (goes_on c.loop-found.invariant.3.goes c.reach.ensures.goes.goes).quiet.same in
+    ap (λ (d : Start). d.shape.values) (same.start ∙ c.requires.own.1) ∙ c.requires.expects some
 
 pub loop-found-preserved : goal.loop-found-preserved
 loop-found-preserved g c =
@@ -66,16 +73,18 @@ returns-in-Ok-clause-calls g c =
     let key = c.reach.ensures.goes.call.key ∙ c.loop-found.invariant.0.key ∙ c.loop-found.invariant.1 in
     let budget = c.reach.ensures.goes.call.budget ∙ c.loop-found.invariant.0.budget ∙ c.loop-found.invariant.2 in
     let answered = rw key at c.in-Ok.ensures.answers.made in
-    let made = told_since first (given_same first.same Remove c.args.key c.in-Ok.answer) answered in
+    let made = told_since first (given_same first.same (op_to_remove c.args.expected c.in-Ok.answer) c.args.key c.in-Ok.answer) answered in
     let counts = counts_on (goes_on c.loop-found.invariant.3.goes c.reach.ensures.goes.goes).counts c.settle_remove.ensures.settles.counts in
     let values = ap steps_to_value_of first.same.start in
     let walk = c.loop-found.call.at.stepper.now.trace in
     let there = c.loop-found.invariant.0.key ∙ c.loop-found.invariant.1 in
     let last = rw there at c.in-Some.ensures.found.last in
     let walks = rw there at c.in-Some.ensures.found.walks in
-    let E : ℕ → Type 0 = λ k. RemovesSoon c.reach.new.self c.settle_remove.new.self c.in-Ok.answer ⊎ MarksAndSearches (steps_to_value_of q.trace.start + 1) q.trace r.trace k c.reach.new.self.used c.settle_remove.new.self.used c.in-Some.found.pred in
-    let either = subst E key c.in-Ok.ensures.answers.paid in
-    let paid = remove_paid p.trace walk q.trace r.trace c.law.ensures.start c.args.key before.same went.same before.seen went.seen made refl answered.seen c.loop-found.invariant.4 c.in-Some.found last walks either (λ (soon : RemovesSoon c.reach.new.self c.settle_remove.new.self c.in-Ok.answer). let few = soon.few in omega (arith, few, values)) in
+    let soon_so : Type 0 = RemovesSoon c.args.expected c.reach.new.self c.settle_remove.new.self c.in-Ok.answer in
+    let late_so : ℕ → Type 0 = λ k. MarksAndSearches (steps_to_value_of q.trace.start + 1) q.trace r.trace k c.reach.new.self.used c.settle_remove.new.self.used c.in-Some.found.pred in
+    let either : soon_so ⊎ ((op_to_remove c.args.expected c.in-Ok.answer ≡ Remove) × late_so c.args.key) =
+    by_either {C = soon_so ⊎ ((op_to_remove c.args.expected c.in-Ok.answer ≡ Remove) × late_so c.args.key)} c.in-Ok.ensures.answers.paid (λ soon. inl soon) (λ x. inr (taken_removes c.args.expected c.in-Ok.answer x.taken, subst late_so key x.late)) in
+    let paid = remove_paid p.trace walk q.trace r.trace c.law.ensures.start c.args.key before.same went.same before.seen went.seen first made answered.seen c.loop-found.invariant.4 c.in-Some.found last walks either (λ (soon : soon_so). let few = soon.few in omega (arith, few, values)) in
     rw same (record {
       same = same_on first.same answered.same;
       made = made;
@@ -95,9 +104,9 @@ returns-in-Ok-clause-calls g c =
         costs = λ whole. let most = undisturbed (λ t. c.settle_remove.new.self.used ≤ remove_costs_among (listed_for p.trace c.args.key) t (steps_to_value_of p.trace.start)) c.args.key paid whole in within_of c.settle_remove.new.self.used (remove_costs p.trace c.args.key) (omega (arith, most)) counts;
         disturbed_costs = within_of c.settle_remove.new.self.used (remove_costs_among (listed_for p.trace c.args.key) (disturbed p.trace r.trace c.args.key) (steps_to_value_of p.trace.start)) paid counts;
         fewer = λ yes whole enough.
-            let soon = remove_alone p.trace walk q.trace r.trace c.law.ensures.start c.args.key before.same went.same before.seen went.seen made refl answered.seen c.loop-found.invariant.4 c.in-Some.found last walks either whole in
+            let soon = remove_alone p.trace walk q.trace r.trace c.law.ensures.start c.args.key before.same went.same before.seen went.seen first made answered.seen c.loop-found.invariant.4 c.in-Some.found last walks either whole in
             let few = soon.1 in
             let left = leaves_since r.trace c.args.key c.law.ensures.start first (subst (λ (k : ℕ). Leaves q.trace r.trace k) key (soon.0.leaves yes (omega (arith, few, enough, budget, values)))) in
-            left_fewer p.trace walk q.trace r.trace c.law.ensures.start c.args.key before.same went.same before.seen went.seen made refl answered.seen left whole;
+            left_fewer p.trace walk q.trace r.trace c.law.ensures.start c.args.key before.same went.same before.seen went.seen first made answered.seen (taken_removes c.args.expected c.in-Ok.answer yes) left whole;
       };
     })

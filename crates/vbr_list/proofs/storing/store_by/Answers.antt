@@ -6,9 +6,8 @@ use Rattle.vbr_list.specs.Settling.{HasAnswered, HasPrepared}
 use Rattle.vbr_list.specs.Storing.{Makes}
 use Rattle.vbr_list.specs.Wanted.{steps_to_compare}
 use Rattle.vbr_list.proofs.Disturbing.{run_at}
-use Rattle.vbr_list.proofs.LonePasses.{are_alone}
 use Rattle.vbr_list.proofs.Preparing.{within_all, within_most, within_on}
-use Rattle.vbr_list.proofs.Stores.{replaced_not, store_lone, store_lone_costs, store_ready, store_refused_first, store_vain, told_had, told_paid, told_where}
+use Rattle.vbr_list.proofs.Stores.{are_alone, replaced_not, store_lone, store_lone_costs, store_ready, store_refused_first, store_vain, told_had, told_paid, told_where}
 use Rattle.vbr_list.proofs.StoredValues.{calls_with}
 use Rattle.vbr_list.proofs.Sufficing.{had_no_slot}
 use Rattle.vbr_list.proofs.storing.store_by.Goals as goal

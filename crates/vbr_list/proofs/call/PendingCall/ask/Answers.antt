@@ -3,7 +3,7 @@ use Rattle.vbr_list.proofs.Names.{ChangesNone, knows, quiet_on, unchanged_by_non
 use Rattle.vbr_list.specs.Wanted.{wants}
 use Rattle.vbr_list.proofs.Disturbing.{run_at}
 use Rattle.vbr_list.proofs.FoundValues.{asks_read, asks_then, tells_since}
-use Rattle.vbr_list.proofs.Stores.{found_later}
+use Rattle.vbr_list.proofs.ReadFirst.{found_lost_since}
 use Rattle.vbr_list.proofs.Sufficing.{any_error}
 use Rattle.vbr_list.proofs.Wants.{compare_few}
 use Rattle.vbr_list.proofs.call.PendingCall.ask.Goals as goal
@@ -46,7 +46,7 @@ returns-in_err-tell_found-clause-lost g c =
     let none : ChangesNone p q = unchanged_by_none c.law.ensures.start (run_at p q quiet.same (quiet.is_run c.law.ensures.is_run)) quiet.same quiet.seen r.reads.adds_none in
     let used = r.used in
     let one = c.tell_found.ensures.used in
-    any_error c.from_residual-in_err-tell_found.result (λ rollback. record { quiet = quiet_on quiet lost.quiet; loses = found_later p q c.tell_found.new.self.at.stepper.now.trace c.args.found.now quiet c.in_ok-there.ensures.found.keeps none lost.loses; more = omega (arith, used, one) })
+    any_error c.from_residual-in_err-tell_found.result (λ rollback. record { quiet = quiet_on quiet lost.quiet; loses = found_lost_since c.args.found.now quiet c.in_ok-there.ensures.found.keeps none lost.loses; more = omega (arith, used, one) })
 
 pub returns-clause-asks : goal.returns-clause-asks
 returns-clause-asks g c =

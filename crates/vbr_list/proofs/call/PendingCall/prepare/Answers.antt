@@ -1,5 +1,5 @@
-use Rattle.vbr_list.proofs.Names.{◌≡◌, ◌+◌, Bool, true, false, refl, sym, ◌∙◌, subst, arith, not, err_from_is_err_and}
-use Rattle.vbr_list.proofs.Names.{beq, gained, Made, no_room, quiet_on, set_call, some_grown, steps_to_take_among, WasSo}
+use Rattle.vbr_list.proofs.Names.{◌+◌, Bool, false, sym, ◌∙◌, subst, arith, err_from_is_err_and}
+use Rattle.vbr_list.proofs.Names.{gained, Made, no_room, quiet_on, set_call, some_grown, steps_to_take_among, WasSo}
 use Rattle.vbr_list.specs.Disturbed.{steps_for_slot}
 use Rattle.vbr_list.specs.Inserting.{denied}
 use Rattle.vbr_list.proofs.Going.{call_on, goes_further, goes_step, tries_on, within_call}
@@ -7,22 +7,11 @@ use Rattle.vbr_list.proofs.Disturbing.{run_at}
 use Rattle.vbr_list.proofs.Walking.{in_vain, search_round_on, searches_later}
 use Rattle.vbr_list.proofs.LostWalks.{search_ends}
 use Rattle.vbr_list.proofs.Moments.{found_since, so_before, was_so}
-use Rattle.vbr_list.proofs.Preparing.{found_for, if_err, if_ok, made_since, prepares_answered, prepares_on, prepares_still, steps_gone, takes_after}
+use Rattle.vbr_list.proofs.Preparing.{if_err, if_ok, made_since, prepares_answered, prepares_on, prepares_still, steps_gone, takes_after}
 use Rattle.vbr_list.proofs.Sufficing.{take_after, take_least}
+use Rattle.vbr_list.specs.declared.wanted.Wanted.TheVariants.{Absent}
+use Rattle.vbr_list.proofs.Wants.{wanted_for}
 use Rattle.vbr_list.proofs.call.PendingCall.prepare.Goals as goal
-
--- what was found is as it was wanted, or the other
-same_as : (found wanted : Bool) → beq found wanted ≡ true → found ≡ wanted
-same_as true true x = refl
-same_as true false x = absurd (cc)
-same_as false true x = absurd (cc)
-same_as false false x = refl
-
-other_than : (found wanted : Bool) → beq found wanted ≡ false → found ≡ not wanted
-other_than true true x = absurd (cc)
-other_than true false x = refl
-other_than false true x = refl
-other_than false false x = absurd (cc)
 
 pub loop-found-preserved : goal.loop-found-preserved
 loop-found-preserved g c =
@@ -53,8 +42,8 @@ returns-then-not-affords-clause-prepares g c = prepares_still (goes_further c.lo
 pub returns-in_err-hand-clause-prepares : goal.returns-in_err-hand-clause-prepares
 returns-in_err-hand-clause-prepares g c = prepares_on (goes_further c.loop-found.invariant.0 c.loop-found.invariant.1 c.search.ensures.goes) c.provide.ensures.one c.provide.ensures.prepares
 
-pub returns-then-found-wanted-clause-prepares : goal.returns-then-found-wanted-clause-prepares
-returns-then-found-wanted-clause-prepares g c = prepares_on (goes_further c.loop-found.invariant.0 c.loop-found.invariant.1 c.search.ensures.goes) c.provide.ensures.one c.provide.ensures.prepares
+pub returns-then-not-found-clause-prepares : goal.returns-then-not-found-clause-prepares
+returns-then-not-found-clause-prepares g c = prepares_on (goes_further c.loop-found.invariant.0 c.loop-found.invariant.1 c.search.ensures.goes) c.provide.ensures.one c.provide.ensures.prepares
 
 pub returns-then-is_ok-clause-prepares : goal.returns-then-is_ok-clause-prepares
 returns-then-is_ok-clause-prepares g c =
@@ -112,7 +101,7 @@ returns-in_err-hand-clause-refused g c =
       quiet = whole;
       hand = none.hand;
       says = takes_after p m r gone.goes.quiet some counts d refusal (rw gone.call.budget at none.says);
-      so = found_for (so_before (subst P (same_as c.in-Some.found.present c.args.wanted c.if-found-wanted.true) so) d) refusal;
+      so = wanted_for p.trace r.trace c.args.self.now.key Absent (so_before (subst P c.if-not-found.true so) d) refusal;
       searches = in_vain p.trace r.trace c.args.self.now.key c.args.self.now.used c.search.new.self.used c.args.self.now.budget (steps_to_take_among m.trace.start m.pool (gained m.trace r.trace)) (steps_for_slot p r.trace + 10)
           (λ since_then more le least. searches_later p.trace m.trace r.trace c.law.ensures.start (run_at p.trace r.trace whole.same (whole.is_run c.law.ensures.is_run)) c.args.self.now.key gone.goes.quiet.seen d.seen (steps_for_slot p r.trace + 10) (omega arith)
           (search_ends c.law.ensures c.loop-found.invariant.0 c.loop-found.invariant.1.goes.quiet c.search.ensures.goes c.loop-found.invariant.2 c.in-Some.ensures.found.walks since_then more (steps_for_slot p r.trace + 10) le least))
@@ -131,7 +120,7 @@ returns-then-is_ok-clause-prepared g c =
     let least = take_least p r in
     let used = d.used in
     record {
-      is = record { made = made_since gone.goes.quiet (subst M (other_than c.in-Some.found.present c.args.wanted c.if-found-wanted.false) (rw gone.call.key at made)); spent = d.keeps.own.hand ∙ gone.goes.hand.hand ∙ c.requires.empty_hand };
+      is = record { made = made_since gone.goes.quiet (subst M c.if-not-found.false (rw gone.call.key at made)); spent = d.keeps.own.hand ∙ gone.goes.hand.hand ∙ c.requires.empty_hand };
       searched = record {
         ended = m;
         quiet = gone.goes.quiet;
@@ -140,8 +129,8 @@ returns-then-is_ok-clause-prepared g c =
       };
     }
 
-pub returns-then-found-wanted-clause-prepared : goal.returns-then-found-wanted-clause-prepared
-returns-then-found-wanted-clause-prepared g c =
+pub returns-then-not-found-clause-prepared : goal.returns-then-not-found-clause-prepared
+returns-then-not-found-clause-prepared g c =
     let gone = goes_further c.loop-found.invariant.0 c.loop-found.invariant.1 c.search.ensures.goes in
     let d = c.provide.ensures.quiet in
     let hand = c.in_ok-hand.ensures.hand in

@@ -10,7 +10,8 @@ use Rattle.vbr_list.proofs.Going.{call_on}
 use Rattle.vbr_list.proofs.Linking.{takes_back}
 use Rattle.vbr_list.proofs.Preparing.{if_failed, if_went}
 use Rattle.vbr_list.proofs.Settled.{answers_since, change_answers, settles_since, told_answers}
-use Rattle.vbr_list.proofs.Stores.{found_later, hand_kept, replaced_where, unless_since}
+use Rattle.vbr_list.proofs.ReadFirst.{found_lost_since}
+use Rattle.vbr_list.proofs.Stores.{hand_kept, replaced_where, unless_since}
 use Rattle.vbr_list.proofs.call.PendingCall.settle_store.Goals as goal
 
 pub returns-in_default-clause-had : goal.returns-in_default-clause-had
@@ -46,7 +47,7 @@ returns-in-Ok-change-clause-had g c =
     let r = c.change.new.self.at.stepper.now in
     let read = c.read_found.ensures in
     let went = read_goes {c = c.args.self.now} {d = c.read_found.new.self} _ read.call read.used read.reads in
-    let is : wants c.args.wanted c.in-Ok.there ≡ true = sym c.wants.ensures ∙ c.if-wants.true in
+    let is : wants c.args.wanted c.in-Ok.there ≡ true = sym c.wants.ensures ∙ c.if-not-wants.false in
     let P : Bool → Type 0 = λ stored. HasUnlessStored stored p r in
     subst P (sym is) (unless_since true p q r (had_grown p q went.goes.hand.takes_no_slot.grows went.goes.hand.hand) (rw c.in-Ok-change.is at c.change.ensures.had))
 
@@ -62,7 +63,7 @@ returns-in-Err-clause-had g c =
 pub returns-in-Ok-change-clause-answers : goal.returns-in-Ok-change-clause-answers
 returns-in-Ok-change-clause-answers g c =
     let read = c.read_found.ensures in
-    let is : wants c.args.wanted c.in-Ok.there ≡ true = sym c.wants.ensures ∙ c.if-wants.true in
+    let is : wants c.args.wanted c.in-Ok.there ≡ true = sym c.wants.ensures ∙ c.if-not-wants.false in
     answers_since c.args.self.now c.read_found.new.self c.change.new.self c.args.value c.args.wanted c.in-Ok.there read.call.key c.law.ensures.start read.reads.quiet
     (change_answers c.read_found.new.self c.change.new.self c.args.value c.args.wanted c.in-Ok.there is c.in-Ok-change.ensures.stored)
 
@@ -75,7 +76,7 @@ returns-in-Ok-change-clause-paid g c =
     let went = read_goes {c = b} {d = c.read_found.new.self} _ read.call read.used read.reads in
     let few = few_where f.present in
     let used = read.used in
-    let is : wants c.args.wanted c.in-Ok.there ≡ true = sym c.wants.ensures ∙ c.if-wants.true in
+    let is : wants c.args.wanted c.in-Ok.there ≡ true = sym c.wants.ensures ∙ c.if-not-wants.false in
     let P : Bool → Type 0 = λ stored. SettlesIn 8 stored b d f in
     subst P (sym (replaced_where c.args.wanted c.in-Ok.there is)) (settles_since b c.read_found.new.self d f c.law.ensures went (omega (arith, used, few)) read.reads.adds_none c.in-Ok.ensures.found.keeps _ c.in-Ok-change.ensures.paid)
 
@@ -92,7 +93,7 @@ returns-in-Err-clause-back g c =
     let used = read.used in
     let more = back.few in
     record {
-      given = record { quiet = quiet_on quiet back.given.quiet; hand = back.given.hand; loses = found_later p q r c.args.found.now quiet c.in-Ok.ensures.found.keeps none back.given.loses };
+      given = record { quiet = quiet_on quiet back.given.quiet; hand = back.given.hand; loses = found_lost_since c.args.found.now quiet c.in-Ok.ensures.found.keeps none back.given.loses };
       few = omega (arith, few, used, more);
     }
 
@@ -127,12 +128,12 @@ returns-then-is_err-clause-back g c =
     let none : ChangesNone p q = unchanged_by_none c.law.ensures.start (run_at p q quiet.same (quiet.is_run c.law.ensures.is_run)) quiet.same quiet.seen read.reads.adds_none in
     let few = asks.few in
     record {
-      given = record { quiet = quiet_on quiet lost.quiet; hand = hand_kept c.args.hand asks.hand c.requires.has.hand; loses = found_later p q r c.args.found.now quiet c.in-Ok.ensures.found.keeps none lost.loses };
+      given = record { quiet = quiet_on quiet lost.quiet; hand = hand_kept c.args.hand asks.hand c.requires.has.hand; loses = found_lost_since c.args.found.now quiet c.in-Ok.ensures.found.keeps none lost.loses };
       few = omega (arith, few);
     }
 
-pub returns-clause-settles : goal.returns-clause-settles
-returns-clause-settles g c =
+pub returns-then-not-wants-clause-settles : goal.returns-then-not-wants-clause-settles
+returns-then-not-wants-clause-settles g c =
     let r = c.read_found.ensures in
     let t = c.tell_found.ensures in
     let went = read_goes {c = c.args.self.now} {d = c.read_found.new.self} _ r.call r.used r.reads in
@@ -142,25 +143,25 @@ returns-clause-settles g c =
     let x = takes_back {c = c.read_found.new.self} c.args.hand.slot (search rules) t.used t.keeps c.give_back.ensures.back in
     record { call = call_on r.call x.call; counts = counts_on went.goes.counts x.counts; more = more; takes_no_slot = none_on went.goes.hand.takes_no_slot x.takes_no_slot }
 
-pub returns-clause-had : goal.returns-clause-had
-returns-clause-had g c =
+pub returns-then-not-wants-clause-had : goal.returns-then-not-wants-clause-had
+returns-then-not-wants-clause-had g c =
     let p = c.args.self.now.at.stepper.now in
     let q = c.tell_found.new.self.at.stepper.now in
     let r = c.give_back.new.at.stepper.now in
     let read = c.read_found.ensures in
     let t = c.tell_found.ensures in
     let asks = asks_then {c = c.args.self.now} c.args.found.now.present read.call read.used read.reads t.call t.used t.keeps in
-    let is : wants c.args.wanted c.in-Ok.there ≡ false = sym c.wants.ensures ∙ c.if-wants.false in
+    let is : wants c.args.wanted c.in-Ok.there ≡ false = sym c.wants.ensures ∙ c.if-not-wants.true in
     let P : Bool → Type 0 = λ stored. HasUnlessStored stored p r in
     subst P (sym is) (had_on p q r (had_grown p q asks.hand.takes_no_slot.grows asks.hand.hand) (had_back q r c.args.hand.slot (asks.hand.hand ∙ c.requires.has.hand.is.slot) c.give_back.ensures.back.pool))
 
-pub returns-clause-answers : goal.returns-clause-answers
-returns-clause-answers g c =
+pub returns-then-not-wants-clause-answers : goal.returns-then-not-wants-clause-answers
+returns-then-not-wants-clause-answers g c =
     let read = c.read_found.ensures in
     let t = c.tell_found.ensures in
     let back = c.give_back.ensures.back in
     let p = c.args.self.now.at.stepper.now.trace in
-    let is : wants c.args.wanted c.in-Ok.there ≡ false = sym c.wants.ensures ∙ c.if-wants.false in
+    let is : wants c.args.wanted c.in-Ok.there ≡ false = sym c.wants.ensures ∙ c.if-not-wants.true in
     let told = (if_went c.tell_found.result (sym c.is_err.ensures.value ∙ c.if-is_err.false) t.told).1 in
     let since = tells_since c.args.self.now c.read_found.new.self c.tell_found.new.self c.in-Ok.there read.call.key read.reads.quiet told in
     let T : Trace → Type 0 = Made (given_call p.who Get c.args.self.now.key c.in-Ok.there) p in

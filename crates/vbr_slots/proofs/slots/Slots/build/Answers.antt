@@ -7,7 +7,7 @@ use Rattle.vbr_machine.proofs.Lemmas.{is_run_first}
 use Rattle.vbr_slots.specs.TableStart.{TableStart}
 use Rattle.vbr_slots.specs.Rule.{with_opened, first_opened}
 use Rattle.vbr_slots.specs.Views.{TableView, counted_steps, steps_in}
-use Rattle.vbr_slots.specs.Tried.{last_tried, tried_in}
+use Rattle.vbr_slots.specs.Tried.{first_tried, last_tried, tried_in}
 use Rattle.vbr_slots.specs.Words.{AreWordsOf}
 use Rattle.vbr_slots.proofs.Seats.{opens, splits_first, first_is, first_has, first_empty, others_next, new_passes-next}
 use Rattle.vbr_slots.proofs.Tried.{tried_none}
@@ -52,6 +52,7 @@ invariant_of-stepper g c =
     let has = first_has (record { keys = c.args.keys.now; payloads = c.args.values.now }) c.loop-who.who c.args.opening.passes c.loop-who.seat.me c.split_seat-next.new.seat.me c.split_seat-next.result.me c.loop-who-test.true i.1 s.2 s.4 in
     let empty = first_empty (record { keys = c.args.keys.now; payloads = c.args.values.now }) c.loop-who.who c.args.opening.passes c.loop-who.seat.me c.split_seat-next.new.seat.me c.split_seat-next.result.me c.loop-who-test.true i.1 s.2 s.4 in
     let same : start ≡ with_opened c.args.opening.shape (first_opened c.split_seat-next.new.seat.me.0) = ap (with_opened c.args.opening.shape) (sym has) in
+    let first = first_tried c.args.opening.shape c.args.opening.passes c.loop-who.who in
     record {
       start = subst IsStart same c.in_ok-words.ensures.start;
       pool = record {
@@ -59,8 +60,8 @@ invariant_of-stepper g c =
         apart = search rules;
         in_hand = tt;
       };
-      tried = tried_none c.loop-who.who ∙ ap (λ (seen : List Event). tried_in c.loop-who.who seen 0) (sym empty);
-      low = (subst IsStart same c.in_ok-words.ensures.start).shape.some_slot;
+      tried = c.first_tried.ensures.first ∙ tried_none c.loop-who.who first ∙ ap (λ (seen : List Event). tried_in c.loop-who.who seen first) (sym empty);
+      low = c.first_tried.ensures.low;
     }
 
 pub invariant_of-push : goal.invariant_of-push

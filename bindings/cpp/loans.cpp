@@ -1,0 +1,282 @@
+// Handles on loan in C++, of sets and of maps: at once or not at all, or as soon as one is free; loans that own their share; lenders
+// and loans that are moved; and closes of all handles or none.
+#include "vbr.hpp"
+
+#include <cstdio>
+#include <string>
+#include <thread>
+#include <type_traits>
+
+using namespace std::chrono_literals;
+
+#define CHECK(x) do { if (!(x)) { std::fprintf(stderr, "loans.cpp:%d: %s\n", __LINE__, #x); return 1; } } while (0)
+
+static constexpr std::uint32_t budget = 100000;
+
+// What doesn't compile: another handle in the place of the one on loan, and a close by a loan.
+template <class Pass, class = void>
+inline constexpr bool closes = false;
+template <class Pass>
+inline constexpr bool closes<Pass, std::void_t<decltype(std::declval<Pass &>().close())>> = true;
+template <class Handle>
+static constexpr bool stays_in_its_set() {
+    using loan = typename vbr::basic_lender<Handle>::loan_type;
+    using pass = std::remove_reference_t<decltype(*std::declval<loan &>())>;
+    return !std::is_swappable_v<pass> && !std::is_move_constructible_v<pass> && !std::is_assignable_v<pass &, Handle> &&
+           !std::is_constructible_v<Handle, pass> && !closes<pass> && closes<Handle> && std::is_swappable_v<loan> && !std::is_copy_constructible_v<loan>;
+}
+static_assert(stays_in_its_set<vbr::handle>() && stays_in_its_set<vbr::map_handle>());
+static_assert(!std::is_convertible_v<vbr::loan, bool> && !std::is_copy_constructible_v<vbr::lender> && !std::is_constructible_v<vbr::lender, std::vector<vbr::handle> &>);
+static_assert(std::is_nothrow_move_assignable_v<vbr::lender> && std::is_nothrow_default_constructible_v<vbr::owned_loan>);
+
+struct of_sets {
+    using lender = vbr::lender;
+    using pass = vbr::pass;
+    static auto open(std::size_t handles) { return vbr::open(vbr::shape::for_keys(100, handles), handles); }
+    static bool adds(pass &mine, std::uint64_t key) { return mine.insert(key, budget) == vbr::answer::yes; }
+    static bool takes(pass &mine, std::uint64_t key) { return mine.remove(key, budget) == vbr::answer::yes; }
+    static std::vector<std::uint64_t> keys(const vbr::closed &told) { return told.report ? told.report->keys : std::vector<std::uint64_t>{999}; }
+};
+
+struct of_maps {
+    using lender = vbr::map_lender;
+    using pass = vbr::map_pass;
+    static auto open(std::size_t handles) { return vbr::open_map(vbr::shape::for_keys(100, handles), handles); }
+    static bool adds(pass &mine, std::uint64_t key) { return mine.insert(key, ~key, budget) == vbr::answer::yes; }
+    static bool takes(pass &mine, std::uint64_t key) { return mine.remove(key, budget).value == ~key; }
+    static std::vector<std::uint64_t> keys(const vbr::map_closed &told) {
+        std::vector<std::uint64_t> keys;
+        for (vbr::entry each : told.report ? told.report->entries : std::vector<vbr::entry>{{999, 0}}) keys.push_back(each.value == ~each.key ? each.key : 999);
+        return keys;
+    }
+};
+
+template <class Of>
+static typename Of::lender lending(std::size_t handles) {
+    return typename Of::lender(Of::open(handles).handles);
+}
+
+using keys = std::vector<std::uint64_t>;
+
+// The examples of vbr_lend.hpp.
+static int example() {
+    auto shape = vbr::shape::for_keys(100, 3);
+    auto opened = vbr::open(shape, 3);
+    vbr::lender later; // lends none until it is assigned
+    CHECK(!later.lend() && !later.lend_wait() && !later.lend_for(1s) && !later.lend_owned() && later.handles() + later.slots() == 0);
+    CHECK(later.close().answer == vbr::close_answer::empty && later.last_epoch() == 0);
+    vbr::lender lender(std::move(opened.handles));
+    std::vector<int> beside(lender.handles());
+    if (lender.slots() != shape.slots || lender.buckets() != shape.buckets) return 1;
+    CHECK(beside.size() == 3 && lender.last_epoch() == vbr::max_epoch);
+    {
+        vbr::loan mine = lender.lend();
+        vbr::loan waited = lender.lend_wait();
+        vbr::owned_loan task = lender.lend_owned_wait();
+        vbr::loan in_time = lender.lend_for(10ms);
+        CHECK(mine && waited && task && !in_time && mine->insert(5, budget) == vbr::answer::yes && task->has(5, budget) == vbr::answer::yes);
+        beside[mine.number()]++; // nobody else writes it meanwhile
+        mine = vbr::loan(); // given back
+        CHECK(!mine && lender.lend());
+    }
+    vbr::closed closed = lender.close();
+    CHECK(closed.answer == vbr::close_answer::last && closed.report->keys == keys{5});
+    return 0;
+}
+
+template <class Of>
+static int each_handle_once() {
+    auto lender = lending<Of>(64);
+    std::vector<decltype(lender.lend())> loans;
+    std::vector<int> seen(64);
+    for (int i = 0; i < 64; i++) loans.push_back(lender.lend());
+    for (auto &each : loans) seen[each.number()]++;
+    CHECK(seen == std::vector<int>(64, 1) && !lender.lend() && !lender.lend_for(0s));
+    loans[7] = std::move(loans[9]);
+    CHECK(loans[7] && !loans[9] && lender.lend() && lender.handles() == 64);
+    std::swap(loans[7], loans[9]);
+    std::thread([back = std::move(loans)] {}).join(); // given back by another thread
+    CHECK(Of::keys(lender.close()).empty() && lender.handles() == 0 && !lender.lend() && !lender.lend_wait());
+    return 0;
+}
+
+// A handle that is on loan keeps the lender open; one that is empty, or of another set, is not lent.
+template <class Of>
+static int closes_all_or_none() {
+    auto opened = Of::open(4), others = Of::open(2);
+    auto kept = std::move(opened.handles[3]);
+    opened.handles.push_back(std::move(others.handles[0]));
+    typename Of::lender lender(std::move(opened.handles));
+    CHECK(lender.handles() == 3 && opened.handles[4].is_open() && !opened.handles[3].is_open());
+    {
+        auto mine = lender.lend();
+        CHECK(Of::adds(*mine, 1) && lender.close().answer == vbr::close_answer::on_loan);
+        auto second = lender.lend(), third = lender.lend();
+        CHECK(second && third && !lender.lend() && Of::adds(*third, 2));
+    }
+    CHECK(lender.close().answer == vbr::close_answer::others_are_open && !lender.lend() && lender.close().answer == vbr::close_answer::empty);
+    CHECK(Of::keys(kept.close()) == (keys{1, 2}));
+    return 0;
+}
+
+// A lender that is moved has the loans that are out; each of two goes back where it is from.
+template <class Of>
+static int moved() {
+    auto lender = lending<Of>(1), other = lending<Of>(1);
+    auto mine = lender.lend(), another = other.lend();
+    auto moved = std::move(lender);
+    CHECK(!moved.lend() && Of::adds(*mine, 1) && Of::adds(*another, 2) && !lender.lend() && lender.handles() == 0);
+    std::swap(mine, another);
+    mine = {};
+    CHECK(!moved.lend() && other.lend());
+    another = {};
+    CHECK(moved.lend());
+    lender = std::move(moved);
+    CHECK(Of::keys(lender.close()) == keys{1} && Of::keys(other.close()) == keys{2});
+    return 0;
+}
+
+// Eight threads wait for two handles, and none is left waiting; what each did beside a handle is there for the next one.
+template <class Of>
+static int waits() {
+    auto lender = lending<Of>(2);
+    std::vector<long> beside(lender.handles());
+    std::atomic<int> wrong{0};
+    std::vector<std::thread> threads;
+    for (std::uint64_t i = 0; i < 8; i++)
+        threads.emplace_back([&, i] {
+            for (int round = 0; round < 2000; round++) {
+                auto mine = round % 2 ? lender.lend_wait() : lender.lend_for(std::chrono::hours(1));
+                if (!mine || !Of::adds(*mine, i) || !Of::takes(*mine, i)) wrong++;
+                beside[mine.number()]++;
+                if (round % 64 == 0) std::this_thread::yield();
+            }
+        });
+    for (std::thread &thread : threads) thread.join();
+    CHECK(wrong == 0 && beside[0] + beside[1] == 8 * 2000 && Of::keys(lender.close()).empty());
+    return 0;
+}
+
+// A number that one thread tells another.
+class step {
+public:
+    void tell(int number) { told.store(number); }
+    void await(int number) const {
+        for (int turns = 0; told.load(std::memory_order_acquire) < number; turns++)
+            if (turns % 256 == 255) std::this_thread::yield();
+    }
+
+private:
+    alignas(128) std::atomic<int> told{0};
+};
+
+// A handle is given back just as another thread begins to wait for it: either that one sees it, or it is woken. What is written before
+// the return, to lines that the other thread wrote, makes the return come late.
+static int woken_in_time() {
+    struct alignas(64) line {
+        std::atomic<int> written{0};
+    };
+    static line lines[128];
+    static step lent, waits, done;
+    auto lender = lending<of_sets>(1);
+    auto write_all = [](int round) {
+        for (line &each : lines) each.written.store(round, std::memory_order_relaxed);
+    };
+    std::thread other([&] {
+        for (int round = 1; round <= 60000; round++) {
+            {
+                auto mine = lender.lend_wait();
+                lent.tell(round);
+                waits.await(round);
+                for (int delay = round * 37 % 6000; delay > 0; delay--) std::atomic_signal_fence(std::memory_order_seq_cst);
+                write_all(round);
+            }
+            done.await(round);
+        }
+    });
+    bool late = false;
+    for (int round = 1; round <= 60000; round++) {
+        lent.await(round);
+        write_all(-round);
+        auto begun = std::chrono::steady_clock::now();
+        waits.tell(round);
+        auto mine = late ? lender.lend_for(1ms) : lender.lend_for(1min);
+        late = late || std::chrono::steady_clock::now() - begun > 50s;
+        mine = {};
+        done.tell(round);
+    }
+    other.join();
+    CHECK(!late);
+    return 0;
+}
+
+// Waits that are over: by their time and not before, by a return, and by the close of the lender.
+template <class Of>
+static int ends_of_waits() {
+    auto lender = lending<Of>(1);
+    auto kept = lender.lend();
+    std::atomic<int> wrong{0}, waiting{2};
+    std::thread in_vain([&] {
+        auto begun = std::chrono::steady_clock::now();
+        if (lender.lend_for(20ms) || std::chrono::steady_clock::now() - begun < 20ms || lender.lend_for(-1h)) wrong++;
+    });
+    in_vain.join();
+    std::thread lent([&] {
+        if (!lender.lend_for(std::chrono::hours::max())) wrong++;
+        waiting--;
+    });
+    std::thread lent_too([&] {
+        if (!lender.lend_wait()) wrong++;
+        waiting--;
+    });
+    std::this_thread::sleep_for(20ms);
+    CHECK(waiting == 2);
+    kept = {};
+    lent.join();
+    lent_too.join();
+    kept = lender.lend();
+    std::atomic<bool> closed{false};
+    std::thread outlives([&] {
+        while (lender.lend_wait()) // lent a few times, and then none, once it is closed
+            if (closed) wrong++;
+    });
+    CHECK(Of::adds(*kept, 3));
+    kept = {};
+    auto told = lender.close();
+    while (told.answer == vbr::close_answer::on_loan) told = lender.close();
+    outlives.join();
+    CHECK(wrong == 0 && waiting == 0 && Of::keys(told) == keys{3});
+    return 0;
+}
+
+// Tasks that outlive the lender, each with a loan that was waited for before it began.
+template <class Of>
+static int tasks() {
+    std::atomic<int> made{0};
+    std::vector<std::thread> threads;
+    decltype(lending<Of>(3).lend_owned()) last;
+    {
+        auto lender = lending<Of>(3);
+        for (std::uint64_t key = 0; key < 30; key++)
+            threads.emplace_back([&made, key, mine = lender.lend_owned_wait()] { made += Of::adds(*mine, key); });
+        for (std::thread &thread : threads) thread.join();
+        threads.clear(); // with the tasks their loans
+        last = lender.lend_owned_for(1s);
+        auto none = lender.lend_owned();
+        CHECK(last && none && lender.close().answer == vbr::close_answer::on_loan);
+    }
+    CHECK(made == 30 && last->has(29, budget) == vbr::answer::yes && Of::takes(*last, 0));
+    last = {};
+    return 0;
+}
+
+template <class Of>
+static int all() {
+    return each_handle_once<Of>() || closes_all_or_none<Of>() || moved<Of>() || waits<Of>() || ends_of_waits<Of>() || tasks<Of>();
+}
+
+int main() {
+    if (example() || woken_in_time() || all<of_sets>() || all<of_maps>()) return 1;
+    std::puts("lent handles in C++: passed");
+    return 0;
+}

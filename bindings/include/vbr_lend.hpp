@@ -1,0 +1,361 @@
+/* Handles that are lent, for C++17 and later: for programs whose threads come and go, or are more than the handles of a set. vbr.hpp
+   includes it. A lender has up to 64 handles. Whoever wants to make calls borrows one, and its loan's end gives it back.
+
+       vbr::lender lender(std::move(opened.handles));
+       vbr::loan mine = lender.lend();                        // in any thread; none: all are lent at the moment
+       vbr::loan waited = lender.lend_wait();                 // as soon as one is free
+       vbr::loan in_time = lender.lend_for(10ms);             // none: all were lent until the time was over
+       vbr::owned_loan task = lender.lend_owned_wait();       // for a task that may outlive the lender
+       vbr::closed closed = lender.close();                   // all handles or none
+
+   A thread is lent the handle that it had last, where that is free: a loan and its return are then one atomic exchange on a word
+   that other threads don't write. What is done with a handle before it is given back comes before what the next borrower does.
+   A lend that doesn't wait takes no lock and no memory. Who waits sleeps by a condition variable, which a return touches only
+   where a thread waits; threads that wait have no order, and one that has a loan itself may wait for ever. So a signal handler
+   borrows nothing.
+
+   A lender may be moved while there are loans. These end before the lender that then has the handles; an owned loan may outlive it. */
+#ifndef VBR_LEND_HPP
+#define VBR_LEND_HPP
+
+#include "vbr.hpp"
+
+#include <chrono>
+#include <condition_variable>
+#include <mutex>
+#if defined(__linux__) && __has_include(<linux/membarrier.h>)
+#include <linux/membarrier.h>
+#include <sys/syscall.h>
+#include <unistd.h>
+#define VBR_HAS_MEMBARRIER
+#endif
+
+namespace vbr {
+
+namespace detail {
+
+/* Has each running thread of the program pass a memory barrier: what it stored before can be loaded now, and what it loads
+   afterwards is what this thread stored before, or later. It says whether the system has done so. */
+inline bool fence_all_threads() noexcept {
+#ifdef VBR_HAS_MEMBARRIER
+    static const bool registered = ::syscall(SYS_membarrier, MEMBARRIER_CMD_REGISTER_PRIVATE_EXPEDITED, 0, 0) == 0;
+    return registered && ::syscall(SYS_membarrier, MEMBARRIER_CMD_PRIVATE_EXPEDITED, 0, 0) == 0;
+#else
+    return false;
+#endif
+}
+#undef VBR_HAS_MEMBARRIER
+
+/* A moment to wait for, or none: for ever. */
+using deadline = std::optional<std::chrono::steady_clock::time_point>;
+
+template <class Rep, class Period>
+deadline after(const std::chrono::duration<Rep, Period> &limit) {
+    using clock = std::chrono::steady_clock;
+    if (limit > std::chrono::hours(24 * 365 * 100)) return std::nullopt;
+    return clock::now() + std::chrono::ceil<clock::duration>(limit);
+}
+
+/* The threads that wait. Who gives something back makes no atomic exchange for them: it stores what it gives back, and then loads
+   how many wait. So that one of the two sees the other, who begins to wait has all threads pass a memory barrier. */
+class waiters {
+public:
+    /* Wakes a thread that waits, if there is one: after something was given back, by a store. */
+    void wake_one() noexcept {
+        std::atomic_signal_fence(std::memory_order_seq_cst);
+        if (count.load(std::memory_order_relaxed) == 0) return;
+        std::lock_guard<std::mutex> guard(lock);
+        changed.notify_one();
+    }
+
+    void wake_all() noexcept {
+        std::lock_guard<std::mutex> guard(lock);
+        changed.notify_all();
+    }
+
+    /* Waits until this is so, or the time is over. Where the system has no such barrier a thread looks again each millisecond. */
+    template <class Condition>
+    void wait(const deadline &until, const Condition &is_so) {
+        std::unique_lock<std::mutex> guard(lock);
+        count.fetch_add(1);
+        bool naps = !fence_all_threads();
+        while (!is_so() && !is_over(until)) {
+            if (naps) changed.wait_for(guard, std::chrono::milliseconds(1));
+            else if (until) changed.wait_until(guard, *until);
+            else changed.wait(guard);
+        }
+        count.fetch_sub(1);
+    }
+
+private:
+    static bool is_over(const deadline &until) noexcept { return until && std::chrono::steady_clock::now() >= *until; }
+
+    std::atomic<std::size_t> count{0};
+    std::mutex lock;
+    std::condition_variable changed;
+};
+
+/* The number of the handle that this thread was lent last, by any lender: it tries that one first. So threads that are no more than
+   handles come to have one each, and no two write the same cache line. */
+inline thread_local std::size_t lent_last = 0;
+
+/* A handle, and whether it is lent, on cache lines of their own. */
+template <class Handle>
+struct alignas(128) place {
+    std::atomic<bool> is_lent{false};
+    Handle handle;
+
+    /* Whether the handle was free; it is lent then. */
+    bool take() noexcept { return !is_lent.load(std::memory_order_relaxed) && !is_lent.exchange(true, std::memory_order_acquire); }
+};
+
+/* The handles of a lender, which stay where they are. */
+template <class Handle>
+class lending {
+public:
+    using place_type = place<Handle>;
+
+    /* Keeps handles of one set: those that are open, and of the set of the first of them. The others stay in the vector. */
+    void keep(std::vector<Handle> &handles) noexcept {
+        std::size_t kept = 0;
+        for (Handle &each : handles)
+            if (kept < max_handles && each.is_open() && (kept == 0 || each.shared == places[0].handle.shared))
+                places[kept++].handle = std::move(each);
+        count.store(kept, std::memory_order_release);
+        if (kept > 0) opened = {places[0].handle.slots(), places[0].handle.buckets(), places[0].handle.last_epoch()};
+    }
+
+    std::size_t handles() const noexcept { return count.load(std::memory_order_relaxed); }
+    const shape &opened_with() const noexcept { return opened; }
+    std::size_t number_of(const place_type *at) const noexcept { return static_cast<std::size_t>(at - places); }
+
+    /* A free handle, which is lent now, or none where each was lent at a moment of the call. */
+    place_type *take() noexcept {
+        std::size_t last = lent_last;
+        if (last < handles() && places[last].take()) return &places[last];
+        return take_another(last);
+    }
+
+    /* The same as soon as there is one, or none where the time is over first, or there are no handles any more. */
+    place_type *take(const deadline &until) {
+        place_type *taken = nullptr;
+        waiting.wait(until, [&] { return (taken = take()) || handles() == 0; });
+        return taken;
+    }
+
+    void give_back(place_type &at) noexcept {
+        at.is_lent.store(false, std::memory_order_release);
+        waiting.wake_one();
+    }
+
+    /* Closes all handles or none of them. */
+    typename Handle::closed_type close() {
+        const std::size_t all = handles();
+        if (all == 0) return {close_answer::empty, std::nullopt};
+        all_taken taken(*this, all);
+        if (taken.count < all) return {close_answer::on_loan, std::nullopt};
+        auto told = Handle::close_all(all, [this](std::size_t number) -> Handle & { return places[number].handle; });
+        if (told.answer != close_answer::no_memory) end();
+        return told;
+    }
+
+private:
+    /* Handles that are taken one after another, until one is lent, and are given back at the end of this, unless they were closed. */
+    struct all_taken {
+        all_taken(lending &lender, std::size_t all) noexcept : of(lender) {
+            while (count < all && of.places[count].take()) count++;
+        }
+        all_taken(const all_taken &) = delete;
+        all_taken &operator=(const all_taken &) = delete;
+        ~all_taken() {
+            for (std::size_t i = 0; i < count && of.handles() > 0; i++) of.give_back(of.places[i]);
+        }
+
+        lending &of;
+        std::size_t count = 0;
+    };
+
+    /* The same by a thread that isn't lent the one it had last. */
+    place_type *take_another(std::size_t last) noexcept {
+        for (std::size_t i = 1, all = handles(); i <= all; i++) {
+            std::size_t number = (last + i) % all;
+            if (!places[number].take()) continue;
+            lent_last = number;
+            return &places[number];
+        }
+        return nullptr;
+    }
+
+    /* There are no handles any more: who waits is told so. */
+    void end() noexcept {
+        count.store(0, std::memory_order_relaxed);
+        waiting.wake_all();
+    }
+
+    std::atomic<std::size_t> count{0};
+    shape opened;
+    waiters waiting;
+    place_type places[max_handles];
+};
+
+} // namespace detail
+
+/* A handle on loan, or none; its end gives it back, in whatever thread. It is tested by `if (loan)`, and used as a pointer to the
+   handle's pass, which makes all calls and doesn't close.
+
+       vbr::loan mine = lender.lend();
+       if (!mine) { // all are lent at the moment */
+template <class Handle, class Owner = detail::lending<Handle> *>
+class [[nodiscard]] basic_loan {
+public:
+    using pass_type = typename Handle::pass_type;
+
+    basic_loan() noexcept = default;
+    basic_loan(basic_loan &&other) noexcept : owner(std::move(other.owner)), at(std::exchange(other.at, nullptr)) {}
+    ~basic_loan() { give_back(); }
+
+    /* Gives back what it has before it takes the other one.
+
+           mine = vbr::loan(); // given back */
+    basic_loan &operator=(basic_loan &&other) noexcept {
+        if (this != &other) {
+            give_back();
+            owner = std::move(other.owner);
+            at = std::exchange(other.at, nullptr);
+        }
+        return *this;
+    }
+
+    explicit operator bool() const noexcept { return at != nullptr; }
+    pass_type &operator*() const noexcept { return at->handle; }
+    pass_type *operator->() const noexcept { return &at->handle; }
+
+    /* The number of the handle, below lender.handles(): for data that lies beside each handle. No other loan has this number
+       meanwhile.
+
+           beside[mine.number()]++; // nobody else writes it meanwhile */
+    std::size_t number() const noexcept { return owner->number_of(at); }
+
+private:
+    template <class>
+    friend class basic_lender;
+    basic_loan(Owner from, typename detail::lending<Handle>::place_type *which) noexcept : owner(which ? std::move(from) : Owner()), at(which) {}
+
+    void give_back() noexcept {
+        if (at) owner->give_back(*std::exchange(at, nullptr));
+    }
+
+    Owner owner = {};
+    typename detail::lending<Handle>::place_type *at = nullptr;
+};
+
+/* Lends handles of a set or a map, up to 64, to threads that come and go.
+
+       vbr::lender lender(std::move(opened.handles)); */
+template <class Handle>
+class basic_lender {
+    using lending = detail::lending<Handle>;
+    using shared_lending = std::shared_ptr<lending>;
+
+public:
+    using loan_type = basic_loan<Handle>;
+    using owned_loan_type = basic_loan<Handle, shared_lending>;
+
+    /* A lender without handles lends none, and waits for none.
+
+           vbr::lender later; // lends none until it is assigned */
+    basic_lender() noexcept = default;
+    basic_lender(basic_lender &&) noexcept = default;
+    basic_lender &operator=(basic_lender &&) noexcept = default;
+
+    /* Keeps open handles of one set. Where there is no memory for the lender they stay where they are.
+
+           vbr::lender lender(std::move(opened.handles)); */
+    explicit basic_lender(std::vector<Handle> &&handles) : all(std::make_shared<lending>()) { all->keep(handles); }
+
+    /* A free handle, or none where each was lent at a moment of the call. It tries each handle at most once.
+
+           vbr::loan mine = lender.lend(); */
+    loan_type lend() noexcept { return loan_type(all.get(), taken()); }
+
+    /* A free handle, as soon as there is one; none if the lender has no handles, or is closed meanwhile.
+
+           vbr::loan waited = lender.lend_wait(); */
+    loan_type lend_wait() { return loan_type(all.get(), awaited()); }
+
+    /* The same, or none where each was lent until the time was over.
+
+           vbr::loan in_time = lender.lend_for(10ms); */
+    template <class Rep, class Period>
+    loan_type lend_for(const std::chrono::duration<Rep, Period> &limit) {
+        return loan_type(all.get(), taken_within(limit));
+    }
+
+    /* Loans that keep the handles, and so may outlive the lender: for tasks. Beside the loan they cost two atomic additions on a
+       word that all threads share.
+
+           vbr::owned_loan task = lender.lend_owned_wait(); */
+    owned_loan_type lend_owned() noexcept { return owned_loan_type(all, taken()); }
+    owned_loan_type lend_owned_wait() { return owned_loan_type(all, awaited()); }
+    template <class Rep, class Period>
+    owned_loan_type lend_owned_for(const std::chrono::duration<Rep, Period> &limit) {
+        return owned_loan_type(all, taken_within(limit));
+    }
+
+    /* How many handles it lends: 0 where it has none, and when they are closed.
+
+           std::vector<int> beside(lender.handles()); */
+    std::size_t handles() const noexcept { return all ? all->handles() : 0; }
+
+    /* What the set was opened with; 0 where it was given no handle.
+
+           if (lender.slots() != shape.slots || lender.buckets() != shape.buckets) return 1; */
+    std::uint32_t slots() const noexcept { return all ? all->opened_with().slots : 0; }
+    std::uint32_t buckets() const noexcept { return all ? all->opened_with().buckets : 0; }
+    std::uint64_t last_epoch() const noexcept { return all && all->opened_with().slots ? all->opened_with().last_epoch : 0; }
+
+    /* Closes all handles and gives the report, or none: where one is on loan, and where there is no memory for the report, it lends
+       on.
+
+           vbr::closed closed = lender.close(); */
+    typename Handle::closed_type close() {
+        if (!all) return {close_answer::empty, std::nullopt};
+        return all->close();
+    }
+
+private:
+    using place_type = typename lending::place_type;
+    place_type *taken() noexcept { return all ? all->take() : nullptr; }
+
+    place_type *awaited() {
+        place_type *at = taken();
+        return at || !all ? at : all->take(std::nullopt);
+    }
+
+    template <class Rep, class Period>
+    place_type *taken_within(const std::chrono::duration<Rep, Period> &limit) {
+        place_type *at = taken();
+        return at || !all ? at : all->take(detail::after(limit));
+    }
+
+    shared_lending all;
+};
+
+/* Those of a set.
+
+       vbr::lender lender(std::move(opened.handles)); */
+using lender = basic_lender<handle>;
+using loan = lender::loan_type;
+using owned_loan = lender::owned_loan_type;
+
+/* Those of a map.
+
+       vbr::map_lender lender(std::move(opened.handles));
+       vbr::map_loan mine = lender.lend(); */
+using map_lender = basic_lender<map_handle>;
+using map_loan = map_lender::loan_type;
+using owned_map_loan = map_lender::owned_loan_type;
+
+} // namespace vbr
+
+#endif

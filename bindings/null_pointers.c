@@ -1,0 +1,73 @@
+/* Null pointers. Where a program gives a handle up: vbr_close answers as of an empty handle, and vbr_drop does nothing, as free
+   does; vbr_map_close and vbr_map_drop are the same for the handle of a map. And where a call on a map would tell what was there,
+   and nobody asks. The proved exports are of a pointer that is there; in the archive they have the names close_handle,
+   drop_handle, map_close_handle, map_drop_handle, and map_replace_found and so on, and these stand before them.
+
+   It includes nothing, so that the kit's compiler makes the same bytes of it on every machine. */
+enum { VBR_EMPTY = -4 }; /* of vbr.h */
+
+typedef unsigned long word;
+
+int close_handle(void *handle, void *keys, word room, void *report);
+int vbr_close(void *handle, void *keys, word room, void *report);
+void drop_handle(void *handle);
+void vbr_drop(void *handle);
+int map_close_handle(void *handle, void *entries, word room, void *report);
+int vbr_map_close(void *handle, void *entries, word room, void *report);
+void map_drop_handle(void *handle);
+void vbr_map_drop(void *handle);
+int map_replace_found(void *handle, word key, word value, word *found, unsigned budget);
+int vbr_map_replace(void *handle, word key, word value, word *found, unsigned budget);
+int map_put_found(void *handle, word key, word value, word *found, unsigned budget);
+int vbr_map_put(void *handle, word key, word value, word *found, unsigned budget);
+int map_get_or_insert_found(void *handle, word key, word value, word *found, unsigned budget);
+int vbr_map_get_or_insert(void *handle, word key, word value, word *found, unsigned budget);
+int map_compare_exchange_found(void *handle, word key, word expected, word value, word *found, unsigned budget);
+int vbr_map_compare_exchange(void *handle, word key, word expected, word value, word *found, unsigned budget);
+int map_remove_if_found(void *handle, word key, word expected, word *found, unsigned budget);
+int vbr_map_remove_if(void *handle, word key, word expected, word *found, unsigned budget);
+
+int vbr_close(void *handle, void *keys, word room, void *report)
+{
+    return handle ? close_handle(handle, keys, room, report) : VBR_EMPTY;
+}
+
+void vbr_drop(void *handle)
+{
+    if (handle) drop_handle(handle);
+}
+
+int vbr_map_close(void *handle, void *entries, word room, void *report)
+{
+    return handle ? map_close_handle(handle, entries, room, report) : VBR_EMPTY;
+}
+
+void vbr_map_drop(void *handle)
+{
+    if (handle) map_drop_handle(handle);
+}
+
+int vbr_map_replace(void *handle, word key, word value, word *found, unsigned budget)
+{
+    return map_replace_found(handle, key, value, found ? found : &(word){0}, budget);
+}
+
+int vbr_map_put(void *handle, word key, word value, word *found, unsigned budget)
+{
+    return map_put_found(handle, key, value, found ? found : &(word){0}, budget);
+}
+
+int vbr_map_get_or_insert(void *handle, word key, word value, word *found, unsigned budget)
+{
+    return map_get_or_insert_found(handle, key, value, found ? found : &(word){0}, budget);
+}
+
+int vbr_map_compare_exchange(void *handle, word key, word expected, word value, word *found, unsigned budget)
+{
+    return map_compare_exchange_found(handle, key, expected, value, found ? found : &(word){0}, budget);
+}
+
+int vbr_map_remove_if(void *handle, word key, word expected, word *found, unsigned budget)
+{
+    return map_remove_if_found(handle, key, expected, found ? found : &(word){0}, budget);
+}

@@ -1,0 +1,82 @@
+//! Threads that wait for a loan to be given back.
+use std::ffi::{c_int, c_long};
+use std::sync::atomic::{compiler_fence, AtomicUsize, Ordering};
+use std::sync::{Condvar, Mutex, MutexGuard, OnceLock, PoisonError};
+use std::time::{Duration, Instant};
+
+/// The threads that wait. Who gives something back makes no atomic exchange for them: it stores what it gives back, and then
+/// loads how many wait. So that one of the two sees the other, who begins to wait has all threads pass a memory barrier.
+#[derive(Default)]
+pub(crate) struct Waiters {
+    count: AtomicUsize,
+    lock: Mutex<()>,
+    given_back: Condvar,
+}
+
+/// How long a thread sleeps at most before it looks again, where the system has no such barrier.
+const NAP: Duration = Duration::from_millis(1);
+
+impl Waiters {
+    /// Wakes a thread that waits, if there is one. Call it after something was given back, by a store.
+    #[inline]
+    pub(crate) fn wake_one(&self) {
+        compiler_fence(Ordering::SeqCst);
+        if self.count.load(Ordering::Relaxed) > 0 {
+            self.wake_one_that_waits();
+        }
+    }
+
+    #[cold]
+    fn wake_one_that_waits(&self) {
+        let _guard = self.guard();
+        self.given_back.notify_one();
+    }
+
+    /// What `take` gives, as soon as it gives something; `None` if it gives nothing until the deadline.
+    #[cold]
+    pub(crate) fn wait<T>(&self, deadline: Option<Instant>, take: impl Fn() -> Option<T>) -> Option<T> {
+        let mut guard = self.guard();
+        self.count.fetch_add(1, Ordering::SeqCst);
+        let nap = if fence_all_threads() { Duration::MAX } else { NAP };
+        let taken = loop {
+            let taken = take();
+            let left = deadline.map_or(Duration::MAX, |it| it.saturating_duration_since(Instant::now()));
+            if taken.is_some() || left.is_zero() {
+                break taken;
+            }
+            let woken = self.given_back.wait_timeout(guard, left.min(nap));
+            guard = woken.unwrap_or_else(PoisonError::into_inner).0;
+        };
+        self.count.fetch_sub(1, Ordering::Relaxed);
+        taken
+    }
+
+    fn guard(&self) -> MutexGuard<'_, ()> {
+        self.lock.lock().unwrap_or_else(PoisonError::into_inner)
+    }
+}
+
+/// Has each running thread of the program pass a memory barrier: what it stored before can be loaded now, and what it loads
+/// afterwards is what this thread stored before, or later. It says whether the system has done so.
+fn fence_all_threads() -> bool {
+    const REGISTER_PRIVATE_EXPEDITED: c_int = 16;
+    const PRIVATE_EXPEDITED: c_int = 8;
+    static REGISTERED: OnceLock<bool> = OnceLock::new();
+    *REGISTERED.get_or_init(|| membarrier(REGISTER_PRIVATE_EXPEDITED)) && membarrier(PRIVATE_EXPEDITED)
+}
+
+/// The call of Linux.
+#[cfg(all(target_os = "linux", target_arch = "x86_64"))]
+fn membarrier(command: c_int) -> bool {
+    extern "C" {
+        fn syscall(number: c_long, ...) -> c_long;
+    }
+    const MEMBARRIER: c_long = 324;
+    // SAFETY: it changes no memory of the program.
+    unsafe { syscall(MEMBARRIER, command, 0 as c_int, 0 as c_int) == 0 }
+}
+
+#[cfg(not(all(target_os = "linux", target_arch = "x86_64")))]
+fn membarrier(_: c_int) -> bool {
+    false
+}

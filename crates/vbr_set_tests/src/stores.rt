@@ -1,0 +1,154 @@
+//! Stores in a map, and removes by a value: each call with each outcome.
+ghost use Rattle.std.specs.Prelude.{◌≡◌};
+
+use std::process::Abort;
+use std::test::Fail;
+use vbr_set::{Refusal, Shape, VbrMap, VbrMapRef};
+
+// A key that is absent stays so for who replaces, exchanges or removes; a put stores.
+fn store_where_absent(rt: &impl Abort, caller: &mut VbrMapRef)
+    ensures { caller.new.set ≡ caller.old.set }
+{
+    assert_eq!(rt; caller.replace(5, 70, 200), Ok(None));
+    assert_eq!(rt; caller.compare_exchange(5, 0, 70, 200), Ok(None));
+    assert_eq!(rt; caller.remove_if(5, 0, 200), Ok(None));
+    assert_eq!(rt; caller.get(5, 200), Ok(None));
+    assert_eq!(rt; caller.put(5, 70, 200), Ok(None));
+    assert_eq!(rt; caller.get(5, 200), Ok(Some(70)));
+}
+
+// A key that is there gets another value, but of who inserts only where it is absent.
+fn store_where_present(rt: &impl Abort, caller: &mut VbrMapRef)
+    ensures { caller.new.set ≡ caller.old.set }
+{
+    assert_eq!(rt; caller.replace(5, 71, 200), Ok(Some(70)));
+    assert_eq!(rt; caller.put(5, 72, 200), Ok(Some(71)));
+    assert_eq!(rt; caller.get_or_insert(5, 73, 200), Ok(Some(72)));
+    assert_eq!(rt; caller.get(5, 200), Ok(Some(72)));
+}
+
+// An exchange and a remove change nothing where the value is another one.
+fn change_by_value(rt: &impl Abort, caller: &mut VbrMapRef)
+    ensures { caller.new.set ≡ caller.old.set }
+{
+    assert_eq!(rt; caller.compare_exchange(5, 71, 74, 200), Ok(Some(72)));
+    assert_eq!(rt; caller.compare_exchange(5, 72, 74, 200), Ok(Some(72)));
+    assert_eq!(rt; caller.remove_if(5, 72, 200), Ok(Some(74)));
+    assert_eq!(rt; caller.get(5, 200), Ok(Some(74)));
+}
+
+// The key goes with its value, and comes again.
+fn remove_by_value(rt: &impl Abort, caller: &mut VbrMapRef)
+    ensures { caller.new.set ≡ caller.old.set }
+{
+    assert_eq!(rt; caller.remove_if(5, 74, 200), Ok(Some(74)));
+    assert_eq!(rt; caller.get(5, 200), Ok(None));
+    assert_eq!(rt; caller.get_or_insert(5, 75, 200), Ok(None));
+    assert_eq!(rt; caller.get(5, 200), Ok(Some(75)));
+}
+
+/// One caller makes each call with each outcome, and the close tells the entry that is left.
+#[test]
+fn a_value_is_changed(rt: HostRuntime) -> Result<(), Fail> {
+    let (map, mut passes) = VbrMap::open(rt.alloc(), Shape::new(4, 2, 20)?, 1)?;
+    let Some(pass) = passes.pop() else {
+        panic!(rt; "no pass")
+    };
+    let mut caller = map.with_pass(pass);
+    store_where_absent(&rt, &mut caller);
+    store_where_present(&rt, &mut caller);
+    change_by_value(&rt, &mut caller);
+    remove_by_value(&rt, &mut caller);
+    passes.push(caller.into_pass())?;
+    let report = map.close(rt.alloc(), passes)?;
+    assert_eq!(rt; report.entries.as_slice(), [(5, 75)].as_slice());
+    assert_eq!(rt; (report.live, report.marked, report.free), (1, 0, 3));
+    Ok(())
+}
+
+// In a map whose slots are all taken up nothing can be stored, and what changes nothing is answered.
+fn store_without_a_slot(rt: &impl Abort, caller: &mut VbrMapRef)
+    ensures { caller.new.set ≡ caller.old.set }
+{
+    assert_eq!(rt; caller.insert(5, 70, 200), Ok(true));
+    assert_eq!(rt; caller.replace(5, 71, 200), Err(Refusal::NoSlot));
+    assert_eq!(rt; caller.put(6, 71, 200), Err(Refusal::NoSlot));
+    assert_eq!(rt;
+        caller.compare_exchange(5, 70, 71, 200),
+        Err(Refusal::NoSlot)
+    );
+    assert_eq!(rt; caller.compare_exchange(5, 71, 72, 200), Ok(Some(70)));
+    assert_eq!(rt; caller.get_or_insert(5, 71, 200), Ok(Some(70)));
+}
+
+/// A map with one slot keeps its one value.
+#[test]
+fn a_full_map_keeps_its_value(rt: HostRuntime) -> Result<(), Fail> {
+    let (map, mut passes) = VbrMap::open(rt.alloc(), Shape::new(1, 1, 20)?, 1)?;
+    let Some(pass) = passes.pop() else {
+        panic!(rt; "no pass")
+    };
+    let mut caller = map.with_pass(pass);
+    store_without_a_slot(&rt, &mut caller);
+    passes.push(caller.into_pass())?;
+    let report = map.close(rt.alloc(), passes)?;
+    assert_eq!(rt; report.entries.as_slice(), [(5, 70)].as_slice());
+    Ok(())
+}
+
+// One slot more than there are keys is enough for one replacement after another.
+fn replace_thrice(rt: &impl Abort, caller: &mut VbrMapRef)
+    ensures { caller.new.set ≡ caller.old.set }
+{
+    assert_eq!(rt; caller.put(5, 70, 200), Ok(None));
+    assert_eq!(rt; caller.replace(5, 71, 200), Ok(Some(70)));
+    assert_eq!(rt; caller.put(5, 72, 200), Ok(Some(71)));
+    assert_eq!(rt; caller.compare_exchange(5, 72, 73, 200), Ok(Some(72)));
+}
+
+/// The slot of a node that was replaced is back when the call returns.
+#[test]
+fn replaced_slots_come_back(rt: HostRuntime) -> Result<(), Fail> {
+    let (map, mut passes) = VbrMap::open(rt.alloc(), Shape::new(2, 1, 20)?, 1)?;
+    let Some(pass) = passes.pop() else {
+        panic!(rt; "no pass")
+    };
+    let mut caller = map.with_pass(pass);
+    replace_thrice(&rt, &mut caller);
+    passes.push(caller.into_pass())?;
+    let report = map.close(rt.alloc(), passes)?;
+    assert_eq!(rt; report.entries.as_slice(), [(5, 73)].as_slice());
+    assert_eq!(rt; (report.live, report.marked, report.free), (1, 0, 1));
+    Ok(())
+}
+
+// Two callers change one key in turn, and each finds what the other stored.
+fn take_turns(rt: &impl Abort, first: &mut VbrMapRef, second: &mut VbrMapRef)
+    ensures same { first.new.set ≡ first.old.set }
+    ensures same_too { second.new.set ≡ second.old.set }
+{
+    assert_eq!(rt; first.get_or_insert(5, 70, 200), Ok(None));
+    assert_eq!(rt; second.get_or_insert(5, 71, 200), Ok(Some(70)));
+    assert_eq!(rt; second.replace(5, 72, 200), Ok(Some(70)));
+    assert_eq!(rt; first.compare_exchange(5, 70, 73, 200), Ok(Some(72)));
+    assert_eq!(rt; first.put(5, 74, 200), Ok(Some(72)));
+    assert_eq!(rt; second.remove_if(5, 74, 200), Ok(Some(74)));
+}
+
+/// The map tells none of the key that both changed once it is removed.
+#[test]
+fn two_callers_change_a_value(rt: HostRuntime) -> Result<(), Fail> {
+    let (map, mut passes) = VbrMap::open(rt.alloc(), Shape::new(8, 1, 20)?, 2)?;
+    let (Some(last), Some(first)) = (passes.pop(), passes.pop()) else {
+        panic!(rt; "too few passes")
+    };
+    let mut one = map.with_pass(first);
+    let mut other = map.with_pass(last);
+    take_turns(&rt, &mut one, &mut other);
+    passes.push(one.into_pass())?;
+    passes.push(other.into_pass())?;
+    let report = map.close(rt.alloc(), passes)?;
+    assert_eq!(rt; report.entries.as_slice(), [].as_slice());
+    assert_eq!(rt; (report.live, report.marked, report.free), (0, 0, 8));
+    Ok(())
+}
