@@ -9,6 +9,7 @@ mod Clearing
 mod Sweeping
 mod Observing
 mod Disturbing
+mod LostAnswers
 mod Walking
 mod LostWalks
 mod Visits
