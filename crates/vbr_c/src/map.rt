@@ -5,7 +5,7 @@ ghost use Rattle.std.specs.Prelude.{◌≡◌, None};
 ghost use Rattle.vbr_machine.specs.declared.history.Op.TheVariants.{Has};
 ghost use Rattle.vbr_handles.specs.Calls.{TellsCall, TellsInsertEntry};
 ghost use Rattle.vbr_handles.specs.Iterating.{TellsNextEntry};
-ghost use Rattle.vbr_handles.specs.ValueCalls.{TellsGetEntry, TellsRemoveEntry};
+ghost use Rattle.vbr_handles.specs.ValueCalls.{TellsExchange, TellsGetEntry, TellsGetOrInsert, TellsPut, TellsRemoveEntry, TellsRemoveIf, TellsReplace};
 ghost use Rattle.vbr_handles.specs.Opening.{entries_start};
 ghost use Rattle.vbr_handles.specs.OpeningCodes.{TellsMapOpening, TellsMapOpeningWith};
 ghost use Rattle.vbr_handles.specs.AllHandles.{map_members_in};
@@ -14,7 +14,7 @@ ghost use Rattle.vbr_set.specs.AllMembers.{AreOfOneSet};
 ghost use Rattle.vbr_handles.specs.Shown.{buckets_of, epoch_of, last_epoch_of, slots_of};
 
 use std::alloc::Global;
-use vbr_handles::numbers::{entries, iterating};
+use vbr_handles::numbers::{changing, entries, iterating};
 use vbr_handles::{Entry, MapHandle, ReportNumbers, ShapeNumbers, numbers, shown};
 use vbr_set::Cursor;
 use vbr_words::Entries;
@@ -111,6 +111,111 @@ pub extern "C" fn vbr_map_get(handle: &mut MapHandle, key: u64, budget: u32, val
         result }
 {
     entries::get(handle.owner_mut(), key, budget, value)
+}
+
+/// Gives a key that is there another value, in one step of the call: 1 if it was there, and the value that
+/// it had is written; 0 if it is absent, and then it stays so. The budget of an insert is enough, and the
+/// refusals of an insert come. With any answer but 1 nothing is written. A `found` that is null is seen to
+/// before, for these five calls, by `bindings/null_pointers.c`.
+///
+/// ```c file=bindings/c/map_calls.c
+/// if (vbr_map_replace(&map[0], 5, 72, &found, 100000) == VBR_YES) changed++; // 5 had the value found, and has 72
+/// ```
+#[unsafe(no_mangle)]
+pub extern "C" fn vbr_map_replace(
+    handle: &mut MapHandle,
+    key: u64,
+    value: u64,
+    found: &mut u64,
+    budget: u32,
+) -> i32
+    ensures { TellsReplace handle.old.member handle.new.member key value budget found.old
+        found.new result }
+{
+    changing::replace(handle.owner_mut(), key, value, found, budget)
+}
+
+/// Gives a key this value, whether it is there or not: 1 if it was there, and the value that it had is
+/// written; 0 if it was absent, and it is inserted. All else is as of [`vbr_map_replace`].
+///
+/// ```c file=bindings/c/map_calls.c
+/// if (vbr_map_put(&map[1], 6, 60, NULL, 100000) == VBR_NO) added++; // 6 was absent; either way it has 60
+/// ```
+#[unsafe(no_mangle)]
+pub extern "C" fn vbr_map_put(
+    handle: &mut MapHandle,
+    key: u64,
+    value: u64,
+    found: &mut u64,
+    budget: u32,
+) -> i32
+    ensures { TellsPut handle.old.member handle.new.member key value budget found.old found.new
+        result }
+{
+    changing::put(handle.owner_mut(), key, value, found, budget)
+}
+
+/// Gives the value of a key, or inserts the key with this value: 1 if it is there, and its value is
+/// written; 0 if it was absent, and it is inserted. All else is as of [`vbr_map_replace`].
+///
+/// ```c file=bindings/c/map_calls.c
+/// if (vbr_map_get_or_insert(&map[0], 5, 1, &found, 100000) == VBR_YES) there++; // 5 had the value found, and keeps it
+/// ```
+#[unsafe(no_mangle)]
+pub extern "C" fn vbr_map_get_or_insert(
+    handle: &mut MapHandle,
+    key: u64,
+    value: u64,
+    found: &mut u64,
+    budget: u32,
+) -> i32
+    ensures { TellsGetOrInsert handle.old.member handle.new.member key value budget found.old
+        found.new result }
+{
+    changing::get_or_insert(handle.owner_mut(), key, value, found, budget)
+}
+
+/// Gives a key another value where it has the one that is expected: 1 if it had it, and it is exchanged; 2 if
+/// it has another, and 0 if it is absent, and then nothing is changed. The value that was there is written,
+/// if any was. Two steps more than for an insert are enough; the refusals of an insert come.
+///
+/// ```c file=bindings/c/map_calls.c
+/// told = vbr_map_compare_exchange(&map[0], 5, seen, seen + 1, &seen, 100000);
+/// ```
+#[unsafe(no_mangle)]
+pub extern "C" fn vbr_map_compare_exchange(
+    handle: &mut MapHandle,
+    key: u64,
+    expected: u64,
+    value: u64,
+    found: &mut u64,
+    budget: u32,
+) -> i32
+    ensures { TellsExchange handle.old.member handle.new.member key expected value budget
+        found.old found.new result }
+{
+    changing::compare_exchange(handle.owner_mut(), key, expected, value, found, budget)
+}
+
+/// Takes a key out where it has the value that is expected: 1 if it had it; 2 if it has another, and 0 if it
+/// is absent, and then nothing is changed. The value that was there is written, if any was. The budget of a
+/// remove is enough, and its refusal comes.
+///
+/// ```c file=bindings/c/map_calls.c
+/// if (vbr_map_remove_if(&map[0], 6, 61, &found, 100000) == VBR_OTHER) kept++; // 6 has the value found, and is still there
+/// ```
+#[unsafe(no_mangle)]
+pub extern "C" fn vbr_map_remove_if(
+    handle: &mut MapHandle,
+    key: u64,
+    expected: u64,
+    found: &mut u64,
+    budget: u32,
+) -> i32
+    ensures { TellsRemoveIf handle.old.member handle.new.member key expected budget found.old
+        found.new result }
+{
+    changing::remove_if(handle.owner_mut(), key, expected, found, budget)
 }
 
 /// Looks a key up, and asks for no value, as [`crate::set::vbr_has`] does: 1 if it is there, 0 if it is

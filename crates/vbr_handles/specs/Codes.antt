@@ -1,5 +1,5 @@
 -- The number of each answer: 1 is yes, 0 is no or done, and each refusal has a number below 0.
-use Rattle.std.specs.Prelude.{ℤ, pos, negsuc, Bool, true, false, Option, None, Some, Result, Ok, Err}
+use Rattle.std.specs.Prelude.{ℕ, ℤ, pos, negsuc, ◌==◌, Bool, true, false, Option, None, Some, Result, Ok, Err, if◌then◌else◌}
 use Rattle.vbr_at_table.specs.declared.refusal.Refusal.{Refusal}
 use Rattle.vbr_at_table.specs.declared.refusal.Refusal.TheVariants.{OutOfSteps, NoSlot, EpochSpent}
 use Rattle.vbr_handles.specs.declared.closing.CloseRefusal.{CloseRefusal}
@@ -16,6 +16,12 @@ call_code (Ok false) = pos 0
 call_code (Err (OutOfSteps used)) = negsuc 0
 call_code (Err NoSlot) = negsuc 1
 call_code (Err (EpochSpent epoch)) = negsuc 2
+
+-- of a call that goes by a value which is expected: 1 it was there, 2 another was, 0 the key was absent; and of a refusal its number
+abbrev pub expected_code : ℕ → Result (Option ℕ) Refusal → ℤ
+expected_code expected (Ok None) = pos 0
+expected_code expected (Ok (Some found)) = if found == expected then pos 1 else pos 2
+expected_code expected (Err refusal) = call_code (Err refusal)
 
 -- of an empty handle: -4
 abbrev pub empty_code : ℤ

@@ -2,9 +2,9 @@
 use Rattle.std.specs.Prelude.{◌≡◌, ℕ, ℤ, Option, None, Some, Result, Ok, Err}
 use Rattle.vbr_list.specs.Told.{is_yes}
 use Rattle.vbr_at_table.specs.declared.refusal.Refusal.{Refusal}
-use Rattle.vbr_set.specs.MapCalls.{GetsEntry, RemovesEntry}
+use Rattle.vbr_set.specs.MapCalls.{ExchangesEntry, GetsEntry, GetsOrInsertsEntry, PutsEntry, RemovesEntry, RemovesIf, ReplacesEntry}
 use Rattle.vbr_set.specs.Members.{MemberView as Member}
-use Rattle.vbr_handles.specs.Codes.{call_code, empty_code}
+use Rattle.vbr_handles.specs.Codes.{call_code, empty_code, expected_code}
 
 -- what is given is written where the answer is yes, and else nothing is written
 abbrev pub WritesGiven : {A : Type 0} → Result (Option A) Refusal → A → A → Type 0
@@ -12,20 +12,24 @@ WritesGiven (Ok (Some given)) old new = new ≡ given
 WritesGiven (Ok None) old new = new ≡ old
 WritesGiven (Err refusal) old new = new ≡ old
 
-module _ {A : Type 0} (Calls : Member → Member → Result (Option A) Refusal → Type 0) where
-  -- the member made the call, the code is that of the answer, and what it gives is written
+module _ {A : Type 0} (told : Result (Option A) Refusal → ℤ) (Calls : Member → Member → Result (Option A) Refusal → Type 0) where
+  -- the member made the call, the code tells its answer so, and what it gives is written
   pub record GivesAnswer (m n : Member) (old new : A) (code : ℤ) : Type 0 where
     pub answer : Result (Option A) Refusal
-    pub is : code ≡ call_code (is_yes answer)
+    pub is : code ≡ told answer
     pub called : Calls m n answer
     pub writes : WritesGiven answer old new
 
   -- an empty handle stays so, has a code of its own, and nothing is written; a full one stays full, and its member made the call
-  abbrev pub GivesBy : Option Member → Option Member → A → A → ℤ → Type 0
-  GivesBy None None old new code = (code ≡ empty_code) × (new ≡ old)
-  GivesBy None (Some n) old new code = ⊥
-  GivesBy (Some m) None old new code = ⊥
-  GivesBy (Some m) (Some n) old new code = GivesAnswer m n old new code
+  abbrev pub GivesAs : Option Member → Option Member → A → A → ℤ → Type 0
+  GivesAs None None old new code = (code ≡ empty_code) × (new ≡ old)
+  GivesAs None (Some n) old new code = ⊥
+  GivesAs (Some m) None old new code = ⊥
+  GivesAs (Some m) (Some n) old new code = GivesAnswer m n old new code
+
+-- so it is of a code that tells whether something was given
+abbrev pub GivesBy : {A : Type 0} → (Member → Member → Result (Option A) Refusal → Type 0) → Option Member → Option Member → A → A → ℤ → Type 0
+GivesBy Calls m n old new code = GivesAs (λ answer. call_code (is_yes answer)) Calls m n old new code
 
 -- so it is of a remove
 abbrev pub TellsRemoveEntry : Option Member → Option Member → ℕ → ℕ → ℕ → ℕ → ℤ → Type 0
@@ -34,3 +38,25 @@ TellsRemoveEntry m n key budget old new code = GivesBy (λ m n answer. RemovesEn
 -- and so of a get
 abbrev pub TellsGetEntry : Option Member → Option Member → ℕ → ℕ → ℕ → ℕ → ℤ → Type 0
 TellsGetEntry m n key budget old new code = GivesBy (λ m n answer. GetsEntry m n key budget answer) m n old new code
+
+-- ---- calls that change a value, or go by it; what is given is what was there
+
+-- of a replacement, which stores where some value is there
+abbrev pub TellsReplace : Option Member → Option Member → ℕ → ℕ → ℕ → ℕ → ℕ → ℤ → Type 0
+TellsReplace m n key value budget old new code = GivesBy (λ m n answer. ReplacesEntry m n key value budget answer) m n old new code
+
+-- of a put, which stores in any case
+abbrev pub TellsPut : Option Member → Option Member → ℕ → ℕ → ℕ → ℕ → ℕ → ℤ → Type 0
+TellsPut m n key value budget old new code = GivesBy (λ m n answer. PutsEntry m n key value budget answer) m n old new code
+
+-- of a get that stores where none is there
+abbrev pub TellsGetOrInsert : Option Member → Option Member → ℕ → ℕ → ℕ → ℕ → ℕ → ℤ → Type 0
+TellsGetOrInsert m n key value budget old new code = GivesBy (λ m n answer. GetsOrInsertsEntry m n key value budget answer) m n old new code
+
+-- of an exchange, which stores where the expected value is there
+abbrev pub TellsExchange : Option Member → Option Member → ℕ → ℕ → ℕ → ℕ → ℕ → ℕ → ℤ → Type 0
+TellsExchange m n key expected value budget old new code = GivesAs (expected_code expected) (λ m n answer. ExchangesEntry m n key expected value budget answer) m n old new code
+
+-- and of a remove of a key with the expected value
+abbrev pub TellsRemoveIf : Option Member → Option Member → ℕ → ℕ → ℕ → ℕ → ℕ → ℤ → Type 0
+TellsRemoveIf m n key expected budget old new code = GivesAs (expected_code expected) (λ m n answer. RemovesIf m n key expected budget answer) m n old new code

@@ -1,5 +1,5 @@
-//! The calls of handles with their answers as numbers, as they go to C: 1 is yes, 0 is no or done, and
-//! each refusal has a number below 0.
+//! The calls of handles with their answers as numbers, as they go to C: 1 is yes, 0 is no or done, 2 is
+//! another value than the expected one, and each refusal has a number below 0.
 ghost use Rattle.std.specs.Prelude.{◌≡◌, []};
 ghost use Rattle.vbr_machine.specs.declared.history.Op.TheVariants.{Insert, Remove, Has};
 ghost use Rattle.vbr_set.specs.AllMembers.{AreOfOneSet};
@@ -11,6 +11,7 @@ ghost use Rattle.vbr_handles.specs.Opening.{listed_start};
 ghost use Rattle.vbr_handles.specs.OpeningCodes.{TellsOpeningBy};
 ghost use Rattle.vbr_handles.specs.Reports.{TellsCloseAllBy, TellsCloseBy};
 
+pub mod changing;
 pub mod entries;
 pub mod iterating;
 
@@ -29,6 +30,8 @@ use vbr_words::{Keys, Nodes};
 const NO: i32 = 0;
 
 const YES: i32 = 1;
+
+const OTHER: i32 = 2;
 
 const OUT_OF_STEPS: i32 = -1;
 

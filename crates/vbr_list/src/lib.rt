@@ -1,6 +1,6 @@
 //! Michael's list in one bucket of a set or a map (Michael 2002), over slots that are used again
 //! (Sheffi, Herlihy and Petrank 2021): where a key stands, and look-ups, inserts and removes of it,
-//! and, where nodes have values, gets of its value.
+//! and, where nodes have values, gets and stores of its value.
 //!
 //! A call goes in pieces. A traversal starts at the head of the bucket and visits node after node,
 //! and helps to unlink the marked ones that it meets. Whatever rolls back before the answer leads
