@@ -4,4 +4,5 @@ mod Owning
 mod Recast
 mod Opened
 mod AllHandles
+mod AskingAll
 mod EntryKeys
