@@ -1,4 +1,5 @@
 mod AsBox
+mod Bounds
 mod Owning
 mod Recast
 mod Opened

@@ -9,6 +9,7 @@ mod Sweeping
 mod Observing
 mod Disturbing
 mod Visits
+mod LostAnswers
 mod Walking
 mod LostWalks
 mod Passing

@@ -1,10 +1,10 @@
 -- What a store told once it had read what was there, told from before that.
 use Rattle.vbr_list.proofs.Names.{◌≡◌, ℕ, ◌+◌, ◌≤◌, Bool, true, false, List, Option, None, inl, inr, arith, sym, ◌∙◌, subst}
-use Rattle.vbr_list.proofs.Names.{AddsNone, Call, Ghosts, IsStart, Keeps, knows, PassLaw, PIECE, Quiet}
+use Rattle.vbr_list.proofs.Names.{AddsNone, Call, counts_on, Ghosts, IsStart, Keeps, knows, none_on, PassLaw, PIECE, Quiet}
 use Rattle.vbr_list.specs.Leaving.{LeavesReplaced}
 use Rattle.vbr_list.specs.Pieces.{GoesOn, pass_in, trace_in}
 use Rattle.vbr_list.specs.Removing.{MarksAndSearches}
-use Rattle.vbr_list.specs.Settling.{SettlesIn, SettlesSoon, StoreAnswers, StoresAndLeaves}
+use Rattle.vbr_list.specs.Settling.{MaySettle, SettlesIn, SettlesSoon, StoreAnswers, StoresAndLeaves}
 use Rattle.vbr_list.specs.Storing.{Makes, stored_calls}
 use Rattle.vbr_list.specs.Telling.{TellsThere}
 use Rattle.vbr_list.specs.Wanted.{wants}
@@ -12,9 +12,19 @@ use Rattle.vbr_list.specs.declared.call.PendingCall.{PendingCall}
 use Rattle.vbr_list.specs.declared.found.Found.{Found}
 use Rattle.vbr_list.specs.declared.wanted.Wanted.{Wanted}
 use Rattle.vbr_list.proofs.Disturbing.{run_at}
+use Rattle.vbr_list.proofs.Going.{call_on}
 use Rattle.vbr_list.proofs.Marks.{marks_later}
 use Rattle.vbr_list.proofs.Stores.{makes_on, replaced_not, replaced_where, stored_where, told_where}
 use Rattle.vbr_list.proofs.Sweeping.{leaves_replaced_since}
+
+-- what stays of the call
+pub settles_after : {N : Type 0} {kind : Ghosts N} {c d e : PendingCall N kind} → GoesOn c d → MaySettle d e → MaySettle c e
+settles_after went x = record {
+  call = call_on went.call x.call;
+  counts = counts_on went.goes.counts x.counts;
+  more = (let low = went.more in let more = x.more in omega (arith, low, more));
+  takes_no_slot = none_on went.goes.hand.takes_no_slot x.takes_no_slot;
+}
 
 -- ---- the answer
 

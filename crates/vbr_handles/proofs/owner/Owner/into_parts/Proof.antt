@@ -12,7 +12,6 @@ use prog.Wp.{WpFn, Tables}
 use types.Logic.{Logic}
 use contract.Monad.{fact}
 use contract.Running.{tables, tables_of}
-use sound.WpLaws.{WpFn-mono}
 use types.Kit.{at_ret, ‵, raw, ◌⊛◌, ◌$◌, ◌∵◌, !, qed, by, move, keep, drop, use0, use1, join, split, fsplit, fjoin, suffices, done}
 use types.Part.{whole, sub, agg}
 use types.Run.{stop, fld, lit, bin, no_more, and_then, of_opd, first, branches, exec, returns, enter}
@@ -24,11 +23,8 @@ use denote.RattleType.{RattleType}
 use denote.RawPtr.{block_ptr, null_ptr, tests_null}
 use denote.Signature.{plain}
 use denote.Steps.{nothing}
-use denote.Triple.Carry.{spared}
-use denote.Triple.Clauses.{Clauses, Ended, closing}
-use denote.Triple.Spec.{Meets, triple_of}
-use denote.Triple.Table.{entered, run_framed}
-use denote.Triple.Walked.{says, Stays, stay_dropped, walk_of, ends_at, walk_Meets}
+use denote.Triple.Clauses.{Clauses, Ended}
+use denote.Triple.Walked.{says, Stays, stay_dropped, walk_of, ends_at}
 use Rattle.core.proofs.alloc.Calls.{Goes-blank}
 use Rattle.core.proofs.alloc.Shapes.{after}
 use Rattle.core.proofs.atomic.Steps.{Ptr-Good}
@@ -41,6 +37,7 @@ use Rattle.std_alloc.proofs.ResultValues.{and_tt}
 use Rattle.std_alloc.proofs.BoxSteps.Form.{D, word, box_typed}
 use Rattle.std_alloc.proofs.BoxSteps.Steps.{box_in}
 use Rattle.std_heap.specs.contracts.Global as Heap
+use Rattle.vbr_handles.proofs.Bounds.{spares}
 use Rattle.vbr_handles.proofs.AsBox.{E, OwnerRow, PartsRow, FromOwner as From}
 use Rattle.vbr_handles.proofs.Owning.{nothing_word, owner_out}
 use Rattle.vbr_handles.specs.contracts.owner.Owner.into_parts.Key.{name as #self}
@@ -102,15 +99,8 @@ module _ (F : El) {M : Type 1} {𝓤 : Ura M} (𝓛 : Logic 𝓤) (𝓣 : Tables
       suffices ! _ (ends_at 𝓛 (ended F) (stayed F) (spec F 𝓤) z v₁ (Some made) (tt, tt) (tt, tt)) $ says ! (em, λ _. refl) $
       nothing ! $ nothing ! $ fjoin ! $ join ! $ nothing ! $ join ! $ done !)))))
 
-  meets : Meets 𝓛 (ended F).signature (WpFn 𝓤 H 𝓣.C 𝓣.Λ (fn' F)) (closing 𝓛 (ended F) (spec F 𝓤))
-  meets = walk_Meets 𝓛 (ended F) (stayed F) (Goes-blank 𝓛 0 (From F) no (λ κs x f. tt), tt) (spec F 𝓤) (WpFn 𝓤 H 𝓣.C 𝓣.Λ (fn' F)) (WpFn-mono 𝓤 H 𝓛.laws 𝓣 (fn' F)) walk
-
 pub into_parts_spec : {M : Type 1} → stated.statement M
 unfolding tables_of
 into_parts_spec 𝓤 𝓛 𝓜 𝓡 wired X L y =
     let F : El = record { row = X; laws = L } in
-    let 𝓣 : Tables 𝓤 𝓛.H = tables_of 𝓤 𝓛.H 𝓜 (tables 𝓤 𝓛.H 𝓜 𝓡 𝓡.env) in
-    let k = #self (args F) in
-    spared 𝓛 (ended F).signature (𝓡.run (𝓡.env k)) (run_framed 𝓤 𝓛.H 𝓜 𝓡 (𝓡.env k)) 1 (X.lives, tt) (closing 𝓛 (ended F) (spec F 𝓤))
-    (entered 𝓤 𝓛.H (triple_of 𝓛 (ended F).signature (closing 𝓛 (ended F) (spec F 𝓤))) 𝓣.C 𝓣.Λ k (fn' F) (code.unfolded 𝓤 𝓛.H 𝓜 𝓡 wired (X, tt)) (meets F 𝓛 𝓣))
-    ((y.0.0, y.0.1, tt, y.0.3, y.0.4), y.1)
+    spares 𝓛 𝓜 𝓡 (ended F) (stayed F) (spec F 𝓤) (Goes-blank 𝓛 0 (From F) no (λ κs x f. tt), tt) 1 (X.lives, tt) (#self (args F)) (fn' F) (code.unfolded 𝓤 𝓛.H 𝓜 𝓡 wired (X, tt)) (walk F 𝓛 (tables_of 𝓤 𝓛.H 𝓜 (tables 𝓤 𝓛.H 𝓜 𝓡 𝓡.env))) ((y.0.0, y.0.1, tt, y.0.3, y.0.4), y.1)

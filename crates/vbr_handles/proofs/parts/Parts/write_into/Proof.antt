@@ -13,30 +13,27 @@ use prog.Wp.{Env, Calls, Loops, WpFn, Tables}
 use types.Logic.{Logic, sem}
 use contract.Monad.{fact}
 use contract.Running.{tables, tables_of}
-use sound.WpLaws.{WpFn-mono}
 use denote.Exit.{no}
 use denote.RattleType.{RattleType, owns}
 use denote.Memory.{part_at}
 use denote.RawPtr.{block_ptr}
 use denote.Signature.{plain}
 use denote.Steps.{nothing}
-use denote.Triple.Carry.{spared}
-use denote.Triple.Clauses.{Clauses, Ended, closing}
+use denote.Triple.Clauses.{Clauses, Ended}
 use denote.Triple.Entry.{on_entry}
-use denote.Triple.Spec.{Meets, triple_of}
-use denote.Triple.Table.{entered, run_framed}
 use base.Fml.{ftrue, froom}
 use types.Kit.{‵, ◌⊛◌, at_ret, ◌$◌, ◌∵◌, !, qed, by, move, keep, use1, use2, drop, split, join, fsplit, fjoin, suffices, done}
 use types.Part.{whole, sub, agg}
 use types.Run.{init, stop, fld, of_opd, and_then, no_more, assigns_last, first, blocks, exec, returns, enter}
 use types.ByLocal.{alloc_all, pass_all, free_all, look_at, get, get_in, through, sets, env}
-use denote.Triple.Walked.{says, Stays, stay_dropped, walk_of, ends_at, Goes-dropped, walk_Meets}
+use denote.Triple.Walked.{says, Stays, stay_dropped, walk_of, ends_at, Goes-dropped}
 use Rattle.core.proofs.alloc.Calls.{token, Fits, Goes-blank}
 use Rattle.std_alloc.proofs.RawLayout.{as_written}
 use Rattle.std_alloc.proofs.OfVacant.{Vacant, vacant_val, vacant_typed, Vacant-had}
 use Rattle.std_alloc.proofs.BoxSteps.Form.{Bx, args, X, D, τ, own, Good, R, P, word, handle, box_typed}
 use Rattle.std_alloc.proofs.BoxSteps.Steps.{el_in, el_tells, box_in}
 use Rattle.std_alloc.proofs.VecSteps.Shapes.{after}
+use Rattle.vbr_handles.proofs.Bounds.{spares}
 use Rattle.vbr_handles.specs.contracts.parts.Parts as parts
 use Rattle.vbr_handles.specs.contracts.parts.Parts.write_into.Key.{name as #self}
 use Rattle.vbr_handles.proofs.parts.Parts.write_into.Statement as stated
@@ -94,18 +91,10 @@ module _ (E : Bx) {M : Type 1} {𝓤 : Ura M} (𝓛 : Logic 𝓤) (C : Calls �
       move ! (3 ∷ []) $ fsplit ! $ el_tells E ! x vs (λ v ev t. keep ! (2 ∷ 0 ∷ 3 ∷ 4 ∷ []) $
       by ! (subst (λ (ws : List Val × List Val). ent 𝓤 (Had b o hv v) (WpFn 𝓤 H C Λ (fn' E) (ws.0 ++ (ws.1 ++ [])) Post)) (λ i. (sym is i, sym ev i)) (walk b o hv v fa t))))
 
-meets : (E : Bx) {M : Type 1} {𝓤 : Ura M} (𝓛 : Logic 𝓤) (𝓣 : Tables 𝓤 𝓛.H)
-    → Meets 𝓛 (ended E).signature (WpFn 𝓤 𝓛.H 𝓣.C 𝓣.Λ (fn' E)) (closing 𝓛 (ended E) (spec E 𝓤))
-meets E {𝓤 = 𝓤} 𝓛 𝓣 =
-    walk_Meets 𝓛 (ended E) (stayed E) (Goes-blank 𝓛 0 (plain (λ _. V E)) no (λ κs x f. tt), (Goes-dropped 𝓛 0 (plain (λ _. R E)) no (λ κs x f. refl), tt)) (spec E 𝓤) (WpFn 𝓤 𝓛.H 𝓣.C 𝓣.Λ (fn' E)) (WpFn-mono 𝓤 𝓛.H 𝓛.laws 𝓣 (fn' E))
-    (λ z. via 𝓤 _ (fst∗ 𝓤 _ (emp 𝓤)) (entry E 𝓛 𝓣.C 𝓣.Λ z.0.3.0 z.0.3.1.0 z.0.4.0 z.0.4.1.0))
-
 pub write_into_spec : {M : Type 1} → stated.statement M
 unfolding tables_of
 write_into_spec 𝓤 𝓛 𝓜 𝓡 wired Y Z L LZ g d dd met md y =
     let E : Bx = record { row = Y; laws = L; al = record { row = Z; laws = LZ; g = g; d = d; drops = dd } } in
-    let A = 𝓛.A in
     let 𝓣 : Tables 𝓤 𝓛.H = tables_of 𝓤 𝓛.H 𝓜 (tables 𝓤 𝓛.H 𝓜 𝓡 𝓡.env) in
-    spared 𝓛 (ended E).signature (𝓡.run (𝓡.env (#self (args E)))) (run_framed 𝓤 𝓛.H 𝓜 𝓡 (𝓡.env (#self (args E)))) 2 (Y.lives, (Z.lives, tt)) (closing 𝓛 (ended E) (spec E 𝓤))
-    (entered 𝓤 𝓛.H (triple_of 𝓛 (ended E).signature (closing 𝓛 (ended E) (spec E 𝓤))) 𝓣.C 𝓣.Λ (#self (args E)) (fn' E) (code.unfolded 𝓤 𝓛.H 𝓜 𝓡 wired (Y, (Z, tt)) d dd) (meets E 𝓛 𝓣))
-    ((y.0.0, y.0.1, tt, y.0.3, y.0.4), y.1)
+    spares 𝓛 𝓜 𝓡 (ended E) (stayed E) (spec E 𝓤) (Goes-blank 𝓛 0 (plain (λ _. V E)) no (λ κs x f. tt), (Goes-dropped 𝓛 0 (plain (λ _. R E)) no (λ κs x f. refl), tt)) 2 (Y.lives, (Z.lives, tt)) (#self (args E)) (fn' E) (code.unfolded 𝓤 𝓛.H 𝓜 𝓡 wired (Y, (Z, tt)) d dd)
+    (λ z. via 𝓤 _ (fst∗ 𝓤 _ (emp 𝓤)) (entry E 𝓛 𝓣.C 𝓣.Λ z.0.3.0 z.0.3.1.0 z.0.4.0 z.0.4.1.0)) ((y.0.0, y.0.1, tt, y.0.3, y.0.4), y.1)

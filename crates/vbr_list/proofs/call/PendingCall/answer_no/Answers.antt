@@ -1,8 +1,7 @@
-use Rattle.vbr_list.proofs.Names.{rules, inl, inr, false, Bool, Option, subst, sym, IfOk}
-use Rattle.vbr_list.proofs.Names.{FindsAnother, Held, knows, Made, set_call, unchanged_by_none}
+use Rattle.vbr_list.proofs.Names.{rules, false, Bool, subst, sym, IfOk}
+use Rattle.vbr_list.proofs.Names.{FindsAnother, knows, Made, set_call}
 use Rattle.vbr_list.specs.Inserting.{denied}
-use Rattle.vbr_list.specs.Walking.{LosesNext}
-use Rattle.vbr_list.proofs.Disturbing.{lost_place, run_at}
+use Rattle.vbr_list.proofs.LostAnswers.{unanswered_by_cur, unanswered_by_pred}
 use Rattle.vbr_list.proofs.Moments.{key_found}
 use Rattle.vbr_list.proofs.Passing.{before_named}
 use Rattle.vbr_list.proofs.Sufficing.{each_error, on_ok}
@@ -39,23 +38,7 @@ returns-clause-made g c =
     subst P (sym c.if-not-found.false) (on_ok c.confirm_present.result (λ answers. (answers.answers c.args.self.now.key 0 key (λ get. absurd (cc))).made) c.confirm_present.ensures.answers)
 
 pub returns-then-not-found-clause-rolls : goal.returns-then-not-found-clause-rolls
-returns-then-not-found-clause-rolls g c =
-    let p = c.args.self.now.at.stepper.now.trace in
-    let r = c.confirm_absent.new.at.stepper.now.trace in
-    let pred = c.args.found.now.pred in
-    each_error (FindsAnother p r pred) _ c.confirm_absent.result
-    (λ rollback lost. record {
-      quiet = lost.quiet;
-      loses = inl (lost_place pred rollback lost.lost (unchanged_by_none c.law.ensures.start (run_at p r lost.quiet.same (lost.quiet.is_run c.law.ensures.is_run)) lost.quiet.same lost.quiet.seen lost.adds_none));
-    }) c.confirm_absent.ensures.lost
+returns-then-not-found-clause-rolls g c = each_error (FindsAnother c.args.self.now.at.stepper.now.trace c.confirm_absent.new.at.stepper.now.trace c.args.found.now.pred) _ c.confirm_absent.result (unanswered_by_pred c.law.ensures c.args.found.now) c.confirm_absent.ensures.lost
 
 pub returns-clause-rolls : goal.returns-clause-rolls
-returns-clause-rolls g c =
-    let p = c.args.self.now.at.stepper.now.trace in
-    let r = c.confirm_present.new.at.stepper.now.trace in
-    let Q : Option Held → Type 0 = LosesNext p r in
-    each_error (FindsAnother p r c.in-Some.cur) _ c.confirm_present.result
-    (λ rollback lost. record {
-      quiet = lost.quiet;
-      loses = inr (subst Q (sym c.in-Some.is) (lost_place c.in-Some.cur rollback lost.lost (unchanged_by_none c.law.ensures.start (run_at p r lost.quiet.same (lost.quiet.is_run c.law.ensures.is_run)) lost.quiet.same lost.quiet.seen lost.adds_none)));
-    }) c.confirm_present.ensures.lost
+returns-clause-rolls g c = each_error (FindsAnother c.args.self.now.at.stepper.now.trace c.confirm_present.new.at.stepper.now.trace c.in-Some.cur) _ c.confirm_present.result (unanswered_by_cur c.law.ensures c.args.found.now c.in-Some.cur c.in-Some.is) c.confirm_present.ensures.lost

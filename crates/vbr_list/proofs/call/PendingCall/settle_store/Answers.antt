@@ -9,7 +9,7 @@ use Rattle.vbr_list.proofs.FoundValues.{asks_then, few_where, read_goes, tells_s
 use Rattle.vbr_list.proofs.Going.{call_on}
 use Rattle.vbr_list.proofs.Linking.{takes_back}
 use Rattle.vbr_list.proofs.Preparing.{if_failed, if_went}
-use Rattle.vbr_list.proofs.Settled.{answers_since, change_answers, settles_since, told_answers}
+use Rattle.vbr_list.proofs.Settled.{answers_since, change_answers, settles_after, settles_since, told_answers}
 use Rattle.vbr_list.proofs.ReadFirst.{found_lost_since}
 use Rattle.vbr_list.proofs.Stores.{hand_kept, replaced_where, unless_since}
 use Rattle.vbr_list.proofs.call.PendingCall.settle_store.Goals as goal
@@ -26,19 +26,13 @@ pub returns-in-Ok-change-clause-settles : goal.returns-in-Ok-change-clause-settl
 returns-in-Ok-change-clause-settles g c =
     let r = c.read_found.ensures in
     let went = read_goes {c = c.args.self.now} {d = c.read_found.new.self} _ r.call r.used r.reads in
-    let x = c.change.ensures.settles in
-    let low = went.more in
-    let more = x.more in
-    record { call = call_on r.call x.call; counts = counts_on went.goes.counts x.counts; more = omega (arith, low, more); takes_no_slot = none_on went.goes.hand.takes_no_slot x.takes_no_slot }
+    settles_after went c.change.ensures.settles
 
 pub returns-in-Err-clause-settles : goal.returns-in-Err-clause-settles
 returns-in-Err-clause-settles g c =
     let r = c.read_found.ensures in
     let went = read_goes {c = c.args.self.now} {d = c.read_found.new.self} _ r.call r.used r.reads in
-    let x = c.change.ensures.settles in
-    let low = went.more in
-    let more = x.more in
-    record { call = call_on r.call x.call; counts = counts_on went.goes.counts x.counts; more = omega (arith, low, more); takes_no_slot = none_on went.goes.hand.takes_no_slot x.takes_no_slot }
+    settles_after went c.change.ensures.settles
 
 pub returns-in-Ok-change-clause-had : goal.returns-in-Ok-change-clause-had
 returns-in-Ok-change-clause-had g c =

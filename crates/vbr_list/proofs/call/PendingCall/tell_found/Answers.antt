@@ -1,8 +1,7 @@
-use Rattle.vbr_list.proofs.Names.{ℕ, inl, inr, Option, IfOk, subst, sym}
-use Rattle.vbr_list.proofs.Names.{FindsAnother, Get, Held, knows, Made, unchanged_by_none}
+use Rattle.vbr_list.proofs.Names.{ℕ, Option, IfOk, subst}
+use Rattle.vbr_list.proofs.Names.{FindsAnother, Get, knows, Made}
 use Rattle.vbr_list.specs.Told.{given_call}
-use Rattle.vbr_list.specs.Walking.{LosesNext}
-use Rattle.vbr_list.proofs.Disturbing.{lost_place, run_at}
+use Rattle.vbr_list.proofs.LostAnswers.{unanswered_by_cur, unanswered_by_pred}
 use Rattle.vbr_list.proofs.Moments.{key_found}
 use Rattle.vbr_list.proofs.Passing.{before_named}
 use Rattle.vbr_list.proofs.Sufficing.{each_error, on_ok}
@@ -42,23 +41,7 @@ returns-clause-told g c =
     subst P value.1 (on_ok c.confirm_present.result (λ answers. (answers.answers c.args.self.now.key value.0 key (λ get. value.2.known c.in-Some.cur c.in-Some.is)).made) c.confirm_present.ensures.answers)
 
 pub returns-then-is_none-clause-lost : goal.returns-then-is_none-clause-lost
-returns-then-is_none-clause-lost g c =
-    let p = c.args.self.now.at.stepper.now.trace in
-    let r = c.confirm_absent.new.at.stepper.now.trace in
-    let pred = c.args.found.now.pred in
-    each_error (FindsAnother p r pred) _ c.confirm_absent.result
-    (λ rollback lost. record {
-      quiet = lost.quiet;
-      loses = inl (lost_place pred rollback lost.lost (unchanged_by_none c.law.ensures.start (run_at p r lost.quiet.same (lost.quiet.is_run c.law.ensures.is_run)) lost.quiet.same lost.quiet.seen lost.adds_none));
-    }) c.confirm_absent.ensures.lost
+returns-then-is_none-clause-lost g c = each_error (FindsAnother c.args.self.now.at.stepper.now.trace c.confirm_absent.new.at.stepper.now.trace c.args.found.now.pred) _ c.confirm_absent.result (unanswered_by_pred c.law.ensures c.args.found.now) c.confirm_absent.ensures.lost
 
 pub returns-clause-lost : goal.returns-clause-lost
-returns-clause-lost g c =
-    let p = c.args.self.now.at.stepper.now.trace in
-    let r = c.confirm_present.new.at.stepper.now.trace in
-    let Q : Option Held → Type 0 = LosesNext p r in
-    each_error (FindsAnother p r c.in-Some.cur) _ c.confirm_present.result
-    (λ rollback lost. record {
-      quiet = lost.quiet;
-      loses = inr (subst Q (sym c.in-Some.is) (lost_place c.in-Some.cur rollback lost.lost (unchanged_by_none c.law.ensures.start (run_at p r lost.quiet.same (lost.quiet.is_run c.law.ensures.is_run)) lost.quiet.same lost.quiet.seen lost.adds_none)));
-    }) c.confirm_present.ensures.lost
+returns-clause-lost g c = each_error (FindsAnother c.args.self.now.at.stepper.now.trace c.confirm_present.new.at.stepper.now.trace c.in-Some.cur) _ c.confirm_present.result (unanswered_by_cur c.law.ensures c.args.found.now c.in-Some.cur c.in-Some.is) c.confirm_present.ensures.lost
