@@ -41,7 +41,7 @@ void __wrap_free(void *block) {
 
 static int keyed;   /* whether the set is opened with its keys */
 static int at_once; /* whether it is closed by all its handles at once */
-static long failed_opens, failed_closes;
+static long failed_opens, failed_closes, failed_renewals;
 
 static int32_t close_rest(vbr_handle *handle, uint64_t *keys, vbr_totals *report) {
     return at_once ? vbr_close_all(handle, 3, keys, 8, report) : vbr_close(&handle[1], keys, 8, report);
@@ -100,7 +100,34 @@ static int round_with(long n, int *done) {
     return 0;
 }
 
+/* A set of two keys is reported and renewed by all its handles while the nth allocation is refused; they go on. */
+static int renewed_with(long n, int *done) {
+    vbr_handle handle[2] = {{0}};
+    vbr_totals report = {0, 0, 0, 0};
+    uint64_t keys[8] = {0};
+    CHECK(vbr_open(handle, 2, 8, 2, 100) == VBR_NO);
+    CHECK(vbr_insert(&handle[1], 7, 1000) == VBR_YES && vbr_insert(&handle[0], 6, 1000) == VBR_YES);
+    allowed = n;
+    vbr_answer told = vbr_report_all(handle, 2, keys, 8, &report);
+    CHECK(told == VBR_YES || (told == VBR_NO_MEMORY && report.live == 0 && keys[0] == 0));
+    vbr_answer renewed = vbr_renew_all(handle, 2, 16, 4, 1000);
+    *done = renewed == VBR_NO && allowed >= 0;
+    CHECK(renewed == VBR_NO || (renewed == VBR_NO_MEMORY && vbr_slots(&handle[0]) == 8 && vbr_balance(&handle[1]) == 1));
+    if (told != VBR_YES || renewed != VBR_NO) failed_renewals++;
+    allowed = -1;
+    CHECK(walked(&handle[0]) == 2 && vbr_remove(&handle[0], 7, 1000) == VBR_YES && vbr_insert(&handle[1], 5, 1000) == VBR_YES);
+    CHECK(vbr_balance(&handle[0]) + vbr_balance(&handle[1]) == 2 && vbr_renew_all(handle, 2, 16, 4, 1000) == VBR_NO);
+    CHECK(vbr_slots(&handle[1]) == 16 && vbr_balance(&handle[0]) == 2 && vbr_has(&handle[1], 6, 1000) == VBR_YES);
+    CHECK(vbr_close_all(handle, 2, keys, 8, &report) == VBR_YES && report.live == 2 && keys[0] == 5 && keys[1] == 6 && blocks == 0);
+    return 0;
+}
+
 int main(void) {
+    for (stays_short = 0; stays_short < 2; stays_short++) {
+        int done = 0;
+        for (long n = 0; !done; n++)
+            if (renewed_with(n, &done)) return 1;
+    }
     for (int turn = 0; turn < 8; turn++) {
         int done = 0;
         stays_short = turn % 2;
@@ -109,7 +136,7 @@ int main(void) {
         for (long n = 0; !done; n++)
             if (round_with(n, &done)) return 1;
     }
-    CHECK(failed_opens > 0 && failed_closes > 0);
+    CHECK(failed_opens > 0 && failed_closes > 0 && failed_renewals > 0);
     printf("refused allocations in C: passed, %ld opens and %ld closes found no memory\n", failed_opens, failed_closes);
     return 0;
 }

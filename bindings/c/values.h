@@ -297,6 +297,12 @@ VBR_NODISCARD static inline vbr_answer value_close_all(vbr_map_handle *handles, 
     return answer;
 }
 
+VBR_NODISCARD static inline vbr_answer value_report_all(vbr_map_handle *handles, size_t count, uint64_t *keys, size_t room, vbr_totals *report) {
+    vbr_answer answer = vbr_map_report_all(handles, count, told_entries, room < MOST_ENTRIES ? room : MOST_ENTRIES, report);
+    if (answer == VBR_YES) value_report(keys, report->live);
+    return answer;
+}
+
 /* vbr_tsan.h has some of these too */
 #undef vbr_insert
 #undef vbr_remove
@@ -304,6 +310,9 @@ VBR_NODISCARD static inline vbr_answer value_close_all(vbr_map_handle *handles, 
 #undef vbr_next
 #undef vbr_close
 #undef vbr_close_all
+#undef vbr_report_all
+#undef vbr_renew_all
+#undef vbr_balance
 #undef vbr_drop
 #undef vbr_epoch
 #undef vbr_last_epoch
@@ -320,6 +329,9 @@ VBR_NODISCARD static inline vbr_answer value_close_all(vbr_map_handle *handles, 
 #define vbr_next value_next
 #define vbr_close value_close
 #define vbr_close_all value_close_all
+#define vbr_report_all value_report_all
+#define vbr_renew_all(handles, count, slots, buckets, last_epoch) vbr_map_renew_all(handles, count, slots, buckets, last_epoch)
+#define vbr_balance(handle) vbr_map_balance(handle)
 #define vbr_drop(handle) vbr_map_drop(handle)
 #define vbr_epoch(handle) vbr_map_epoch(handle)
 #define vbr_last_epoch(handle) vbr_map_last_epoch(handle)

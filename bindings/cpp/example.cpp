@@ -327,8 +327,33 @@ static int loans() {
     return 0;
 }
 
+// Balances, and all handles at once: their report, and their renewal.
+static int all_handles() {
+    auto both = vbr::open_with(vbr::shape{4, 1, 100}, 2, {2, 5});
+    CHECK(both.answer == vbr::open_answer::done);
+    CHECK(both.handles[1].insert(7, 100000) == vbr::answer::yes && both.handles[0].remove(2, 100000) == vbr::answer::yes);
+    std::int64_t keys = both.handles[0].balance() + both.handles[1].balance(); // no call is under way
+    CHECK(keys == 2 && both.handles[1].balance() == 1);
+    vbr::told now = vbr::handle::report_all(both.handles); // now.report->keys is {5, 7}
+    CHECK(now.answer == vbr::all_answer::done && now.report->keys == std::vector<std::uint64_t>({5, 7}));
+    CHECK(vbr::handle::renew_all(both.handles, {0, 1, 100}) == vbr::all_answer::bad_shape);
+    CHECK(vbr::handle::renew_all(both.handles, {1, 1, 100}) == vbr::all_answer::no_room && both.handles[0].slots() == 4);
+    vbr::all_answer renewed = vbr::handle::renew_all(both.handles, vbr::shape::for_keys(4096, 2));
+    if (renewed == vbr::all_answer::no_room) return 1; // there are more keys than slots
+    CHECK(renewed == vbr::all_answer::done && both.handles[0].buckets() == 4096 && both.handles[0].balance() == 2);
+    auto other = vbr::open(vbr::shape::for_keys(8, 1), 1);
+    std::vector<vbr::handle> mixed(2), none;
+    CHECK(vbr::handle::report_all(none).answer == vbr::all_answer::missing && vbr::handle::report_all(mixed).answer == vbr::all_answer::empty);
+    mixed[0] = std::move(other.handles[0]), mixed[1] = std::move(both.handles[1]);
+    CHECK(vbr::handle::report_all(mixed).answer == vbr::all_answer::mixed && vbr::handle::report_all(both.handles).answer == vbr::all_answer::empty);
+    both.handles[1] = std::move(mixed[1]);
+    CHECK(vbr::handle::report_all(both.handles).report->keys.size() == 2);
+    CHECK(both.handles[0].close().answer == vbr::close_answer::others_are_open && both.handles[1].close().report->keys.size() == 2);
+    return 0;
+}
+
 int main() {
-    if (example() || calls() || the_most() || refusals() || ranges() || walks() || walked_by_iterators() || refused_walks() || ends() || exceptions() || closes_at_once() || loans()) return 1;
+    if (example() || all_handles() || calls() || the_most() || refusals() || ranges() || walks() || walked_by_iterators() || refused_walks() || ends() || exceptions() || closes_at_once() || loans()) return 1;
     std::puts("example in C++: passed");
     return 0;
 }

@@ -294,8 +294,20 @@ static int loans() {
     return 0;
 }
 
+// Balances, and all handles at once: their report, and their renewal, which keeps the values.
+static int all_handles() {
+    vbr::map_opened both = vbr::open_map(vbr::shape::for_keys(2, 2), 2);
+    CHECK(both.answer == vbr::open_answer::done);
+    CHECK(both.handles[0].insert(5, 70, 100000) == vbr::answer::yes && both.handles[1].balance() == 0);
+    vbr::map_told now = vbr::map_handle::report_all(both.handles); // now.report->entries is {{5, 70}}
+    CHECK(now.answer == vbr::all_answer::done && now.report->entries.size() == 1 && now.report->entries[0].value == 70);
+    CHECK(vbr::map_handle::renew_all(both.handles, vbr::shape::for_keys(4096, 2)) == vbr::all_answer::done && both.handles[1].buckets() == 4096);
+    CHECK(both.handles[1].get(5, 100000).value == 70 && both.handles[0].balance() == 1);
+    return 0;
+}
+
 int main() {
-    if (example() || calls() || changes() || updates() || refusals() || ranges() || walks() || renewals() || ends() || exceptions() || loans()) return 1;
+    if (example() || all_handles() || calls() || changes() || updates() || refusals() || ranges() || walks() || renewals() || ends() || exceptions() || loans()) return 1;
     std::puts("example of maps in C++: passed");
     return 0;
 }

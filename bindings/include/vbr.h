@@ -101,8 +101,12 @@
    the calls of a walk its handle may make others: it may remove the key that was just given, insert and look up, and walk by
    another cursor.
 
-   How many keys are in the set is told by no call while threads run. Count the inserts and removes that are answered
-   VBR_YES, in a counter for each thread, or read the report of a close.
+   How many keys are in the set. Each handle keeps how many keys its calls have added, less those that they took out
+   (vbr_balance). The first of the handles that were opened together begins with the keys that the set opened with, so while no
+   call is under way the balances of all of them add up to the number of keys, as vbr_report_all tells it. A handle takes its
+   balance along when it is closed, so read it before. While threads run no call tells the number: let each of them put the
+   balance of its handle where the others read it; the sum of these is off by at most the calls that are under way or end while
+   it is made.
 
    Budgets. A call makes at most `budget` steps, each one atomic operation on a word that the threads share, and never waits
    for another thread. A look-up makes loads alone, and so does a call of a walk: it writes nothing that another thread can
@@ -135,8 +139,8 @@
    sequence, multiples of a page, pointers) do no harm; keys that somebody chooses to fall into one bucket do, and
    each call then passes them all. Only calls that take a slot, for a key or a new value, advance the epoch, and once the last
    one is spent they may be refused: the greatest lasts fifteen hours at ten million inserts a second that advance it, as one in
-   sixteen does of a cache that takes sixteen keys out at a time. Before it is spent a set is renewed: close all its
-   handles, and open one with the keys of the report by vbr_open_with, at epoch 1. The numbers are 1 to VBR_MAX_SLOTS
+   sixteen does of a cache that takes sixteen keys out at a time. Before it is spent a set is renewed:
+   vbr_renew_all lets all its handles go on over a fresh one with its keys, at epoch 1. The numbers are 1 to VBR_MAX_SLOTS
    slots, 1 to VBR_MAX_BUCKETS buckets, and 1 to VBR_MAX_EPOCH as the last epoch; the most slots and buckets take 673
    million bytes, and of a map 807.
 
@@ -237,17 +241,19 @@ typedef enum vbr_answer {
                               insert, get_or_insert: the key is absent */
     VBR_EMPTY = -4,        /* the handle is empty, or null where it may be; nothing was done */
     VBR_IN_USE = -5,       /* open: one of the handles is not empty; nothing was done */
-    VBR_BAD_SHAPE = -6,    /* open: slots, buckets or last_epoch is out of range; nothing was done */
+    VBR_BAD_SHAPE = -6,    /* open, renew_all: slots, buckets or last_epoch is out of range; nothing was done */
     VBR_BAD_COUNT = -7,    /* open: count is not from 1 to 64; nothing was done */
-    VBR_NO_MEMORY = -8,    /* open: nothing was done; close: it is the last and stays as it was */
+    VBR_NO_MEMORY = -8,    /* open: nothing was done; close: it is the last and stays as it was; report_all, close_all,
+                              renew_all: they are as they were */
     VBR_LOST = -9,         /* close: it was the last, and a pass is not there; the set is gone. A handle
                               that is dropped gives its pass back, and one that is forgotten keeps its
                               set open (VBR_NO), so no program is known to get this */
     VBR_BAD_KEYS = -10,    /* open_with: the keys do not ascend, or there are more than slots; nothing
                               was done */
-    VBR_NO_ROOM = -11,     /* close: it is the last and stays as it was; the report tells how many keys */
-    VBR_MISSING = -12,     /* close_all: fewer handles than were opened, or none; they are as they were */
-    VBR_MIXED = -13        /* close_all: handles of different sets; they are as they were */
+    VBR_NO_ROOM = -11,     /* close: it is the last and stays as it was; the report tells how many keys; renew_all: there
+                              are more keys than slots; they are as they were */
+    VBR_MISSING = -12,     /* report_all, close_all, renew_all: not all handles that were opened; they are as they were */
+    VBR_MIXED = -13        /* report_all, close_all, renew_all: handles of different sets; they are as they were */
 } vbr_answer;
 
 /* A handle to a set, or {0}.
@@ -352,6 +358,13 @@ VBR_NODISCARD uint32_t vbr_slots(vbr_handle *handle) VBR_NOEXCEPT VBR_NONNULL;
        int is_crowded = 3 > 2 * vbr_buckets(&handle[0]); // three keys, and more than two for each bucket */
 VBR_NODISCARD uint32_t vbr_buckets(vbr_handle *handle) VBR_NOEXCEPT VBR_NONNULL;
 
+/* How many keys the calls of the handle have added, less those that they took out: its inserts that were answered VBR_YES, less
+   its removes that were. The first of the handles that were opened together begins with the keys that the set opened with, the
+   others with 0; an empty handle has 0. It makes no step. "How many keys are in the set" tells what the sum of all is.
+
+       int64_t keys = vbr_balance(&handle[0]) + vbr_balance(&handle[1]); // no call is under way */
+VBR_NODISCARD int64_t vbr_balance(vbr_handle *handle) VBR_NOEXCEPT VBR_NONNULL;
+
 /* The version of the library, which is VBR_VERSION where the header is of the same one. It has no handle, and can't fail.
 
        if (vbr_version() != VBR_VERSION) return 1; // the library is of another version than the header */
@@ -381,6 +394,26 @@ VBR_NODISCARD vbr_answer vbr_close(vbr_handle *handle, uint64_t *keys, size_t ro
        vbr_answer closed = vbr_close_all(handle, 2, keys, 8, &report); // VBR_YES: report.live is 3, keys are 2, 5, 9 */
 VBR_NODISCARD vbr_answer vbr_close_all(vbr_handle *handles, size_t count, uint64_t *keys, size_t room,
                                        vbr_totals *report) VBR_NOEXCEPT VBR_NONNULL;
+
+/* Tells what is in a set by all `count` handles that were opened with it, in any order, as vbr_close_all does: VBR_YES, with the
+   report and its keys. No other thread is in a call on one of them. They stay as they are, and go on. It takes the memory of a
+   close. What it answers else is what vbr_close_all answers, and means the same.
+
+       vbr_answer told = vbr_report_all(handle, 2, keys, 8, &report); // VBR_YES: report.live keys are in front of keys */
+VBR_NODISCARD vbr_answer vbr_report_all(vbr_handle *handles, size_t count, uint64_t *keys, size_t room,
+                                        vbr_totals *report) VBR_NOEXCEPT VBR_NONNULL;
+
+/* Lets all `count` handles of a set, in any order, go on over a fresh set of this shape with the keys that were in it: VBR_NO. The
+   epoch is 1 again, the first handle's balance is the number of keys, and that of the others is 0. No other thread is in a call
+   on one of them. It takes the memory of a report and of an opening with the keys, while the set is still there, whose memory is
+   freed then.
+   Else the handles stay as they were, and go on: VBR_BAD_SHAPE; VBR_EMPTY, one is empty; VBR_MIXED, two are of different sets, by
+   a probe as in vbr_close_all; VBR_MISSING, they are not as many as were opened; VBR_NO_ROOM, there are more keys than slots;
+   VBR_NO_MEMORY.
+
+       vbr_answer renewed = vbr_renew_all(handle, 2, 2048 + 2 * 64, 2048, VBR_MAX_EPOCH); // VBR_NO: twice as large */
+VBR_NODISCARD vbr_answer vbr_renew_all(vbr_handle *handles, size_t count, uint32_t slots, uint32_t buckets,
+                                       uint64_t last_epoch) VBR_NOEXCEPT VBR_NONNULL;
 
 /* Gives a handle up, empty or full, and leaves it empty. Its pass is given back as by a close, and no
    report is told: the last handle of the set that is closed still gets it, and with the last one dropped
@@ -535,6 +568,12 @@ VBR_NODISCARD uint32_t vbr_map_slots(vbr_map_handle *handle) VBR_NOEXCEPT VBR_NO
        int is_crowded = 3 > 2 * vbr_map_buckets(&map[0]); // three keys, and more than two for each bucket */
 VBR_NODISCARD uint32_t vbr_map_buckets(vbr_map_handle *handle) VBR_NOEXCEPT VBR_NONNULL;
 
+/* How many keys the calls of the handle have added, less those that they took out, as vbr_balance tells of a set. A call that
+   changes a value leaves it as it was.
+
+       int64_t entered = vbr_map_balance(&map[0]) + vbr_map_balance(&map[1]); // no call is under way */
+VBR_NODISCARD int64_t vbr_map_balance(vbr_map_handle *handle) VBR_NOEXCEPT VBR_NONNULL;
+
 /* Gives the pass back and leaves the handle empty: VBR_NO while others of its map are open. The last one ends the map: VBR_YES,
    with the report and its entries, ascending by key. Only then is memory needed, which is freed again. Behind the entries of
    the report the array stays as it was: all `room` entries, and the report, are initialised before.
@@ -558,6 +597,18 @@ VBR_NODISCARD vbr_answer vbr_map_close(vbr_map_handle *handle, vbr_entry *entrie
        vbr_answer closed = vbr_map_close_all(map, 2, entries, 8, &report); // VBR_YES: three entries, {2, 20} the first of them */
 VBR_NODISCARD vbr_answer vbr_map_close_all(vbr_map_handle *handles, size_t count, vbr_entry *entries, size_t room,
                                            vbr_totals *report) VBR_NOEXCEPT VBR_NONNULL;
+
+/* Tells what is in a map by all its handles, as vbr_report_all does of a set, with the entries, ascending by key.
+
+       vbr_answer told = vbr_map_report_all(map, 2, entries, 8, &report); // VBR_YES: report.live entries are in front of entries */
+VBR_NODISCARD vbr_answer vbr_map_report_all(vbr_map_handle *handles, size_t count, vbr_entry *entries, size_t room,
+                                            vbr_totals *report) VBR_NOEXCEPT VBR_NONNULL;
+
+/* Lets all handles of a map go on over a fresh one of this shape, as vbr_renew_all does: each key keeps its value.
+
+       vbr_answer renewed = vbr_map_renew_all(map, 2, 2048 + 2 * 64, 2048, VBR_MAX_EPOCH); // VBR_NO: twice as large */
+VBR_NODISCARD vbr_answer vbr_map_renew_all(vbr_map_handle *handles, size_t count, uint32_t slots, uint32_t buckets,
+                                           uint64_t last_epoch) VBR_NOEXCEPT VBR_NONNULL;
 
 /* Gives a handle up, empty or full, and leaves it empty. Its pass is given back as by a close, and no report is told: the last
    handle of the map that is closed still gets it, and with the last one dropped the map ends. It needs no memory. With a null

@@ -24,9 +24,9 @@
        if (vbr::is_refusal(told)) return 1; // the walk came to no end
 
    It is a header over the calls of vbr.h, which says what each asks and answers, and links with the same library. Only
-   openings and closes take memory; where a vector finds none they throw std::bad_alloc and leave all as it was. How many
-   keys are in the set is told by no call while threads run: count the inserts and removes that are answered yes, or read
-   the report of the last close. What is said of sets and keys holds of maps and entries, as in vbr.h.
+   openings and closes take memory; where a vector finds none they throw std::bad_alloc and leave all as it was. The
+   balances of all handles, added up while no call is under way, are how many keys are in the set; so does a report tell it. What is
+   said of sets and keys holds of maps and entries, as in vbr.h.
 
    A handle may go to another thread by whatever orders the two. Where a thread ends, or an exception leaves a function, the
    handles that it owned end too, which closes them; nothing is lost. What vbr.h says of cancelled threads, signals and forks
@@ -212,6 +212,35 @@ struct [[nodiscard]] map_closed {
     std::optional<map_report> report;
 };
 
+/* What a call of all handles of a set answers. Unless it is done they are as they were, and go on.
+
+       if (renewed == vbr::all_answer::no_room) return 1; // there are more keys than slots */
+enum class [[nodiscard]] all_answer {
+    done,
+    empty,     /* one of the handles is empty */
+    mixed,     /* two of them are of different sets */
+    missing,   /* they are fewer than were opened with the set, or none */
+    bad_shape, /* renew_all: a number of the shape is out of range */
+    no_room,   /* renew_all: there are more keys than slots of the shape */
+    no_memory
+};
+
+/* What a report by all handles of a set answers, and the report where it is done.
+
+       vbr::told now = vbr::handle::report_all(both.handles); // now.report->keys is {5} */
+struct [[nodiscard]] told {
+    all_answer answer;
+    std::optional<vbr::report> report;
+};
+
+/* The same of a map.
+
+       vbr::map_told now = vbr::map_handle::report_all(both.handles); // now.report->entries is {{5, 70}} */
+struct [[nodiscard]] map_told {
+    all_answer answer;
+    std::optional<map_report> report;
+};
+
 namespace detail {
 
 /* The calls on sets, and those on maps. */
@@ -220,12 +249,20 @@ struct set_calls {
     using item = std::uint64_t;
     using report = vbr::report;
     using closed = vbr::closed;
+    using told = vbr::told;
     static vbr_answer has(raw *handle, std::uint64_t key, std::uint32_t budget) noexcept { return vbr_has(handle, key, budget); }
     static vbr_answer next(raw *handle, vbr_cursor *at, std::uint32_t budget, item *key) noexcept { return vbr_next(handle, at, budget, key); }
     static std::uint64_t epoch(raw *handle) noexcept { return vbr_epoch(handle); }
     static std::uint64_t last_epoch(raw *handle) noexcept { return vbr_last_epoch(handle); }
     static std::uint32_t slots(raw *handle) noexcept { return vbr_slots(handle); }
     static std::uint32_t buckets(raw *handle) noexcept { return vbr_buckets(handle); }
+    static std::int64_t balance(raw *handle) noexcept { return vbr_balance(handle); }
+    static vbr_answer report_all(raw *handles, std::size_t count, item *keys, std::size_t room, vbr_totals *totals) noexcept {
+        return vbr_report_all(handles, count, keys, room, totals);
+    }
+    static vbr_answer renew_all(raw *handles, std::size_t count, const shape &wanted) noexcept {
+        return vbr_renew_all(handles, count, wanted.slots, wanted.buckets, wanted.last_epoch);
+    }
     static vbr_answer close_all(raw *handles, std::size_t count, item *keys, std::size_t room, vbr_totals *totals) noexcept {
         return vbr_close_all(handles, count, keys, room, totals);
     }
@@ -237,6 +274,7 @@ struct map_calls {
     using item = entry;
     using report = map_report;
     using closed = map_closed;
+    using told = map_told;
     static vbr_answer has(raw *handle, std::uint64_t key, std::uint32_t budget) noexcept { return vbr_map_has(handle, key, budget); }
     static vbr_answer next(raw *handle, vbr_cursor *at, std::uint32_t budget, item *next) noexcept {
         return vbr_map_next(handle, at, budget, &next->key, &next->value);
@@ -245,6 +283,13 @@ struct map_calls {
     static std::uint64_t last_epoch(raw *handle) noexcept { return vbr_map_last_epoch(handle); }
     static std::uint32_t slots(raw *handle) noexcept { return vbr_map_slots(handle); }
     static std::uint32_t buckets(raw *handle) noexcept { return vbr_map_buckets(handle); }
+    static std::int64_t balance(raw *handle) noexcept { return vbr_map_balance(handle); }
+    static vbr_answer report_all(raw *handles, std::size_t count, item *entries, std::size_t room, vbr_totals *totals) noexcept {
+        return vbr_map_report_all(handles, count, entries, room, totals);
+    }
+    static vbr_answer renew_all(raw *handles, std::size_t count, const shape &wanted) noexcept {
+        return vbr_map_renew_all(handles, count, wanted.slots, wanted.buckets, wanted.last_epoch);
+    }
     static vbr_answer close_all(raw *handles, std::size_t count, item *entries, std::size_t room, vbr_totals *totals) noexcept {
         return vbr_map_close_all(handles, count, entries, room, totals);
     }
@@ -371,7 +416,7 @@ public:
     }
 
     /* The last epoch that the handle read in a call: 1 before its first, and 0 for an empty handle. Renew the set before it
-       comes to last_epoch: close all its handles, and open a set with the keys of the report.
+       comes to last_epoch, by renew_all.
 
            bool is_near = mine.epoch() + 1000 >= mine.last_epoch(); // then renew the set */
     std::uint64_t epoch() noexcept { return Calls::epoch(&raw); }
@@ -382,6 +427,13 @@ public:
     std::uint64_t last_epoch() noexcept { return Calls::last_epoch(&raw); }
     std::uint32_t slots() noexcept { return Calls::slots(&raw); }
     std::uint32_t buckets() noexcept { return Calls::buckets(&raw); }
+
+    /* How many keys the calls of the handle have added, less those that they took out. The first of the handles that were opened
+       together begins with the keys that the set opened with, the others with 0. While no call is under way the balances of all
+       handles of a set add up to the number of its keys; a handle takes its balance along when it is closed.
+
+           std::int64_t keys = both.handles[0].balance() + both.handles[1].balance(); // no call is under way */
+    std::int64_t balance() noexcept { return Calls::balance(&raw); }
 
 protected:
     using calls = Calls;
@@ -544,6 +596,7 @@ class basic_handle : public Pass {
 public:
     using pass_type = Pass;
     using closed_type = typename calls::closed;
+    using told_type = typename calls::told;
 
     basic_handle() noexcept = default;
     basic_handle(basic_handle &&other) noexcept { takes(other); }
@@ -567,11 +620,62 @@ public:
         return close_last(items(shared->slots));
     }
 
+    /* Tells what is in a set or a map by all its handles, as the close of the last one does. No other thread is in a call of one of
+       them. They stay as they are, and go on. It takes the memory of a close.
+
+           vbr::told now = vbr::handle::report_all(both.handles); // now.report->keys is {5, 7} */
+    static told_type report_all(std::vector<basic_handle> &handles) {
+        all_answer are = are_all(handles);
+        if (are != all_answer::done) return {are, std::nullopt};
+        items room(handles.front().shared->slots);
+        vbr_totals totals = {};
+        vbr_answer code = with_all(handles, [&](auto *all) { return calls::report_all(all, handles.size(), room.data(), room.size(), &totals); });
+        if (code != VBR_YES) return {all_answer::no_memory, std::nullopt};
+        room.resize(totals.live);
+        return {all_answer::done, typename calls::report{std::move(room), totals.epoch, totals.marked, totals.free}};
+    }
+
+    /* Lets all handles of a set or a map go on over a fresh one of this shape, with the keys that were in it, or the entries: at
+       epoch 1, and larger where there are to be more of them. No other thread is in a call of one of them. The balance of the first
+       handle is the number of keys then, and that of the others is 0. The fresh set is opened before the other one is given up.
+
+           vbr::all_answer renewed = vbr::handle::renew_all(both.handles, vbr::shape::for_keys(4096, 2)); */
+    static all_answer renew_all(std::vector<basic_handle> &handles, const shape &wanted) noexcept {
+        all_answer are = are_all(handles);
+        if (are != all_answer::done) return are;
+        vbr_answer code = with_all(handles, [&](auto *all) { return calls::renew_all(all, handles.size(), wanted); });
+        if (code == VBR_BAD_SHAPE) return all_answer::bad_shape;
+        if (code == VBR_NO_ROOM) return all_answer::no_room;
+        if (code != VBR_NO) return all_answer::no_memory;
+        handles.front().shared->slots = wanted.slots;
+        return all_answer::done;
+    }
+
 private:
     template <class Opened, class Open>
     friend Opened open_by(const shape &, std::size_t, const Open &);
     template <class Handle>
     friend class detail::lending;
+
+    /* Whether these are all handles of one set. */
+    static all_answer are_all(const std::vector<basic_handle> &handles) noexcept {
+        if (handles.empty()) return all_answer::missing;
+        for (const basic_handle &each : handles)
+            if (!each.is_open()) return all_answer::empty;
+        for (const basic_handle &each : handles)
+            if (each.shared != handles.front().shared) return all_answer::mixed;
+        return handles.front().shared->count == handles.size() ? all_answer::done : all_answer::missing;
+    }
+
+    /* Makes a call with all of them side by side, and then each has what is at its place. */
+    template <class Call>
+    static vbr_answer with_all(std::vector<basic_handle> &handles, const Call &call) noexcept {
+        typename calls::raw all[max_handles] = {};
+        for (std::size_t i = 0; i < handles.size(); i++) std::swap(all[i], handles[i].raw);
+        vbr_answer code = call(all);
+        for (std::size_t i = 0; i < handles.size(); i++) std::swap(all[i], handles[i].raw);
+        return code;
+    }
 
     void takes(basic_handle &other) noexcept {
         raw = std::exchange(other.raw, {});

@@ -188,6 +188,16 @@ VBR_NODISCARD static inline vbr_answer vbr_tsan_map_next(vbr_map_handle *handle,
         if (answer == VBR_YES) __tsan_acquire(vbr_tsan_closed()); \
         return answer; \
     } \
+    VBR_NODISCARD static inline vbr_answer vbr_tsan_##FOR##report_all(vbr_##FOR##handle *handles, size_t count, item *items, \
+                                                                      size_t room, vbr_totals *report) VBR_NOEXCEPT { \
+        for (size_t i = 0; i < count; i++) vbr_tsan_##FOR##uses(&handles[i]); \
+        return vbr_##FOR##report_all(handles, count, items, room, report); \
+    } \
+    VBR_NODISCARD static inline vbr_answer vbr_tsan_##FOR##renew_all(vbr_##FOR##handle *handles, size_t count, uint32_t slots, \
+                                                                     uint32_t buckets, uint64_t last_epoch) VBR_NOEXCEPT { \
+        for (size_t i = 0; i < count; i++) vbr_tsan_##FOR##uses(&handles[i]); \
+        return vbr_##FOR##renew_all(handles, count, slots, buckets, last_epoch); \
+    } \
     static inline void vbr_tsan_##FOR##drop(vbr_##FOR##handle *handle) VBR_NOEXCEPT { \
         vbr_tsan_##FOR##uses(handle); \
         __tsan_release(vbr_tsan_closed()); \
@@ -196,7 +206,8 @@ VBR_NODISCARD static inline vbr_answer vbr_tsan_map_next(vbr_map_handle *handle,
     VBR_TSAN_NUMBER(FOR, uint64_t, epoch) \
     VBR_TSAN_NUMBER(FOR, uint64_t, last_epoch) \
     VBR_TSAN_NUMBER(FOR, uint32_t, slots) \
-    VBR_TSAN_NUMBER(FOR, uint32_t, buckets)
+    VBR_TSAN_NUMBER(FOR, uint32_t, buckets) \
+    VBR_TSAN_NUMBER(FOR, int64_t, balance)
 
 /* A call that shows a number. */
 #define VBR_TSAN_NUMBER(FOR, type, call) \
@@ -221,6 +232,9 @@ VBR_TSAN_CALLS(map_, vbr_entry)
 #define vbr_next(handle, cursor, budget, key) vbr_tsan_next(handle, cursor, budget, key)
 #define vbr_close(handle, keys, room, report) vbr_tsan_close(handle, keys, room, report)
 #define vbr_close_all(handles, count, keys, room, report) vbr_tsan_close_all(handles, count, keys, room, report)
+#define vbr_report_all(handles, count, keys, room, report) vbr_tsan_report_all(handles, count, keys, room, report)
+#define vbr_renew_all(handles, count, slots, buckets, last_epoch) vbr_tsan_renew_all(handles, count, slots, buckets, last_epoch)
+#define vbr_balance(handle) vbr_tsan_balance(handle)
 #define vbr_drop(handle) vbr_tsan_drop(handle)
 #define vbr_map_epoch(handle) vbr_tsan_map_epoch(handle)
 #define vbr_map_last_epoch(handle) vbr_tsan_map_last_epoch(handle)
@@ -238,6 +252,9 @@ VBR_TSAN_CALLS(map_, vbr_entry)
 #define vbr_map_next(handle, cursor, budget, key, value) vbr_tsan_map_next(handle, cursor, budget, key, value)
 #define vbr_map_close(handle, entries, room, report) vbr_tsan_map_close(handle, entries, room, report)
 #define vbr_map_close_all(handles, count, entries, room, report) vbr_tsan_map_close_all(handles, count, entries, room, report)
+#define vbr_map_report_all(handles, count, entries, room, report) vbr_tsan_map_report_all(handles, count, entries, room, report)
+#define vbr_map_renew_all(handles, count, slots, buckets, last_epoch) vbr_tsan_map_renew_all(handles, count, slots, buckets, last_epoch)
+#define vbr_map_balance(handle) vbr_tsan_map_balance(handle)
 #define vbr_map_drop(handle) vbr_tsan_map_drop(handle)
 
 #endif

@@ -134,6 +134,88 @@ impl<K: Kind> Unclosed<HandleOf<K>> {
     }
 }
 
+/// Why all handles of a set or a map tell no report. They stay as they were.
+///
+/// ```
+/// # use vbr::{Handle, ReportError, Set, Shape};
+/// let mut handles = Set::open(Shape::for_keys(8, 2), 2)?;
+/// assert_eq!(Handle::report_all(&mut handles[..1]).unwrap_err(), ReportError::Missing);
+/// # Ok::<(), vbr::OpenError>(())
+/// ```
+#[derive(Clone, Copy, Debug, PartialEq, Eq)]
+pub enum ReportError {
+    /// Two of the handles are of different sets.
+    Mixed,
+    /// There are fewer handles than were opened with the set, or none.
+    Missing,
+    /// There is no memory for the report.
+    Memory,
+}
+
+/// Why the handles of a set or a map are not renewed. They stay as they were, and go on.
+///
+/// ```
+/// # use vbr::{Handle, RenewError, Set, Shape};
+/// let mut handles = Set::open_with(Shape::for_keys(8, 1), 1, &[5, 7])?;
+/// assert_eq!(Handle::renew_all(&mut handles, Shape::new(1, 1, 100)), Err(RenewError::Slots));
+/// # Ok::<(), vbr::OpenError>(())
+/// ```
+#[derive(Clone, Copy, Debug, PartialEq, Eq)]
+pub enum RenewError {
+    /// A number of the shape is out of range: the first such one.
+    Shape(ShapeError),
+    /// Two of the handles are of different sets.
+    Mixed,
+    /// There are fewer handles than were opened with the set, or none.
+    Missing,
+    /// There are more keys than slots of the shape.
+    Slots,
+    /// There is no memory for the report or for the fresh set.
+    Memory,
+}
+
+impl From<ShapeError> for RenewError {
+    fn from(number: ShapeError) -> RenewError {
+        RenewError::Shape(number)
+    }
+}
+
+impl From<ReportError> for RenewError {
+    fn from(why: ReportError) -> RenewError {
+        match why {
+            ReportError::Mixed => RenewError::Mixed,
+            ReportError::Missing => RenewError::Missing,
+            ReportError::Memory => RenewError::Memory,
+        }
+    }
+}
+
+impl fmt::Display for ReportError {
+    fn fmt(&self, f: &mut fmt::Formatter<'_>) -> fmt::Result {
+        f.write_str(match self {
+            ReportError::Mixed => "the handles are of different sets or maps",
+            ReportError::Missing => "there are fewer handles than were opened",
+            ReportError::Memory => "there is no memory for the report",
+        })
+    }
+}
+
+impl fmt::Display for RenewError {
+    fn fmt(&self, f: &mut fmt::Formatter<'_>) -> fmt::Result {
+        f.write_str(match self {
+            RenewError::Shape(number) => return number.fmt(f),
+            RenewError::Mixed => "the handles are of different sets or maps",
+            RenewError::Missing => "there are fewer handles than were opened",
+            RenewError::Slots => "there are more keys than slots",
+            RenewError::Memory => "there is no memory for the fresh set or map",
+        })
+    }
+}
+
+impl Error for ReportError {}
+
+impl Error for RenewError {}
+
 impl fmt::Display for OpenError {
     fn fmt(&self, f: &mut fmt::Formatter<'_>) -> fmt::Result {
         f.write_str(match self {

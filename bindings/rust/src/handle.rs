@@ -29,10 +29,10 @@ use core::sync::atomic::{AtomicPtr, AtomicUsize, Ordering};
 /// # Ok::<(), Box<dyn std::error::Error>>(())
 /// ```
 pub struct HandleOf<K: Kind> {
-    raw: UnsafeCell<Raw>,
+    pub(crate) raw: UnsafeCell<Raw>,
     number: usize,
     /// What the handles of its set or map share, until it is closed.
-    shared: Option<NonNull<Shared>>,
+    pub(crate) shared: Option<NonNull<Shared>>,
     kind: PhantomData<K>,
 }
 
@@ -83,11 +83,11 @@ unsafe impl<K: Kind> Send for PassOf<K> {}
 
 /// What the handles of a set or a map share: how many are open, and those that were closed. So the last one is known before
 /// the library is asked for the report: it closes all of them at once, and memory is needed for one report alone.
-struct Shared {
+pub(crate) struct Shared {
     open: AtomicUsize,
     /// How many handles were opened.
-    count: usize,
-    slots: u32,
+    pub(crate) count: usize,
+    pub(crate) slots: u32,
     parked: [AtomicPtr<c_void>; MAX_HANDLES],
 }
 
@@ -308,6 +308,28 @@ impl<K: Kind> PassOf<K> {
     pub fn buckets(&self) -> u32 {
         // SAFETY: as for `has`.
         unsafe { K::BUCKETS(self.raw()) }
+    }
+
+    /// How many keys the calls of the handle have added, less those that they took out: the inserts that were answered yes, less
+    /// the removes that were. The first of the handles that were opened together begins with the keys that the set opened with,
+    /// and the others with 0. A call that changes a value leaves it as it was. It makes no step.
+    ///
+    /// So while no call is under way the balances of all handles of a set add up to the number of its keys. A handle takes its
+    /// balance along when it is closed. While threads run, let each put the balance of its handle where the others read it: the
+    /// sum of these is off by at most the calls that are under way or end while it is made.
+    ///
+    /// ```
+    /// # use vbr::{Set, Shape};
+    /// let mut handles = Set::open_with(Shape::for_keys(8, 2), 2, &[5, 7])?;
+    /// assert!(handles[0].insert(6, 100_000)? && handles[1].remove(5, 100_000)?);
+    /// assert_eq!(handles.iter().map(|handle| handle.balance()).collect::<Vec<_>>(), [3, -1]);
+    /// assert_eq!(handles.iter().map(|handle| handle.balance()).sum::<i64>(), 2);
+    /// # Ok::<(), Box<dyn std::error::Error>>(())
+    /// ```
+    #[inline]
+    pub fn balance(&self) -> i64 {
+        // SAFETY: as for `has`.
+        unsafe { K::BALANCE(self.raw()) }
     }
 }
 

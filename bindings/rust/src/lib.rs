@@ -130,6 +130,7 @@
 
 extern crate alloc;
 
+mod all;
 mod changing;
 mod errors;
 mod handle;
@@ -144,7 +145,7 @@ mod table;
 mod waiting;
 
 pub use changing::Compared;
-pub use errors::{CloseError, OpenError, Refusal, Unclosed};
+pub use errors::{CloseError, OpenError, Refusal, RenewError, ReportError, Unclosed};
 pub use handle::{HandleOf, PassOf};
 pub use iterating::{Cursor, Iter};
 pub use kind::{Entries, Keys, Kind};

@@ -37,7 +37,10 @@ extern "C" {
     fn vbr_last_epoch(handle: *mut Raw) -> u64;
     fn vbr_slots(handle: *mut Raw) -> u32;
     fn vbr_buckets(handle: *mut Raw) -> u32;
+    fn vbr_balance(handle: *mut Raw) -> i64;
     fn vbr_close_all(handles: *mut Raw, count: usize, keys: *mut u64, room: usize, told: *mut ReportNumbers) -> i32;
+    fn vbr_report_all(handles: *mut Raw, count: usize, keys: *mut u64, room: usize, told: *mut ReportNumbers) -> i32;
+    fn vbr_renew_all(handles: *mut Raw, count: usize, slots: u32, buckets: u32, last_epoch: u64) -> i32;
     fn vbr_drop(handle: *mut Raw);
 
     fn vbr_map_open(handles: *mut Raw, count: usize, slots: u32, buckets: u32, last_epoch: u64) -> i32;
@@ -71,7 +74,10 @@ extern "C" {
     fn vbr_map_last_epoch(handle: *mut Raw) -> u64;
     fn vbr_map_slots(handle: *mut Raw) -> u32;
     fn vbr_map_buckets(handle: *mut Raw) -> u32;
+    fn vbr_map_balance(handle: *mut Raw) -> i64;
     fn vbr_map_close_all(handles: *mut Raw, count: usize, entries: *mut Entry, room: usize, told: *mut ReportNumbers) -> i32;
+    fn vbr_map_report_all(handles: *mut Raw, count: usize, entries: *mut Entry, room: usize, told: *mut ReportNumbers) -> i32;
+    fn vbr_map_renew_all(handles: *mut Raw, count: usize, slots: u32, buckets: u32, last_epoch: u64) -> i32;
     fn vbr_map_drop(handle: *mut Raw);
 }
 
@@ -83,12 +89,15 @@ pub(crate) trait Calls<Item, Given, Told> {
     const OPEN: unsafe extern "C" fn(*mut Raw, usize, u32, u32, u64) -> i32;
     const OPEN_WITH: unsafe extern "C" fn(*mut Raw, usize, u32, u32, u64, *const Item, usize) -> i32;
     const CLOSE_ALL: unsafe extern "C" fn(*mut Raw, usize, *mut Item, usize, *mut ReportNumbers) -> i32;
+    const REPORT_ALL: unsafe extern "C" fn(*mut Raw, usize, *mut Item, usize, *mut ReportNumbers) -> i32;
+    const RENEW_ALL: unsafe extern "C" fn(*mut Raw, usize, u32, u32, u64) -> i32;
     const DROP: unsafe extern "C" fn(*mut Raw);
     const HAS: unsafe extern "C" fn(*mut Raw, u64, u32) -> i32;
     const EPOCH: unsafe extern "C" fn(*mut Raw) -> u64;
     const LAST_EPOCH: unsafe extern "C" fn(*mut Raw) -> u64;
     const SLOTS: unsafe extern "C" fn(*mut Raw) -> u32;
     const BUCKETS: unsafe extern "C" fn(*mut Raw) -> u32;
+    const BALANCE: unsafe extern "C" fn(*mut Raw) -> i64;
 
     /// The next call of a walk.
     ///
@@ -107,12 +116,15 @@ impl Calls<u64, u64, Report> for Keys {
     const OPEN: unsafe extern "C" fn(*mut Raw, usize, u32, u32, u64) -> i32 = vbr_open;
     const OPEN_WITH: unsafe extern "C" fn(*mut Raw, usize, u32, u32, u64, *const u64, usize) -> i32 = vbr_open_with;
     const CLOSE_ALL: unsafe extern "C" fn(*mut Raw, usize, *mut u64, usize, *mut ReportNumbers) -> i32 = vbr_close_all;
+    const REPORT_ALL: unsafe extern "C" fn(*mut Raw, usize, *mut u64, usize, *mut ReportNumbers) -> i32 = vbr_report_all;
+    const RENEW_ALL: unsafe extern "C" fn(*mut Raw, usize, u32, u32, u64) -> i32 = vbr_renew_all;
     const DROP: unsafe extern "C" fn(*mut Raw) = vbr_drop;
     const HAS: unsafe extern "C" fn(*mut Raw, u64, u32) -> i32 = vbr_has;
     const EPOCH: unsafe extern "C" fn(*mut Raw) -> u64 = vbr_epoch;
     const LAST_EPOCH: unsafe extern "C" fn(*mut Raw) -> u64 = vbr_last_epoch;
     const SLOTS: unsafe extern "C" fn(*mut Raw) -> u32 = vbr_slots;
     const BUCKETS: unsafe extern "C" fn(*mut Raw) -> u32 = vbr_buckets;
+    const BALANCE: unsafe extern "C" fn(*mut Raw) -> i64 = vbr_balance;
 
     #[inline]
     unsafe fn next(handle: *mut Raw, cursor: &mut Cursor, budget: u32, key: &mut u64) -> i32 {
@@ -130,12 +142,15 @@ impl Calls<Entry, (u64, u64), MapReport> for Entries {
     const OPEN: unsafe extern "C" fn(*mut Raw, usize, u32, u32, u64) -> i32 = vbr_map_open;
     const OPEN_WITH: unsafe extern "C" fn(*mut Raw, usize, u32, u32, u64, *const Entry, usize) -> i32 = vbr_map_open_with;
     const CLOSE_ALL: unsafe extern "C" fn(*mut Raw, usize, *mut Entry, usize, *mut ReportNumbers) -> i32 = vbr_map_close_all;
+    const REPORT_ALL: unsafe extern "C" fn(*mut Raw, usize, *mut Entry, usize, *mut ReportNumbers) -> i32 = vbr_map_report_all;
+    const RENEW_ALL: unsafe extern "C" fn(*mut Raw, usize, u32, u32, u64) -> i32 = vbr_map_renew_all;
     const DROP: unsafe extern "C" fn(*mut Raw) = vbr_map_drop;
     const HAS: unsafe extern "C" fn(*mut Raw, u64, u32) -> i32 = vbr_map_has;
     const EPOCH: unsafe extern "C" fn(*mut Raw) -> u64 = vbr_map_epoch;
     const LAST_EPOCH: unsafe extern "C" fn(*mut Raw) -> u64 = vbr_map_last_epoch;
     const SLOTS: unsafe extern "C" fn(*mut Raw) -> u32 = vbr_map_slots;
     const BUCKETS: unsafe extern "C" fn(*mut Raw) -> u32 = vbr_map_buckets;
+    const BALANCE: unsafe extern "C" fn(*mut Raw) -> i64 = vbr_map_balance;
 
     #[inline]
     unsafe fn next(handle: *mut Raw, cursor: &mut Cursor, budget: u32, (key, value): &mut (u64, u64)) -> i32 {

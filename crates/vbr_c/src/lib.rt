@@ -3,8 +3,8 @@
 //! handle, which owns a pass of the set or the map and a share of it.
 //!
 //! No call asks anything of its caller but what the types say: a handle is moved and never copied,
-//! and one call at a time has it. Only `vbr_close_all` and `vbr_map_close_all` ask besides that the
-//! handles are of one set or map. `bindings/include/vbr.h` is what a C programmer reads.
+//! and one call at a time has it. Only those of all handles at once, as `vbr_close_all`, ask besides that
+//! the handles are of one set or map. `bindings/include/vbr.h` is what a C programmer reads.
 //!
 //! ```c file=bindings/c/example.c
 //! /* handles, count, slots (keys, and 64 for each handle), buckets (as many as keys), last_epoch */

@@ -9,12 +9,13 @@ ghost use Rattle.vbr_handles.specs.ValueCalls.{TellsExchange, TellsGetEntry, Tel
 ghost use Rattle.vbr_handles.specs.Opening.{entries_start};
 ghost use Rattle.vbr_handles.specs.OpeningCodes.{TellsMapOpening, TellsMapOpeningWith};
 ghost use Rattle.vbr_handles.specs.AllHandles.{map_members_in};
-ghost use Rattle.vbr_handles.specs.Reports.{TellsMapClose, TellsMapCloseAll};
+ghost use Rattle.vbr_handles.specs.Renewals.{TellsMapRenewal};
+ghost use Rattle.vbr_handles.specs.Reports.{TellsMapClose, TellsMapCloseAll, TellsMapReport};
 ghost use Rattle.vbr_set.specs.AllMembers.{AreOfOneSet};
-ghost use Rattle.vbr_handles.specs.Shown.{buckets_of, epoch_of, last_epoch_of, slots_of};
+ghost use Rattle.vbr_handles.specs.Shown.{balance_shown, buckets_of, epoch_of, last_epoch_of, slots_of};
 
 use std::alloc::Global;
-use vbr_handles::numbers::{changing, entries, iterating};
+use vbr_handles::numbers::{entries, iterating};
 use vbr_handles::{Entry, MapHandle, ReportNumbers, ShapeNumbers, numbers, shown};
 use vbr_set::Cursor;
 use vbr_words::Entries;
@@ -113,10 +114,14 @@ pub extern "C" fn vbr_map_get(handle: &mut MapHandle, key: u64, budget: u32, val
     entries::get(handle.owner_mut(), key, budget, value)
 }
 
-/// Gives a key that is there another value, in one step of the call: 1 if it was there, and the value that
-/// it had is written; 0 if it is absent, and then it stays so. The budget of an insert is enough, and the
-/// refusals of an insert come. With any answer but 1 nothing is written. A `found` that is null is seen to
-/// before, for these five calls, by `bindings/null_pointers.c`.
+/// Gives a key that is there another value, in at most `budget` steps: 1, and the value that it had is written;
+/// 0 if it is absent, and then it stays so. It is one atomic step: no get finds the key absent in between. It
+/// takes a slot before it gives the old one back. While the other handles stand still, the budget that is
+/// enough for an insert is enough.
+///
+/// Refusals, after which no call was made and the handle can go on: -1, the steps leave no room in the budget;
+/// -2, the handle found no slot; -3, the last epoch is spent; -4, the handle is empty. With any answer but 1
+/// nothing is written.
 ///
 /// ```c file=bindings/c/map_calls.c
 /// if (vbr_map_replace(&map[0], 5, 72, &found, 100000) == VBR_YES) changed++; // 5 had the value found, and has 72
@@ -129,14 +134,14 @@ pub extern "C" fn vbr_map_replace(
     found: &mut u64,
     budget: u32,
 ) -> i32
-    ensures { TellsReplace handle.old.member handle.new.member key value budget found.old
-        found.new result }
+    ensures { TellsReplace handle.old.member handle.new.member key value budget
+        found.old found.new result }
 {
-    changing::replace(handle.owner_mut(), key, value, found, budget)
+    entries::replace(handle.owner_mut(), key, value, found, budget)
 }
 
-/// Gives a key this value, whether it is there or not: 1 if it was there, and the value that it had is
-/// written; 0 if it was absent, and it is inserted. All else is as of [`vbr_map_replace`].
+/// Gives a key a value, whether it is there or not, as [`vbr_map_replace`] does: 1 if it was there, and the
+/// value that it had is written; 0 if it was absent.
 ///
 /// ```c file=bindings/c/map_calls.c
 /// if (vbr_map_put(&map[1], 6, 60, NULL, 100000) == VBR_NO) added++; // 6 was absent; either way it has 60
@@ -149,14 +154,14 @@ pub extern "C" fn vbr_map_put(
     found: &mut u64,
     budget: u32,
 ) -> i32
-    ensures { TellsPut handle.old.member handle.new.member key value budget found.old found.new
-        result }
+    ensures { TellsPut handle.old.member handle.new.member key value budget
+        found.old found.new result }
 {
-    changing::put(handle.owner_mut(), key, value, found, budget)
+    entries::put(handle.owner_mut(), key, value, found, budget)
 }
 
-/// Gives the value of a key, or inserts the key with this value: 1 if it is there, and its value is
-/// written; 0 if it was absent, and it is inserted. All else is as of [`vbr_map_replace`].
+/// Gives a key that is absent a value, as [`vbr_map_insert`] does: 0; 1 if the key was there, and then the
+/// value that it has is written. The same budget is enough, and the refusals of [`vbr_map_replace`] come.
 ///
 /// ```c file=bindings/c/map_calls.c
 /// if (vbr_map_get_or_insert(&map[0], 5, 1, &found, 100000) == VBR_YES) there++; // 5 had the value found, and keeps it
@@ -169,15 +174,15 @@ pub extern "C" fn vbr_map_get_or_insert(
     found: &mut u64,
     budget: u32,
 ) -> i32
-    ensures { TellsGetOrInsert handle.old.member handle.new.member key value budget found.old
-        found.new result }
+    ensures { TellsGetOrInsert handle.old.member handle.new.member key value budget
+        found.old found.new result }
 {
-    changing::get_or_insert(handle.owner_mut(), key, value, found, budget)
+    entries::get_or_insert(handle.owner_mut(), key, value, found, budget)
 }
 
-/// Gives a key another value where it has the one that is expected: 1 if it had it, and it is exchanged; 2 if
-/// it has another, and 0 if it is absent, and then nothing is changed. The value that was there is written,
-/// if any was. Two steps more than for an insert are enough; the refusals of an insert come.
+/// Gives a key another value where it has the one that is expected, as [`vbr_map_replace`] does: 1; 2 if it has
+/// another value, which stays; 0 if it is absent. With 1 and 2 the value that was there is written. Two steps
+/// more are enough, and the refusals of [`vbr_map_replace`] come.
 ///
 /// ```c file=bindings/c/map_calls.c
 /// told = vbr_map_compare_exchange(&map[0], 5, seen, seen + 1, &seen, 100000);
@@ -194,12 +199,12 @@ pub extern "C" fn vbr_map_compare_exchange(
     ensures { TellsExchange handle.old.member handle.new.member key expected value budget
         found.old found.new result }
 {
-    changing::compare_exchange(handle.owner_mut(), key, expected, value, found, budget)
+    entries::compare_exchange(handle.owner_mut(), key, expected, value, found, budget)
 }
 
-/// Takes a key out where it has the value that is expected: 1 if it had it; 2 if it has another, and 0 if it
-/// is absent, and then nothing is changed. The value that was there is written, if any was. The budget of a
-/// remove is enough, and its refusal comes.
+/// Takes a key out where it has the value that is expected, as [`vbr_map_remove`] does: 1; 2 if it has another
+/// value, and then it stays; 0 if it is absent. With 1 and 2 the value that was there is written. The same
+/// budget is enough, and the same refusals come.
 ///
 /// ```c file=bindings/c/map_calls.c
 /// if (vbr_map_remove_if(&map[0], 6, 61, &found, 100000) == VBR_OTHER) kept++; // 6 has the value found, and is still there
@@ -212,10 +217,10 @@ pub extern "C" fn vbr_map_remove_if(
     found: &mut u64,
     budget: u32,
 ) -> i32
-    ensures { TellsRemoveIf handle.old.member handle.new.member key expected budget found.old
-        found.new result }
+    ensures { TellsRemoveIf handle.old.member handle.new.member key expected budget
+        found.old found.new result }
 {
-    changing::remove_if(handle.owner_mut(), key, expected, found, budget)
+    entries::remove_if(handle.owner_mut(), key, expected, found, budget)
 }
 
 /// Looks a key up, and asks for no value, as [`crate::set::vbr_has`] does: 1 if it is there, 0 if it is
@@ -271,6 +276,20 @@ pub extern "C" fn vbr_map_buckets(handle: &mut MapHandle) -> u32
     shown::buckets(handle.owner_mut())
 }
 
+/// How many keys the calls of the handle have added, less those that they took out, as
+/// [`crate::set::vbr_balance`] tells of a set.
+///
+/// ```c file=bindings/c/balances.c
+/// int64_t entered = vbr_map_balance(&map[0]) + vbr_map_balance(&map[1]); // no call is under way
+/// ```
+#[unsafe(no_mangle)]
+pub extern "C" fn vbr_map_balance(handle: &mut MapHandle) -> i64
+    ensures same { handle.new.member ≡ handle.old.member }
+    ensures balance { result ≡ balance_shown handle.old.member }
+{
+    shown::balance(handle.owner_mut())
+}
+
 /// Gives a pass back, as [`crate::set::vbr_close`] does. The last handle ends the map: 1, and it writes
 /// what the map held and its entries, ascending by key, in front of `entries`.
 ///
@@ -308,6 +327,52 @@ pub extern "C" fn vbr_map_close_all(
         report.old report.new result }
 {
     numbers::close_all::<Entries, Entry, MapHandle>(alloc, handles, entries, report)
+}
+
+/// Tells what is in a map by all its handles at once, as [`crate::set::vbr_report_all`] tells it of a set: 1,
+/// and it writes what `vbr_map_close_all` would write. The handles stay as they are, and go on.
+///
+/// ```c file=bindings/c/balances.c
+/// vbr_answer told = vbr_map_report_all(map, 2, entries, 8, &report); // VBR_YES: report.live entries are in front of entries
+/// ```
+#[unsafe(no_mangle)]
+pub extern "C" fn vbr_map_report_all(
+    alloc: Global,
+    handles: &mut [MapHandle],
+    entries: &mut [Entry],
+    report: &mut ReportNumbers,
+) -> i32
+    requires { AreOfOneSet (map_members_in handles.old) }
+    ensures { TellsMapReport handles.old handles.new entries.old entries.new
+        report.old report.new result }
+{
+    numbers::report_all::<Entries, Entry, MapHandle>(alloc, handles, entries, report)
+}
+
+/// Lets all handles of a map go on over a fresh one of these numbers, as [`crate::set::vbr_renew_all`] does
+/// for a set: each key keeps its value.
+///
+/// ```c file=bindings/c/balances.c
+/// vbr_answer renewed = vbr_map_renew_all(map, 2, 2048 + 2 * 64, 2048, VBR_MAX_EPOCH); // VBR_NO: twice as large
+/// ```
+#[unsafe(no_mangle)]
+pub extern "C" fn vbr_map_renew_all(
+    alloc: Global,
+    handles: &mut [MapHandle],
+    slots: u32,
+    buckets: u32,
+    last_epoch: u64,
+) -> i32
+    requires { AreOfOneSet (map_members_in handles.old) }
+    ensures { TellsMapRenewal handles.old handles.new
+        (record { slots = slots; buckets = buckets; last_epoch = last_epoch }) result }
+{
+    let numbers = ShapeNumbers {
+        slots,
+        buckets,
+        last_epoch,
+    };
+    numbers::renew_all::<Entries, Entry, MapHandle>(alloc, handles, numbers)
 }
 
 /// Drops what the handle has, and leaves it empty, as [`crate::set::vbr_drop`] does.

@@ -6,9 +6,10 @@ ghost use Rattle.vbr_handles.specs.Iterating.{TellsNext};
 ghost use Rattle.vbr_handles.specs.Opening.{spread_start};
 ghost use Rattle.vbr_handles.specs.OpeningCodes.{TellsOpening, TellsOpeningWith};
 ghost use Rattle.vbr_handles.specs.AllHandles.{members_in};
-ghost use Rattle.vbr_handles.specs.Reports.{TellsClose, TellsCloseAll};
+ghost use Rattle.vbr_handles.specs.Renewals.{TellsRenewal};
+ghost use Rattle.vbr_handles.specs.Reports.{TellsClose, TellsCloseAll, TellsReport};
 ghost use Rattle.vbr_set.specs.AllMembers.{AreOfOneSet};
-ghost use Rattle.vbr_handles.specs.Shown.{buckets_of, epoch_of, last_epoch_of, slots_of};
+ghost use Rattle.vbr_handles.specs.Shown.{balance_shown, buckets_of, epoch_of, last_epoch_of, slots_of};
 
 use std::alloc::Global;
 use vbr_handles::numbers::iterating;
@@ -161,6 +162,24 @@ pub extern "C" fn vbr_buckets(handle: &mut Handle) -> u32
     shown::buckets(handle.owner_mut())
 }
 
+/// How many keys the calls of the handle have added, less those that they took out: its inserts that were
+/// answered 1, less its removes that were. The first of the handles that were opened together begins with
+/// the keys that the set opened with, and the others with 0; an empty handle has 0. It makes no step.
+///
+/// So while no call is under way, the balances of all handles of a set add up to how many keys it has. While
+/// calls are under way, the sum is off by at most as many.
+///
+/// ```c file=bindings/c/balances.c
+/// int64_t keys = vbr_balance(&handle[0]) + vbr_balance(&handle[1]); // no call is under way
+/// ```
+#[unsafe(no_mangle)]
+pub extern "C" fn vbr_balance(handle: &mut Handle) -> i64
+    ensures same { handle.new.member ≡ handle.old.member }
+    ensures balance { result ≡ balance_shown handle.old.member }
+{
+    shown::balance(handle.owner_mut())
+}
+
 /// Gives a pass back, and leaves the handle empty. 0 while other handles of the set are full. The
 /// last one ends the set: 1, and it writes what the set held and its keys, ascending, in front of `keys`.
 /// It has no budget, and makes no call of the set.
@@ -211,6 +230,61 @@ pub extern "C" fn vbr_close_all(
     ensures { TellsCloseAll handles.old handles.new keys.old keys.new report.old report.new result }
 {
     numbers::close_all::<Keys, u64, Handle>(alloc, handles, keys, report)
+}
+
+/// Tells what is in a set by all its handles at once, in any order: 1, and it writes what `vbr_close_all`
+/// would write. The handles stay as they are, and go on. It has no budget, and makes no call of the set. It
+/// asks that the handles which are full are of one set.
+///
+/// Refusals are those of `vbr_close_all`, with what they write.
+///
+/// ```c file=bindings/c/balances.c
+/// vbr_answer told = vbr_report_all(handle, 2, keys, 8, &report); // VBR_YES: report.live keys are in front of keys
+/// ```
+#[unsafe(no_mangle)]
+pub extern "C" fn vbr_report_all(
+    alloc: Global,
+    handles: &mut [Handle],
+    keys: &mut [u64],
+    report: &mut ReportNumbers,
+) -> i32
+    requires { AreOfOneSet (members_in handles.old) }
+    ensures { TellsReport handles.old handles.new keys.old keys.new report.old report.new result }
+{
+    numbers::report_all::<Keys, u64, Handle>(alloc, handles, keys, report)
+}
+
+/// Lets all handles of a set, in any order, go on over a fresh set of these numbers, with the keys that were
+/// in it: 0. The epoch is 1 again, each handle has the fresh pass of its place, and the first one's balance is
+/// the number of keys. It has no budget, and makes no call of the set. The fresh set is opened before the
+/// other one is given up. It asks that the handles which are full are of one set.
+///
+/// Refusals, which leave the handles as they were: -6, the numbers are no shape; -4, one of the handles is
+/// empty; -12, they are not as many as were opened with the set; -11, there are more keys than slots; -8,
+/// there is no memory for the report or the fresh set; -13, they are of different sets, which is a probe that
+/// no contract speaks of.
+///
+/// ```c file=bindings/c/balances.c
+/// vbr_answer renewed = vbr_renew_all(handle, 2, 2048 + 2 * 64, 2048, VBR_MAX_EPOCH); // VBR_NO: twice as large
+/// ```
+#[unsafe(no_mangle)]
+pub extern "C" fn vbr_renew_all(
+    alloc: Global,
+    handles: &mut [Handle],
+    slots: u32,
+    buckets: u32,
+    last_epoch: u64,
+) -> i32
+    requires { AreOfOneSet (members_in handles.old) }
+    ensures { TellsRenewal handles.old handles.new
+        (record { slots = slots; buckets = buckets; last_epoch = last_epoch }) result }
+{
+    let numbers = ShapeNumbers {
+        slots,
+        buckets,
+        last_epoch,
+    };
+    numbers::renew_all::<Keys, u64, Handle>(alloc, handles, numbers)
 }
 
 /// Drops what the handle has, and leaves it empty. Its pass is given back, as by a close, so the last

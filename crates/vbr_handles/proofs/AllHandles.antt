@@ -1,16 +1,9 @@
 -- What owners tell of their handles, and the members of handles one after another.
 use Rattle.std.proofs.Common.{◌≡◌, Bool, true, false, ℕ, zero, suc, ◌+◌, ◌<◌, ◌∷◌, [], ◌++◌, List, map, length, take, append_assoc, refl, sym, ap, ◌∙◌, subst, arith}
 use Rattle.std.specs.Prelude.{IsSome, Option, None, Some, slice_set}
-use Rattle.vbr_slots.specs.Views.{PassView, TableView}
-use Rattle.vbr_set.specs.AllMembers.{ReportsAllBy}
-use Rattle.std.proofs.lemmas.List.{same_from_push}
-use Rattle.std.proofs.lemmas.List.Elements.{All-cons}
 use Rattle.vbr_set.specs.Members.{MemberView as Member}
-use Rattle.vbr_handles.specs.AllHandles.{EndsAll, joined, members_by}
+use Rattle.vbr_handles.specs.AllHandles.{joined, members_by}
 use Rattle.vbr_handles.specs.Lent.{with_member}
-use Rattle.vbr_handles.specs.Listings.{Listing}
-use Rattle.vbr_handles.specs.Unended.{IsUnended, IsWhyUnended}
-use Rattle.vbr_handles.specs.declared.closing_all.CloseAllRefusal.{CloseAllRefusal}
 use Rattle.vbr_handles.specs.declared.owner.Owner.{Owner}
 
 -- an owner whose member was lent, and not changed
@@ -34,28 +27,6 @@ module _ {H : Type 0} (member : H → Option Member) where
       ap (λ (xs : List Member). xs ++ members_by member others) more
       ∙ append_assoc ms (m ∷ []) (members_by member others)
       ∙ ap (λ (xs : List Member). ms ++ xs) (sym (ap (members_by member) split ∙ ap (λ (o : Option Member). joined o (members_by member others)) is))
-
-  -- one more handle is empty
-  pub ends_more : {R I : Type 0} (tells : TableView → List PassView → R → Type 0) (L : Listing R I) (members members' : List Member) (first : H) (others : List H) (room : ℕ) (report : R) → members' ≡ members → member first ≡ None → EndsAll member tells L members' others room report → EndsAll member tells L members (first ∷ others) room report
-  ends_more tells L members members' first others room report same none ends = record {
-    reports = subst (λ (ms : List Member). ReportsAllBy tells ms report) same ends.reports;
-    fits = ends.fits;
-    empty = All-cons (λ (h : H). member h ≡ None) first others none ends.empty;
-  }
-
-  -- one more handle has its member again
-  pub unended_more : {R I : Type 0} {tells : TableView → List PassView → R → Type 0} {L : Listing R I} {ms ms' back rest : List Member} {m m' : Member} {first first' : H} {others others' handles : List H} {room : ℕ} {refusal : CloseAllRefusal R}
-      → ms' ≡ ms ++ m ∷ [] → handles ≡ first ∷ others → member first ≡ Some m → back ≡ rest ++ m' ∷ [] → member first' ≡ Some m' → IsUnended tells L member ms' others others' room refusal back → IsUnended tells L member ms handles (first' ∷ others') room refusal rest
-  unended_more {R} {I} {tells} {L} {ms} {ms'} {back} {rest} {m} {m'} {first} {first'} {others} {others'} {handles} {room} {refusal} more split is popped is' unended =
-      let same = same_from_push rest ms m' m (sym popped ∙ unended.same ∙ more) in
-      record {
-        same = same.0;
-        stay =
-            ap (λ (ms : List (Option Member)). member first' ∷ ms) unended.stay
-            ∙ ap (λ (o : Option Member). o ∷ map member others) (is' ∙ ap (λ (k : Member). Some k) same.1 ∙ sym is)
-            ∙ sym (ap (map member) split);
-        why = subst (λ (all : List Member). IsWhyUnended tells L all room refusal) (moved ms ms' m first others handles more split is) unended.why;
-      }
 
   -- one more handle is filled
   pub filled : (handles : List H) (i : ℕ) (h : H) → i < length handles → take (suc i) (map member (slice_set handles i h)) ≡ take i (map member handles) ++ member h ∷ []

@@ -3,4 +3,5 @@ mod Owning
 mod Recast
 mod Opened
 mod AllHandles
+mod AskingAll
 mod EntryKeys

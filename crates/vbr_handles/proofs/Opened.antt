@@ -6,7 +6,7 @@ use Rattle.vbr_slots.specs.Views.{PassView, TableView, new_passes}
 use Rattle.vbr_set.specs.Members.{AreNew, MemberView}
 use Rattle.vbr_handles.specs.declared.owner.Owner.{Owner}
 
-new_count : (set : TableView) (who n : ℕ) → length (new_passes set who n) ≡ n
+pub new_count : (set : TableView) (who n : ℕ) → length (new_passes set who n) ≡ n
 new_count set who zero = refl
 new_count set who (suc n) = ap suc (new_count set (suc who) n)
 

@@ -1,4 +1,4 @@
--- How a set ends by all its handles at once, and what that leaves in them.
+-- What a set tells by all its handles at once, how it ends by them, and what that leaves in them.
 use Rattle.std.specs.Prelude.{◌≡◌, ◌<◌, ◌≤◌, ℕ, All, List, [], ◌∷◌, length, map, Option, None, Some, IsSome, Result, Ok, Err}
 use Rattle.vbr_slots.specs.Views.{PassView, TableView}
 use Rattle.vbr_set.specs.AllMembers.{AreTooFew, ReportsAllBy}
@@ -43,13 +43,18 @@ module _ {H : Type 0} (member : H → Option Member) where
       pub fits : length (L.items report) ≤ room
       pub empty : AreEmpty member after
 
-    -- why a set doesn't end by these handles
+    -- why a set tells nothing by these handles
     abbrev pub IsWhyNot : List H → ℕ → CloseAllRefusal R → Type 0
     IsWhyNot handles room Empty = ¬ (AreFull handles)
     IsWhyNot handles room Mixed = AreFull handles
     IsWhyNot handles room Missing = AreFull handles × AreTooFew (members_by member handles)
     IsWhyNot handles room Memory = AreFull handles
     IsWhyNot handles room (Room report) = AreFull handles × ReportsAllBy tells (members_by member handles) report × (room < length (L.items report))
+
+    -- the handles are all of a set, which tells this report, whose keys have room; and in each case they are as they were
+    abbrev pub ReportsAllOf : List H → List H → ℕ → Result R (CloseAllRefusal R) → Type 0
+    ReportsAllOf before after room (Ok report) = StaySo before after × AreFull before × ReportsAllBy tells (members_by member before) report × (length (L.items report) ≤ room)
+    ReportsAllOf before after room (Err refusal) = StaySo before after × IsWhyNot before room refusal
 
     -- the handles are all of a set, and it ends with this report; and else they are as they were
     abbrev pub ClosesAll : List H → List H → ℕ → Result R (CloseAllRefusal R) → Type 0

@@ -1,5 +1,5 @@
 -- The number of each answer: 1 is yes, 0 is no or done, and each refusal has a number below 0.
-use Rattle.std.specs.Prelude.{ℕ, ℤ, pos, negsuc, ◌==◌, Bool, true, false, Option, None, Some, Result, Ok, Err, if◌then◌else◌}
+use Rattle.std.specs.Prelude.{ℕ, ◌==◌, if◌then◌else◌, ℤ, pos, negsuc, Bool, true, false, Option, None, Some, Result, Ok, Err}
 use Rattle.vbr_at_table.specs.declared.refusal.Refusal.{Refusal}
 use Rattle.vbr_at_table.specs.declared.refusal.Refusal.TheVariants.{OutOfSteps, NoSlot, EpochSpent}
 use Rattle.vbr_handles.specs.declared.closing.CloseRefusal.{CloseRefusal}
@@ -8,6 +8,8 @@ use Rattle.vbr_handles.specs.declared.closing_all.CloseAllRefusal.{CloseAllRefus
 use Rattle.vbr_handles.specs.declared.closing_all.CloseAllRefusal.TheVariants as closing_all
 use Rattle.vbr_handles.specs.declared.opening.OpenRefusal.{OpenRefusal}
 use Rattle.vbr_handles.specs.declared.opening.OpenRefusal.TheVariants as opening
+use Rattle.vbr_handles.specs.declared.renewing_all.RenewAllRefusal.{RenewAllRefusal}
+use Rattle.vbr_handles.specs.declared.renewing_all.RenewAllRefusal.TheVariants as renewing
 
 -- of a call: 1 yes, 0 no, -1 out of steps, -2 no slot, -3 the epoch is spent
 abbrev pub call_code : Result Bool Refusal → ℤ
@@ -17,11 +19,11 @@ call_code (Err (OutOfSteps used)) = negsuc 0
 call_code (Err NoSlot) = negsuc 1
 call_code (Err (EpochSpent epoch)) = negsuc 2
 
--- of a call that goes by a value which is expected: 1 it was there, 2 another was, 0 the key was absent; and of a refusal its number
-abbrev pub expected_code : ℕ → Result (Option ℕ) Refusal → ℤ
-expected_code expected (Ok None) = pos 0
-expected_code expected (Ok (Some found)) = if found == expected then pos 1 else pos 2
-expected_code expected (Err refusal) = call_code (Err refusal)
+-- of a call that goes by the value that is expected: 1 it was there, 2 another was there, 0 the key was absent; and its refusals are those of a call
+abbrev pub exchange_code : ℕ → Result (Option ℕ) Refusal → ℤ
+exchange_code expected (Ok (Some found)) = if found == expected then pos 1 else pos 2
+exchange_code expected (Ok None) = pos 0
+exchange_code expected (Err refusal) = call_code (Err refusal)
 
 -- of an empty handle: -4
 abbrev pub empty_code : ℤ
@@ -45,7 +47,7 @@ close_code (Err closing.Memory) = negsuc 7
 close_code (Err closing.Lost) = negsuc 8
 close_code (Err (closing.Room report)) = negsuc 10
 
--- of a close of all: 1 ended, -4 one is empty, -8 no memory, -11 no room, -12 some are missing, -13 they are of several sets
+-- of a report or a close by all: 1 told, -4 one is empty, -8 no memory, -11 no room, -12 some are missing, -13 they are of several sets
 abbrev pub close_all_code : {R : Type 0} → Result R (CloseAllRefusal R) → ℤ
 close_all_code (Ok report) = pos 1
 close_all_code (Err closing_all.Empty) = negsuc 3
@@ -53,3 +55,13 @@ close_all_code (Err closing_all.Memory) = negsuc 7
 close_all_code (Err (closing_all.Room report)) = negsuc 10
 close_all_code (Err closing_all.Missing) = negsuc 11
 close_all_code (Err closing_all.Mixed) = negsuc 12
+
+-- of a renewal of all: 0 done, -4 one is empty, -6 a bad shape, -8 no memory, -11 fewer slots than keys, -12 some are missing, -13 they are of several sets
+abbrev pub renew_all_code : Result (Unit {0}) RenewAllRefusal → ℤ
+renew_all_code (Ok done) = pos 0
+renew_all_code (Err renewing.Empty) = negsuc 3
+renew_all_code (Err renewing.Shape) = negsuc 5
+renew_all_code (Err renewing.Memory) = negsuc 7
+renew_all_code (Err renewing.Room) = negsuc 10
+renew_all_code (Err renewing.Missing) = negsuc 11
+renew_all_code (Err renewing.Mixed) = negsuc 12

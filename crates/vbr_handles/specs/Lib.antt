@@ -8,10 +8,12 @@ pub mod Opening
 pub mod Closing
 pub mod Codes
 pub mod AllHandles
-pub mod Unended
+pub mod AskingAll
+pub mod RenewingAll
 pub mod OpeningCodes
 pub mod Calls
 pub mod ValueCalls
 pub mod Iterating
 pub mod Shown
 pub mod Reports
+pub mod Renewals

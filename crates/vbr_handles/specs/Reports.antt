@@ -1,9 +1,9 @@
--- What a close of a handle tells as a number, and writes of the report.
+-- What a close of a handle, or a report by all, tells as a number, and writes of the report.
 use Rattle.std.specs.Prelude.{◌≡◌, ℤ, ℕ, List, ◌++◌, length, drop, Option, None, Some, Result, Ok, Err}
 use Rattle.vbr_slots.specs.Views.{PassView, TableView}
 use Rattle.vbr_set.specs.Closing.{Closes, MapCloses}
 use Rattle.vbr_set.specs.Members.{MemberView as Member}
-use Rattle.vbr_handles.specs.AllHandles.{ClosesAll}
+use Rattle.vbr_handles.specs.AllHandles.{ClosesAll, ReportsAllOf}
 use Rattle.vbr_handles.specs.Closing.{ClosesAs}
 use Rattle.vbr_handles.specs.Listings.{Listing, as_entries, as_keys}
 use Rattle.vbr_handles.specs.declared.handle.Handle.{Handle}
@@ -31,7 +31,7 @@ module _ {R I : Type 0} (L : Listing R I) where
   WritesReport (Err Memory) before after old new = (after ≡ before) × (new ≡ old)
   WritesReport (Err (Room report)) before after old new = (after ≡ before) × (new ≡ L.numbers report)
 
-  -- so it is where all handles are closed at once; a report is told; of one that has no room the numbers are, and else nothing is written
+  -- so it is where all handles tell a report, or are closed, at once; a report is told; of one that has no room the numbers are, and else nothing is written
   abbrev pub WritesAll : Result R (CloseAllRefusal R) → List I → List I → ReportNumbers → ReportNumbers → Type 0
   WritesAll (Ok report) before after old new = IsTold report before after new
   WritesAll (Err closing_all.Empty) before after old new = (after ≡ before) × (new ≡ old)
@@ -55,6 +55,13 @@ module _ {R I : Type 0} (L : Listing R I) where
       pub closes : ClosesAll member tells L handles left (length before) answer
       pub writes : WritesAll answer before after old new
 
+    -- so it is of a report that leaves the handles as they were
+    pub record TellsReportBy {H : Type 0} (member : H → Option Member) (handles left : List H) (before after : List I) (old new : ReportNumbers) (code : ℤ) : Type 0 where
+      pub answer : Result R (CloseAllRefusal R)
+      pub is : code ≡ close_all_code answer
+      pub reports : ReportsAllOf member tells L handles left (length before) answer
+      pub writes : WritesAll answer before after old new
+
 -- so it is of a set, whose report lists keys
 abbrev pub TellsClose : Option Member → Option Member → List ℕ → List ℕ → ReportNumbers → ReportNumbers → ℤ → Type 0
 TellsClose = TellsCloseBy as_keys Closes
@@ -62,9 +69,15 @@ TellsClose = TellsCloseBy as_keys Closes
 abbrev pub TellsCloseAll : List Handle → List Handle → List ℕ → List ℕ → ReportNumbers → ReportNumbers → ℤ → Type 0
 TellsCloseAll = TellsCloseAllBy as_keys Closes (λ (handle : Handle). handle.member)
 
+abbrev pub TellsReport : List Handle → List Handle → List ℕ → List ℕ → ReportNumbers → ReportNumbers → ℤ → Type 0
+TellsReport = TellsReportBy as_keys Closes (λ (handle : Handle). handle.member)
+
 -- and so of a map, whose report lists entries
 abbrev pub TellsMapClose : Option Member → Option Member → List Entry → List Entry → ReportNumbers → ReportNumbers → ℤ → Type 0
 TellsMapClose = TellsCloseBy as_entries MapCloses
 
 abbrev pub TellsMapCloseAll : List MapHandle → List MapHandle → List Entry → List Entry → ReportNumbers → ReportNumbers → ℤ → Type 0
 TellsMapCloseAll = TellsCloseAllBy as_entries MapCloses (λ (handle : MapHandle). handle.member)
+
+abbrev pub TellsMapReport : List MapHandle → List MapHandle → List Entry → List Entry → ReportNumbers → ReportNumbers → ℤ → Type 0
+TellsMapReport = TellsReportBy as_entries MapCloses (λ (handle : MapHandle). handle.member)

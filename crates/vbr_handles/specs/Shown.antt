@@ -1,6 +1,7 @@
 -- What a handle shows without a call: numbers of its set and of its pass, each 0 where it is empty.
-use Rattle.std.specs.Prelude.{ℕ, Option, None, Some}
+use Rattle.std.specs.Prelude.{ℕ, ℤ, pos, Option, None, Some}
 use Rattle.vbr_slots.specs.Views.{knows}
+use Rattle.vbr_set.specs.Balances.{balance_of}
 use Rattle.vbr_set.specs.Members.{MemberView as Member}
 
 -- the last epoch that the pass read, which is 1 where it read none
@@ -22,3 +23,8 @@ slots_of (Some m) = m.set.start.shape.slots
 abbrev pub buckets_of : Option Member → ℕ
 buckets_of None = 0
 buckets_of (Some m) = m.set.start.shape.buckets
+
+-- how many keys the calls of the member have added, less those that they took out
+abbrev pub balance_shown : Option Member → ℤ
+balance_shown None = pos 0
+balance_shown (Some m) = balance_of m

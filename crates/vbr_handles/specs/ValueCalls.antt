@@ -4,7 +4,7 @@ use Rattle.vbr_list.specs.Told.{is_yes}
 use Rattle.vbr_at_table.specs.declared.refusal.Refusal.{Refusal}
 use Rattle.vbr_set.specs.MapCalls.{ExchangesEntry, GetsEntry, GetsOrInsertsEntry, PutsEntry, RemovesEntry, RemovesIf, ReplacesEntry}
 use Rattle.vbr_set.specs.Members.{MemberView as Member}
-use Rattle.vbr_handles.specs.Codes.{call_code, empty_code, expected_code}
+use Rattle.vbr_handles.specs.Codes.{call_code, empty_code, exchange_code}
 
 -- what is given is written where the answer is yes, and else nothing is written
 abbrev pub WritesGiven : {A : Type 0} → Result (Option A) Refusal → A → A → Type 0
@@ -12,11 +12,11 @@ WritesGiven (Ok (Some given)) old new = new ≡ given
 WritesGiven (Ok None) old new = new ≡ old
 WritesGiven (Err refusal) old new = new ≡ old
 
-module _ {A : Type 0} (told : Result (Option A) Refusal → ℤ) (Calls : Member → Member → Result (Option A) Refusal → Type 0) where
-  -- the member made the call, the code tells its answer so, and what it gives is written
+module _ {A : Type 0} (Calls : Member → Member → Result (Option A) Refusal → Type 0) (coded : Result (Option A) Refusal → ℤ) where
+  -- the member made the call, the code is that of the answer, and what it gives is written
   pub record GivesAnswer (m n : Member) (old new : A) (code : ℤ) : Type 0 where
     pub answer : Result (Option A) Refusal
-    pub is : code ≡ told answer
+    pub is : code ≡ coded answer
     pub called : Calls m n answer
     pub writes : WritesGiven answer old new
 
@@ -27,9 +27,9 @@ module _ {A : Type 0} (told : Result (Option A) Refusal → ℤ) (Calls : Member
   GivesAs (Some m) None old new code = ⊥
   GivesAs (Some m) (Some n) old new code = GivesAnswer m n old new code
 
--- so it is of a code that tells whether something was given
+-- so it is where the code says whether something is given
 abbrev pub GivesBy : {A : Type 0} → (Member → Member → Result (Option A) Refusal → Type 0) → Option Member → Option Member → A → A → ℤ → Type 0
-GivesBy Calls m n old new code = GivesAs (λ answer. call_code (is_yes answer)) Calls m n old new code
+GivesBy Calls m n old new code = GivesAs Calls (λ answer. call_code (is_yes answer)) m n old new code
 
 -- so it is of a remove
 abbrev pub TellsRemoveEntry : Option Member → Option Member → ℕ → ℕ → ℕ → ℕ → ℤ → Type 0
@@ -39,24 +39,21 @@ TellsRemoveEntry m n key budget old new code = GivesBy (λ m n answer. RemovesEn
 abbrev pub TellsGetEntry : Option Member → Option Member → ℕ → ℕ → ℕ → ℕ → ℤ → Type 0
 TellsGetEntry m n key budget old new code = GivesBy (λ m n answer. GetsEntry m n key budget answer) m n old new code
 
--- ---- calls that change a value, or go by it; what is given is what was there
+-- ---- stores
 
--- of a replacement, which stores where some value is there
+-- of a replacement, a put and a get that inserts: what was there is given
 abbrev pub TellsReplace : Option Member → Option Member → ℕ → ℕ → ℕ → ℕ → ℕ → ℤ → Type 0
 TellsReplace m n key value budget old new code = GivesBy (λ m n answer. ReplacesEntry m n key value budget answer) m n old new code
 
--- of a put, which stores in any case
 abbrev pub TellsPut : Option Member → Option Member → ℕ → ℕ → ℕ → ℕ → ℕ → ℤ → Type 0
 TellsPut m n key value budget old new code = GivesBy (λ m n answer. PutsEntry m n key value budget answer) m n old new code
 
--- of a get that stores where none is there
 abbrev pub TellsGetOrInsert : Option Member → Option Member → ℕ → ℕ → ℕ → ℕ → ℕ → ℤ → Type 0
 TellsGetOrInsert m n key value budget old new code = GivesBy (λ m n answer. GetsOrInsertsEntry m n key value budget answer) m n old new code
 
--- of an exchange, which stores where the expected value is there
+-- and of an exchange and a remove that go by the value that is expected, whose code tells whether it was there
 abbrev pub TellsExchange : Option Member → Option Member → ℕ → ℕ → ℕ → ℕ → ℕ → ℕ → ℤ → Type 0
-TellsExchange m n key expected value budget old new code = GivesAs (expected_code expected) (λ m n answer. ExchangesEntry m n key expected value budget answer) m n old new code
+TellsExchange m n key expected value budget old new code = GivesAs (λ m n answer. ExchangesEntry m n key expected value budget answer) (exchange_code expected) m n old new code
 
--- and of a remove of a key with the expected value
 abbrev pub TellsRemoveIf : Option Member → Option Member → ℕ → ℕ → ℕ → ℕ → ℕ → ℤ → Type 0
-TellsRemoveIf m n key expected budget old new code = GivesAs (expected_code expected) (λ m n answer. RemovesIf m n key expected budget answer) m n old new code
+TellsRemoveIf m n key expected budget old new code = GivesAs (λ m n answer. RemovesIf m n key expected budget answer) (exchange_code expected) m n old new code

@@ -1,7 +1,7 @@
 //! A map lists entries.
 ghost use Rattle.std.specs.Prelude.{◌≡◌, map, IfOk};
 ghost use Rattle.vbr_handles.specs.Listings.{as_entries, as_pair};
-ghost use Rattle.vbr_handles.specs.ListedKeys.{each_key_of_entries};
+ghost use Rattle.vbr_handles.specs.ListedKeys.{as_many_entries, each_key_of_entries, entries_restart};
 
 use crate::entry::Entry;
 use crate::listed::Listed;
@@ -50,6 +50,10 @@ impl Listed<Entries> for Entry {
             entries[i] = Entry { key, value };
         }
     }
+
+    ghost restarts = { entries_restart };
+
+    ghost as_many = { as_many_entries };
 
     ghost keys = { each_key_of_entries };
 }

@@ -1,6 +1,6 @@
 //! A set lists keys.
 ghost use Rattle.vbr_handles.specs.Listings.{as_keys};
-ghost use Rattle.vbr_handles.specs.ListedKeys.{each_key};
+ghost use Rattle.vbr_handles.specs.ListedKeys.{as_many_listed, each_key, keys_restart};
 
 use crate::listed::Listed;
 use crate::report_numbers::ReportNumbers;
@@ -42,6 +42,10 @@ impl Listed<Keys> for u64 {
     fn write(report: &Report, keys: &mut [u64]) {
         keys[..report.keys.len()].copy_from_slice(&report.keys);
     }
+
+    ghost restarts = { keys_restart };
+
+    ghost as_many = { as_many_listed };
 
     ghost keys = { each_key };
 }

@@ -6,6 +6,7 @@
 //! ([`Listed`]) has entries in place of keys where it is a map.
 #![tactic(auto)]
 
+pub mod asking_all;
 pub mod closing;
 pub mod closing_all;
 mod entries;
@@ -20,15 +21,18 @@ pub mod numbers;
 pub mod opening;
 pub mod owner;
 mod parts;
+pub mod renewing_all;
 pub mod report_numbers;
 pub mod shown;
 
+pub use asking_all::AskRefusal;
 pub use closing::{CloseRefusal, abandon, close};
-pub use closing_all::{CloseAllRefusal, close_all};
+pub use closing_all::{CloseAllRefusal, close_all, report_all};
 pub use entry::Entry;
 pub use handle::{Handle, MapHandle};
 pub use handle_of::HandleOf;
 pub use listed::Listed;
 pub use opening::{OpenRefusal, ShapeNumbers, open, open_with};
 pub use owner::Owner;
+pub use renewing_all::{RenewAllRefusal, renew_all};
 pub use report_numbers::ReportNumbers;

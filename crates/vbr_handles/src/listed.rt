@@ -1,6 +1,7 @@
 //! What is listed of a node to C and from it: its key, or its entry.
 ghost use Rattle.std.specs.Prelude.{◌≡◌, ℕ, ◌<◌, ◌≤◌, ◌++◌, ◌⊎◌, List, true, false, drop, length, map, IfOk, IsErrOf};
 ghost use Rattle.std.specs.List.Sorted.{IsStrictlyIncreasing};
+ghost use Rattle.vbr_words.specs.Dimensions.{Dimensions};
 ghost use Rattle.vbr_machine.specs.Start.{start_with};
 ghost use Rattle.vbr_set.specs.Members.{AreNew};
 ghost use Rattle.vbr_handles.specs.Listings.{Listing};
@@ -57,6 +58,14 @@ pub trait Listed<N: Kind>: Copy {
     {
         items.len() <= slots as usize && ascend::<N, Self>(items)
     }
+
+    ghost restarts: { (shape : Dimensions) (report : N.Report) →
+        N.kind.start shape (N.kind.contents report).listed.items
+        ≡ start_with (record shape { values = listing.values })
+        (listing.keys (listing.items report)) (listing.payloads (listing.items report)) };
+
+    ghost as_many: { (report : N.Report) →
+        length (listing.items report) ≡ length (N.kind.contents report).listed.items };
 
     ghost keys: { (items : List Self) → listing.keys items ≡ map key items };
 }

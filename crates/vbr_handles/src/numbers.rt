@@ -1,17 +1,17 @@
-//! The calls of handles with their answers as numbers, as they go to C: 1 is yes, 0 is no or done, 2 is
-//! another value than the expected one, and each refusal has a number below 0.
-ghost use Rattle.std.specs.Prelude.{◌≡◌, []};
+//! The calls of handles with their answers as numbers, as they go to C: 1 is yes, 0 is no or done, 2 is that
+//! another value than the expected one was there, and each refusal has a number below 0.
+ghost use Rattle.std.specs.Prelude.{◌≡◌, ◌≤◌, [], length, IfOk};
 ghost use Rattle.vbr_machine.specs.declared.history.Op.TheVariants.{Insert, Remove, Has};
 ghost use Rattle.vbr_set.specs.AllMembers.{AreOfOneSet};
 ghost use Rattle.vbr_set.specs.Closing.{ClosesBy};
 ghost use Rattle.vbr_handles.specs.AllHandles.{members_by};
-ghost use Rattle.vbr_handles.specs.Codes.{call_code, close_all_code, close_code, open_code};
+ghost use Rattle.vbr_handles.specs.Codes.{call_code, close_all_code, close_code, open_code, renew_all_code};
 ghost use Rattle.vbr_handles.specs.Calls.{TellsCall};
 ghost use Rattle.vbr_handles.specs.Opening.{listed_start};
 ghost use Rattle.vbr_handles.specs.OpeningCodes.{TellsOpeningBy};
-ghost use Rattle.vbr_handles.specs.Reports.{TellsCloseAllBy, TellsCloseBy};
+ghost use Rattle.vbr_handles.specs.Renewals.{TellsRenewalBy};
+ghost use Rattle.vbr_handles.specs.Reports.{TellsCloseAllBy, TellsCloseBy, TellsReportBy, WritesAll};
 
-pub mod changing;
 pub mod entries;
 pub mod iterating;
 
@@ -21,6 +21,7 @@ use crate::handle_of::HandleOf;
 use crate::listed::Listed;
 use crate::opening::{OpenRefusal, ShapeNumbers};
 use crate::owner::Owner;
+use crate::renewing_all::RenewAllRefusal;
 use crate::report_numbers::ReportNumbers;
 use std::alloc::Global;
 use vbr_set::member::Member;
@@ -152,7 +153,49 @@ pub fn close_all<N: Kind, I: Listed<N>, H: HandleOf<N>>(
         items.old items.new told.old told.new result }
 {
     let answer = crate::closing_all::close_all::<N, I, H>(alloc, handles, items.len());
-    match &answer {
+    write_all::<N, I>(&answer, items, told);
+    close_all_code(&answer)
+}
+
+/// Tells what is in a set or a map by all its handles at once, as [`crate::report_all`] does, and writes the
+/// report as [`close`] does.
+pub fn report_all<N: Kind, I: Listed<N>, H: HandleOf<N>>(
+    alloc: Global,
+    handles: &mut [H],
+    items: &mut [I],
+    told: &mut ReportNumbers,
+) -> i32
+    requires { AreOfOneSet (members_by H.member handles.old) }
+    ensures { TellsReportBy I.listing (ClosesBy N.kind) H.member handles.old handles.new
+        items.old items.new told.old told.new result }
+{
+    let answer = crate::closing_all::report_all::<N, I, H>(alloc, handles, items.len());
+    write_all::<N, I>(&answer, items, told);
+    close_all_code(&answer)
+}
+
+/// Lets all handles of a set or of a map go on over a fresh one, as [`crate::renew_all`] does.
+pub fn renew_all<N: Kind, I: Listed<N>, H: HandleOf<N>>(
+    alloc: Global,
+    handles: &mut [H],
+    numbers: ShapeNumbers,
+) -> i32
+    requires { AreOfOneSet (members_by H.member handles.old) }
+    ensures { TellsRenewalBy N.kind I.listing H.member handles.old handles.new numbers result }
+{
+    renew_all_code(crate::renewing_all::renew_all::<N, I, H>(alloc, handles, numbers))
+}
+
+// Writes a report that all handles tell, or its numbers alone where it has no room.
+fn write_all<N: Kind, I: Listed<N>>(
+    answer: &Result<N::Report, CloseAllRefusal<N::Report>>,
+    items: &mut [I],
+    told: &mut ReportNumbers,
+)
+    requires { IfOk answer.now (λ report. length (I.listing.items report) ≤ length items.old) }
+    ensures { WritesAll I.listing answer.now items.old items.new told.old told.new }
+{
+    match answer {
         Ok(report) => {
             I::write(report, items);
             *told = I::numbers(report);
@@ -160,7 +203,6 @@ pub fn close_all<N: Kind, I: Listed<N>, H: HandleOf<N>>(
         Err(CloseAllRefusal::Room(report)) => *told = I::numbers(report),
         _ => {}
     }
-    close_all_code(&answer)
 }
 
 fn open_code(answer: Result<(), OpenRefusal>) -> i32
@@ -211,5 +253,19 @@ fn close_all_code<R>(answer: &Result<R, CloseAllRefusal<R>>) -> i32
         Err(CloseAllRefusal::Missing) => MISSING,
         Err(CloseAllRefusal::Memory) => NO_MEMORY,
         Err(CloseAllRefusal::Room(_)) => NO_ROOM,
+    }
+}
+
+fn renew_all_code(answer: Result<(), RenewAllRefusal>) -> i32
+    ensures { result ≡ renew_all_code answer }
+{
+    match answer {
+        Ok(()) => NO,
+        Err(RenewAllRefusal::Shape) => BAD_SHAPE,
+        Err(RenewAllRefusal::Empty) => EMPTY,
+        Err(RenewAllRefusal::Mixed) => MIXED,
+        Err(RenewAllRefusal::Missing) => MISSING,
+        Err(RenewAllRefusal::Room) => NO_ROOM,
+        Err(RenewAllRefusal::Memory) => NO_MEMORY,
     }
 }

@@ -39,7 +39,7 @@ pub struct ShapeNumbers {
 
 impl ShapeNumbers {
     // The shape of these numbers, with keys spread over the buckets; none, if one of them is out of range.
-    fn shape(self) -> Option<Shape>
+    pub(crate) fn shape(self) -> Option<Shape>
         ensures some { IfSome result
             (λ shape. shape ≡ spread_shape self.slots self.buckets self.last_epoch false) }
         ensures in_range { result ≡ None →

@@ -1,7 +1,7 @@
 //! What a handle shows of its set and of its pass, without a call and without a step. An empty handle
 //! shows 0, which is no such number.
 ghost use Rattle.std.specs.Prelude.{◌≡◌};
-ghost use Rattle.vbr_handles.specs.Shown.{buckets_of, epoch_of, last_epoch_of, slots_of};
+ghost use Rattle.vbr_handles.specs.Shown.{balance_shown, buckets_of, epoch_of, last_epoch_of, slots_of};
 
 use crate::owner::Owner;
 use vbr_set::member::Member;
@@ -49,4 +49,16 @@ pub fn buckets<N: Nodes>(owner: &mut Owner<Member<N>>) -> u32
         return 0;
     }
     owner.member_mut().shape().buckets()
+}
+
+/// How many keys the calls through a handle have added, less those that they took out, as
+/// [`Member::balance`] tells.
+pub fn balance<N: Nodes>(owner: &mut Owner<Member<N>>) -> i64
+    ensures same { owner.new.member ≡ owner.old.member }
+    ensures balance { result ≡ balance_shown owner.old.member }
+{
+    if owner.is_empty() {
+        return 0;
+    }
+    owner.member_mut().balance()
 }

@@ -1,4 +1,4 @@
--- Shares and passes beside one another, and the members that they make.
+-- Stakes and passes beside one another, and the members that they make.
 use Rattle.std.proofs.Common.{◌≡◌, ℕ, ◌+◌, ◌<◌, ◌≤◌, List, [], ◌∷◌, ◌++◌, length, map, append_assoc, refl, sym, ap, ◌∙◌, subst, arith}
 use Rattle.std.specs.Prelude.{Option, Some, Result, Ok, Err, IfOk, slice_get, unwrap_or}
 use Rattle.std.specs.declared.alloc.AllocError.{AllocError}
@@ -8,32 +8,32 @@ use Rattle.vbr_slots.specs.Views.{IsOf, PassView, TableView}
 use Rattle.vbr_set.specs.AllMembers.{AreOfOneSet, AreOfSet, AreTooFew, ReportsAllBy}
 use Rattle.vbr_set.specs.Apart.{AreParts, members_of}
 use Rattle.vbr_set.specs.Members.{MemberView, as_member}
-use Rattle.vbr_set.specs.Sharing.{IsPart, set_shared}
-use Rattle.vbr_set.specs.declared.member.share.Share.{Share}
+use Rattle.vbr_set.specs.Sharing.{IsStake, set_shared}
+use Rattle.vbr_set.specs.declared.member.stake.Stake.{Stake}
 
 module _ {N : Type 0} where
-  pub parts_more : (shares : List (Share N)) (passes : List PassView) (share : Share N) (pass : PassView) → AreParts shares passes → IsPart share pass → AreParts (shares ++ share ∷ []) (passes ++ pass ∷ [])
-  parts_more [] [] share pass parts part = (part, tt)
-  parts_more [] (q ∷ qs) share pass parts part = absurd parts
-  parts_more (s ∷ ss) [] share pass parts part = absurd parts
-  parts_more (s ∷ ss) (q ∷ qs) share pass parts part = (parts.0, parts_more ss qs share pass parts.1 part)
+  pub parts_more : (stakes : List (Stake N)) (passes : List PassView) (stake : Stake N) (pass : PassView) → AreParts stakes passes → IsStake stake pass → AreParts (stakes ++ stake ∷ []) (passes ++ pass ∷ [])
+  parts_more [] [] stake pass parts part = (part, tt)
+  parts_more [] (q ∷ qs) stake pass parts part = absurd parts
+  parts_more (s ∷ ss) [] stake pass parts part = absurd parts
+  parts_more (s ∷ ss) (q ∷ qs) stake pass parts part = (parts.0, parts_more ss qs stake pass parts.1 part)
 
-  pub members_more : (shares : List (Share N)) (passes : List PassView) (share : Share N) (pass : PassView) → AreParts shares passes → members_of (shares ++ share ∷ []) (passes ++ pass ∷ []) ≡ members_of shares passes ++ as_member (set_shared share) pass ∷ []
-  members_more [] [] share pass parts = refl
-  members_more [] (q ∷ qs) share pass parts = absurd parts
-  members_more (s ∷ ss) [] share pass parts = absurd parts
-  members_more (s ∷ ss) (q ∷ qs) share pass parts = ap (λ (ms : List MemberView). as_member (set_shared s) q ∷ ms) (members_more ss qs share pass parts.1)
+  pub members_more : (stakes : List (Stake N)) (passes : List PassView) (stake : Stake N) (pass : PassView) → AreParts stakes passes → members_of (stakes ++ stake ∷ []) (passes ++ pass ∷ []) ≡ members_of stakes passes ++ as_member (set_shared stake.share) pass ∷ []
+  members_more [] [] stake pass parts = refl
+  members_more [] (q ∷ qs) stake pass parts = absurd parts
+  members_more (s ∷ ss) [] stake pass parts = absurd parts
+  members_more (s ∷ ss) (q ∷ qs) stake pass parts = ap (λ (ms : List MemberView). as_member (set_shared s.share) q ∷ ms) (members_more ss qs stake pass parts.1)
 
   -- one more member is taken apart
-  pub taken : (shares shares' : List (Share N)) (passes passes' : List PassView) (share : Share N) (pass : PassView) (all rest members : List MemberView) (member : MemberView) → shares' ≡ shares ++ share ∷ [] → passes' ≡ passes ++ pass ∷ [] → all ≡ member ∷ rest → as_member (set_shared share) pass ≡ member
-      → AreParts shares passes → IsPart share pass → members_of shares passes ++ all ≡ members → AreParts shares' passes' × (members_of shares' passes' ++ rest ≡ members)
-  taken shares shares' passes passes' share pass all rest members member one other first is parts part so_far = (
-    subst (λ (x : List (Share N) × List PassView). AreParts x.0 x.1) (λ i. (sym one i, sym other i)) (parts_more shares passes share pass parts part),
+  pub taken : (stakes stakes' : List (Stake N)) (passes passes' : List PassView) (stake : Stake N) (pass : PassView) (all rest members : List MemberView) (member : MemberView) → stakes' ≡ stakes ++ stake ∷ [] → passes' ≡ passes ++ pass ∷ [] → all ≡ member ∷ rest → as_member (set_shared stake.share) pass ≡ member
+      → AreParts stakes passes → IsStake stake pass → members_of stakes passes ++ all ≡ members → AreParts stakes' passes' × (members_of stakes' passes' ++ rest ≡ members)
+  taken stakes stakes' passes passes' stake pass all rest members member one other first is parts part so_far = (
+    subst (λ (x : List (Stake N) × List PassView). AreParts x.0 x.1) (λ i. (sym one i, sym other i)) (parts_more stakes passes stake pass parts part),
     (λ i. members_of (one i) (other i) ++ rest)
-        ∙ ap (λ (ms : List MemberView). ms ++ rest) (members_more shares passes share pass parts)
-        ∙ append_assoc (members_of shares passes) (as_member (set_shared share) pass ∷ []) rest
-        ∙ ap (λ (m : MemberView). members_of shares passes ++ m ∷ rest) is
-        ∙ ap (λ (ms : List MemberView). members_of shares passes ++ ms) (sym first)
+        ∙ ap (λ (ms : List MemberView). ms ++ rest) (members_more stakes passes stake pass parts)
+        ∙ append_assoc (members_of stakes passes) (as_member (set_shared stake.share) pass ∷ []) rest
+        ∙ ap (λ (m : MemberView). members_of stakes passes ++ m ∷ rest) is
+        ∙ ap (λ (ms : List MemberView). members_of stakes passes ++ ms) (sym first)
         ∙ so_far,
   )
 
@@ -46,7 +46,7 @@ room_after xs xs' x all rest b cap cap' e f more room =
 
 module _ {N : Type 0} where
   -- no pass is left, so no member is
-  pub none_made : (shares : List (Share N)) (passes : List PassView) → length passes ≡ 0 → members_of shares passes ≡ []
+  pub none_made : (stakes : List (Stake N)) (passes : List PassView) → length passes ≡ 0 → members_of stakes passes ≡ []
   none_made [] passes none = refl
   none_made (s ∷ ss) [] none = refl
   none_made (s ∷ ss) (q ∷ qs) none = absurd (omega arith)
@@ -54,50 +54,50 @@ module _ {N : Type 0} where
 -- ---- the parts of all members of a set
 
 module _ {N : Type 0} where
-  pub passes_in : (shares : List (Share N)) (passes : List PassView) → AreParts shares passes → map (λ m. m.pass) (members_of shares passes) ≡ passes
+  pub passes_in : (stakes : List (Stake N)) (passes : List PassView) → AreParts stakes passes → map (λ m. m.pass) (members_of stakes passes) ≡ passes
   passes_in [] [] parts = refl
   passes_in [] (q ∷ qs) parts = absurd parts
   passes_in (s ∷ ss) [] parts = absurd parts
   passes_in (s ∷ ss) (q ∷ qs) parts = ap (λ (ps : List PassView). q ∷ ps) (passes_in ss qs parts.1)
 
-  pub all_parts_of : (set : TableView) (shares : List (Share N)) (passes : List PassView) → AreParts shares passes → AreOfSet set (members_of shares passes) → AllOf set passes
+  pub all_parts_of : (set : TableView) (stakes : List (Stake N)) (passes : List PassView) → AreParts stakes passes → AreOfSet set (members_of stakes passes) → AllOf set passes
   all_parts_of set [] [] parts all = tt
   all_parts_of set [] (q ∷ qs) parts all = absurd parts
   all_parts_of set (s ∷ ss) [] parts all = absurd parts
-  all_parts_of set (s ∷ ss) (q ∷ qs) parts all = (subst (IsOf q.trace) all.0 parts.0.own, all_parts_of set ss qs parts.1 all.1)
+  all_parts_of set (s ∷ ss) (q ∷ qs) parts all = (subst (IsOf q.trace) all.0 parts.0.part.own, all_parts_of set ss qs parts.1 all.1)
 
   -- there are as many members as passes
-  pub as_many_passes : (shares : List (Share N)) (passes : List PassView) → AreParts shares passes → length (members_of shares passes) ≡ length passes
-  as_many_passes shares passes parts = sym (length-map (members_of shares passes) (λ (m : MemberView). m.pass)) ∙ ap (λ (ps : List PassView). length ps) (passes_in shares passes parts)
+  pub as_many_passes : (stakes : List (Stake N)) (passes : List PassView) → AreParts stakes passes → length (members_of stakes passes) ≡ length passes
+  as_many_passes stakes passes parts = sym (length-map (members_of stakes passes) (λ (m : MemberView). m.pass)) ∙ ap (λ (ps : List PassView). length ps) (passes_in stakes passes parts)
 
--- where they are enough of one set, they are all of the set of the first share
-module _ {N : Type 0} (first : Share N) where
+-- where they are enough of one set, they are all of the set of the first stake
+module _ {N : Type 0} (first : Stake N) where
   abbrev set : TableView
-  set = set_shared first
+  set = set_shared first.share
 
   abbrev pub AreAllOfFirst : List MemberView → Type 0
   AreAllOfFirst members = AreOfSet set members × (set.passes ≤ length members)
 
-  pub all_of_first : (shares : List (Share N)) (passes : List PassView) → AreParts shares passes → AreOfOneSet (members_of shares passes) → ¬ (AreTooFew (members_of shares passes)) → slice_get shares 0 ≡ Some first → AreAllOfFirst (members_of shares passes)
+  pub all_of_first : (stakes : List (Stake N)) (passes : List PassView) → AreParts stakes passes → AreOfOneSet (members_of stakes passes) → ¬ (AreTooFew (members_of stakes passes)) → slice_get stakes 0 ≡ Some first → AreAllOfFirst (members_of stakes passes)
   all_of_first [] [] parts one_set enough is = absurd (enough tt)
   all_of_first [] (q ∷ qs) parts one_set enough is = absurd parts
   all_of_first (s ∷ ss) [] parts one_set enough is = absurd parts
   all_of_first (s ∷ ss) (q ∷ qs) parts one_set enough is =
       let members : List MemberView = members_of (s ∷ ss) (q ∷ qs) in
-      let same : set_shared s ≡ set = ap (λ (o : Option (Share N)). set_shared (unwrap_or o first)) is in
-      let all : ¬ (length members < (set_shared s).passes) = enough in
+      let same : set_shared s.share ≡ set = ap (λ (o : Option (Stake N)). set_shared (unwrap_or o first).share) is in
+      let all : ¬ (length members < (set_shared s.share).passes) = enough in
       subst (λ (t : TableView). AreOfSet t members × (t.passes ≤ length members)) same ((refl, one_set), omega arith)
 
 -- so what the set tells by the passes is told by all members
 module _ {N R : Type 0} (tells : TableView → List PassView → R → Type 0) where
-  told_by_all : (first : Share N) (shares : List (Share N)) (passes : List PassView) → AreParts shares passes → AreAllOfFirst first (members_of shares passes) → (report : R) → tells (set_shared first) passes report → ReportsAllBy tells (members_of shares passes) report
-  told_by_all first shares passes parts all report closes = record {
-    set = set_shared first;
+  told_by_all : (first : Stake N) (stakes : List (Stake N)) (passes : List PassView) → AreParts stakes passes → AreAllOfFirst first (members_of stakes passes) → (report : R) → tells (set_shared first.share) passes report → ReportsAllBy tells (members_of stakes passes) report
+  told_by_all first stakes passes parts all report closes = record {
+    set = set_shared first.share;
     of_set = all.0;
     all = all.1;
-    closes = subst (λ (ps : List PassView). tells (set_shared first) ps report) (sym (passes_in shares passes parts)) closes;
+    closes = subst (λ (ps : List PassView). tells (set_shared first.share) ps report) (sym (passes_in stakes passes parts)) closes;
   }
 
-  pub all_told : (first : Share N) (shares : List (Share N)) (passes : List PassView) → AreParts shares passes → AreAllOfFirst first (members_of shares passes) → (told : Result R AllocError) → IfOk told (tells (set_shared first) passes) → IfOk told (ReportsAllBy tells (members_of shares passes))
-  all_told first shares passes parts all (Ok report) closes = told_by_all first shares passes parts all report closes
-  all_told first shares passes parts all (Err refused) closes = tt
+  pub all_told : (first : Stake N) (stakes : List (Stake N)) (passes : List PassView) → AreParts stakes passes → AreAllOfFirst first (members_of stakes passes) → (told : Result R AllocError) → IfOk told (tells (set_shared first.share) passes) → IfOk told (ReportsAllBy tells (members_of stakes passes))
+  all_told first stakes passes parts all (Ok report) closes = told_by_all first stakes passes parts all report closes
+  all_told first stakes passes parts all (Err refused) closes = tt

@@ -1,13 +1,11 @@
 -- What a pass has that caught up with a token: the calls that the token tells stand in front.
-use Rattle.std.proofs.Common.{◌≡◌, ◌⊎◌, ℕ, ◌==◌, Bool, true, false, cond, List, [], ◌∷◌, ◌++◌, length, refl, sym, ap, ◌∙◌, inl, inr, append_assoc, append-nil, arith}
-use Rattle.std.proofs.lemmas.List.{append_cancel_left}
+use Rattle.std.proofs.Common.{◌≡◌, List, [], ◌∷◌, ◌++◌, sym, ap, ◌∙◌, append_assoc, append-nil}
 use Rattle.vbr_machine.specs.Start.{Start, IsStart}
 use Rattle.vbr_machine.specs.Calls.{own_calls}
-use Rattle.vbr_machine.specs.History.{calls_by}
 use Rattle.vbr_machine.specs.Runs.{Begins, IsRun}
 use Rattle.vbr_machine.specs.declared.event.Event.{Event}
 use Rattle.vbr_machine.specs.declared.history.Call.{Call}
-use Rattle.vbr_machine.proofs.Lemmas.{begins_trans, calls_by-append, calls_since, every_run, others_leave_calls}
+use Rattle.vbr_machine.proofs.Lemmas.{begins_trans, calls_since, every_run, others_leave_calls}
 use Rattle.vbr_slots.specs.Calls.{IsSame, Quiet}
 use Rattle.vbr_slots.specs.Tokens.{SeenView, Since}
 use Rattle.vbr_slots.specs.Views.{IsOf, KeepsPool, PassView, TableView, Trace}

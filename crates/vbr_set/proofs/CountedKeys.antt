@@ -19,7 +19,8 @@ use Rattle.vbr_machine.specs.Sound.{Sound, Tells}
 use Rattle.vbr_set.specs.Walking.{linked_keys}
 use Rattle.vbr_set.proofs.LinkedKeys.{distinct, set_is}
 
-length_linked : (a : Incarnations) (n : ℕ) → length (linked_keys a n) ≡ count_below (λ s. is_linked (state_in a s)) n
+-- there are as many keys of linked nodes as linked nodes
+pub length_linked : (a : Incarnations) (n : ℕ) → length (linked_keys a n) ≡ count_below (λ s. is_linked (state_in a s)) n
 length_linked a zero = refl
 length_linked a (suc n) = go (is_linked (state_in a n)) (length_linked a n)
   where
@@ -27,7 +28,7 @@ length_linked a (suc n) = go (is_linked (state_in a n)) (length_linked a n)
     go true e = let one = length-append (linked_keys a n) (key_in_slot a n ∷ []) in omega arith
     go false e = e
 
-ascending_distinct : (keys : List ℕ) → IsStrictlyIncreasing keys → IsDistinct nat_eq keys
+pub ascending_distinct : (keys : List ℕ) → IsStrictlyIncreasing keys → IsDistinct nat_eq keys
 ascending_distinct keys up = IsDistinct-from_apart nat_eq keys (λ i j d l low. ne_eqb (get_or keys i d) (get_or keys j d) (λ e. (let less = AllPairs-from_increasing keys up i j d l low in omega arith)))
 
 pub counted_keys : {start : Start} {a : Incarnations} → Sound start a → Fits start a → Tells start a → (keys : List ℕ) → AreKeysOf keys (set_after (opening_keys start) a.calls) → length keys ≡ count_below (λ s. is_linked (state_in a s)) start.shape.slots

@@ -10,9 +10,12 @@ mod Closings
 mod Mailboxes
 mod Seats
 mod Apart
+mod Balances
 mod Ends
 mod HavingSlots
 mod CountedKeys
+mod KeyCounts
+mod BalanceSums
 mod RoomLeft
 mod PassSums
 mod RoomOfOthers

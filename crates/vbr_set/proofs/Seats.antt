@@ -4,6 +4,7 @@ use Rattle.std.proofs.lemmas.List.{get_or_append_left, get_or_push, length-appen
 use Rattle.std.proofs.lemmas.List.Elements.{All-push, All-same}
 use Rattle.atomic_table.specs.Seated.{TableId}
 use Rattle.atomic_table.specs.Table.{Me}
+use Rattle.vbr_slots.specs.Calls.{made_by}
 use Rattle.vbr_slots.specs.Views.{PassView, TableView, new_passes}
 use Rattle.vbr_set.specs.Mailboxes.{IsIdle, SeatKnows}
 use Rattle.vbr_set.specs.Seats.{MailboxSeat, AreSeats}
@@ -11,11 +12,11 @@ use Rattle.vbr_set.specs.Sharing.{IsSeatOf, AreMailboxesOf}
 use Rattle.vbr_set.specs.declared.member.mailbox.Mailbox.{Mailbox}
 
 module _ {N : Type 0} where
-  -- each pass is one of the set and has its seat
+  -- each pass is one of the set, has made no call, and has its seat
   abbrev pub AreSeated : TableView → List (Mailbox N) → List PassView → List MailboxSeat → Type 0
   AreSeated set mailboxes [] seats = Unit {0}
   AreSeated set mailboxes (pass ∷ passes) [] = ⊥
-  AreSeated set mailboxes (pass ∷ passes) (seat ∷ seats) = IsIdle set pass × IsSeatOf mailboxes pass.trace.who seat.table_id seat.id seat.me × AreSeated set mailboxes passes seats
+  AreSeated set mailboxes (pass ∷ passes) (seat ∷ seats) = IsIdle set pass × (made_by pass.trace ≡ []) × IsSeatOf mailboxes pass.trace.who seat.table_id seat.id seat.me × AreSeated set mailboxes passes seats
 
   longer : (mailboxes : List (Mailbox N)) (mailbox : Mailbox N) → length (mailboxes ++ mailbox ∷ []) ≡ length mailboxes + 1
   longer mailboxes mailbox = length-append mailboxes (mailbox ∷ [])
@@ -60,7 +61,7 @@ module _ {N : Type 0} where
   seated set mailboxes who (suc n) [] e s = absurd (omega arith)
   seated set mailboxes who (suc n) (seat ∷ seats) e s =
       let shorter : length seats ≡ n = omega arith in
-      (record { own = (refl, refl, refl); empty_hand = refl }, s.0, seated set mailboxes (suc who) n seats shorter s.1)
+      (record { own = (refl, refl, refl); empty_hand = refl }, refl, s.0, seated set mailboxes (suc who) n seats shorter s.1)
 
 -- an opening has so many passes
 new_count : (set : TableView) (who n : ℕ) → length (new_passes set who n) ≡ n

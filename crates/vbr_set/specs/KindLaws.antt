@@ -1,7 +1,9 @@
--- What is true of each kind: the items of a report ascend, and what opens with items starts as it was with them. A set keeps no values, so none stand beside its keys.
+-- What is true of each kind: it opens with a key for each item, the items of a report ascend, and what opens with items starts as it was with them. A set keeps no values, so none stand beside its keys.
 use Rattle.std.proofs.Common.{◌≡◌, ℕ, Bool, true, false, List, [], ◌∷◌, length, refl, sym, ap, ◌∙◌}
+use Rattle.std.proofs.lemmas.List.{length-map}
 use Rattle.std.specs.Prelude.{if◌then◌else◌}
 use Rattle.std.specs.List.Sorted.{IsStrictlyIncreasing}
+use Rattle.vbr_words.specs.Dimensions.{Dimensions}
 use Rattle.vbr_machine.specs.Start.{Start, IsStart, start_with}
 use Rattle.vbr_machine.specs.Maps.{keys_listed, values_listed}
 use Rattle.vbr_machine.specs.declared.history.Call.{Call}
@@ -12,6 +14,12 @@ keys_ascend start calls keys are = are.ascending
 
 pub entries_ascend : (start : Start) (calls : List Call) (entries : List (ℕ × ℕ)) → as_map.lists start calls entries → IsStrictlyIncreasing (as_map.keys entries)
 entries_ascend start calls entries are = are.ascending
+
+pub counts_keys : (shape : Dimensions) (keys : List ℕ) → length (as_set.start shape keys).keys ≡ length keys
+counts_keys shape keys = refl
+
+pub counts_entries : (shape : Dimensions) (entries : List (ℕ × ℕ)) → length (as_map.start shape entries).keys ≡ length entries
+counts_entries shape entries = length-map entries (λ (entry : ℕ × ℕ). entry.0)
 
 none_of_none : (values : List ℕ) → length values ≡ 0 → values ≡ []
 none_of_none [] e = refl

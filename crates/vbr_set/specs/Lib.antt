@@ -6,6 +6,7 @@ pub mod Contents
 pub mod Kinds
 pub mod KindLaws
 pub mod Closing
+pub mod Balances
 pub mod Renewing
 pub mod MapCalls
 pub mod Messages
@@ -22,5 +23,7 @@ pub mod Room
 pub mod Laws
 pub mod Stretches
 pub mod AllMembers
+pub mod RenewingAll
+pub mod BalanceSums
 pub mod Apart
 pub mod Names

@@ -1,5 +1,7 @@
 -- What contracts see of a member, and its invariant.
-use Rattle.vbr_set.specs.Members.{MemberView}
+use Rattle.std.specs.Prelude.{◌≡◌}
+use Rattle.vbr_set.specs.Balances.{balance_of}
+use Rattle.vbr_set.specs.Members.{MemberView, as_member}
 use Rattle.vbr_set.specs.Sharing.{IsPart, set_shared}
 use Rattle.vbr_set.specs.declared.member.Member.TheInside.{Inside}
 
@@ -7,6 +9,7 @@ use Rattle.vbr_set.specs.declared.member.Member.TheInside.{Inside}
 abbrev pub member_view : {N : Type 0} → Inside N → MemberView
 member_view m = record { set = set_shared m.share; pass = m.pass }
 
--- its pass is of its set, has no slot in hand, and can come back
-abbrev pub IsMember : {N : Type 0} → Inside N → Type 0
-IsMember m = IsPart m.share m.pass
+-- its pass is of its set, has no slot in hand, and can come back; and its balance is that of the member
+pub record IsMember {N : Type 0} (m : Inside N) : Type 0 where
+  pub part : IsPart m.share m.pass
+  pub counted : m.balance ≡ balance_of (as_member (set_shared m.share) m.pass)

@@ -5,10 +5,13 @@ use Rattle.atomic_table.specs.Seated.{TableId}
 use Rattle.atomic_table.specs.Table.{Me}
 use Rattle.std.specs.Prelude.{Option}
 use Rattle.vbr_slots.specs.Views.{PassView, TableView, IsOf}
+use Rattle.vbr_set.specs.Balances.{balance_of}
 use Rattle.vbr_set.specs.Mailboxes.{SeatKnows}
+use Rattle.vbr_set.specs.Members.{as_member}
 use Rattle.vbr_set.specs.declared.member.mailbox.Mailbox.{Mailbox}
 use Rattle.vbr_set.specs.declared.member.share.Share.{Share}
 use Rattle.vbr_set.specs.declared.member.share.Share.TheVariants.{Among, Alone, Gathered}
+use Rattle.vbr_set.specs.declared.member.stake.Stake.{Stake}
 
 -- the passes are of the set
 abbrev pub ArePassesOf : TableView → List PassView → Type 0
@@ -51,3 +54,8 @@ module _ {N : Type 0} where
     pub own : IsOf pass.trace (set_shared share)
     pub empty_hand : pass.hand ≡ None
     pub comes_back : CanComeBack share pass.trace.who
+
+  -- so it is of what a member has beside the pass, and its balance is that of the member
+  pub record IsStake (stake : Stake N) (pass : PassView) : Type 0 where
+    pub part : IsPart stake.share pass
+    pub counted : stake.balance ≡ balance_of (as_member (set_shared stake.share) pass)

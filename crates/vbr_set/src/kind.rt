@@ -1,6 +1,7 @@
 //! What the kind of nodes decides of a set or a map.
 ghost use Rattle.std.specs.Prelude.{◌≡◌, ℕ, ◌<◌, ◌≤◌, ◌↔◌, ◌⊎◌, List, [], length, IfOk, IsErrOf};
 ghost use Rattle.std.specs.List.Sorted.{IsStrictlyIncreasing};
+ghost use Rattle.vbr_words.specs.Dimensions.{Dimensions};
 ghost use Rattle.vbr_words.specs.Places.{words_in};
 ghost use Rattle.vbr_machine.specs.Accounts.{incarnations_after};
 ghost use Rattle.vbr_machine.specs.Incarnations.{Incarnations};
@@ -71,6 +72,9 @@ pub trait Kind: Nodes + Sized {
         ensures { result.now ≡ (kind.contents report.now).listed.items };
 
     ghost no_keys: { kind.keys [] ≡ [] };
+
+    ghost counts: { (shape : Dimensions) (items : List Self.Item) →
+        length (kind.start shape items).keys ≡ length items };
 
     ghost ascends: { (start : Start) (calls : List Call) (items : List Self.Item) →
         kind.lists start calls items → IsStrictlyIncreasing (kind.keys items) };

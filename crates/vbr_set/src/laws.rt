@@ -1,4 +1,5 @@
 //! The laws of tokens, and of progress. Each function says its law in its contract, and does nothing.
+ghost use Rattle.vbr_set.specs.BalanceSums.{BalancesAddUp};
 ghost use Rattle.vbr_set.specs.Laws.{CallsStayInOrder, InsertsMakeProgress, LookUpsMakeProgress, MapsMakeProgress, RemovesMakeProgress, TokensHandOn};
 
 /// A law: who catches up with the last token of a chain catches up with the first, through any number
@@ -40,4 +41,10 @@ pub fn inserts_make_progress()
 /// compares the value.
 pub fn maps_make_progress()
     ensures { MapsMakeProgress }
+{}
+
+/// A law: while the members of a set or of a map stand still, the balances of all of them, each once, add up
+/// to how many keys it has.
+pub fn balances_add_up()
+    ensures { BalancesAddUp }
 {}

@@ -3,21 +3,25 @@ pub mod calls;
 pub mod closing;
 pub mod closing_all;
 mod common;
+pub mod counting;
 pub mod iterating;
 mod mailbox;
 pub mod map_calls;
 pub mod meeting;
 pub mod opening;
+pub mod renewing_all;
 mod share;
 mod sharing;
+mod stake;
 pub mod tokens;
 
 ghost use Rattle.std.specs.Prelude.{◌≡◌};
 ghost use Rattle.vbr_set.specs.Members.{as_member};
-ghost use Rattle.vbr_set.specs.Sharing.{IsPart, set_shared};
+ghost use Rattle.vbr_set.specs.Sharing.{IsStake, set_shared};
 
 use crate::member::closing::leave;
 use crate::member::share::Share;
+use crate::member::stake::Stake;
 use std::marker::Model;
 use vbr_slots::Pass;
 use vbr_words::{Keys, Nodes};
@@ -35,6 +39,7 @@ pub struct Member<N: Nodes = Keys> {
     pub(crate) before: [u64; 16],
     pub(crate) share: Share<N>,
     pub(crate) pass: Pass,
+    pub(crate) balance: i64,
     pub(crate) after: [u64; 16],
 }
 
@@ -51,18 +56,19 @@ impl<N: Nodes> Model for Member<N> {
 }
 
 impl<N: Nodes> Member<N> {
-    // What it has of its set, and its pass.
-    pub(crate) fn into_parts(self) -> (Share<N>, Pass)
-        ensures is { as_member (set_shared result.0) result.1 ≡ self }
-        ensures part { IsPart result.0 result.1 }
+    // What it has of its set, with its balance, and its pass.
+    pub(crate) fn into_parts(self) -> (Stake<N>, Pass)
+        ensures is { as_member (set_shared result.0.share) result.1 ≡ self }
+        ensures stake { IsStake result.0 result.1 }
     {
         let Member {
             before: _,
             share,
             pass,
+            balance,
             after: _,
         } = self;
-        (share, pass)
+        (Stake { share, balance }, pass)
     }
 }
 
@@ -70,8 +76,8 @@ impl<N: Nodes> Member<N> {
 /// that is closed is still told a report. It needs no memory, and makes no step.
 impl<N: Nodes> Drop for Member<N> {
     fn drop(self) {
-        let (share, pass) = self.into_parts();
-        if let Share::Among(common, seat) = share {
+        let (stake, pass) = self.into_parts();
+        if let Share::Among(common, seat) = stake.share {
             drop(leave(common, seat, pass));
         }
     }

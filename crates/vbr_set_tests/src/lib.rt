@@ -2,6 +2,8 @@
 #![tactic(auto)]
 
 #[cfg(test)]
+mod balances;
+#[cfg(test)]
 mod emptying;
 #[cfg(test)]
 mod iterating;

@@ -3,10 +3,10 @@
 ghost use Rattle.std.specs.Prelude.{◌≡◌};
 ghost use Rattle.vbr_list.specs.Told.{is_yes};
 ghost use Rattle.vbr_handles.specs.Calls.{TellsInsertEntry};
-ghost use Rattle.vbr_handles.specs.Codes.{call_code};
-ghost use Rattle.vbr_handles.specs.ValueCalls.{TellsGetEntry, TellsRemoveEntry, WritesGiven};
+ghost use Rattle.vbr_handles.specs.Codes.{call_code, exchange_code};
+ghost use Rattle.vbr_handles.specs.ValueCalls.{TellsExchange, TellsGetEntry, TellsGetOrInsert, TellsPut, TellsRemoveEntry, TellsRemoveIf, TellsReplace, WritesGiven};
 
-use crate::numbers::{EMPTY, NO, YES, call_code};
+use crate::numbers::{EMPTY, NO, OTHER, YES, call_code};
 use crate::owner::Owner;
 use vbr_set::{MapMember, Refusal};
 
@@ -40,6 +40,109 @@ pub fn get(owner: &mut Owner<MapMember>, key: u64, budget: u32, value: &mut u64)
         return EMPTY;
     }
     give(owner.member_mut().get(key, budget), value)
+}
+
+/// Gives a key that is there another value by the member of a handle, and writes the one that it had.
+pub fn replace(
+    owner: &mut Owner<MapMember>,
+    key: u64,
+    value: u64,
+    found: &mut u64,
+    budget: u32,
+) -> i32
+    ensures { TellsReplace owner.old.member owner.new.member key value budget found.old found.new
+        result }
+{
+    if owner.is_empty() {
+        return EMPTY;
+    }
+    give(owner.member_mut().replace(key, value, budget), found)
+}
+
+/// Gives a key a value by the member of a handle, whether it is there or not, and writes the one that it had.
+pub fn put(owner: &mut Owner<MapMember>, key: u64, value: u64, found: &mut u64, budget: u32) -> i32
+    ensures { TellsPut owner.old.member owner.new.member key value budget found.old found.new
+        result }
+{
+    if owner.is_empty() {
+        return EMPTY;
+    }
+    give(owner.member_mut().put(key, value, budget), found)
+}
+
+/// Gives a key that is absent a value by the member of a handle; of one that is there it writes the value.
+pub fn get_or_insert(
+    owner: &mut Owner<MapMember>,
+    key: u64,
+    value: u64,
+    found: &mut u64,
+    budget: u32,
+) -> i32
+    ensures { TellsGetOrInsert owner.old.member owner.new.member key value budget
+        found.old found.new result }
+{
+    if owner.is_empty() {
+        return EMPTY;
+    }
+    give(owner.member_mut().get_or_insert(key, value, budget), found)
+}
+
+/// Gives a key another value by the member of a handle where it has the one that is expected, and writes
+/// what it had.
+pub fn compare_exchange(
+    owner: &mut Owner<MapMember>,
+    key: u64,
+    expected: u64,
+    value: u64,
+    found: &mut u64,
+    budget: u32,
+) -> i32
+    ensures { TellsExchange owner.old.member owner.new.member key expected value budget
+        found.old found.new result }
+{
+    if owner.is_empty() {
+        return EMPTY;
+    }
+    let answer = owner
+        .member_mut()
+        .compare_exchange(key, expected, value, budget);
+    give_expected(answer, expected, found)
+}
+
+/// Takes a key out by the member of a handle where it has the value that is expected, and writes what it had.
+pub fn remove_if(
+    owner: &mut Owner<MapMember>,
+    key: u64,
+    expected: u64,
+    found: &mut u64,
+    budget: u32,
+) -> i32
+    ensures { TellsRemoveIf owner.old.member owner.new.member key expected budget
+        found.old found.new result }
+{
+    if owner.is_empty() {
+        return EMPTY;
+    }
+    give_expected(
+        owner.member_mut().remove_if(key, expected, budget),
+        expected,
+        found,
+    )
+}
+
+// Writes the value of an answer, where it gives one, and tells whether it is the one that was expected.
+fn give_expected(answer: Result<Option<u64>, Refusal>, expected: u64, found: &mut u64) -> i32
+    ensures code { result ≡ exchange_code expected answer }
+    ensures writes { WritesGiven answer found.old found.new }
+{
+    match answer {
+        Ok(Some(there)) => {
+            *found = there;
+            if there == expected { YES } else { OTHER }
+        }
+        Ok(None) => NO,
+        Err(refusal) => call_code(Err(refusal)),
+    }
 }
 
 // Writes the value of an answer, where it gives one, and tells the number of the answer.

@@ -5,7 +5,7 @@ ghost use Rattle.vbr_slots.specs.Views.{PassView, TableView};
 ghost use Rattle.vbr_set.specs.Closing.{MapCloses};
 ghost use Rattle.vbr_set.specs.Contents.{TellsEnd, entry_in_slot};
 ghost use Rattle.vbr_set.specs.Kinds.{as_map};
-ghost use Rattle.vbr_set.specs.KindLaws.{entries_ascend, map_reopens};
+ghost use Rattle.vbr_set.specs.KindLaws.{counts_entries, entries_ascend, map_reopens};
 
 use crate::contents::Contents;
 use crate::kind::Kind;
@@ -71,6 +71,8 @@ impl Kind for Entries {
     }
 
     ghost no_keys = { refl };
+
+    ghost counts = { counts_entries };
 
     ghost ascends = { entries_ascend };
 

@@ -6,7 +6,7 @@ ghost use Rattle.vbr_slots.specs.Views.{PassView, TableView};
 ghost use Rattle.vbr_set.specs.Closing.{Closes};
 ghost use Rattle.vbr_set.specs.Contents.{TellsEnd};
 ghost use Rattle.vbr_set.specs.Kinds.{as_set};
-ghost use Rattle.vbr_set.specs.KindLaws.{keys_ascend, set_reopens};
+ghost use Rattle.vbr_set.specs.KindLaws.{counts_keys, keys_ascend, set_reopens};
 
 use crate::contents::Contents;
 use crate::kind::Kind;
@@ -67,6 +67,8 @@ impl Kind for Keys {
     }
 
     ghost no_keys = { refl };
+
+    ghost counts = { counts_keys };
 
     ghost ascends = { keys_ascend };
 

@@ -7,6 +7,7 @@ ghost use Rattle.vbr_set.specs.Members.{Called};
 ghost use Rattle.vbr_slots.specs.Views.{IsOf};
 
 use crate::member::Member;
+use crate::member::counting::one_if_yes;
 use crate::member::share::Share;
 use vbr_list::Refusal;
 use vbr_slots::Pass;
@@ -33,7 +34,9 @@ impl Member {
     pub fn insert(&mut self, key: u64, budget: u32) -> Result<bool, Refusal>
         ensures { Called Insert self.old self.new key budget result }
     {
-        self.share.set().insert(&mut self.pass, key, budget)
+        let answer = self.share.set().insert(&mut self.pass, key, budget);
+        self.balance = self.balance.wrapping_add(one_if_yes(&answer));
+        answer
     }
 
     /// Takes a key out, in at most `budget` steps, and says whether it was there: [`VbrSet::remove`]
@@ -55,7 +58,9 @@ impl Member {
     pub fn remove(&mut self, key: u64, budget: u32) -> Result<bool, Refusal>
         ensures { Called Remove self.old self.new key budget result }
     {
-        self.share.set().remove(&mut self.pass, key, budget)
+        let answer = self.share.set().remove(&mut self.pass, key, budget);
+        self.balance = self.balance.wrapping_sub(one_if_yes(&answer));
+        answer
     }
 }
 

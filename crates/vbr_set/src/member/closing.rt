@@ -3,6 +3,7 @@ ghost use Rattle.std.specs.Prelude.{◌≡◌, ◌≤◌, [], true, false, lengt
 ghost use Rattle.std.specs.Arc.{arc_value};
 ghost use Rattle.std.specs.Vec.{vec_capacity};
 ghost use Rattle.vbr_slots.specs.Closing.{AllOf};
+ghost use Rattle.vbr_set.specs.Balances.{balance_of};
 ghost use Rattle.vbr_set.specs.Closing.{ClosesBy};
 ghost use Rattle.vbr_set.specs.Ends.{AreNumbered, EndsBy, IsBack, IsLast, EndLacksMemory};
 ghost use Rattle.vbr_set.specs.Mailboxes.{IsIdle};
@@ -15,6 +16,7 @@ use crate::member::Member;
 use crate::member::common::Common;
 use crate::member::mailbox::{Mailbox, SeatKnows};
 use crate::member::share::Share;
+use crate::member::stake::Stake;
 use crate::set::VbrSet;
 use atomic_table::Seat;
 use std::alloc::{AllocError, AllocFailed, Global};
@@ -80,14 +82,15 @@ impl<N: Kind> Member<N> {
         ensures stays { IfErr result (IsBack self.set self.pass) }
         ensures alone { self.set.passes ≡ 1 → IsLast result }
     {
-        let (share, pass) = self.into_parts();
+        let (stake, pass) = self.into_parts();
+        let Stake { share, balance } = stake;
         let last = match share {
             Share::Among(common, seat) => match leave(common, seat, pass) {
                 None => return Ok(None),
-                Some((set, mailboxes, pass)) => end_alone(alloc, set, mailboxes, pass)?,
+                Some((set, mailboxes, pass)) => end_alone(alloc, set, mailboxes, pass, balance)?,
             },
-            Share::Alone(set, mailboxes) => end_alone(alloc, set, mailboxes, pass)?,
-            Share::Gathered(set, passes) => end_gathered(alloc, set, passes, pass)?,
+            Share::Alone(set, mailboxes) => end_alone(alloc, set, mailboxes, pass, balance)?,
+            Share::Gathered(set, passes) => end_gathered(alloc, set, passes, pass, balance)?,
         };
         Ok(Some(last))
     }
@@ -125,20 +128,25 @@ fn end_alone<N: Kind>(
     set: VbrSet<N>,
     mailboxes: Vec<Mailbox<N>>,
     pass: Pass,
+    balance: i64,
 ) -> Result<(N::Report, Member<N>), EndError<Member<N>>>
     requires ready { IsIdle set pass }
     requires mailboxes { AreMailboxesOf set mailboxes.items }
     requires others { HasOthers set }
+    requires counted { balance ≡ balance_of (as_member set pass) }
     ensures ended { IfOk result (λ last. EndsBy (ClosesBy N.kind) set pass last.0) }
     ensures same { IfOk result (λ last. last.1 ≡ as_member set pass) }
     ensures stays { IfErr result (IsBack set pass) }
 {
     let Ok(room) = Vec::with_capacity(alloc, mailboxes.len().saturating_add(1)) else {
-        let share = Share::Alone(set, mailboxes);
-        return Err(EndError::Memory(Member::of(share, pass)));
+        let stake = Stake {
+            share: Share::Alone(set, mailboxes),
+            balance,
+        };
+        return Err(EndError::Memory(Member::of(stake, pass)));
     };
     match gather(&set, mailboxes, room) {
-        Some(passes) => end_gathered(alloc, set, passes, pass),
+        Some(passes) => end_gathered(alloc, set, passes, pass, balance),
         None => Err(EndError::Lost),
     }
 }
@@ -168,10 +176,12 @@ fn end_gathered<N: Kind>(
     set: VbrSet<N>,
     mut passes: Vec<Pass>,
     pass: Pass,
+    balance: i64,
 ) -> Result<(N::Report, Member<N>), EndError<Member<N>>>
     requires ready { IsIdle set pass }
     requires passes { ArePassesOf set passes.items }
     requires others { AreOthers set passes.items }
+    requires counted { balance ≡ balance_of (as_member set pass) }
     ensures ended { IfOk result (λ last. EndsBy (ClosesBy N.kind) set pass last.0) }
     ensures same { IfOk result (λ last. last.1 ≡ as_member set pass) }
     ensures stays { IfErr result (IsBack set pass) }
@@ -182,15 +192,22 @@ fn end_gathered<N: Kind>(
         return Err(EndError::Lost);
     }
     if let Err(AllocFailed { value }) = passes.insert(who, pass) {
-        let share = Share::Gathered(set, passes);
-        return Err(EndError::Memory(Member::of(share, value)));
+        let stake = Stake {
+            share: Share::Gathered(set, passes),
+            balance,
+        };
+        return Err(EndError::Memory(Member::of(stake, value)));
     }
     if passes.len() != set.count as usize || !are_numbered(&passes) {
         return Err(EndError::Lost);
     }
     let told = tell(&set, alloc, &mut passes);
     let pass = passes.remove(who);
-    let last = Member::of(Share::Gathered(set, passes), pass);
+    let stake = Stake {
+        share: Share::Gathered(set, passes),
+        balance,
+    };
+    let last = Member::of(stake, pass);
     match told {
         Ok(report) => Ok((report, last)),
         Err(_) => Err(EndError::Memory(last)),

@@ -9,6 +9,7 @@ use crate::close_all_error::CloseAllError;
 use crate::kind::Kind;
 use crate::member::Member;
 use crate::member::share::Share;
+use crate::member::stake::Stake;
 use std::alloc::{AllocError, Global};
 use std::sync::Arc;
 use vbr_slots::Pass;
@@ -69,7 +70,7 @@ impl<N: Kind> Member<N> {
             return Err(CloseAllError::Missing(members));
         }
         let count = members.len();
-        let Ok(mut shares) = Vec::with_capacity(alloc, count) else {
+        let Ok(mut stakes) = Vec::with_capacity(alloc, count) else {
             return Err(CloseAllError::Memory(members));
         };
         let Ok(mut passes) = Vec::with_capacity(alloc, count) else {
@@ -78,9 +79,9 @@ impl<N: Kind> Member<N> {
         let Ok(back) = Vec::with_capacity(alloc, count) else {
             return Err(CloseAllError::Memory(members));
         };
-        take_apart(members, &mut shares, &mut passes);
-        let told = report_apart(alloc, &shares, &mut passes);
-        let members = put_together(shares, passes, back);
+        take_apart(members, &mut stakes, &mut passes);
+        let told = report_apart(alloc, &stakes, &mut passes);
+        let members = put_together(stakes, passes, back);
         match told {
             Ok(report) => Ok((report, members)),
             Err(_) => Err(CloseAllError::Memory(members)),
@@ -122,32 +123,32 @@ fn are_too_few<N: Nodes>(members: &[Member<N>]) -> bool
 // Tells what is in the set of these parts.
 fn report_apart<N: Kind>(
     alloc: Global,
-    shares: &[Share<N>],
+    stakes: &[Stake<N>],
     passes: &mut Vec<Pass>,
 ) -> Result<N::Report, AllocError>
-    requires parts { AreParts shares.now passes.old.items }
-    requires one_set { AreOfOneSet (members_of shares.now passes.old.items) }
-    requires enough { ¬ (AreTooFew (members_of shares.now passes.old.items)) }
+    requires parts { AreParts stakes.now passes.old.items }
+    requires one_set { AreOfOneSet (members_of stakes.now passes.old.items) }
+    requires enough { ¬ (AreTooFew (members_of stakes.now passes.old.items)) }
     ensures same { passes.new.items ≡ passes.old.items }
     ensures report { IfOk result
-        (ReportsAllBy (ClosesBy N.kind) (members_of shares.now passes.old.items)) }
+        (ReportsAllBy (ClosesBy N.kind) (members_of stakes.now passes.old.items)) }
 {
-    let Some(first) = shares.first() else {
+    let Some(first) = stakes.first() else {
         unreachable!()
     };
-    first.set().report(alloc, passes)
+    first.share.set().report(alloc, passes)
 }
 
 // Takes members apart, in their order.
-fn take_apart<N: Nodes>(members: Vec<Member<N>>, shares: &mut Vec<Share<N>>, passes: &mut Vec<Pass>)
-    requires shares { (shares.old.items ≡ []) × (length members.items ≤ vec_capacity shares.old) }
+fn take_apart<N: Nodes>(members: Vec<Member<N>>, stakes: &mut Vec<Stake<N>>, passes: &mut Vec<Pass>)
+    requires stakes { (stakes.old.items ≡ []) × (length members.items ≤ vec_capacity stakes.old) }
     requires passes { (passes.old.items ≡ []) × (length members.items ≤ vec_capacity passes.old) }
-    ensures parts { AreParts shares.new.items passes.new.items }
-    ensures members { members_of shares.new.items passes.new.items ≡ members.items }
+    ensures parts { AreParts stakes.new.items passes.new.items }
+    ensures members { members_of stakes.new.items passes.new.items ≡ members.items }
 {
     for member in members {
-        let (share, pass) = member.into_parts();
-        let (Ok(()), Ok(())) = (shares.push(share), passes.push(pass)) else {
+        let (stake, pass) = member.into_parts();
+        let (Ok(()), Ok(())) = (stakes.push(stake), passes.push(pass)) else {
             unreachable!()
         };
     }
@@ -155,20 +156,20 @@ fn take_apart<N: Nodes>(members: Vec<Member<N>>, shares: &mut Vec<Share<N>>, pas
 
 // Makes the members again, in their order.
 fn put_together<N: Nodes>(
-    shares: Vec<Share<N>>,
+    stakes: Vec<Stake<N>>,
     passes: Vec<Pass>,
     mut members: Vec<Member<N>>,
 ) -> Vec<Member<N>>
     requires members { (members.items ≡ []) × (length passes.items ≤ vec_capacity members) }
-    requires parts { AreParts shares.items passes.items }
-    ensures { result.items ≡ members_of shares.items passes.items }
+    requires parts { AreParts stakes.items passes.items }
+    ensures { result.items ≡ members_of stakes.items passes.items }
 {
-    let mut shares = shares.into_iter();
+    let mut stakes = stakes.into_iter();
     for pass in passes {
-        let Some(share) = shares.next() else {
+        let Some(stake) = stakes.next() else {
             unreachable!()
         };
-        let Ok(()) = members.push(Member::of(share, pass)) else {
+        let Ok(()) = members.push(Member::of(stake, pass)) else {
             unreachable!()
         };
     }

@@ -2,6 +2,7 @@
 ghost use Rattle.vbr_set.specs.MapCalls.{ExchangesEntry, GetsEntry, GetsOrInsertsEntry, InsertsEntry, PutsEntry, RemovesEntry, RemovesIf, ReplacesEntry};
 
 use crate::member::Member;
+use crate::member::counting::{one_if_wanted, one_if_yes};
 use vbr_list::{Refusal, Wanted};
 use vbr_words::Entries;
 
@@ -20,7 +21,9 @@ impl Member<Entries> {
     pub fn insert(&mut self, key: u64, value: u64, budget: u32) -> Result<bool, Refusal>
         ensures { InsertsEntry self.old self.new key value budget result }
     {
-        self.share.set().insert(&mut self.pass, key, value, budget)
+        let answer = self.share.set().insert(&mut self.pass, key, value, budget);
+        self.balance = self.balance.wrapping_add(one_if_yes(&answer));
+        answer
     }
 
     /// Takes a key out, in at most `budget` steps, and gives the value that was stored with it, if it was
@@ -35,7 +38,11 @@ impl Member<Entries> {
     pub fn remove(&mut self, key: u64, budget: u32) -> Result<Option<u64>, Refusal>
         ensures { RemovesEntry self.old self.new key budget result }
     {
-        self.share.set().remove(&mut self.pass, key, budget)
+        let answer = self.share.set().remove(&mut self.pass, key, budget);
+        self.balance = self
+            .balance
+            .wrapping_sub(one_if_wanted(&answer, Wanted::Present));
+        answer
     }
 
     /// The value that is stored with a key, if the key is there, in at most `budget` steps:
@@ -71,9 +78,14 @@ impl Member<Entries> {
     ) -> Result<Option<u64>, Refusal>
         ensures { RemovesIf self.old self.new key expected budget result }
     {
-        self.share
+        let answer = self
+            .share
             .set()
-            .remove_if(&mut self.pass, key, expected, budget)
+            .remove_if(&mut self.pass, key, expected, budget);
+        self.balance = self
+            .balance
+            .wrapping_sub(one_if_wanted(&answer, Wanted::Value(expected)));
+        answer
     }
 
     /// Gives a key that is there another value, in at most `budget` steps, and gives the value that it had;
@@ -110,9 +122,14 @@ impl Member<Entries> {
     pub fn put(&mut self, key: u64, value: u64, budget: u32) -> Result<Option<u64>, Refusal>
         ensures { PutsEntry self.old self.new key value budget result }
     {
-        self.share
+        let answer = self
+            .share
             .set()
-            .store(&mut self.pass, key, value, Wanted::Anything, budget)
+            .store(&mut self.pass, key, value, Wanted::Anything, budget);
+        self.balance = self
+            .balance
+            .wrapping_add(one_if_wanted(&answer, Wanted::Absent));
+        answer
     }
 
     /// Gives a key another value where it has the one that is expected, in at most `budget` steps, and gives
@@ -157,8 +174,13 @@ impl Member<Entries> {
     ) -> Result<Option<u64>, Refusal>
         ensures { GetsOrInsertsEntry self.old self.new key value budget result }
     {
-        self.share
+        let answer = self
+            .share
             .set()
-            .store(&mut self.pass, key, value, Wanted::Absent, budget)
+            .store(&mut self.pass, key, value, Wanted::Absent, budget);
+        self.balance = self
+            .balance
+            .wrapping_add(one_if_wanted(&answer, Wanted::Absent));
+        answer
     }
 }

@@ -1,17 +1,20 @@
 //! Opening a set or a map for members.
 ghost use Rattle.std.specs.Prelude.{◌≡◌, ◌<◌, ◌≤◌, ◌↔◌, ◌⊎◌, All, [], length, map, IfOk, IsErrOf};
 ghost use Rattle.std.specs.List.Sorted.{IsStrictlyIncreasing};
-ghost use Rattle.vbr_slots.specs.Views.{new_passes};
+ghost use Rattle.vbr_slots.specs.Calls.{made_by};
+ghost use Rattle.vbr_slots.specs.Views.{TableView, new_passes};
 ghost use Rattle.vbr_set.specs.MemberView.{IsMember};
+ghost use Rattle.vbr_set.specs.Balances.{balance_of};
 ghost use Rattle.vbr_set.specs.Members.{AreNew, as_member};
 ghost use Rattle.vbr_set.specs.Seats.{AreSeats};
-ghost use Rattle.vbr_set.specs.Sharing.{HasOthers, IsPart, set_shared};
+ghost use Rattle.vbr_set.specs.Sharing.{HasOthers, IsStake, set_shared};
 
 use crate::kind::Kind;
 use crate::member::Member;
 use crate::member::common::Common;
 use crate::member::mailbox::{Mailbox, SeatKnows};
 use crate::member::share::Share;
+use crate::member::stake::Stake;
 use crate::set::VbrSet;
 use atomic_table::Seat;
 use std::alloc::{AllocError, Global};
@@ -80,7 +83,7 @@ impl<N: Kind> Member<N> {
         ensures refused { IsErrOf result OpenError.Passes ↔ ((passes ≡ 0) ⊎ (64 < passes)) }
     {
         let (set, opened) = VbrSet::<N>::open_with(alloc, shape, passes, items)?;
-        match hand_out(alloc, set, opened) {
+        match hand_out(alloc, set, opened, items.len() as u32) {
             Ok(members) => Ok(members),
             Err(_) => Err(OpenError::Memory),
         }
@@ -88,15 +91,17 @@ impl<N: Kind> Member<N> {
 }
 
 impl<N: Nodes> Member<N> {
-    // A member with what it has of its set.
-    pub(crate) fn of(share: Share<N>, pass: Pass) -> Member<N>
-        requires { IsPart share pass }
-        ensures { result ≡ as_member (set_shared share) pass }
+    // A member with what it has beside its pass.
+    pub(crate) fn of(stake: Stake<N>, pass: Pass) -> Member<N>
+        requires { IsStake stake pass }
+        ensures { result ≡ as_member (set_shared stake.share) pass }
     {
+        let Stake { share, balance } = stake;
         Member {
             before: [0; 16],
             share,
             pass,
+            balance,
             after: [0; 16],
         }
     }
@@ -123,23 +128,44 @@ fn make_mailboxes<N: Nodes>(
     Ok((mailboxes, seats))
 }
 
-// Makes a member with each of the passes of a set. One that is alone has the set.
+// The balance that a pass begins with, which has made no call: the first one is given the keys that its set
+// opened with.
+fn first_balance(pass: &Pass, opened: u32) -> i64
+    requires { made_by pass.now.trace ≡ [] }
+    ensures { (set : TableView) → opened ≡ length set.start.keys →
+        result ≡ balance_of (as_member set pass.now) }
+{
+    if pass.who() == 0 {
+        i64::from(opened)
+    } else {
+        0
+    }
+}
+
+// Makes a member with each of the passes of a set, which opened with so many keys. One that is alone has
+// the set.
 pub(crate) fn hand_out<N: Nodes>(
     alloc: Global,
     set: VbrSet<N>,
     mut passes: Vec<Pass>,
+    opened: u32,
 ) -> Result<Vec<Member<N>>, AllocError>
     requires new { passes.items ≡ new_passes set 0 (length passes.items) }
     requires all { set.passes ≡ length passes.items }
+    requires opened { opened ≡ length set.start.keys }
     ensures { IfOk result (λ members.
         members.items ≡ map (λ pass. record { set = set; pass = pass }) passes.items) }
 {
     if passes.len() > 1 {
-        return share_out(alloc, set, passes);
+        return share_out(alloc, set, passes, opened);
     }
     let mut members = Vec::with_capacity(alloc, 1)?;
     if let Some(pass) = passes.pop() {
-        members.push(Member::of(Share::Gathered(set, passes), pass))?;
+        let stake = Stake {
+            share: Share::Gathered(set, passes),
+            balance: first_balance(&pass, opened),
+        };
+        members.push(Member::of(stake, pass))?;
     }
     Ok(members)
 }
@@ -149,9 +175,11 @@ fn share_out<N: Nodes>(
     alloc: Global,
     set: VbrSet<N>,
     passes: Vec<Pass>,
+    opened: u32,
 ) -> Result<Vec<Member<N>>, AllocError>
     requires new { passes.items ≡ new_passes set 0 (length passes.items) }
     requires others { HasOthers set }
+    requires opened { opened ≡ length set.start.keys }
     ensures { IfOk result (λ members.
         members.items ≡ map (λ pass. record { set = set; pass = pass }) passes.items) }
 {
@@ -171,8 +199,11 @@ fn share_out<N: Nodes>(
         let Some(seat) = seats.next() else {
             unreachable!()
         };
-        let share = Share::Among(Arc::try_clone(&common)?, seat);
-        members.push(Member::of(share, pass))?;
+        let stake = Stake {
+            share: Share::Among(Arc::try_clone(&common)?, seat),
+            balance: first_balance(&pass, opened),
+        };
+        members.push(Member::of(stake, pass))?;
     }
     Ok(members)
 }

@@ -1,5 +1,8 @@
 use Rattle.std.proofs.Common.{◌≡◌, List, rules, ap, ◌∙◌, subst, sym}
+use Rattle.std.specs.Int.{w64}
+use Rattle.std.proofs.lemmas.Int.{to_z-of_z}
 use Rattle.vbr_slots.specs.Views.{IsOf, PassView}
+use Rattle.vbr_set.specs.Balances.{balance_of}
 use Rattle.vbr_set.specs.Members.{as_member}
 use Rattle.vbr_set.specs.Sharing.{AreOthers, ArePassesOf}
 use Rattle.vbr_set.proofs.Ends.{all_of, out_again, with_own}
@@ -13,9 +16,12 @@ of-last-requires g c =
     let pass : c.remove-pass.result ≡ c.args.pass = search rules in
     let passes : c.remove-pass.new.self.items ≡ c.args.passes.items = search (rules, out_again) in
     record {
-      own = subst (λ (p : PassView). IsOf p.trace c.args.set) (sym pass) c.requires.ready.own;
-      empty_hand = ap (λ (p : PassView). p.hand) pass ∙ c.requires.ready.empty_hand;
-      comes_back = subst (λ (ps : List PassView). ArePassesOf c.args.set ps × AreOthers c.args.set ps) (sym passes) (c.requires.passes, c.requires.others);
+      part = record {
+        own = subst (λ (p : PassView). IsOf p.trace c.args.set) (sym pass) c.requires.ready.own;
+        empty_hand = ap (λ (p : PassView). p.hand) pass ∙ c.requires.ready.empty_hand;
+        comes_back = subst (λ (ps : List PassView). ArePassesOf c.args.set ps × AreOthers c.args.set ps) (sym passes) (c.requires.passes, c.requires.others);
+      };
+      counted = to_z-of_z w64 c.args.balance (search rules) ∙ c.requires.counted ∙ sym (ap (λ (p : PassView). balance_of (as_member c.args.set p)) pass);
     }
 
 pub returns-in-Ok-clause-same : goal.returns-in-Ok-clause-same

@@ -9,14 +9,14 @@ loop-member-preserved g c =
     let i = c.loop-member.invariant in
     let all = into_iter_items c.loop-member.member-iterator in
     let rest = into_iter_items c.next.new.self in
-    let share = c.into_parts-share.result.0 in
-    let pass = c.into_parts-share.result.1 in
+    let stake = c.into_parts-stake.result.0 in
+    let pass = c.into_parts-stake.result.1 in
     let one = c.in-Ok-Ok.ensures in
     let other = c.in-Ok-Ok.ensures' in
-    let more = taken c.loop-member.shares.items c.push.new.self.items c.loop-member.passes.items c.push-in-loop-member.new.self.items share pass all rest c.args.members.items c.in-Some.member (search rules) (search rules) (search rules) c.into_parts-share.ensures.is i.parts c.into_parts-share.ensures.part i.members in
+    let more = taken c.loop-member.stakes.items c.push.new.self.items c.loop-member.passes.items c.push-in-loop-member.new.self.items stake pass all rest c.args.members.items c.in-Some.member (search rules) (search rules) (search rules) c.into_parts-stake.ensures.is i.parts c.into_parts-stake.ensures.stake i.members in
     record {
       parts = more.0;
       members = more.1;
-      shares = room_after c.loop-member.shares.items c.push.new.self.items share all rest c.in-Some.member (vec_capacity c.loop-member.shares) (vec_capacity c.push.new.self) (search rules) (search rules) (search rules) i.shares;
+      stakes = room_after c.loop-member.stakes.items c.push.new.self.items stake all rest c.in-Some.member (vec_capacity c.loop-member.stakes) (vec_capacity c.push.new.self) (search rules) (search rules) (search rules) i.stakes;
       passes = room_after c.loop-member.passes.items c.push-in-loop-member.new.self.items pass all rest c.in-Some.member (vec_capacity c.loop-member.passes) (vec_capacity c.push-in-loop-member.new.self) (search rules) (search rules) (search rules) i.passes;
     }

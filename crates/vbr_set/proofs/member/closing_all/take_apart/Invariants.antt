@@ -7,8 +7,8 @@ use Rattle.vbr_set.proofs.member.closing_all.take_apart.Given as goal
 -- the parts so far make the members so far, and there is room for those that are left
 abbrev pub invariant-loop-member : goal.invariant-loop-member
 invariant-loop-member g l = record {
-  parts : AreParts l.shares.items l.passes.items;
-  members : members_of l.shares.items l.passes.items ++ into_iter_items l.member-iterator ≡ l.fn.members.items;
-  shares : length l.shares.items + length (into_iter_items l.member-iterator) ≤ vec_capacity l.shares;
+  parts : AreParts l.stakes.items l.passes.items;
+  members : members_of l.stakes.items l.passes.items ++ into_iter_items l.member-iterator ≡ l.fn.members.items;
+  stakes : length l.stakes.items + length (into_iter_items l.member-iterator) ≤ vec_capacity l.stakes;
   passes : length l.passes.items + length (into_iter_items l.member-iterator) ≤ vec_capacity l.passes;
 }

@@ -1,5 +1,5 @@
 use Rattle.std.proofs.Common.{◌≡◌}
-use Rattle.vbr_handles.proofs.closing_all.are_beside.Given as goal
+use Rattle.vbr_handles.proofs.asking_all.are_beside.Given as goal
 
 -- the handles are as they were
 abbrev pub invariant-loop-i : goal.invariant-loop-i

@@ -1,6 +1,6 @@
 use Rattle.std.proofs.Common.{◌≡◌, ℕ, ◌<◌, slice_index_or}
 use Rattle.std.specs.Prelude.{IsSome}
-use Rattle.vbr_handles.proofs.closing_all.are_full.Given as goal
+use Rattle.vbr_handles.proofs.asking_all.are_full.Given as goal
 
 -- the handles are as they were, and those so far are full
 abbrev pub invariant-loop-i : goal.invariant-loop-i

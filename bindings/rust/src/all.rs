@@ -1,0 +1,107 @@
+//! All handles of a set or a map at once: their report, and their renewal.
+use crate::handle::{Contents, HandleOf, Shared};
+use crate::library::{Raw, ReportNumbers};
+use crate::{Kind, RenewError, ReportError, Shape, MAX_HANDLES};
+use alloc::vec::Vec;
+use core::mem::swap;
+use core::ptr::{null_mut, NonNull};
+
+/// Calls of all handles of a set, in any order, of which none is in a call meanwhile.
+impl<K: Kind> HandleOf<K> {
+    /// Tells what is in the set, as the close of its last handle does. The handles stay as they are, and go on. It takes the memory
+    /// of a close.
+    ///
+    /// ```
+    /// # use vbr::{Handle, Set, Shape};
+    /// let mut handles = Set::open_with(Shape::for_keys(8, 2), 2, &[5, 7])?;
+    /// handles[1].insert(6, 100_000)?;
+    /// assert_eq!(Handle::report_all(&mut handles)?.keys, [5, 6, 7]);
+    /// assert!(handles[0].remove(6, 100_000)?); // they go on
+    /// # Ok::<(), Box<dyn std::error::Error>>(())
+    /// ```
+    ///
+    /// # Errors
+    ///
+    /// [`ReportError::Mixed`], [`ReportError::Missing`] and [`ReportError::Memory`], tested in this order.
+    pub fn report_all(handles: &mut [HandleOf<K>]) -> Result<K::Report, ReportError> {
+        let shared = shared_by(handles)?;
+        // SAFETY: it is there while one of its handles is open, and all are borrowed.
+        let slots = unsafe { shared.as_ref() }.slots as usize;
+        let mut items = Vec::new();
+        items.try_reserve_exact(slots).map_err(|_| ReportError::Memory)?;
+        items.resize(slots, K::Item::default());
+        let mut told = ReportNumbers::default();
+        let code = with_raw(handles, |all, count| {
+            // SAFETY: these are all handles of the set or map, nothing else has one of them, and `items` has as much room.
+            unsafe { K::REPORT_ALL(all, count, items.as_mut_ptr(), items.len(), &mut told) }
+        });
+        if code != 1 {
+            return Err(ReportError::Memory);
+        }
+        let ReportNumbers { epoch, live, marked, free } = told;
+        items.truncate(live as usize);
+        Ok(K::report(Contents { items, epoch, marked, free }))
+    }
+
+    /// Lets the handles go on over a fresh set of this shape, with the keys that were in it, or a map with the entries: at epoch 1,
+    /// and larger where there are to be more of them. The balance of the first handle is the number of keys then, and that of the
+    /// others is 0. The fresh set is opened before the other one is given up, so it takes the memory of both and of a report.
+    ///
+    /// ```
+    /// # use vbr::{Handle, Set, Shape};
+    /// let mut handles = Set::open_with(Shape::new(2, 2, 100), 1, &[5, 7])?;
+    /// assert!(handles[0].insert(9, 100_000).is_err()); // there is no slot
+    /// Handle::renew_all(&mut handles, Shape::for_keys(1_000, 1))?;
+    /// assert!(handles[0].insert(9, 100_000)?);
+    /// assert_eq!(handles[0].balance(), 3);
+    /// # Ok::<(), Box<dyn std::error::Error>>(())
+    /// ```
+    ///
+    /// # Errors
+    ///
+    /// [`RenewError`], and the handles stay as they were, and go on.
+    pub fn renew_all(handles: &mut [HandleOf<K>], shape: Shape) -> Result<(), RenewError> {
+        shape.check()?;
+        let mut shared = shared_by(handles)?;
+        let Shape { slots, buckets, last_epoch } = shape;
+        let code = with_raw(handles, |all, count| {
+            // SAFETY: these are all handles of the set or map, and nothing else has one of them.
+            unsafe { K::RENEW_ALL(all, count, slots, buckets, last_epoch) }
+        });
+        match code {
+            0 => {
+                // SAFETY: all handles that share it are borrowed, so nothing else reaches it.
+                unsafe { shared.as_mut() }.slots = slots;
+                Ok(())
+            }
+            -11 => Err(RenewError::Slots),
+            _ => Err(RenewError::Memory),
+        }
+    }
+}
+
+/// What the handles share, if they are all handles of one set.
+fn shared_by<K: Kind>(handles: &[HandleOf<K>]) -> Result<NonNull<Shared>, ReportError> {
+    let first = handles.first().and_then(|handle| handle.shared).ok_or(ReportError::Missing)?;
+    if handles.iter().any(|handle| handle.shared != Some(first)) {
+        return Err(ReportError::Mixed);
+    }
+    // SAFETY: it is there while one of its handles is open, and these are.
+    if handles.len() != unsafe { first.as_ref() }.count {
+        return Err(ReportError::Missing);
+    }
+    Ok(first)
+}
+
+/// Makes a call of the library with all handles side by side, and then each handle has what is at its place.
+fn with_raw<K: Kind>(handles: &mut [HandleOf<K>], call: impl FnOnce(*mut Raw, usize) -> i32) -> i32 {
+    let mut all: [Raw; MAX_HANDLES] = [const { Raw(null_mut()) }; MAX_HANDLES];
+    for (place, handle) in all.iter_mut().zip(handles.iter_mut()) {
+        swap(place, handle.raw.get_mut());
+    }
+    let code = call(all.as_mut_ptr(), handles.len());
+    for (place, handle) in all.iter_mut().zip(handles.iter_mut()) {
+        swap(place, handle.raw.get_mut());
+    }
+    code
+}

@@ -1,0 +1,53 @@
+//! All handles of a set or a map at once: their balances, their report and their renewal, and each refusal.
+use vbr::{Entry, Handle, Map, MapHandle, RenewError, ReportError, Set, Shape, ShapeError};
+
+const BUDGET: u32 = 100_000;
+
+#[test]
+fn a_set_is_reported_and_renewed() {
+    let mut handles = Set::open_with(Shape::new(4, 1, 100), 2, &[2, 5]).expect("a set");
+    assert!(handles[1].insert(7, BUDGET).expect("an answer") && handles[0].remove(2, BUDGET).expect("an answer"));
+    assert!(!handles[1].insert(7, BUDGET).expect("an answer") && handles[1].insert(9, 1).is_err());
+    assert_eq!([handles[0].balance(), handles[1].balance()], [1, 1]);
+    let report = Handle::report_all(&mut handles).expect("a report");
+    assert_eq!((report.keys, report.epoch), (vec![5, 7], 1));
+    handles.swap(0, 1); // in any order
+    Handle::renew_all(&mut handles, Shape::for_keys(4_096, 2)).expect("a fresh set");
+    assert_eq!([handles[0].balance(), handles[1].balance()], [2, 0]);
+    assert_eq!((handles[0].buckets(), handles[1].epoch()), (4_096, 1));
+    for key in 10..2_000 {
+        assert!(handles[(key % 2) as usize].insert(key, BUDGET).expect("an answer"));
+    }
+    let last = handles.pop().expect("two handles");
+    assert!(handles.remove(0).close().expect("no refusal").is_none());
+    assert_eq!(last.close().expect("a report").expect("the last handle").keys.len(), 1_992);
+}
+
+#[test]
+fn a_map_keeps_its_values() {
+    let some = [(2, 20), (5, 50)].map(Entry::from);
+    let mut handles = Map::open_with(Shape::new(8, 2, 100), 2, &some).expect("a map");
+    assert_eq!(handles[0].put(5, 51, BUDGET), Ok(Some(50)));
+    assert_eq!(handles[1].put(6, 60, BUDGET), Ok(None));
+    assert_eq!([handles[0].balance(), handles[1].balance()], [2, 1]);
+    MapHandle::renew_all(&mut handles, Shape::new(3, 2, 100)).expect("a fresh map");
+    let entries = MapHandle::report_all(&mut handles).expect("a report").entries;
+    assert_eq!(entries, [(2, 20), (5, 51), (6, 60)].map(Entry::from));
+}
+
+#[test]
+fn refusals_leave_the_handles() {
+    let mut handles = Set::open_with(Shape::new(4, 1, 100), 2, &[2, 5]).expect("a set");
+    let mut others = Set::open(Shape::new(4, 1, 100), 1).expect("another set");
+    assert_eq!(Handle::report_all(&mut []).err(), Some(ReportError::Missing));
+    assert_eq!(Handle::report_all(&mut handles[..1]).err(), Some(ReportError::Missing));
+    assert_eq!(Handle::renew_all(&mut handles[..1], Shape::new(4, 1, 100)), Err(RenewError::Missing));
+    assert_eq!(Handle::renew_all(&mut handles, Shape::new(1, 1, 100)), Err(RenewError::Slots));
+    assert_eq!(Handle::renew_all(&mut handles, Shape::new(0, 1, 100)), Err(RenewError::Shape(ShapeError::Slots(0))));
+    std::mem::swap(&mut handles[1], &mut others[0]);
+    assert_eq!(Handle::report_all(&mut handles).err(), Some(ReportError::Mixed));
+    assert_eq!(Handle::renew_all(&mut handles, Shape::new(4, 1, 100)), Err(RenewError::Mixed));
+    std::mem::swap(&mut handles[1], &mut others[0]);
+    assert_eq!(Handle::report_all(&mut handles).expect("a report").keys, [2, 5]);
+    assert!(handles[1].has(5, BUDGET).expect("an answer"));
+}

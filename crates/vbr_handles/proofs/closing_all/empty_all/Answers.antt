@@ -1,0 +1,13 @@
+use Rattle.std.proofs.Common.{◌∙◌, arith}
+use Rattle.std.proofs.lemmas.List.{length-set}
+use Rattle.vbr_handles.proofs.AskingAll.{emptied}
+use Rattle.vbr_handles.proofs.closing_all.empty_all.Goals as goal
+
+pub loop-i-preserved : goal.loop-i-preserved
+loop-i-preserved g c =
+    let within = c.loop-i-test.true in
+    let long = c.loop-i.invariant.long in
+    record {
+      long = length-set c.loop-i.handles c.loop-i.i c.swap.new.self ∙ long;
+      empty = λ k d low. emptied g.H.HandleOf.member c.loop-i.handles c.loop-i.i c.swap.new.self (omega arith) (c.swap.ensures.taken ∙ c.empty-owner.ensures) c.loop-i.invariant.empty k d (omega (arith, low));
+    }

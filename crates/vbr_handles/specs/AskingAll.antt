@@ -1,0 +1,46 @@
+-- What is asked of all members of handles at once, and what comes back to them. Only contracts of private functions cite this.
+use Rattle.std.specs.Prelude.{◌≡◌, List, [], ◌++◌, length, map, Option, Some, Result, Ok, Err}
+use Rattle.vbr_set.specs.AllMembers.{AreTooFew, ReportsAllBy}
+use Rattle.vbr_set.specs.Closing.{ClosesBy}
+use Rattle.vbr_set.specs.Kinds.{KindOf}
+use Rattle.vbr_set.specs.Members.{MemberView as Member}
+use Rattle.vbr_set.specs.RenewingAll.{AreNotAll, HasNoRoom, RenewsAllBy}
+use Rattle.vbr_handles.specs.AllHandles.{AreFull, members_by}
+use Rattle.vbr_handles.specs.declared.asking_all.AskRefusal.{AskRefusal}
+use Rattle.vbr_handles.specs.declared.asking_all.AskRefusal.TheVariants as asking
+use Rattle.vbr_handles.specs.declared.asking_all.Question.{Question}
+use Rattle.vbr_handles.specs.declared.asking_all.Question.TheVariants as question
+use Rattle.vbr_handles.specs.declared.asking_all.Told.{Told}
+use Rattle.vbr_handles.specs.declared.asking_all.Told.TheVariants as told
+
+module _ {Item R : Type 0} (kind : KindOf Item R) where
+  -- members that are asked for their report come back as they were, with it or with why there is none; those that are to be renewed are, or come back as they were with why not
+  abbrev pub Tells : Question → List Member → List Member → Told R → Type 0
+  Tells question.Report members back (told.Report report) = (back ≡ members) × ReportsAllBy (ClosesBy kind) members report
+  Tells question.Report members back told.Missing = (back ≡ members) × AreTooFew members
+  Tells question.Report members back told.Memory = back ≡ members
+  Tells question.Report members back _ = ⊥
+  Tells (question.Renew shape) members back told.Renewed = RenewsAllBy kind members shape back
+  Tells (question.Renew shape) members back told.Missing = (back ≡ members) × AreNotAll members
+  Tells (question.Renew shape) members back told.Room = (back ≡ members) × HasNoRoom kind members shape
+  Tells (question.Renew shape) members back told.Memory = back ≡ members
+  Tells (question.Renew shape) members back _ = ⊥
+
+  module _ {H : Type 0} (member : H → Option Member) (asked : Question) where
+    -- the members of handles were asked behind others; as many of those came back, and each handle has the one that came back for it
+    pub record AsksThem (others : List Member) (before after : List H) (back : List Member) (answer : Told R) : Type 0 where
+      pub came : List Member
+      pub tells : Tells asked (others ++ members_by member before) (back ++ came) answer
+      pub many : length back ≡ length others
+      pub full : map member after ≡ map Some came
+
+    -- why they were asked nothing
+    abbrev pub IsWhyUnasked : List H → AskRefusal → Type 0
+    IsWhyUnasked handles asking.Empty = ¬ (AreFull member handles)
+    IsWhyUnasked handles asking.Mixed = AreFull member handles
+    IsWhyUnasked handles asking.Memory = AreFull member handles
+
+    -- the members of handles were asked alone; and else the handles are as they were
+    abbrev pub AsksAllOf : List H → List H → Result (Told R) AskRefusal → Type 0
+    AsksAllOf before after (Ok answer) = AreFull member before × AsksThem [] before after [] answer
+    AsksAllOf before after (Err refusal) = (after ≡ before) × IsWhyUnasked before refusal

@@ -1,0 +1,56 @@
+//! All handles of a set at once go on over a fresh one.
+ghost use Rattle.vbr_set.specs.AllMembers.{AreOfOneSet};
+ghost use Rattle.vbr_handles.specs.AllHandles.{members_by};
+ghost use Rattle.vbr_handles.specs.RenewingAll.{RenewsAll};
+
+use crate::asking_all::{AskRefusal, Question, Told, ask_all};
+use crate::handle_of::HandleOf;
+use crate::listed::Listed;
+use crate::opening::ShapeNumbers;
+use std::alloc::Global;
+use vbr_set::Kind;
+
+/// Why the handles of a set were not renewed. The tests are made in this order, and the handles are as they
+/// were.
+#[derive(Clone, Copy, Debug, PartialEq, Eq)]
+pub enum RenewAllRefusal {
+    /// The numbers are no shape.
+    Shape,
+    /// One of the handles is empty.
+    Empty,
+    /// Two of the handles are of different sets in memory (`Member::is_beside` of `vbr_set`). It is a probe, and no
+    /// contract says when it comes.
+    Mixed,
+    /// There are not as many handles as were opened with the set.
+    Missing,
+    /// There are more keys than slots of the shape.
+    Room,
+    /// There is no memory. It may come before the tests of Missing and Room.
+    Memory,
+}
+
+/// Lets all handles of a set, in any order, go on over a fresh one of these numbers, with the keys that were
+/// in it, each with the fresh pass of its place. It asks that all are of one set. So it is of a map, whose
+/// entries keep their values.
+pub fn renew_all<N: Kind, I: Listed<N>, H: HandleOf<N>>(
+    alloc: Global,
+    handles: &mut [H],
+    numbers: ShapeNumbers,
+) -> Result<(), RenewAllRefusal>
+    requires { AreOfOneSet (members_by H.member handles.old) }
+    ensures { RenewsAll N.kind I.listing H.member handles.old handles.new numbers result }
+{
+    let Some(shape) = numbers.shape() else {
+        return Err(RenewAllRefusal::Shape);
+    };
+    match ask_all::<N, H>(alloc, handles, Question::Renew(shape)) {
+        Ok(Told::Renewed) => Ok(()),
+        Ok(Told::Missing) => Err(RenewAllRefusal::Missing),
+        Ok(Told::Room) => Err(RenewAllRefusal::Room),
+        Ok(Told::Memory) => Err(RenewAllRefusal::Memory),
+        Ok(Told::Report(_)) => unreachable!(),
+        Err(AskRefusal::Empty) => Err(RenewAllRefusal::Empty),
+        Err(AskRefusal::Mixed) => Err(RenewAllRefusal::Mixed),
+        Err(AskRefusal::Memory) => Err(RenewAllRefusal::Memory),
+    }
+}

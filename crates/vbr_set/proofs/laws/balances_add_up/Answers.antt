@@ -1,0 +1,5 @@
+use Rattle.vbr_set.proofs.BalanceSums.{add_up}
+use Rattle.vbr_set.proofs.laws.balances_add_up.Goals as goal
+
+pub returns : goal.returns
+returns c = add_up

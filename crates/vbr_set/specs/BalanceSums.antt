@@ -1,0 +1,31 @@
+-- The balances of all members of a set, added up.
+use Rattle.std.specs.Prelude.{◌≡◌, ◌==◌, ◌<◌, ℕ, ℤ, pos, ◌+ℤ◌, List, [], ◌∷◌, count_by}
+use Rattle.std.specs.Int.{w64, int_wrap}
+use Rattle.vbr_slots.specs.PassLaw.{PassLaw}
+use Rattle.vbr_slots.specs.Views.{IsOf, PassView, TableView}
+use Rattle.vbr_set.specs.AllMembers.{ReportsAllBy}
+use Rattle.vbr_set.specs.Balances.{balance_of}
+use Rattle.vbr_set.specs.Closing.{ClosesBy}
+use Rattle.vbr_set.specs.Kinds.{KindOf, as_map, as_set}
+use Rattle.vbr_set.specs.Members.{MemberView}
+
+-- the sum of the balances of members
+abbrev pub sum_of_balances : List MemberView → ℤ
+sum_of_balances [] = pos 0
+sum_of_balances (m ∷ ms) = balance_of m +ℤ sum_of_balances ms
+
+-- each pass of the set is that of one of the members
+abbrev pub HasEachOnce : TableView → List MemberView → Type 0
+HasEachOnce set members = (who : ℕ) → who < set.passes → count_by (λ m. m.pass.trace.who == who) members ≡ 1
+
+-- where a report is told of all members, each once, their balances add up to how many keys it tells, as far as 64 bits tell; any pass of the set bears out that it is one
+abbrev pub AddUpBy : {Item R : Type 0} → KindOf Item R → Type 0
+AddUpBy {Item} {R} kind =
+    (members : List MemberView) (report : R) (told : ReportsAllBy (ClosesBy kind) members report) (pass : PassView)
+    → PassLaw pass → IsOf pass.trace told.set → HasEachOnce told.set members
+    → int_wrap w64 (sum_of_balances members) ≡ pos (kind.contents report).live
+
+-- so it is of sets and of maps
+pub record BalancesAddUp : Type 0 where
+  pub of_sets : AddUpBy as_set
+  pub of_maps : AddUpBy as_map

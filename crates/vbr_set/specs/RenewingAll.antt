@@ -1,0 +1,33 @@
+-- How a set or a map is renewed by all its members.
+use Rattle.std.specs.Prelude.{◌≡◌, ◌≢◌, ◌<◌, List, [], ◌∷◌, length}
+use Rattle.vbr_words.specs.Dimensions.{Dimensions}
+use Rattle.vbr_set.specs.AllMembers.{ReportsAllBy}
+use Rattle.vbr_set.specs.Closing.{ClosesBy}
+use Rattle.vbr_set.specs.Kinds.{KindOf}
+use Rattle.vbr_set.specs.Members.{AreNew, MemberView}
+use Rattle.vbr_set.specs.declared.renew_all_error.RenewAllError.{RenewAllError}
+use Rattle.vbr_set.specs.declared.renew_all_error.RenewAllError.TheVariants.{Missing, Room, Memory}
+
+-- they are not as many as were opened with their set
+abbrev pub AreNotAll : List MemberView → Type 0
+AreNotAll [] = Unit {0}
+AreNotAll (m ∷ ms) = length (m ∷ ms) ≢ m.set.passes
+
+module _ {Item R : Type 0} (kind : KindOf Item R) where
+  -- what a report tells of all members, a fresh set of this shape opens with, and these are its members, as many as there were
+  pub record RenewsAllBy (members : List MemberView) (shape : Dimensions) (fresh : List MemberView) : Type 0 where
+    pub report : R
+    pub reports : ReportsAllBy (ClosesBy kind) members report
+    pub new : AreNew (kind.start shape (kind.contents report).listed.items) (length members) fresh
+
+  -- a report tells more of all members than a shape has slots
+  pub record HasNoRoom (members : List MemberView) (shape : Dimensions) : Type 0 where
+    pub report : R
+    pub reports : ReportsAllBy (ClosesBy kind) members report
+    pub more : shape.slots < length (kind.contents report).listed.items
+
+  -- why members are not renewed, which come back as they were: they are not all of the set, or the fresh one has too few slots, or there is no memory
+  abbrev pub IsWhyUnrenewed : List MemberView → Dimensions → RenewAllError MemberView → Type 0
+  IsWhyUnrenewed members shape (Missing back) = (back.items ≡ members) × AreNotAll members
+  IsWhyUnrenewed members shape (Room back) = (back.items ≡ members) × HasNoRoom members shape
+  IsWhyUnrenewed members shape (Memory back) = (back.items ≡ members) × ¬ (AreNotAll members)

@@ -1,0 +1,78 @@
+//! Renewing a set or a map by all its members.
+ghost use Rattle.std.specs.Prelude.{◌≡◌, None, length, IfErr, IfOk, IfSome};
+ghost use Rattle.vbr_set.specs.AllMembers.{AreOfOneSet};
+ghost use Rattle.vbr_set.specs.RenewingAll.{AreNotAll, IsWhyUnrenewed, RenewsAllBy};
+
+use crate::close_all_error::CloseAllError;
+use crate::kind::Kind;
+use crate::member::Member;
+use crate::renew_all_error::RenewAllError;
+use std::alloc::Global;
+use vbr_slots::OpenError;
+use vbr_words::{Nodes, Shape};
+
+impl<N: Kind> Member<N> {
+    /// Lets all members of a set or a map, in any order, go on over a fresh one of this shape, with the keys
+    /// or the entries that were in it: members that have seen nothing, in the order of their numbers, as many
+    /// as came. The epoch is 1 again, and the first member's balance is the number of keys. It is for one
+    /// whose epoch comes near its last one, or which has become too small.
+    ///
+    /// It makes no call of the set, and tells what is in it as [`Member::report_all`] does. The fresh set is
+    /// opened while the other is there, so it takes the memory of a report and that of
+    /// [`Member::open_with`]; then the memory of the other is freed.
+    ///
+    /// # Errors
+    ///
+    /// They are tested in this order, and the members come back as they were.
+    ///
+    /// - Missing: there are not as many members as were opened with the set.
+    /// - Room: there are more keys than slots of this shape. It is tested once there is a report.
+    /// - Memory: there is no room for the report or for the fresh set.
+    ///
+    /// # Example
+    ///
+    /// ```rattle file=crates/vbr_set_tests/src/balances.rt
+    /// match Member::renew_all(alloc, members, shape) {
+    /// ```
+    pub fn renew_all(
+        alloc: Global,
+        members: Vec<Member<N>>,
+        shape: Shape,
+    ) -> Result<Vec<Member<N>>, RenewAllError<Member<N>>>
+        requires { AreOfOneSet members.items }
+        ensures renewed { IfOk result
+            (λ fresh. RenewsAllBy N.kind members.items shape fresh.items) }
+        ensures not { IfErr result (IsWhyUnrenewed N.kind members.items shape) }
+    {
+        let Some(passes) = count_if_all(&members) else {
+            return Err(RenewAllError::Missing(members));
+        };
+        let (report, members) = match Member::<N>::report_all(alloc, members) {
+            Ok(told) => told,
+            Err(CloseAllError::Missing(members)) => return Err(RenewAllError::Missing(members)),
+            Err(CloseAllError::Memory(members)) => return Err(RenewAllError::Memory(members)),
+        };
+        let items = N::items(&report);
+        if items.len() > shape.slots() as usize {
+            return Err(RenewAllError::Room(members));
+        }
+        match Member::<N>::open_with(alloc, shape, passes, items) {
+            Ok(fresh) => Ok(fresh),
+            Err(_) => Err(RenewAllError::Memory(members)),
+        }
+    }
+}
+
+// How many members there are, where they are as many as were opened with their set.
+fn count_if_all<N: Nodes>(members: &[Member<N>]) -> Option<u32>
+    ensures all { IfSome result (λ count. (count ≡ length members.now)
+        × ¬ (AreNotAll members.now)) }
+    ensures missing { result ≡ None → AreNotAll members.now }
+{
+    let count = members.first()?.share.set().count;
+    if members.len() == count as usize {
+        Some(count)
+    } else {
+        None
+    }
+}

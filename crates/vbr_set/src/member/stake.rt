@@ -1,0 +1,12 @@
+//! What a member has beside its pass.
+use crate::member::share::Share;
+use vbr_words::Nodes;
+
+/// What a member has beside its pass.
+#[derive(Drop)]
+pub struct Stake<N: Nodes> {
+    /// What it has of its set.
+    pub(crate) share: Share<N>,
+    /// How many keys its calls have added, less those that they took out.
+    pub(crate) balance: i64,
+}

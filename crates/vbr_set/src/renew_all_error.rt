@@ -1,0 +1,38 @@
+//! Why the members of a set or of a map were not renewed.
+use crate::member::Member;
+use std::error::Error;
+use std::fmt;
+
+/// Why the members of a set were not renewed, or those of a map, which `M` then are. The tests are made in
+/// this order, and the members come back as they were.
+#[derive(Drop)]
+pub enum RenewAllError<M = Member> {
+    /// There are not as many members as the set was opened with.
+    Missing(Vec<M>),
+    /// There are more keys than the fresh set would have slots.
+    Room(Vec<M>),
+    /// There is no memory for the fresh set.
+    Memory(Vec<M>),
+}
+
+impl<M> fmt::Debug for RenewAllError<M> {
+    fn fmt<W: fmt::Write>(&self, f: &mut fmt::Formatter<W>) -> fmt::Result {
+        match self {
+            RenewAllError::Missing(_) => write!(f, "Missing"),
+            RenewAllError::Room(_) => write!(f, "Room"),
+            RenewAllError::Memory(_) => write!(f, "Memory"),
+        }
+    }
+}
+
+impl<M> fmt::Display for RenewAllError<M> {
+    fn fmt<W: fmt::Write>(&self, f: &mut fmt::Formatter<W>) -> fmt::Result {
+        match self {
+            RenewAllError::Missing(_) => write!(f, "there are not as many members as were opened"),
+            RenewAllError::Room(_) => write!(f, "there are more keys than slots"),
+            RenewAllError::Memory(_) => write!(f, "there is no memory for the fresh set"),
+        }
+    }
+}
+
+impl<M: Drop> Error for RenewAllError<M> {}
