@@ -297,9 +297,15 @@ VBR_NODISCARD static inline vbr_answer value_close_all(vbr_map_handle *handles, 
     return answer;
 }
 
+/* The values of such a report stay where they are. */
 VBR_NODISCARD static inline vbr_answer value_report_all(vbr_map_handle *handles, size_t count, uint64_t *keys, size_t room, vbr_totals *report) {
+    uint64_t now = value_read(&value_time);
     vbr_answer answer = vbr_map_report_all(handles, count, told_entries, room < MOST_ENTRIES ? room : MOST_ENTRIES, report);
-    if (answer == VBR_YES) value_report(keys, report->live);
+    told_count = answer == VBR_YES ? report->live : 0;
+    for (size_t i = 0; i < told_count; i++) {
+        value_is_found(told_entries[i].key, told_entries[i].value, now);
+        keys[i] = told_entries[i].key;
+    }
     return answer;
 }
 

@@ -227,7 +227,7 @@ enum class [[nodiscard]] all_answer {
 
 /* What a report by all handles of a set answers, and the report where it is done.
 
-       vbr::told now = vbr::handle::report_all(both.handles); // now.report->keys is {5} */
+       vbr::told now = vbr::handle::report_all(both.handles); // now.report->keys is {5, 7} */
 struct [[nodiscard]] told {
     all_answer answer;
     std::optional<vbr::report> report;
