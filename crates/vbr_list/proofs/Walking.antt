@@ -21,8 +21,11 @@ pub record HasRepeatedIn (per : ℕ) (p q : Trace) (bucket each before since_the
 abbrev pub HasRepeated : ℕ → Trace → Trace → ℕ → ℕ → ℕ → ℕ → Type 0
 HasRepeated per p q key each before since_then = HasRepeatedIn per p q (bucket_of p.start.shape key) each before since_then
 
-pub repeated_none : (per : ℕ) (p : Trace) (bucket each a : ℕ) → HasRepeatedIn per p p bucket each a a
-repeated_none per p bucket each a = record { lost = 0; repeats = record { few = omega arith; paid = omega arith } }
+pub repeated_none_in : (per : ℕ) (p : Trace) (bucket each a : ℕ) → HasRepeatedIn per p p bucket each a a
+repeated_none_in per p bucket each a = record { lost = 0; repeats = record { few = omega arith; paid = omega arith } }
+
+pub repeated_none : (per : ℕ) (p : Trace) (key each a : ℕ) → HasRepeated per p p key each a a
+repeated_none per p key each a = repeated_none_in per p (bucket_of p.start.shape key) each a
 
 -- what stood open since a later moment
 abbrev pub stood_from : (p q r : Trace) {there bucket : ℕ} (held : Held) → there ≡ bucket → IsSame p q → Begins p.seen q.seen → StoodOpen q r there held → StoodOpen p r bucket held

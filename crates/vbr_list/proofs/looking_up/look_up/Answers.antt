@@ -45,7 +45,7 @@ loop-sight-preserved g c =
     )
 
 pub loop-sight-init : goal.loop-sight-init
-loop-sight-init g c = (call_refl _, refl, refl, peeks_refl c.args.stepper.now 0 c.args.budget (omega arith), repeated_none 5 c.args.stepper.now.trace (bucket_of c.args.stepper.now.trace.start.shape c.args.key) (3 + steps_to_answer c.args.gives) 0)
+loop-sight-init g c = (call_refl _, refl, refl, peeks_refl c.args.stepper.now 0 c.args.budget (omega arith), repeated_none 5 c.args.stepper.now.trace c.args.key (3 + steps_to_answer c.args.gives) 0)
 
 pub returns-in_default-clause-took : goal.returns-in_default-clause-took
 returns-in_default-clause-took g c =

@@ -4,13 +4,13 @@ use Rattle.vbr_list.specs.Seeking.{steps_besides}
 use Rattle.vbr_list.proofs.Going.{table_on}
 use Rattle.vbr_list.proofs.Passing.{peeks_on, peeks_refl}
 use Rattle.vbr_list.proofs.Following.{tells_since}
-use Rattle.vbr_list.proofs.Walking.{last_search, lost_on, repeated_none}
+use Rattle.vbr_list.proofs.Walking.{last_search, lost_on, repeated_none_in}
 use Rattle.vbr_list.proofs.seeking.seek_in.Goals as goal
 
 pub loop-next-init : goal.loop-next-init
 loop-next-init g c =
     let p = c.args.at.now.stepper.now in
-    (record { pass = refl; slots = refl }, peeks_refl p c.args.used c.args.budget c.requires.within, repeated_none 5 p.trace c.args.bucket (steps_besides p.trace) c.args.used)
+    (record { pass = refl; slots = refl }, peeks_refl p c.args.used c.args.budget c.requires.within, repeated_none_in 5 p.trace c.args.bucket (steps_besides p.trace) c.args.used)
 
 pub loop-next-preserved : goal.loop-next-preserved
 loop-next-preserved g c =

@@ -3,7 +3,7 @@ use Rattle.vbr_list.proofs.Names.{begins_run, disturbances_grow, since}
 use Rattle.vbr_list.specs.Disturbed.{disturbed_at}
 use Rattle.vbr_list.specs.Places.{sighted}
 use Rattle.vbr_list.specs.Walking.{RepeatsIn}
-use Rattle.vbr_list.proofs.Walking.{last_walk, lost_on, repeated_none, stood_from, walks_again}
+use Rattle.vbr_list.proofs.Walking.{last_walk, lost_on, repeated_none_in, stood_from, walks_again}
 use Rattle.vbr_list.proofs.LostWalks.{run_whole}
 use Rattle.vbr_list.proofs.Going.{call_on, call_refl, goes_further, within_call}
 use Rattle.vbr_list.proofs.Observing.{observes_on}
@@ -11,7 +11,7 @@ use Rattle.vbr_list.proofs.Passing.{peeks_on, peeks_refl}
 use Rattle.vbr_list.proofs.call.PendingCall.look.Goals as goal
 
 pub loop-sight-init : goal.loop-sight-init
-loop-sight-init g c = (call_refl c.args.self.now, peeks_refl c.args.self.now.at.stepper.now c.args.self.now.used c.args.self.now.budget c.args.self.now.within, repeated_none 5 c.args.self.now.at.stepper.now.trace c.args.self.now.bucket 3 c.args.self.now.used)
+loop-sight-init g c = (call_refl c.args.self.now, peeks_refl c.args.self.now.at.stepper.now c.args.self.now.used c.args.self.now.budget c.args.self.now.within, repeated_none_in 5 c.args.self.now.at.stepper.now.trace c.args.self.now.bucket 3 c.args.self.now.used)
 
 pub loop-sight-preserved : goal.loop-sight-preserved
 loop-sight-preserved g c =
