@@ -12,7 +12,9 @@ template <class N> struct Twin {
     twin::Table<N> table;
     std::vector<twin::Pass> passes;
 
-    explicit Twin(const Workload &w) : table(w.slots(), static_cast<uint32_t>(w.buckets()), VBR_MAX_EPOCH), passes(w.threads) {}
+    explicit Twin(const Workload &w) : table(w.slots(), static_cast<uint32_t>(w.buckets()), VBR_MAX_EPOCH) {
+        for (unsigned who = 0; who < w.threads; who++) passes.push_back(table.pass(who, w.threads));
+    }
 
     struct Handle {
         twin::Pass &pass;
@@ -100,7 +102,8 @@ template <class N> struct Plain {
     twin::Table<N> table;
     twin::Pass passes[2];
 
-    Plain(uint32_t slots, uint32_t buckets, uint64_t last_epoch) : table(slots, buckets, last_epoch) {}
+    Plain(uint32_t slots, uint32_t buckets, uint64_t last_epoch)
+        : table(slots, buckets, last_epoch), passes{table.pass(0, 2), table.pass(1, 2)} {}
     int insert(int by, uint64_t key, uint64_t value, uint32_t budget) { return table.insert(passes[by], key, value, budget); }
     int remove(int by, uint64_t key, uint32_t budget, uint64_t &value) { return table.remove(passes[by], key, budget, value); }
     int get(int by, uint64_t key, uint32_t budget, uint64_t &value) { return table.get(passes[by], key, budget, value); }

@@ -131,6 +131,13 @@ public:
     Table(const Table &) = delete;
     Table &operator=(const Table &) = delete;
 
+    // A pass of so many: they begin to look for a slot at words of flags that lie apart.
+    Pass pass(unsigned who, unsigned passes) const {
+        Pass pass;
+        pass.tried = static_cast<uint32_t>(who * ((slots + 63) / 64) / passes * 64);
+        return pass;
+    }
+
     // The calls; where nodes have no values none is stored or given. As the library's they are called as functions, which begin at
     // a line of the cache.
     [[gnu::noinline, gnu::aligned(64)]] Answer insert(Pass &pass, uint64_t key, uint64_t value, uint32_t budget) {

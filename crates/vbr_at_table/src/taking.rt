@@ -2,7 +2,7 @@
 ghost use Rattle.std.specs.Prelude.{◌≡◌, ◌≢◌, ◌≤◌, [], IfOk, IfErr, Some, None};
 ghost use Rattle.vbr_slots.specs.AtTables.{IsSameTable, pass_of, trace_of};
 ghost use Rattle.vbr_slots.specs.Calls.{Took};
-ghost use Rattle.vbr_slots.specs.Views.{knows};
+ghost use Rattle.vbr_slots.specs.Views.{IsOf, knows};
 ghost use Rattle.vbr_at_table.specs.Pieces.{told_steps};
 ghost use Rattle.vbr_at_table.specs.Pieces.{HasSlots, Probes, WinsNone};
 ghost use Rattle.vbr_at_table.specs.Pieces.{Chooses, ChoosesNone, IsChosen};
@@ -14,7 +14,7 @@ ghost use Rattle.vbr_at_table.specs.Taking.{IsTaken, Takes};
 use crate::budget::affords;
 use crate::hand::Hand;
 use crate::refusal::Refusal;
-use vbr_slots::AtTable;
+use vbr_slots::{AtTable, Slots, Stepper};
 use vbr_words::Nodes;
 use vbr_words::flags::{FLAGS, next_flag};
 
@@ -34,6 +34,7 @@ use vbr_words::flags::{FLAGS, next_flag};
 /// out of the shared pool meanwhile.
 ///
 /// It tells how many steps it made.
+#[inline(always)]
 pub fn take<N: Nodes>(at: &mut AtTable<'_, N>, budget: u32) -> (Result<Hand, Refusal>, u32)
     requires empty_hand { (pass_of at.old).hand ≡ None }
     ensures table { IsSameTable at.old at.new }
@@ -42,7 +43,26 @@ pub fn take<N: Nodes>(at: &mut AtTable<'_, N>, budget: u32) -> (Result<Hand, Ref
     ensures taken { IfOk result.0 (IsTaken (pass_of at.old) (pass_of at.new)) }
     ensures refused { IfErr result.0 (RefusesTake (pass_of at.old) (pass_of at.new) budget) }
 {
-    match take_on(at, budget) {
+    let slots = at.slots;
+    take_apart(slots, at.stepper, budget)
+}
+
+// As `take`, in a function of its own: what makes the steps is lent to it, so that a call which takes a
+// slot has all else of its own in registers.
+#[inline(never)]
+fn take_apart<N: Nodes>(
+    slots: &Slots<N>,
+    stepper: &mut Stepper,
+    budget: u32,
+) -> (Result<Hand, Refusal>, u32)
+    requires own { IsOf stepper.old.trace slots.now }
+    requires empty_hand { stepper.old.hand ≡ None }
+    ensures took { Took stepper.old.trace stepper.new.trace result.1 }
+    ensures takes { Takes stepper.old stepper.new budget }
+    ensures taken { IfOk result.0 (IsTaken stepper.old stepper.new) }
+    ensures refused { IfErr result.0 (RefusesTake stepper.old stepper.new budget) }
+{
+    match take_on(&mut AtTable { slots, stepper }, budget) {
         Ok((hand, used)) => (Ok(hand), used),
         Err((refusal, used)) => (Err(refusal), used),
     }

@@ -68,7 +68,7 @@ pub(crate) fn walk_on<N: Nodes>(at: &mut AtTable<'_, N>, key: u64, budget: u32, 
 impl<N: Nodes> PendingCall<'_, N> {
     // Unlinks and retires the node that was marked; where that is lost, walks on until it is out of
     // its list, by this pass or another.
-    #[inline]
+    #[inline(always)]
     fn unlink_marked(&mut self, pred: &Held, marked: Marked)
         requires marked { IsMarkedFor self.old pred.now marked }
         requires room { HasRoom self.old }

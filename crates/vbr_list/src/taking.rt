@@ -40,6 +40,7 @@ impl<N: Nodes> PendingCall<'_, N> {
     }
 
     /// Takes a slot with what is left of the budget.
+    #[inline(always)]
     pub(crate) fn provide(&mut self) -> Result<Hand, Refusal>
         requires empty_hand { (pass_in self.old).hand ≡ None }
         ensures prepares { Prepares self.old self.new }
