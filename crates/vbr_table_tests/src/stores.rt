@@ -115,7 +115,11 @@ fn stores_in_a_full_map(rt: HostRuntime) -> Result<(), Fail> {
         Row::Call(1, 100, Made::Store(1, 201, Wanted::Anything, none)),
         Row::Call(1, 100, Made::Store(2, 201, Wanted::Absent, none)),
         Row::Call(1, 100, Made::Store(1, 201, Wanted::Absent, Ok(Some(101)))),
-        Row::Call(1, 100, Made::Store(1, 201, Wanted::Value(102), Ok(Some(101)))),
+        Row::Call(
+            1,
+            100,
+            Made::Store(1, 201, Wanted::Value(102), Ok(Some(101))),
+        ),
         Row::Call(1, 100, Made::Store(2, 201, Wanted::Present, Ok(None))),
         Row::Call(0, 100, Made::Get(1, Ok(Some(101)))),
     ];
