@@ -19,12 +19,13 @@
 
        vbr_map_handle map[2] = {{0}};
        vbr_entry entries[8] = {{0}};
-       uint64_t value = 0;
+       uint64_t value = 0, before = 0;
        if (vbr_map_open(map, 2, 1024 + 2 * 64, 1024, VBR_MAX_EPOCH) != VBR_NO) return 1;
        vbr_answer added = vbr_map_insert(&map[0], 5, 70, 100000);  // VBR_YES: 5 was absent, and now has the value 70
        vbr_answer again = vbr_map_insert(&map[1], 5, 71, 100000);  // VBR_NO: 5 keeps its value
        vbr_answer there = vbr_map_get(&map[1], 5, 100000, &value); // VBR_YES: value is 70
-       vbr_answer closed = vbr_map_close_all(map, 2, entries, 8, &report); // VBR_YES: entries[0] is {5, 70}
+       vbr_answer changed = vbr_map_replace(&map[1], 5, 72, &before, 100000); // VBR_YES: before is 70, and 5 has 72
+       vbr_answer closed = vbr_map_close_all(map, 2, entries, 8, &report); // VBR_YES: entries[0] is {5, 72}
 
    Compare what a call answers with VBR_YES: a refusal is no 0, and so is true where a program asks `if (vbr_has(..))`.
 
@@ -35,10 +36,23 @@
    Maps. Each call on a set has its like on a map, with `vbr_map_` in its name, and handles to maps are of a type of their own.
    What is said here of sets and their keys holds of maps and their entries too; vbr_map_get is a second kind of look-up, and
    vbr_map_next gives a key with its value.
-   A key keeps the value that it was inserted with until it is removed: an insert of a key that is there answers VBR_NO and
-   stores nothing. To give a key another value remove it and insert it again; in between others find it absent. vbr_map_get and
-   vbr_map_remove write the value where they answer VBR_YES, and nothing otherwise. It is the value that was stored last for
-   the key in the history that has the answer: never one of an earlier insert, nor of one that was answered VBR_NO.
+   An insert of a key that is there answers VBR_NO and stores nothing. vbr_map_get and vbr_map_remove write the value where they
+   answer VBR_YES, and nothing otherwise. It is the value that was stored last for the key in the history that has the answer:
+   never one that was taken out or replaced before, nor that of a call which is answered that it stored nothing.
+
+   Changing values. Five calls of maps do one thing or another by what is there, at one moment of the call:
+
+       vbr_map_replace            gives a key that is there another value
+       vbr_map_put                gives a key this value, whether it is there or not
+       vbr_map_get_or_insert      gives the value of a key, or inserts the key where it is absent
+       vbr_map_compare_exchange   gives a key another value where it has the one that is expected
+       vbr_map_remove_if          takes a key out where it has the value that is expected
+
+   Each answers VBR_YES where the key was there, of the last two with the value that is expected; VBR_NO where it was absent; and
+   of the last two VBR_OTHER where it was there with another value. But for VBR_NO, `*found` is then the value that the key had
+   as the call took effect. With VBR_NO and a refusal nothing is written. In the history a call that gave a key another value is
+   a remove with the old value and an insert with the new one, next to each other: no call finds the key absent in between, and
+   a walk gives it with the one value or the other. A call that changed nothing is a look-up.
 
    Who owns what. A set is opened with 1 to 64 handles, and each handle owns one pass of the set, the
    right to make calls, and a share of the set. A handle is all zero while it is empty: write {0}, or {} in
@@ -48,7 +62,8 @@
    of a set. A full handle that is forgotten keeps its set open: no other one is then the last.
 
    Pointers. None that a call is given is null, even where the number beside it is 0: then any aligned
-   address does. Only the handle of vbr_close and vbr_drop may be: a null one is taken for an empty one.
+   address does. Only the handle of vbr_close and vbr_drop may be, and a null one is taken for an empty one; and `found` of the
+   five calls that change values, where nobody asks what was there.
    Each is aligned for its type, and names as many values as that number says, or one. All of these are
    initialised before the call, those too that it only writes, as {0} does it: what vbr_close does not
    write it leaves as it was. They belong to the call while it runs, and to the caller
@@ -65,8 +80,8 @@
    stays as it is, and whoever joined the thread goes on with it or closes it; its set isn't closed without it. No call
    is a point of cancellation. A thread that is cancelled at once (PTHREAD_CANCEL_ASYNCHRONOUS), or that leaves a
    signal handler by longjmp, may do so in the middle of a call: its handle is then not used again. A signal handler may
-   make calls that insert, remove, look up and walk with a handle that nothing else uses, and none of the other
-   functions, since these take memory. After a fork the child has copies of the sets: where the process had one thread
+   make calls that insert, remove, change values, look up and walk with a handle that nothing else uses, and none of the
+   other functions, since these take memory. After a fork the child has copies of the sets: where the process had one thread
    it may go on with them, and the parent doesn't see it; where it had several, the child uses no handle.
 
    Order. Where a call returns before another one begins, by a mutex, a channel, a join, or a release and
@@ -75,8 +90,8 @@
    that your program does not order have some order, in one history of the set. A relaxed flag orders none.
    What a thread wrote before it inserted a key can be read by a thread that then finds the key (vbr_has or vbr_remove
    answers VBR_YES, vbr_insert VBR_NO, vbr_next gives it), and what it did before it removed one is done for a thread that then
-   inserts it: each step is a sequentially consistent atomic. ThreadSanitizer is told so by vbr_tsan.h, which this header includes
-   where the program is compiled for it.
+   inserts it: each step is a sequentially consistent atomic. A replaced value is a removed and an inserted one in this, too.
+   ThreadSanitizer is told so by vbr_tsan.h, which this header includes where the program is compiled for it.
 
    Walks. A walk gives the keys one after another, while other threads make calls: it is the calls of vbr_next by one handle, from
    VBR_CURSOR_BEGIN until the answer is VBR_NO. Buckets come in their order, and the keys of a bucket ascend. Each key that is
@@ -86,28 +101,33 @@
    the calls of a walk its handle may make others: it may remove the key that was just given, insert and look up, and walk by
    another cursor.
 
-   How many keys are in the set is told by no call while threads run. Count the inserts and removes that are answered
-   VBR_YES, in a counter for each thread, or read the report of a close.
+   How many keys are in the set. Each handle keeps how many keys its calls have added, less those that they took out
+   (vbr_balance). The first of the handles that were opened together begins with the keys that the set opened with, so while no
+   call is under way the balances of all of them add up to the number of keys, as vbr_report_all tells it. A handle takes its
+   balance along when it is closed, so read it before. While threads run no call tells the number: let each of them put the
+   balance of its handle where the others read it; the sum of these is off by at most the calls that are under way or end while
+   it is made.
 
-   Budgets. A call makes at most `budget` steps, each one atomic operation on a word that the
-   threads share, and never waits for another thread. A look-up makes loads alone, and so does a call of a walk: it
-   writes nothing that another thread can see. While the other handles make no step, wherever they stand still, a call
-   does not run out of steps with a budget of 5n + 11 for has and get, 9n + 11 for remove, and 18n + slots + 82
-   for insert, where n nodes are in the bucket of the key as it begins, removed ones that are still in a
-   list among them. With 5n + 11 for the bucket at its cursor vbr_next gives a key, or comes to a later bucket at the
-   least. 100,000 is plenty for short buckets, with up to six million slots; with more, take slots / 64 besides, as
-   VBR_AMPLE_BUDGET(slots) does. A call that runs out of steps made no call: give it up, or make it again, with twice the
-   budget if that may have been too small. The same budget is enough later only if it was the other threads that cost the
-   steps.
+   Budgets. A call makes at most `budget` steps, each one atomic operation on a word that the threads share, and never waits
+   for another thread. A look-up makes loads alone, and so does a call of a walk: it writes nothing that another thread can
+   see. While the other handles make no step, wherever they stand still, a call does not run out of steps with a budget of
+   5n + 11 for has and get, 9n + 11 for remove and remove_if, and 18n + slots + 82 for insert, replace, put and
+   get_or_insert, and two more for compare_exchange, where n nodes are in the bucket of the key as it begins, removed ones
+   that are still in a list among them. With 5n + 11 for the bucket at its cursor vbr_next gives a key, or comes to a later
+   bucket at the least. 100,000 is plenty for short buckets, with up to six million slots; with more, take slots / 64
+   besides, as VBR_AMPLE_BUDGET(slots) does. A call that runs out of steps made no call: give it up, or make it again, with
+   twice the budget if that may have been too small. The same budget is enough later only if it was the other threads that
+   cost the steps.
    Others cost a call steps by what disturbs it: they insert, remove or unlink a node in its bucket, or advance the epoch.
-   Disturbed m times, it doesn't run out of steps with (m + 1) * (5 * (n + m) + 11) for has and get, (m + 1) *
-   (9 * (n + m) + 11) for remove, and (m + 2) * (9 * (n + m) + 7) + 68 for insert, if its handle has a slot of its own;
-   with none, 68 stands for the greater of it and slots / 64 + 7, and one more is needed for each slot that other handles take
-   meanwhile, an insert one at most. So VBR_OUT_OF_STEPS with the budget for some m is proof that others made progress, and
-   disturbed the call more than m times. They do so at most twice for each insert and remove of theirs that is answered VBR_YES
-   meanwhile, once for each advance of the epoch, of which an insert makes at most one, and once for each removed node that was
-   still in a list. Eight threads that update at once, one update of each other one during the call, are m = 21, three for
-   each: with four nodes in a bucket that is 2,992 for has, 5,192 for remove and 5,404 for insert.
+   Disturbed m times, it doesn't run out of steps with (m + 1) * (5 * (n + m) + 11) for has and get, (m + 1) * (9 * (n + m)
+   + 11) for remove and remove_if, (m + 2) * (9 * (n + m) + 7) + 68 for insert, and 5 * m + 2 more for the other calls that
+   may store a value, if the handle has a slot of its own; with none, 68 stands for the greater of it and slots / 64 + 7,
+   and one more is needed for each slot that other handles take meanwhile, one at most for each call of theirs. So
+   VBR_OUT_OF_STEPS with the budget for some m is proof that others made progress, and disturbed the call more than m times.
+   They do so at most twice for each insert and remove of theirs that is answered VBR_YES meanwhile, a replaced value being
+   one of each, once for each advance of the epoch, of which a call makes at most one, and once for each removed node that
+   was still in a list. Eight threads that update at once, one update of each other one during the call, are m = 21, three
+   for each: with four nodes in a bucket that is 2,992 for has, 5,192 for remove and 5,404 for insert.
 
    Memory and sizes. The words of a set take 8 * (2 + buckets + 4 * slots + slots / 64) bytes, the last part rounded
    up, in one block, and each handle about 1,200 bytes besides; opening and closing take as much as the words again
@@ -117,10 +137,10 @@
    about one node, and takes 8 bytes. Give keys that are there at the start to vbr_open_with, which lays them all in one go;
    by inserts a million took three times as long. Keys are spread over the buckets by a multiplication, so keys with a pattern (in
    sequence, multiples of a page, pointers) do no harm; keys that somebody chooses to fall into one bucket do, and
-   each call then passes them all. Only inserts advance the epoch, and once the last one is spent inserts of absent
-   keys may be refused: the greatest lasts fifteen hours at ten million inserts a second that advance it, as one in
-   sixteen does of a cache that takes sixteen keys out at a time. Before it is spent a set is renewed: close all its
-   handles, and open one with the keys of the report by vbr_open_with, at epoch 1. The numbers are 1 to VBR_MAX_SLOTS
+   each call then passes them all. Only calls that take a slot, for a key or a new value, advance the epoch, and once the last
+   one is spent they may be refused: the greatest lasts fifteen hours at ten million inserts a second that advance it, as one in
+   sixteen does of a cache that takes sixteen keys out at a time. Before it is spent a set is renewed:
+   vbr_renew_all lets all its handles go on over a fresh one with its keys, at epoch 1. The numbers are 1 to VBR_MAX_SLOTS
    slots, 1 to VBR_MAX_BUCKETS buckets, and 1 to VBR_MAX_EPOCH as the last epoch; the most slots and buckets take 673
    million bytes, and of a map 807.
 
@@ -128,7 +148,9 @@
    removed node that is still in its list. A handle keeps slots to itself, at most 64 between two calls. A remove
    that is answered VBR_YES has taken its node out of its list, unless its budget ended first; that of
    VBR_AMPLE_BUDGET doesn't end in short buckets. What a small one leaves in a list comes back with the next insert
-   or remove that passes it, in the same bucket, or with a renewal. VBR_NO_SLOT says that the handle had no slot of
+   or remove that passes it, in the same bucket, or with a renewal. A call that gives a key another value takes a slot for it
+   before the slot of the old one is free: it wants one more than there are keys, which the 64 of its handle cover, and is
+   refused as an insert is where it finds none. VBR_NO_SLOT says that the handle had no slot of
    its own and found none in the shared pool; other handles may keep free ones. Where no other handle makes a step
    during an insert, and each stands between two calls, it comes only if the keys, the removed nodes that are still
    in lists, and 64 for each other handle are no fewer than the slots. Of an insert that calls of others overlap that
@@ -153,7 +175,7 @@ extern "C" {
 #define VBR_VERSION (VBR_VERSION_MAJOR * 1000000u + VBR_VERSION_MINOR * 1000u + VBR_VERSION_PATCH)
 
 /* VBR_NODISCARD: an answer that is thrown away may be a refusal. VBR_NOEXCEPT: no call throws or unwinds. VBR_NONNULL: no
-   pointer is null. VBR_NONNULL_REST: none is but the first. */
+   pointer is null. VBR_NONNULL_REST: none is but the first. VBR_NONNULL_FIRST: the first isn't. */
 #if (defined(__cplusplus) && __cplusplus >= 201703L) || (defined(__STDC_VERSION__) && __STDC_VERSION__ > 201710L)
 #define VBR_NODISCARD [[nodiscard]]
 #elif defined(__GNUC__)
@@ -169,9 +191,11 @@ extern "C" {
 #ifdef __GNUC__
 #define VBR_NONNULL __attribute__((nonnull))
 #define VBR_NONNULL_REST __attribute__((nonnull(2, 4)))
+#define VBR_NONNULL_FIRST __attribute__((nonnull(1)))
 #else
 #define VBR_NONNULL
 #define VBR_NONNULL_REST
+#define VBR_NONNULL_FIRST
 #endif
 
 /* The most slots, buckets and handles of a set, and the greatest last epoch.
@@ -200,25 +224,36 @@ typedef enum vbr_answer : int32_t {
 #else
 typedef enum vbr_answer {
 #endif
-    VBR_NO = 0,            /* the answer is no; of vbr_open: done; of vbr_close: others are open; of vbr_next: the walk is at its end */
-    VBR_YES = 1,           /* the answer is yes; of vbr_close: it was the last, the set is closed; of vbr_next: the next key is given */
-    VBR_OUT_OF_STEPS = -1, /* insert, remove, has, get, next: the budget is spent; no call was made; a greater budget may help;
+    VBR_NO = 0,            /* the answer is no; of vbr_open: done; of vbr_close: others are open;
+                              of vbr_next: the walk is at its end;
+                              put, get_or_insert: the key was absent, and is inserted;
+                              replace, compare_exchange, remove_if: the key is absent, and nothing was changed */
+    VBR_YES = 1,           /* the answer is yes; of vbr_close: it was the last, the set is closed;
+                              of vbr_next: the next key is given;
+                              replace, put: the key was there, and has the new value; get_or_insert: the key is there;
+                              compare_exchange: the key had the value that is expected, and has the new one;
+                              remove_if: the key had the value that is expected, and is taken out */
+    VBR_OTHER = 2,         /* compare_exchange, remove_if: the key is there with another value; nothing was changed */
+    VBR_OUT_OF_STEPS = -1, /* the budget is spent; no call was made; a greater budget may help;
                               next: the cursor keeps how far it has come */
-    VBR_NO_SLOT = -2,      /* insert: the key is absent, and the handle found no slot; no call was made */
-    VBR_EPOCH_SPENT = -3,  /* insert: the key is absent and the last epoch is spent; no call was made; renew the set */
+    VBR_NO_SLOT = -2,      /* the handle found no slot for a node; no call was made; insert, get_or_insert: the key is absent */
+    VBR_EPOCH_SPENT = -3,  /* a node is wanted and the last epoch is spent; no call was made; renew the set;
+                              insert, get_or_insert: the key is absent */
     VBR_EMPTY = -4,        /* the handle is empty, or null where it may be; nothing was done */
     VBR_IN_USE = -5,       /* open: one of the handles is not empty; nothing was done */
-    VBR_BAD_SHAPE = -6,    /* open: slots, buckets or last_epoch is out of range; nothing was done */
+    VBR_BAD_SHAPE = -6,    /* open, renew_all: slots, buckets or last_epoch is out of range; nothing was done */
     VBR_BAD_COUNT = -7,    /* open: count is not from 1 to 64; nothing was done */
-    VBR_NO_MEMORY = -8,    /* open: nothing was done; close: it is the last and stays as it was */
+    VBR_NO_MEMORY = -8,    /* open: nothing was done; close: it is the last and stays as it was; report_all, close_all,
+                              renew_all: they are as they were */
     VBR_LOST = -9,         /* close: it was the last, and a pass is not there; the set is gone. A handle
                               that is dropped gives its pass back, and one that is forgotten keeps its
                               set open (VBR_NO), so no program is known to get this */
     VBR_BAD_KEYS = -10,    /* open_with: the keys do not ascend, or there are more than slots; nothing
                               was done */
-    VBR_NO_ROOM = -11,     /* close: it is the last and stays as it was; the report tells how many keys */
-    VBR_MISSING = -12,     /* close_all: fewer handles than were opened, or none; they are as they were */
-    VBR_MIXED = -13        /* close_all: handles of different sets; they are as they were */
+    VBR_NO_ROOM = -11,     /* close: it is the last and stays as it was; the report tells how many keys; renew_all: there
+                              are more keys than slots; they are as they were */
+    VBR_MISSING = -12,     /* report_all, close_all, renew_all: not all handles that were opened; they are as they were */
+    VBR_MIXED = -13        /* report_all, close_all, renew_all: handles of different sets; they are as they were */
 } vbr_answer;
 
 /* A handle to a set, or {0}.
@@ -323,6 +358,13 @@ VBR_NODISCARD uint32_t vbr_slots(vbr_handle *handle) VBR_NOEXCEPT VBR_NONNULL;
        int is_crowded = 3 > 2 * vbr_buckets(&handle[0]); // three keys, and more than two for each bucket */
 VBR_NODISCARD uint32_t vbr_buckets(vbr_handle *handle) VBR_NOEXCEPT VBR_NONNULL;
 
+/* How many keys the calls of the handle have added, less those that they took out: its inserts that were answered VBR_YES, less
+   its removes that were. The first of the handles that were opened together begins with the keys that the set opened with, the
+   others with 0; an empty handle has 0. It makes no step. "How many keys are in the set" tells what the sum of all is.
+
+       int64_t keys = vbr_balance(&handle[0]) + vbr_balance(&handle[1]); // no call is under way */
+VBR_NODISCARD int64_t vbr_balance(vbr_handle *handle) VBR_NOEXCEPT VBR_NONNULL;
+
 /* The version of the library, which is VBR_VERSION where the header is of the same one. It has no handle, and can't fail.
 
        if (vbr_version() != VBR_VERSION) return 1; // the library is of another version than the header */
@@ -352,6 +394,26 @@ VBR_NODISCARD vbr_answer vbr_close(vbr_handle *handle, uint64_t *keys, size_t ro
        vbr_answer closed = vbr_close_all(handle, 2, keys, 8, &report); // VBR_YES: report.live is 3, keys are 2, 5, 9 */
 VBR_NODISCARD vbr_answer vbr_close_all(vbr_handle *handles, size_t count, uint64_t *keys, size_t room,
                                        vbr_totals *report) VBR_NOEXCEPT VBR_NONNULL;
+
+/* Tells what is in a set by all `count` handles that were opened with it, in any order, as vbr_close_all does: VBR_YES, with the
+   report and its keys. No other thread is in a call on one of them. They stay as they are, and go on. It takes the memory of a
+   close. What it answers else is what vbr_close_all answers, and means the same.
+
+       vbr_answer told = vbr_report_all(handle, 2, keys, 8, &report); // VBR_YES: report.live keys are in front of keys */
+VBR_NODISCARD vbr_answer vbr_report_all(vbr_handle *handles, size_t count, uint64_t *keys, size_t room,
+                                        vbr_totals *report) VBR_NOEXCEPT VBR_NONNULL;
+
+/* Lets all `count` handles of a set, in any order, go on over a fresh set of this shape with the keys that were in it: VBR_NO. The
+   epoch is 1 again, the first handle's balance is the number of keys, and that of the others is 0. No other thread is in a call
+   on one of them. It takes the memory of a report and of an opening with the keys, while the set is still there, whose memory is
+   freed then.
+   Else the handles stay as they were, and go on: VBR_BAD_SHAPE; VBR_EMPTY, one is empty; VBR_MIXED, two are of different sets, by
+   a probe as in vbr_close_all; VBR_MISSING, they are not as many as were opened; VBR_NO_ROOM, there are more keys than slots;
+   VBR_NO_MEMORY.
+
+       vbr_answer renewed = vbr_renew_all(handle, 2, 2048 + 2 * 64, 2048, VBR_MAX_EPOCH); // VBR_NO: twice as large */
+VBR_NODISCARD vbr_answer vbr_renew_all(vbr_handle *handles, size_t count, uint32_t slots, uint32_t buckets,
+                                       uint64_t last_epoch) VBR_NOEXCEPT VBR_NONNULL;
 
 /* Gives a handle up, empty or full, and leaves it empty. Its pass is given back as by a close, and no
    report is told: the last handle of the set that is closed still gets it, and with the last one dropped
@@ -418,6 +480,55 @@ VBR_NODISCARD vbr_answer vbr_map_remove(vbr_map_handle *handle, uint64_t key, ui
 VBR_NODISCARD vbr_answer vbr_map_get(vbr_map_handle *handle, uint64_t key, uint32_t budget,
                                      uint64_t *value) VBR_NOEXCEPT VBR_NONNULL;
 
+/* Gives a key that is there another value, in at most `budget` steps: VBR_YES if it was there, and the value that it had is then
+   in `*found`; VBR_NO if it was absent, and then nothing was changed. Else VBR_OUT_OF_STEPS, VBR_NO_SLOT, VBR_EPOCH_SPENT or
+   VBR_EMPTY. Unless it answers VBR_YES nothing is written, and `found` may be null. No call finds the key absent meanwhile. The
+   new value takes a slot, and the old one gives its own back. It takes no memory and never waits.
+
+       if (vbr_map_replace(&map[0], 5, 72, &found, 100000) == VBR_YES) changed++; // 5 had the value found, and has 72 */
+VBR_NODISCARD vbr_answer vbr_map_replace(vbr_map_handle *handle, uint64_t key, uint64_t value, uint64_t *found,
+                                         uint32_t budget) VBR_NOEXCEPT VBR_NONNULL_FIRST;
+
+/* Gives a key this value, whether it is there or not, in at most `budget` steps: VBR_YES if it was there, and the value that it
+   had is then in `*found`; VBR_NO if it was absent, and it is then inserted. Else VBR_OUT_OF_STEPS, VBR_NO_SLOT, VBR_EPOCH_SPENT
+   or VBR_EMPTY. Unless it answers VBR_YES nothing is written, and `found` may be null. It is a replacement as vbr_map_replace
+   makes it, or an insert. It takes no memory and never waits.
+
+       if (vbr_map_put(&map[1], 6, 60, NULL, 100000) == VBR_NO) added++; // 6 was absent; either way it has 60 */
+VBR_NODISCARD vbr_answer vbr_map_put(vbr_map_handle *handle, uint64_t key, uint64_t value, uint64_t *found,
+                                     uint32_t budget) VBR_NOEXCEPT VBR_NONNULL_FIRST;
+
+/* Gives the value of a key, or inserts the key with this one, in at most `budget` steps: VBR_YES if it is there, and its value is
+   then in `*found`; VBR_NO if it was absent, and it is then inserted. Else VBR_OUT_OF_STEPS, VBR_NO_SLOT, VBR_EPOCH_SPENT or
+   VBR_EMPTY. Unless it answers VBR_YES nothing is written, and `found` may be null. It is a get or an insert, in one call. It
+   takes no memory and never waits.
+
+       if (vbr_map_get_or_insert(&map[0], 5, 1, &found, 100000) == VBR_YES) there++; // 5 had the value found, and keeps it */
+VBR_NODISCARD vbr_answer vbr_map_get_or_insert(vbr_map_handle *handle, uint64_t key, uint64_t value, uint64_t *found,
+                                               uint32_t budget) VBR_NOEXCEPT VBR_NONNULL_FIRST;
+
+/* Gives a key another value if it has the one that is expected, in at most `budget` steps: VBR_YES if it had, and it has the new
+   one then; VBR_OTHER if it is there with another value; VBR_NO if it is absent. With VBR_OTHER and VBR_NO nothing was changed.
+   Else VBR_OUT_OF_STEPS, VBR_NO_SLOT, VBR_EPOCH_SPENT or VBR_EMPTY. With VBR_YES and VBR_OTHER the value that the key had is in
+   `*found`; else nothing is written, and `found` may be null. It is a replacement as vbr_map_replace makes it, or a look-up. A
+   value that is computed from the one found is stored so, and no other thread's is lost. It takes no memory and never waits.
+
+       vbr_answer told = vbr_map_get(&map[0], 5, 100000, &seen) == VBR_YES ? VBR_OTHER : VBR_NO;
+       while (told == VBR_OTHER) // until nobody else has changed it since it was seen
+           told = vbr_map_compare_exchange(&map[0], 5, seen, seen + 1, &seen, 100000); */
+VBR_NODISCARD vbr_answer vbr_map_compare_exchange(vbr_map_handle *handle, uint64_t key, uint64_t expected, uint64_t value,
+                                                  uint64_t *found, uint32_t budget) VBR_NOEXCEPT VBR_NONNULL_FIRST;
+
+/* Takes a key out if it has the value that is expected, in at most `budget` steps: VBR_YES if it had, and it is then absent;
+   VBR_OTHER if it is there with another value; VBR_NO if it is absent. With VBR_OTHER and VBR_NO nothing was changed. Else
+   VBR_OUT_OF_STEPS or VBR_EMPTY. With VBR_YES and VBR_OTHER the value that the key had is in `*found`; else nothing is written,
+   and `found` may be null. It is a remove or a look-up, and what vbr_remove says of the node of the key holds here too. It takes
+   no memory and never waits.
+
+       if (vbr_map_remove_if(&map[0], 6, 61, &found, 100000) == VBR_OTHER) kept++; // 6 has the value found, and is still there */
+VBR_NODISCARD vbr_answer vbr_map_remove_if(vbr_map_handle *handle, uint64_t key, uint64_t expected, uint64_t *found,
+                                           uint32_t budget) VBR_NOEXCEPT VBR_NONNULL_FIRST;
+
 /* Looks a key up without its value, in at most `budget` steps, all of them loads: VBR_YES if it is there, VBR_NO if it is
    absent. Else VBR_OUT_OF_STEPS or VBR_EMPTY. It takes two steps less than vbr_map_get, no memory, and never waits.
 
@@ -457,6 +568,12 @@ VBR_NODISCARD uint32_t vbr_map_slots(vbr_map_handle *handle) VBR_NOEXCEPT VBR_NO
        int is_crowded = 3 > 2 * vbr_map_buckets(&map[0]); // three keys, and more than two for each bucket */
 VBR_NODISCARD uint32_t vbr_map_buckets(vbr_map_handle *handle) VBR_NOEXCEPT VBR_NONNULL;
 
+/* How many keys the calls of the handle have added, less those that they took out, as vbr_balance tells of a set. A call that
+   changes a value leaves it as it was.
+
+       int64_t entered = vbr_map_balance(&map[0]) + vbr_map_balance(&map[1]); // no call is under way */
+VBR_NODISCARD int64_t vbr_map_balance(vbr_map_handle *handle) VBR_NOEXCEPT VBR_NONNULL;
+
 /* Gives the pass back and leaves the handle empty: VBR_NO while others of its map are open. The last one ends the map: VBR_YES,
    with the report and its entries, ascending by key. Only then is memory needed, which is freed again. Behind the entries of
    the report the array stays as it was: all `room` entries, and the report, are initialised before.
@@ -480,6 +597,18 @@ VBR_NODISCARD vbr_answer vbr_map_close(vbr_map_handle *handle, vbr_entry *entrie
        vbr_answer closed = vbr_map_close_all(map, 2, entries, 8, &report); // VBR_YES: three entries, {2, 20} the first of them */
 VBR_NODISCARD vbr_answer vbr_map_close_all(vbr_map_handle *handles, size_t count, vbr_entry *entries, size_t room,
                                            vbr_totals *report) VBR_NOEXCEPT VBR_NONNULL;
+
+/* Tells what is in a map by all its handles, as vbr_report_all does of a set, with the entries, ascending by key.
+
+       vbr_answer told = vbr_map_report_all(map, 2, entries, 8, &report); // VBR_YES: report.live entries are in front of entries */
+VBR_NODISCARD vbr_answer vbr_map_report_all(vbr_map_handle *handles, size_t count, vbr_entry *entries, size_t room,
+                                            vbr_totals *report) VBR_NOEXCEPT VBR_NONNULL;
+
+/* Lets all handles of a map go on over a fresh one of this shape, as vbr_renew_all does: each key keeps its value.
+
+       vbr_answer renewed = vbr_map_renew_all(map, 2, 2048 + 2 * 64, 2048, VBR_MAX_EPOCH); // VBR_NO: twice as large */
+VBR_NODISCARD vbr_answer vbr_map_renew_all(vbr_map_handle *handles, size_t count, uint32_t slots, uint32_t buckets,
+                                           uint64_t last_epoch) VBR_NOEXCEPT VBR_NONNULL;
 
 /* Gives a handle up, empty or full, and leaves it empty. Its pass is given back as by a close, and no report is told: the last
    handle of the map that is closed still gets it, and with the last one dropped the map ends. It needs no memory. With a null
