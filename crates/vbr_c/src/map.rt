@@ -7,12 +7,12 @@ ghost use Rattle.vbr_handles.specs.Calls.{TellsCall, TellsInsertEntry};
 ghost use Rattle.vbr_handles.specs.Iterating.{TellsNextEntry};
 ghost use Rattle.vbr_handles.specs.ValueCalls.{TellsExchange, TellsGetEntry, TellsGetOrInsert, TellsPut, TellsRemoveEntry, TellsRemoveIf, TellsReplace};
 ghost use Rattle.vbr_handles.specs.Opening.{entries_start};
-ghost use Rattle.vbr_handles.specs.OpeningCodes.{TellsMapOpening, TellsMapOpeningWith};
+ghost use Rattle.vbr_handles.specs.OpeningCodes.{TellsMapOpeningWith};
 ghost use Rattle.vbr_handles.specs.AllHandles.{map_members_in};
 ghost use Rattle.vbr_handles.specs.Renewals.{TellsMapRenewal};
 ghost use Rattle.vbr_handles.specs.Reports.{TellsMapClose, TellsMapCloseAll, TellsMapReport};
 ghost use Rattle.vbr_set.specs.AllMembers.{AreOfOneSet};
-ghost use Rattle.vbr_handles.specs.Shown.{balance_shown, buckets_of, epoch_of, last_epoch_of, slots_of};
+ghost use Rattle.vbr_handles.specs.Shown.{IsSeedOf, balance_shown, buckets_of, epoch_of, last_epoch_of, slots_of};
 
 use std::alloc::Global;
 use vbr_handles::numbers::{entries, iterating};
@@ -20,47 +20,30 @@ use vbr_handles::{Entry, MapHandle, ReportNumbers, ShapeNumbers, numbers, shown}
 use vbr_set::Cursor;
 use vbr_words::Entries;
 
-/// Opens an empty map, as [`crate::set::vbr_open`] opens a set.
+/// Opens a map of these entries, of which there may be none, as [`crate::set::vbr_open_seeded`] opens a set
+/// of keys. The entries ascend by key, each key above the one before.
 ///
-/// ```c file=bindings/c/map_example.c
-/// /* handles, count, slots (keys, and 64 for each handle), buckets (as many as keys), last_epoch */
-/// if (vbr_map_open(map, 2, 1024 + 2 * 64, 1024, VBR_MAX_EPOCH) != VBR_NO) return 1;
+/// ```c file=bindings/c/seeds.c
+/// if (vbr_map_open_seeded(map, 2, 1024 + 2 * 64, 1024, VBR_MAX_EPOCH, 7, some_entries, 3) != VBR_NO) return 1;
 /// ```
 #[unsafe(no_mangle)]
-pub extern "C" fn vbr_map_open(
+pub extern "C" fn vbr_map_open_seeded(
     alloc: Global,
     handles: &mut [MapHandle],
     slots: u32,
     buckets: u32,
     last_epoch: u64,
-) -> i32
-    ensures { TellsMapOpening handles.old handles.new slots buckets last_epoch result }
-{
-    numbers::open::<Entries, Entry, MapHandle>(alloc, handles, slots, buckets, last_epoch)
-}
-
-/// Opens a map of these entries, as [`crate::set::vbr_open_with`] opens a set of keys. The entries ascend
-/// by key, each key above the one before.
-///
-/// ```c file=bindings/c/map_renewal.c
-/// if (vbr_map_open_with(map, HANDLES, SLOTS, BUCKETS, LAST_EPOCH, entries, report.live) != VBR_NO) return 1;
-/// ```
-#[unsafe(no_mangle)]
-pub extern "C" fn vbr_map_open_with(
-    alloc: Global,
-    handles: &mut [MapHandle],
-    slots: u32,
-    buckets: u32,
-    last_epoch: u64,
+    seed: u64,
     entries: &[Entry],
 ) -> i32
     ensures { TellsMapOpeningWith handles.old handles.new
-        (entries_start slots buckets last_epoch entries.now) result }
+        (entries_start slots buckets last_epoch seed entries.now) result }
 {
     let numbers = ShapeNumbers {
         slots,
         buckets,
         last_epoch,
+        seed,
     };
     numbers::open_with::<Entries, Entry, MapHandle>(alloc, handles, numbers, entries)
 }
@@ -276,6 +259,16 @@ pub extern "C" fn vbr_map_buckets(handle: &mut MapHandle) -> u32
     shown::buckets(handle.owner_mut())
 }
 
+/// A seed that spreads keys as those of the map of the handle are spread, as [`crate::set::vbr_seed`] tells
+/// of a set.
+#[unsafe(no_mangle)]
+pub extern "C" fn vbr_map_seed(handle: &mut MapHandle) -> u64
+    ensures same { handle.new.member ≡ handle.old.member }
+    ensures seed { IsSeedOf handle.old.member result }
+{
+    shown::seed(handle.owner_mut())
+}
+
 /// How many keys the calls of the handle have added, less those that they took out, as
 /// [`crate::set::vbr_balance`] tells of a set.
 ///
@@ -349,28 +342,30 @@ pub extern "C" fn vbr_map_report_all(
     numbers::report_all::<Entries, Entry, MapHandle>(alloc, handles, entries, report)
 }
 
-/// Lets all handles of a map go on over a fresh one of these numbers, as [`crate::set::vbr_renew_all`] does
-/// for a set: each key keeps its value.
+/// Lets all handles of a map go on over a fresh one of these numbers, as [`crate::set::vbr_renew_all_seeded`]
+/// does for a set: each key keeps its value.
 ///
-/// ```c file=bindings/c/balances.c
-/// vbr_answer renewed = vbr_map_renew_all(map, 2, 2048 + 2 * 64, 2048, VBR_MAX_EPOCH); // VBR_NO: twice as large
+/// ```c file=bindings/c/seeds.c
+/// vbr_answer renewed = vbr_map_renew_all_seeded(map, 2, 2048 + 2 * 64, 2048, VBR_MAX_EPOCH, vbr_random_seed());
 /// ```
 #[unsafe(no_mangle)]
-pub extern "C" fn vbr_map_renew_all(
+pub extern "C" fn vbr_map_renew_all_seeded(
     alloc: Global,
     handles: &mut [MapHandle],
     slots: u32,
     buckets: u32,
     last_epoch: u64,
+    seed: u64,
 ) -> i32
     requires { AreOfOneSet (map_members_in handles.old) }
     ensures { TellsMapRenewal handles.old handles.new
-        (record { slots = slots; buckets = buckets; last_epoch = last_epoch }) result }
+        (record { slots = slots; buckets = buckets; last_epoch = last_epoch; seed = seed }) result }
 {
     let numbers = ShapeNumbers {
         slots,
         buckets,
         last_epoch,
+        seed,
     };
     numbers::renew_all::<Entries, Entry, MapHandle>(alloc, handles, numbers)
 }

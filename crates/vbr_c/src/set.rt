@@ -4,12 +4,12 @@ ghost use Rattle.vbr_machine.specs.declared.history.Op.TheVariants.{Insert, Remo
 ghost use Rattle.vbr_handles.specs.Calls.{TellsCall};
 ghost use Rattle.vbr_handles.specs.Iterating.{TellsNext};
 ghost use Rattle.vbr_handles.specs.Opening.{spread_start};
-ghost use Rattle.vbr_handles.specs.OpeningCodes.{TellsOpening, TellsOpeningWith};
+ghost use Rattle.vbr_handles.specs.OpeningCodes.{TellsOpeningWith};
 ghost use Rattle.vbr_handles.specs.AllHandles.{members_in};
 ghost use Rattle.vbr_handles.specs.Renewals.{TellsRenewal};
 ghost use Rattle.vbr_handles.specs.Reports.{TellsClose, TellsCloseAll, TellsReport};
 ghost use Rattle.vbr_set.specs.AllMembers.{AreOfOneSet};
-ghost use Rattle.vbr_handles.specs.Shown.{balance_shown, buckets_of, epoch_of, last_epoch_of, slots_of};
+ghost use Rattle.vbr_handles.specs.Shown.{IsSeedOf, balance_shown, buckets_of, epoch_of, last_epoch_of, slots_of};
 
 use std::alloc::Global;
 use vbr_handles::numbers::iterating;
@@ -17,56 +17,37 @@ use vbr_handles::{Handle, ReportNumbers, ShapeNumbers, numbers, shown};
 use vbr_set::Cursor;
 use vbr_words::Keys;
 
-/// Opens an empty set, with a pass for each of the handles, which are empty: 0. No pass has made a step
-/// then.
-///
-/// Refusals, tested in this order, which leave the handles as they were: -5, one of the handles isn't
-/// empty; -6, the numbers are no shape; -7, the number of handles is 0 or above 64; -8, no memory.
-///
-/// ```c file=bindings/c/example.c
-/// /* handles, count, slots (keys, and 64 for each handle), buckets (as many as keys), last_epoch */
-/// if (vbr_open(handle, 2, 1024 + 2 * 64, 1024, VBR_MAX_EPOCH) != VBR_NO) return 1;
-/// ```
-#[unsafe(no_mangle)]
-pub extern "C" fn vbr_open(
-    alloc: Global,
-    handles: &mut [Handle],
-    slots: u32,
-    buckets: u32,
-    last_epoch: u64,
-) -> i32
-    ensures { TellsOpening handles.old handles.new slots buckets last_epoch result }
-{
-    numbers::open::<Keys, u64, Handle>(alloc, handles, slots, buckets, last_epoch)
-}
-
-/// Opens a set of these keys, with a pass for each of the handles, which are empty: 0. The keys ascend,
-/// each above the one before. The epoch is 1, and no pass has made a step then. A set whose epoch is
-/// nearly spent is renewed by closing it and opening one with the keys of its report.
+/// Opens a set of these keys, of which there may be none, with a pass for each of the handles, which are
+/// empty: 0. The keys ascend, each above the one before. They are spread over the buckets by the seed, any
+/// number: with the same one each key has the same bucket, and one that is drawn at random and kept secret
+/// lets nobody choose keys that share a bucket. The epoch is 1, and no pass has made a step then. `vbr_open`
+/// and `vbr_open_with` of the library draw a seed and make this call.
 ///
 /// Refusals, tested in this order, which leave the handles as they were: -5, one of the handles isn't
 /// empty; -6, the numbers are no shape; -7, the number of handles is 0 or above 64; -10, the keys don't
 /// ascend, or there are more than slots; -8, no memory.
 ///
-/// ```c file=bindings/c/renewal.c
-/// if (vbr_open_with(handle, HANDLES, SLOTS, BUCKETS, LAST_EPOCH, keys, report.live) != VBR_NO) return 1;
+/// ```c file=bindings/c/seeds.c
+/// if (vbr_open_seeded(handle, 2, 1024 + 2 * 64, 1024, VBR_MAX_EPOCH, 7, some, 3) != VBR_NO) return 1;
 /// ```
 #[unsafe(no_mangle)]
-pub extern "C" fn vbr_open_with(
+pub extern "C" fn vbr_open_seeded(
     alloc: Global,
     handles: &mut [Handle],
     slots: u32,
     buckets: u32,
     last_epoch: u64,
+    seed: u64,
     keys: &[u64],
 ) -> i32
     ensures { TellsOpeningWith handles.old handles.new
-        (spread_start slots buckets last_epoch keys.now) result }
+        (spread_start slots buckets last_epoch seed keys.now) result }
 {
     let numbers = ShapeNumbers {
         slots,
         buckets,
         last_epoch,
+        seed,
     };
     numbers::open_with::<Keys, u64, Handle>(alloc, handles, numbers, keys)
 }
@@ -160,6 +141,20 @@ pub extern "C" fn vbr_buckets(handle: &mut Handle) -> u32
     ensures buckets { result ≡ buckets_of handle.old.member }
 {
     shown::buckets(handle.owner_mut())
+}
+
+/// A seed that spreads keys as those of the set of the handle are spread: the one that it was opened with,
+/// or the one 2^63 less; 0 where the handle is empty.
+///
+/// ```c file=bindings/c/seeds.c
+/// uint64_t seed = vbr_seed(&handle[0]); // opens a set whose keys have the same buckets
+/// ```
+#[unsafe(no_mangle)]
+pub extern "C" fn vbr_seed(handle: &mut Handle) -> u64
+    ensures same { handle.new.member ≡ handle.old.member }
+    ensures seed { IsSeedOf handle.old.member result }
+{
+    shown::seed(handle.owner_mut())
 }
 
 /// How many keys the calls of the handle have added, less those that they took out: its inserts that were
@@ -256,33 +251,36 @@ pub extern "C" fn vbr_report_all(
 
 /// Lets all handles of a set, in any order, go on over a fresh set of these numbers, with the keys that were
 /// in it: 0. The epoch is 1 again, each handle has the fresh pass of its place, and the first one's balance is
-/// the number of keys. It has no budget, and makes no call of the set. The fresh set is opened before the
-/// other one is given up. It asks that the handles which are full are of one set.
+/// the number of keys. Its keys are spread over the buckets by the seed; `vbr_renew_all` of the library makes
+/// this call with that of the set as it was. It has no budget, and makes no call of the set. The fresh set is
+/// opened before the other one is given up. It asks that the handles which are full are of one set.
 ///
 /// Refusals, which leave the handles as they were: -6, the numbers are no shape; -4, one of the handles is
 /// empty; -12, they are not as many as were opened with the set; -11, there are more keys than slots; -8,
 /// there is no memory for the report or the fresh set; -13, they are of different sets, which is a probe that
 /// no contract speaks of.
 ///
-/// ```c file=bindings/c/balances.c
-/// vbr_answer renewed = vbr_renew_all(handle, 2, 2048 + 2 * 64, 2048, VBR_MAX_EPOCH); // VBR_NO: twice as large
+/// ```c file=bindings/c/seeds.c
+/// vbr_answer renewed = vbr_renew_all_seeded(handle, 2, 2048 + 2 * 64, 2048, VBR_MAX_EPOCH, vbr_random_seed());
 /// ```
 #[unsafe(no_mangle)]
-pub extern "C" fn vbr_renew_all(
+pub extern "C" fn vbr_renew_all_seeded(
     alloc: Global,
     handles: &mut [Handle],
     slots: u32,
     buckets: u32,
     last_epoch: u64,
+    seed: u64,
 ) -> i32
     requires { AreOfOneSet (members_in handles.old) }
     ensures { TellsRenewal handles.old handles.new
-        (record { slots = slots; buckets = buckets; last_epoch = last_epoch }) result }
+        (record { slots = slots; buckets = buckets; last_epoch = last_epoch; seed = seed }) result }
 {
     let numbers = ShapeNumbers {
         slots,
         buckets,
         last_epoch,
+        seed,
     };
     numbers::renew_all::<Keys, u64, Handle>(alloc, handles, numbers)
 }

@@ -1,5 +1,5 @@
 -- A list of events of two passes that is accepted, with its effects and with the link words that callers name.
-use Rattle.std.specs.Prelude.{◌≡◌, ℕ, List, [], ◌∷◌, Bool, true, false, if◌then◌else◌}
+use Rattle.std.specs.Prelude.{◌≡◌, ℕ, List, [], ◌∷◌, Bool, true, false, None, if◌then◌else◌}
 use Rattle.vbr_machine.specs.Start.{Start, empty_start}
 use Rattle.vbr_words.specs.Words.{word_of}
 use Rattle.vbr_machine.specs.Knowledge.{Know}
@@ -38,15 +38,15 @@ IsNamedWord know _ word = Unit {0}
 
 -- a set of three slots and one bucket, up to epoch 10
 abbrev pub three_slots : Start
-three_slots = empty_start (record { slots = 3; buckets = 1; spread = false; last_epoch = 10; values = false })
+three_slots = empty_start (record { slots = 3; buckets = 1; spread = None; last_epoch = 10; values = false })
 
 -- a set of one slot and one bucket, up to epoch 10
 abbrev pub one_slot : Start
-one_slot = empty_start (record { slots = 1; buckets = 1; spread = false; last_epoch = 10; values = false })
+one_slot = empty_start (record { slots = 1; buckets = 1; spread = None; last_epoch = 10; values = false })
 
 -- a set of three slots and one bucket, up to epoch 10000
 abbrev pub many_epochs : Start
-many_epochs = empty_start (record { slots = 3; buckets = 1; spread = false; last_epoch = 10000; values = false })
+many_epochs = empty_start (record { slots = 3; buckets = 1; spread = None; last_epoch = 10000; values = false })
 
 -- the rows are events that are accepted one after another from a world on, each with its effect; the words are the link words that callers name; and each slot that is taken has the stamp 0
 abbrev pub AreWorked : Start → World → List (ℕ × Step × Effect) → List ℕ → Type 0

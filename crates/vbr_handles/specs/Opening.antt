@@ -1,6 +1,7 @@
 -- What an opening of handles answers, and what it leaves in them.
 use Rattle.std.specs.Prelude.{◌≡◌, ℕ, ◌<◌, ◌≤◌, ◌⊎◌, All, Bool, true, false, List, [], length, map, Option, None, Some, Result, Ok, Err}
 use Rattle.std.specs.List.Sorted.{IsStrictlyIncreasing}
+use Rattle.vbr_words.specs.Buckets.{multiplier_of}
 use Rattle.vbr_words.specs.Dimensions.{Dimensions, IsShape}
 use Rattle.vbr_machine.specs.Start.{Start, start_with}
 use Rattle.vbr_slots.specs.Views.{TableView}
@@ -8,23 +9,24 @@ use Rattle.vbr_set.specs.Members.{MemberView as Member, new_members}
 use Rattle.vbr_handles.specs.Listings.{Listing, as_entries}
 use Rattle.vbr_handles.specs.declared.entry.Entry.{Entry}
 use Rattle.vbr_handles.specs.declared.opening.OpenRefusal.{OpenRefusal}
+use Rattle.vbr_handles.specs.declared.opening.ShapeNumbers.{ShapeNumbers}
 use Rattle.vbr_handles.specs.declared.opening.OpenRefusal.TheVariants.{InUse, Shape, Passes, Keys, Memory}
 
--- the shape of these numbers with its keys spread over the buckets, whose nodes have values or not
-abbrev pub spread_shape : ℕ → ℕ → ℕ → Bool → Dimensions
-spread_shape slots buckets last_epoch values = record { slots = slots; buckets = buckets; spread = true; last_epoch = last_epoch; values = values }
+-- the shape of these numbers with its keys spread over the buckets by a seed, whose nodes have values or not
+abbrev pub spread_shape : ℕ → ℕ → ℕ → ℕ → Bool → Dimensions
+spread_shape slots buckets last_epoch seed values = record { slots = slots; buckets = buckets; spread = Some (multiplier_of seed); last_epoch = last_epoch; values = values }
 
--- a set of these numbers, with its keys spread over the buckets, which opens with these keys
-abbrev pub spread_start : ℕ → ℕ → ℕ → List ℕ → Start
-spread_start slots buckets last_epoch keys = start_with (spread_shape slots buckets last_epoch false) keys []
+-- a set of these numbers, with its keys spread over the buckets by a seed, which opens with these keys
+abbrev pub spread_start : ℕ → ℕ → ℕ → ℕ → List ℕ → Start
+spread_start slots buckets last_epoch seed keys = start_with (spread_shape slots buckets last_epoch seed false) keys []
 
--- a set or a map of these numbers, with its keys spread over the buckets, which opens with what is listed
-abbrev pub listed_start : {R I : Type 0} → Listing R I → ℕ → ℕ → ℕ → List I → Start
-listed_start L slots buckets last_epoch items = start_with (spread_shape slots buckets last_epoch L.values) (L.keys items) (L.payloads items)
+-- a set or a map of these numbers, with its keys spread over the buckets by their seed, which opens with what is listed
+abbrev pub listed_start : {R I : Type 0} → Listing R I → ShapeNumbers → List I → Start
+listed_start L numbers items = start_with (spread_shape numbers.slots numbers.buckets numbers.last_epoch numbers.seed L.values) (L.keys items) (L.payloads items)
 
 -- so it is of a map, which opens with these entries
-abbrev pub entries_start : ℕ → ℕ → ℕ → List Entry → Start
-entries_start = listed_start as_entries
+abbrev pub entries_start : ℕ → ℕ → ℕ → ℕ → List Entry → Start
+entries_start slots buckets last_epoch seed = listed_start as_entries (record { slots = slots; buckets = buckets; last_epoch = last_epoch; seed = seed })
 
 -- not from 1 to 64
 abbrev pub IsBadCount : ℕ → Type 0

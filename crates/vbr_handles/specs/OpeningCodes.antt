@@ -1,8 +1,8 @@
 -- What an opening of handles tells as a number.
-use Rattle.std.specs.Prelude.{◌≡◌, ℕ, ℤ, List, [], Option, Result}
+use Rattle.std.specs.Prelude.{◌≡◌, ℤ, List, Option, Result}
 use Rattle.vbr_machine.specs.Start.{Start}
 use Rattle.vbr_set.specs.Members.{MemberView as Member}
-use Rattle.vbr_handles.specs.Opening.{Opens, entries_start, spread_start}
+use Rattle.vbr_handles.specs.Opening.{Opens}
 use Rattle.vbr_handles.specs.declared.handle.Handle.{Handle}
 use Rattle.vbr_handles.specs.declared.handle.MapHandle.{MapHandle}
 use Rattle.vbr_handles.specs.declared.opening.OpenRefusal.{OpenRefusal}
@@ -18,13 +18,6 @@ pub record TellsOpeningBy {H : Type 0} (member : H → Option Member) (before af
 abbrev pub TellsOpeningWith : List Handle → List Handle → Start → ℤ → Type 0
 TellsOpeningWith = TellsOpeningBy (λ (handle : Handle). handle.member)
 
--- the code is that of an answer to an opening with these numbers and no keys
-abbrev pub TellsOpening : List Handle → List Handle → ℕ → ℕ → ℕ → ℤ → Type 0
-TellsOpening before after slots buckets last_epoch code = TellsOpeningWith before after (spread_start slots buckets last_epoch []) code
-
--- so it is of the handles of a map, and of an opening with no entries
+-- and so of the handles of a map
 abbrev pub TellsMapOpeningWith : List MapHandle → List MapHandle → Start → ℤ → Type 0
 TellsMapOpeningWith = TellsOpeningBy (λ (handle : MapHandle). handle.member)
-
-abbrev pub TellsMapOpening : List MapHandle → List MapHandle → ℕ → ℕ → ℕ → ℤ → Type 0
-TellsMapOpening before after slots buckets last_epoch code = TellsMapOpeningWith before after (entries_start slots buckets last_epoch []) code

@@ -25,11 +25,11 @@ module _ {Item R I : Type 0} (kind : KindOf Item R) (L : Listing R I) where
     pub record RenewsTo (members : List Member) (numbers : ShapeNumbers) (after : List H) : Type 0 where
       pub report : R
       pub reports : ReportsAllBy (ClosesBy kind) members report
-      pub opened : AreOpened member (listed_start L numbers.slots numbers.buckets numbers.last_epoch (L.items report)) after
+      pub opened : AreOpened member (listed_start L numbers (L.items report)) after
 
     -- why handles are not renewed
     abbrev pub IsWhyUnrenewed : List H → ShapeNumbers → RenewAllRefusal → Type 0
-    IsWhyUnrenewed handles numbers Shape = ¬ (IsShape (spread_shape numbers.slots numbers.buckets numbers.last_epoch L.values))
+    IsWhyUnrenewed handles numbers Shape = ¬ (IsShape (spread_shape numbers.slots numbers.buckets numbers.last_epoch numbers.seed L.values))
     IsWhyUnrenewed handles numbers Empty = ¬ (AreFull member handles)
     IsWhyUnrenewed handles numbers Mixed = AreFull member handles
     IsWhyUnrenewed handles numbers Missing = AreFull member handles × AreNotAll (members_by member handles)

@@ -1,5 +1,6 @@
 -- What a handle shows without a call: numbers of its set and of its pass, each 0 where it is empty.
-use Rattle.std.specs.Prelude.{ℕ, ℤ, pos, Option, None, Some}
+use Rattle.std.specs.Prelude.{◌≡◌, ℕ, ℤ, pos, Option, None, Some}
+use Rattle.vbr_words.specs.Buckets.{multiplier_of}
 use Rattle.vbr_slots.specs.Views.{knows}
 use Rattle.vbr_set.specs.Balances.{balance_of}
 use Rattle.vbr_set.specs.Members.{MemberView as Member}
@@ -23,6 +24,16 @@ slots_of (Some m) = m.set.start.shape.slots
 abbrev pub buckets_of : Option Member → ℕ
 buckets_of None = 0
 buckets_of (Some m) = m.set.start.shape.buckets
+
+-- keys are multiplied by what this seed tells; 0 where they aren't spread
+abbrev pub SpreadsBy : Option ℕ → ℕ → Type 0
+SpreadsBy None seed = seed ≡ 0
+SpreadsBy (Some multiplier) seed = multiplier ≡ multiplier_of seed
+
+-- so they are of the set
+abbrev pub IsSeedOf : Option Member → ℕ → Type 0
+IsSeedOf None seed = seed ≡ 0
+IsSeedOf (Some m) seed = SpreadsBy m.set.start.shape.spread seed
 
 -- how many keys the calls of the member have added, less those that they took out
 abbrev pub balance_shown : Option Member → ℤ

@@ -60,20 +60,6 @@ const MISSING: i32 = -12;
 
 const MIXED: i32 = -13;
 
-/// Opens an empty set for handles, or an empty map, as [`crate::open`] does.
-pub fn open<N: Kind, I: Listed<N>, H: HandleOf<N>>(
-    alloc: Global,
-    handles: &mut [H],
-    slots: u32,
-    buckets: u32,
-    last_epoch: u64,
-) -> i32
-    ensures { TellsOpeningBy H.member handles.old handles.new
-        (listed_start I.listing slots buckets last_epoch []) result }
-{
-    open_code(crate::opening::open::<N, I, H>(alloc, handles, slots, buckets, last_epoch))
-}
-
 /// Opens a set of these keys for handles, or a map of these entries, as [`crate::open_with`] does.
 pub fn open_with<N: Kind, I: Listed<N>, H: HandleOf<N>>(
     alloc: Global,
@@ -82,7 +68,7 @@ pub fn open_with<N: Kind, I: Listed<N>, H: HandleOf<N>>(
     items: &[I],
 ) -> i32
     ensures { TellsOpeningBy H.member handles.old handles.new
-        (listed_start I.listing numbers.slots numbers.buckets numbers.last_epoch items.now) result }
+        (listed_start I.listing numbers items.now) result }
 {
     open_code(crate::opening::open_with::<N, I, H>(alloc, handles, numbers, items))
 }

@@ -1,5 +1,5 @@
 //! Opening a set, or a map, for handles.
-ghost use Rattle.std.specs.Prelude.{◌≡◌, true, false, [], length, map, None, Some, IfOk, IfSome};
+ghost use Rattle.std.specs.Prelude.{◌≡◌, true, false, length, map, None, Some, IfOk, IfSome};
 ghost use Rattle.vbr_words.specs.Dimensions.{IsShape};
 ghost use Rattle.vbr_handles.specs.Opening.{AreEmpty, Opens, listed_start, spread_shape};
 
@@ -35,39 +35,22 @@ pub struct ShapeNumbers {
     pub buckets: u32,
     /// The last epoch.
     pub last_epoch: u64,
+    /// By which seed keys are spread over the buckets.
+    pub seed: u64,
 }
 
 impl ShapeNumbers {
-    // The shape of these numbers, with keys spread over the buckets; none, if one of them is out of range.
+    // The shape of these numbers, with keys spread over the buckets by the seed; none, if one of them is
+    // out of range.
     pub(crate) fn shape(self) -> Option<Shape>
         ensures some { IfSome result
-            (λ shape. shape ≡ spread_shape self.slots self.buckets self.last_epoch false) }
+            (λ shape. shape ≡ spread_shape self.slots self.buckets self.last_epoch self.seed false) }
         ensures in_range { result ≡ None →
-            ¬ (IsShape (spread_shape self.slots self.buckets self.last_epoch false)) }
+            ¬ (IsShape (spread_shape self.slots self.buckets self.last_epoch self.seed false)) }
     {
         let narrow = Shape::new(self.slots, 1, self.last_epoch).ok()?;
-        narrow.spread_over(self.buckets).ok()
+        narrow.spread_with(self.buckets, self.seed).ok()
     }
-}
-
-/// Opens an empty set with a pass for each of the handles, in the order of the passes' numbers; for the
-/// handles of a map, an empty map.
-pub fn open<N: Kind, I: Listed<N>, H: HandleOf<N>>(
-    alloc: Global,
-    handles: &mut [H],
-    slots: u32,
-    buckets: u32,
-    last_epoch: u64,
-) -> Result<(), OpenRefusal>
-    ensures { Opens H.member handles.old handles.new
-        (listed_start I.listing slots buckets last_epoch []) result }
-{
-    let numbers = ShapeNumbers {
-        slots,
-        buckets,
-        last_epoch,
-    };
-    open_with::<N, I, H>(alloc, handles, numbers, &[])
 }
 
 /// Opens a set of these keys, which ascend, each above the one before, with a pass for each of the
@@ -80,7 +63,7 @@ pub fn open_with<N: Kind, I: Listed<N>, H: HandleOf<N>>(
     items: &[I],
 ) -> Result<(), OpenRefusal>
     ensures { Opens H.member handles.old handles.new
-        (listed_start I.listing numbers.slots numbers.buckets numbers.last_epoch items.now) result }
+        (listed_start I.listing numbers items.now) result }
 {
     if !are_empty::<N, H>(handles) {
         return Err(OpenRefusal::InUse);

@@ -1,7 +1,7 @@
 //! What a handle shows of its set and of its pass, without a call and without a step. An empty handle
 //! shows 0, which is no such number.
 ghost use Rattle.std.specs.Prelude.{◌≡◌};
-ghost use Rattle.vbr_handles.specs.Shown.{balance_shown, buckets_of, epoch_of, last_epoch_of, slots_of};
+ghost use Rattle.vbr_handles.specs.Shown.{IsSeedOf, balance_shown, buckets_of, epoch_of, last_epoch_of, slots_of};
 
 use crate::owner::Owner;
 use vbr_set::member::Member;
@@ -49,6 +49,17 @@ pub fn buckets<N: Nodes>(owner: &mut Owner<Member<N>>) -> u32
         return 0;
     }
     owner.member_mut().shape().buckets()
+}
+
+/// A seed that spreads keys as those of the set of a handle are spread, below 2^63.
+pub fn seed<N: Nodes>(owner: &mut Owner<Member<N>>) -> u64
+    ensures same { owner.new.member ≡ owner.old.member }
+    ensures seed { IsSeedOf owner.old.member result }
+{
+    if owner.is_empty() {
+        return 0;
+    }
+    owner.member_mut().shape().seed().unwrap_or(0)
 }
 
 /// How many keys the calls through a handle have added, less those that they took out, as

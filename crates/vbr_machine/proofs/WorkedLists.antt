@@ -44,10 +44,10 @@ abbrev words_along : Start → List Event → List (ℕ × Place) → List ℕ
 words_along start events moments = map (λ (it : ℕ × Place). word_at start (world_after start (take it.0 events)) it.1) moments
 
 abbrev pub shape_of_three : Start
-shape_of_three = empty_start (record { slots = 3; buckets = 1; spread = false; last_epoch = 10; values = false })
+shape_of_three = empty_start (record { slots = 3; buckets = 1; spread = None; last_epoch = 10; values = false })
 
 abbrev pub shape_of_one : Start
-shape_of_one = empty_start (record { slots = 1; buckets = 1; spread = false; last_epoch = 10; values = false })
+shape_of_one = empty_start (record { slots = 1; buckets = 1; spread = None; last_epoch = 10; values = false })
 
 abbrev pub reborn_slot : List Event
 reborn_slot = by 0 ReadEpoch ∷ by 0 (TakeFlag 0) ∷ by 0 (LoadStamp 0) ∷ by 0 (StoreBirth 0 1) ∷ by 0 (StoreKey 0 30) ∷ by 0 (LoadLink (Head 0)) ∷ by 0 ReadEpoch ∷ by 0 (StoreLink 0 None) ∷ by 0 (Publish (Head 0) 0 0) ∷ by 0 (TakeFlag 1) ∷ by 0 (StoreBirth 1 1) ∷ by 0 (StoreKey 1 20) ∷ by 0 (StoreLink 1 (Some 0)) ∷ by 0 (Publish (Head 0) 33554433 1) ∷ by 1 ReadEpoch ∷ by 1 (LoadLink (Head 0)) ∷ by 1 ReadEpoch ∷ by 1 (LoadKey 1) ∷ by 1 (LoadBirth 1) ∷ by 1 (LoadLink (Slot 1)) ∷ by 1 ReadEpoch ∷ by 1 (LoadKey 0) ∷ by 1 (LoadBirth 0) ∷ by 1 ReadEpoch ∷ by 1 (TakeFlag 2) ∷ by 1 (StoreBirth 2 1) ∷ by 1 (StoreKey 2 25) ∷ by 1 (StoreLink 2 (Some 0)) ∷ by 0 (Mark 1 33554433) ∷ by 0 (Unlink (Head 0) 33554434 1) ∷ by 0 ReadEpoch ∷ by 0 (StoreStamp 1 1) ∷ by 0 (Advance 1) ∷ by 0 ReadEpoch ∷ by 0 (StoreBirth 1 2) ∷ by 0 (StoreKey 1 10) ∷ by 0 (LoadLink (Head 0)) ∷ by 0 ReadEpoch ∷ by 0 (LoadKey 0) ∷ by 0 (LoadBirth 0) ∷ by 0 ReadEpoch ∷ by 0 (StoreLink 1 (Some 0)) ∷ by 0 (Publish (Head 0) 33554433 1) ∷ by 1 (Publish (Slot 1) 33554433 2) ∷ []

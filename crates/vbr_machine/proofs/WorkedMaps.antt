@@ -16,7 +16,7 @@ use Rattle.vbr_machine.specs.declared.event.CoreRefusal.TheVariants.{NotHeld, Ou
 use Rattle.vbr_machine.proofs.WorkedLists.{by, shape_of_one, Plays}
 
 abbrev map_of_one : Start
-map_of_one = empty_start (record { slots = 1; buckets = 1; spread = false; last_epoch = 10; values = true })
+map_of_one = empty_start (record { slots = 1; buckets = 1; spread = None; last_epoch = 10; values = true })
 
 -- a slot is born in and gets a key
 abbrev in_hand : List Event

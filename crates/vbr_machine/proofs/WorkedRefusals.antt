@@ -12,7 +12,7 @@ use Rattle.vbr_machine.specs.declared.event.CoreRefusal.TheVariants.{NoSuchPass,
 use Rattle.vbr_machine.proofs.WorkedLists.{by, shape_of_three, reborn_slot, effects_from}
 
 abbrev one_of_each : Start
-one_of_each = empty_start (record { slots = 1; buckets = 1; spread = false; last_epoch = 1; values = false })
+one_of_each = empty_start (record { slots = 1; buckets = 1; spread = None; last_epoch = 1; values = false })
 
 -- at the opening: to a pass that isn't there; of a key in a slot that isn't owned; of a key of a slot that isn't held; of a slot outside; of the epoch 0; and of the last epoch
 pub refused_at_opening : Refuses one_of_each 1 (opening one_of_each) (by 1 ReadEpoch) NoSuchPass

@@ -22,7 +22,7 @@ use Rattle.vbr_machine.specs.declared.event.CoreRefusal.TheVariants.{NotOwned, N
 use Rattle.vbr_machine.proofs.WorkedLists.{by, effects_from, Plays}
 
 abbrev map_of_three : Start
-map_of_three = empty_start (record { slots = 3; buckets = 1; spread = false; last_epoch = 10; values = true })
+map_of_three = empty_start (record { slots = 3; buckets = 1; spread = None; last_epoch = 10; values = true })
 
 -- after a run of so many passes these events are accepted, with these effects; and these are the calls of all
 abbrev PlaysOn : ℕ → List Event → List Event → List Effect → List Call → Type 0
@@ -170,7 +170,7 @@ pub replaced_by_nothing_in_hand : Refuses map_of_three 2 (world_after map_of_thr
 unfolding bucket_of link_of word_of has_flag first_bits flag_word
 replaced_by_nothing_in_hand = search (rules, tests)
 
-pub replaced_in_a_set : Refuses (empty_start (record { slots = 3; buckets = 1; spread = false; last_epoch = 10; values = false })) 2 (opening (empty_start (record { slots = 3; buckets = 1; spread = false; last_epoch = 10; values = false }))) (by 0 (Replace 0 33554432 1)) OutOfRange
+pub replaced_in_a_set : Refuses (empty_start (record { slots = 3; buckets = 1; spread = None; last_epoch = 10; values = false })) 2 (opening (empty_start (record { slots = 3; buckets = 1; spread = None; last_epoch = 10; values = false }))) (by 0 (Replace 0 33554432 1)) OutOfRange
 unfolding bucket_of link_of word_of has_flag first_bits flag_word
 replaced_in_a_set = search (rules, tests)
 

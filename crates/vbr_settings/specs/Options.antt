@@ -89,7 +89,7 @@ settings_among rows = record {
   shape = record {
     slots = number_among (codes "slots") rows;
     buckets = number_among (codes "buckets") rows;
-    spread = false;
+    spread = None;
     last_epoch = number_among (codes "last-epoch") rows;
     values = false;
   };
@@ -132,7 +132,7 @@ own_settings = record {
   shape = record {
     slots = 1024;
     buckets = 16;
-    spread = false;
+    spread = None;
     last_epoch = MAX_EPOCH;
     values = false;
   };
@@ -161,7 +161,7 @@ settings_of_each = record {
   shape = record {
     slots = 512;
     buckets = 8;
-    spread = false;
+    spread = None;
     last_epoch = 7;
     values = false;
   };

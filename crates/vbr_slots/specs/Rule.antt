@@ -1,5 +1,5 @@
 -- The rule of the table: it is the state of a run of the core, and what each pass has seen begins this run and has all its own events; what a token tells begins this run too.
-use Rattle.std.specs.Prelude.{◌≡◌, ◌≢◌, ◌⊎◌, ℕ, zero, suc, ◌+◌, ◌==◌, List, [], ◌∷◌, ◌++◌, Bool, true, false}
+use Rattle.std.specs.Prelude.{◌≡◌, ◌≢◌, ◌⊎◌, ℕ, zero, suc, ◌+◌, ◌==◌, List, [], ◌∷◌, ◌++◌, Bool, true, false, None}
 use mathlib.Core.Option.{some}
 use lib.ListN.{get_elem?}
 use Rattle.atomic_table.specs.Table.{State as Standing, Me}
@@ -118,7 +118,7 @@ no_event = record { pass = 0; step = ReadEpoch }
 
 -- an opening, where none was picked yet
 abbrev pub no_opening : TableStart
-no_opening = record { start = empty_start (record { slots = 0; buckets = 0; spread = false; last_epoch = 0; values = false }); passes = 0 }
+no_opening = record { start = empty_start (record { slots = 0; buckets = 0; spread = None; last_epoch = 0; values = false }); passes = 0 }
 
 -- to its pass, a step that was shown r answers and teaches what one answers and teaches that found n; a store is shown what it stores
 pub record Shows (step : Step) (r n : ℕ) : Type 0 where

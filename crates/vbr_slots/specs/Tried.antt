@@ -1,5 +1,5 @@
 -- Which slot a pass tried last to take out of the shared pool.
-use Rattle.std.specs.Prelude.{ℕ, ◌*◌, ◌/◌, ◌==◌, if◌then◌else◌, List, [], ◌∷◌}
+use Rattle.std.specs.Prelude.{ℕ, ◌*◌, ◌/◌, ◌==◌, if◌then◌else◌, List, [], ◌∷◌, is_some}
 use Rattle.vbr_words.specs.Dimensions.{Dimensions}
 use Rattle.vbr_words.specs.Flags.{flag_words}
 use Rattle.vbr_words.specs.declared.flags.TheConstants.{FLAGS}
@@ -20,7 +20,7 @@ tried_in who (e ∷ events) before = tried_in who events (if e.pass == who then 
 
 -- the slot with which a pass of so many begins: where keys are spread, the first of a flag word, so that the passes begin as far apart as may be; else slot 0
 abbrev pub first_tried : Dimensions → ℕ → ℕ → ℕ
-first_tried shape passes who = if shape.spread then FLAGS * (who * flag_words shape.slots / passes) else 0
+first_tried shape passes who = if is_some shape.spread then FLAGS * (who * flag_words shape.slots / passes) else 0
 
 -- the slot that the pass tried last in all that it has seen; if it tried none, the one with which it begins
 unfoldable pub last_tried : Trace → ℕ

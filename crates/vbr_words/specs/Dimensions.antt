@@ -1,13 +1,13 @@
 -- The shape of a set, as contracts see it.
-use Rattle.std.specs.Prelude.{ℕ, ◌<◌, ◌≤◌, Bool}
+use Rattle.std.specs.Prelude.{ℕ, ◌<◌, ◌≤◌, Bool, Option}
 use Rattle.vbr_words.specs.declared.link.TheConstants.{MAX_SLOTS}
 use Rattle.vbr_words.specs.declared.shape.TheConstants.{MAX_SPREAD_BUCKETS, MAX_EPOCH}
 
--- the number of slots, the number of buckets, whether keys are spread over them, the last epoch, and whether each node has a value
+-- the number of slots, the number of buckets, what keys are multiplied by where they are spread over them, the last epoch, and whether each node has a value
 pub record Dimensions : Type 0 where
   pub slots : ℕ
   pub buckets : ℕ
-  pub spread : Bool
+  pub spread : Option ℕ
   pub last_epoch : ℕ
   pub values : Bool
 

@@ -1,8 +1,8 @@
 //! The shape of a set: how many slots and buckets it has, its last epoch, and whether its nodes
 //! have values.
-ghost use Rattle.std.specs.Prelude.{◌≡◌, ◌<◌, ◌≤◌, ◌^◌, ◌⊎◌, true, false, None, Some, MatchResult};
+ghost use Rattle.std.specs.Prelude.{◌≡◌, ◌<◌, ◌≤◌, ◌%◌, ◌^◌, ◌⊎◌, true, false, None, Some, IfSome, MatchOption, MatchResult, is_some};
 ghost use Rattle.vbr_words.specs.declared.shape.TheConstants.{MAX_SPREAD_BUCKETS};
-ghost use Rattle.vbr_words.specs.Buckets.{bucket_of, mixed};
+ghost use Rattle.vbr_words.specs.Buckets.{bucket_of, mixed, multiplier_of};
 ghost use Rattle.vbr_words.specs.Dimensions.{IsShape};
 ghost use Rattle.vbr_words.specs.Shapes.{shape_error};
 
@@ -14,28 +14,34 @@ use std::marker::Model;
 /// The greatest number of buckets that [`Shape::new`] takes.
 pub const MAX_BUCKETS: u32 = 65_536;
 
-/// The greatest number of buckets that keys are spread over, by [`Shape::spread_over`].
+/// The greatest number of buckets that keys are spread over, by [`Shape::spread_over`] and
+/// [`Shape::spread_with`].
 pub const MAX_SPREAD_BUCKETS: u32 = 16_777_216;
 
 /// The greatest last epoch: a version has to hold each epoch.
 pub const MAX_EPOCH: u64 = MAX_VERSION;
 
-/// What keys are multiplied by where they are spread: 2^64 divided by the golden ratio, an odd number.
+/// What keys are multiplied by where they are spread and no seed is given: 2^64 divided by the golden
+/// ratio, an odd number.
 pub const MIXER: u64 = 0x9E37_79B9_7F4A_7C15;
 
-/// How many slots and buckets a set has, whether its keys are spread over the buckets, and its last
-/// epoch; and whether each node has a value beside its key. None of the numbers is 0.
+// Its inverse: the product of the two is 1, modulo 2^64.
+const UNMIXER: u64 = 0xF1DE_83E1_9937_733D;
+
+/// How many slots and buckets a set has, whether its keys are spread over the buckets, and by which
+/// number, and its last epoch; and whether each node has a value beside its key. None of the numbers is 0.
 #[derive(Clone, Copy, Debug, PartialEq, Eq, Hash)]
 pub struct Shape {
     slots: u32,
     buckets: u32,
     last_epoch: u64,
-    spread: bool,
+    spread: Option<u64>,
     values: bool,
 }
 
 impl Model for Shape {
     ghost use Rattle.vbr_words.specs.Dimensions.{Dimensions, IsShape};
+    ghost use Rattle.vbr_words.specs.Buckets.{IsOdd};
 
     ghost Value = { Dimensions };
 
@@ -47,7 +53,7 @@ impl Model for Shape {
       values = s.values;
     } };
 
-    ghost invariant = { λ s. IsShape (record {
+    ghost invariant = { λ s. IsOdd s.spread × IsShape (record {
       slots = s.slots;
       buckets = s.buckets;
       spread = s.spread;
@@ -122,7 +128,7 @@ impl Shape {
             (λ shape. (shape_error slots buckets last_epoch ≡ None) × (shape ≡ record {
               slots = slots;
               buckets = buckets;
-              spread = false;
+              spread = None;
               last_epoch = last_epoch;
               values = false;
             }))
@@ -141,7 +147,7 @@ impl Shape {
             slots,
             buckets,
             last_epoch,
-            spread: false,
+            spread: None,
             values: false,
         })
     }
@@ -150,11 +156,24 @@ impl Shape {
     /// them: the bucket of a key is found from a mixture of all its bits, so that keys with a pattern,
     /// as multiples of a page, fall into all buckets alike. It takes two multiplications and no
     /// division. Lists and reports stay in the order of keys. Against keys that somebody chooses to
-    /// fall into one bucket it does nothing.
+    /// fall into one bucket it does nothing; [`Shape::spread_with`] does.
     pub fn spread_over(self, buckets: u32) -> Result<Self, SpreadError>
         ensures { MatchResult result
             (λ shape. (0 < buckets) × (buckets ≤ MAX_SPREAD_BUCKETS)
-            × (shape ≡ record self { buckets = buckets; spread = true }))
+            × (shape ≡ record self { buckets = buckets; spread = Some MIXER }))
+            (λ error. (buckets ≡ 0) ⊎ (MAX_SPREAD_BUCKETS < buckets)) }
+    {
+        self.spread_with(buckets, 0)
+    }
+
+    /// As [`Shape::spread_over`], with the mixture that the seed tells: one that is drawn at random and
+    /// kept secret puts two keys into one bucket with a probability of at most 2 / buckets where these are
+    /// a power of two, whatever the keys, so nobody can choose keys that share one. Each of the 2^63
+    /// mixtures belongs to two seeds, whose difference is 2^63, and that of `spread_over` to 0.
+    pub fn spread_with(self, buckets: u32, seed: u64) -> Result<Self, SpreadError>
+        ensures { MatchResult result
+            (λ shape. (0 < buckets) × (buckets ≤ MAX_SPREAD_BUCKETS)
+            × (shape ≡ record self { buckets = buckets; spread = Some (multiplier_of seed) }))
             (λ error. (buckets ≡ 0) ⊎ (MAX_SPREAD_BUCKETS < buckets)) }
     {
         if buckets == 0 || buckets > MAX_SPREAD_BUCKETS {
@@ -162,7 +181,7 @@ impl Shape {
         }
         Ok(Shape {
             buckets,
-            spread: true,
+            spread: Some(multiplier_of(seed)),
             ..self
         })
     }
@@ -199,10 +218,21 @@ impl Shape {
     /// Whether keys are spread over the buckets, as [`Shape::spread_over`] has it.
     #[inline]
     pub fn is_spread(&self) -> bool
-        ensures spread { result ≡ self.now.spread }
+        ensures spread { result ≡ is_some self.now.spread }
         ensures shape { IsShape self.now }
     {
-        self.spread
+        self.spread.is_some()
+    }
+
+    /// The seed by which keys are spread over the buckets, below 2^63: with it [`Shape::spread_with`]
+    /// gives the same mixture. None where they aren't spread.
+    pub fn seed(&self) -> Option<u64>
+        ensures seed { MatchOption result (self.now.spread ≡ None)
+            (λ seed. self.now.spread ≡ Some (multiplier_of seed)) }
+        ensures low { IfSome result (λ seed. seed < 2 ^ 63) }
+    {
+        let multiplier = self.spread?;
+        Some(seed_of(multiplier))
     }
 
     /// The number of slots.
@@ -240,8 +270,8 @@ impl Shape {
         ensures in_shape { result < self.now.buckets }
     {
         let buckets = u64::from(self.buckets);
-        if self.spread {
-            (mixed(key) * buckets >> 32) as u32
+        if let Some(multiplier) = self.spread {
+            (mixed(multiplier, key) * buckets >> 32) as u32
         } else if buckets.is_power_of_two() {
             (key & (buckets - 1)) as u32
         } else {
@@ -252,9 +282,26 @@ impl Shape {
 
 // The bits of a key, mixed: the upper half of a product.
 #[inline]
-fn mixed(key: u64) -> u64
-    ensures mixed { result ≡ mixed key }
+fn mixed(multiplier: u64, key: u64) -> u64
+    ensures mixed { result ≡ mixed multiplier key }
     ensures half { result < 2 ^ 32 }
 {
-    key.wrapping_mul(MIXER) >> 32
+    key.wrapping_mul(multiplier) >> 32
+}
+
+// What a seed has keys multiplied by.
+fn multiplier_of(seed: u64) -> u64
+    ensures multiplier { result ≡ multiplier_of seed }
+    ensures odd { result % 2 ≡ 1 }
+{
+    seed.wrapping_mul(2).wrapping_add(1).wrapping_mul(MIXER)
+}
+
+// The lesser of the two seeds that have keys multiplied by an odd number.
+fn seed_of(multiplier: u64) -> u64
+    requires odd { multiplier % 2 ≡ 1 }
+    ensures seed { multiplier ≡ multiplier_of result }
+    ensures low { result < 2 ^ 63 }
+{
+    multiplier.wrapping_mul(UNMIXER) / 2
 }
