@@ -23,7 +23,7 @@
 
 enum { THREADS = 4, MAX_KEYS = 1 << 20 };
 
-/* Keys are spread by a product with the first number, whose upper bits are the bucket; the second is its inverse. */
+/* With seed 0 keys are spread by a product with the first number, whose upper bits are the bucket; the second is its inverse. */
 static const uint64_t MIXER = 0x9E3779B97F4A7C15u, INVERSE = 0xF1DE83E19937733Du;
 
 enum kind { NEIGHBOURS, IN_STEP, IN_SEQUENCE };
@@ -98,7 +98,7 @@ static uint32_t play(vbr_totals *report) {
     pthread_t threads[THREADS];
     uint32_t slots = key_count + 64 * THREADS, found = 0;
     budget = VBR_AMPLE_BUDGET(slots);
-    CHECK(vbr_open_with(handles, THREADS, slots, key_count, VBR_MAX_EPOCH, ascending, key_count) == VBR_NO);
+    CHECK(vbr_open_seeded(handles, THREADS, slots, key_count, VBR_MAX_EPOCH, 0, ascending, key_count) == VBR_NO);
     atomic_store(&taken, THREADS * steps());
     atomic_store(&arrived, 0);
     for (int i = 0; i < THREADS; i++) {

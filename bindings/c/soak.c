@@ -42,6 +42,7 @@ struct round {
     uint32_t slots, buckets;
     uint64_t last_epoch, spread; /* the key of number i is i * spread, and spread is odd */
     uint64_t unspread;           /* its inverse: the number of a key is key * unspread */
+    uint64_t multiplier;         /* what the library multiplies keys by, as its seed tells */
     uint32_t small_budgets;      /* of 256 calls, how many have one */
     uint32_t look_ups, inserts;  /* of 256 calls; the others are removes */
     uint32_t changes;            /* of 256 look-ups and inserts, how many change a value */
@@ -96,7 +97,7 @@ static uint64_t key_of(const struct round *r, uint32_t number) { return number *
 static uint32_t all_keys(const struct round *r) { return r->keys + r->resting; }
 
 /* In which bucket the library has a key: the upper half of its product, as a part of the buckets. */
-static uint64_t bucket_of(const struct round *r, uint64_t key) { return (key * 0x9e3779b97f4a7c15u >> 32) * r->buckets >> 32; }
+static uint64_t bucket_of(const struct round *r, uint64_t key) { return (key * r->multiplier >> 32) * r->buckets >> 32; }
 
 /* The thread that alone inserts and removes the key, or -1. */
 static int owner_of(const struct round *r, uint32_t number) { return number < r->keys && number % 8 < THREADS ? (int)(number % 8) : -1; }
@@ -417,6 +418,7 @@ static int play(struct round *r, uint64_t *random, long *made) {
     sets++;
     for (uint32_t i = 0; i < r->resting; i++) held[r->keys + i] = 1;
     if (open_set(r, handles, count, with_keys) != VBR_NO) return failed(r, sets, "the set could not be opened", 0);
+    r->multiplier = (2 * vbr_seed(&handles[0]) + 1) * 0x9e3779b97f4a7c15u;
     const char *wrong = begin(r, handles, with_keys);
     if (wrong) return failed(r, sets, wrong, 0);
     atomic_store(&working, THREADS);

@@ -266,13 +266,27 @@ static inline vbr_entry value_opens(uint64_t key) {
     return (vbr_entry){key, value_read(&it->value)};
 }
 
-VBR_NODISCARD static inline vbr_answer value_open_with(vbr_map_handle *handles, size_t count, uint32_t slots, uint32_t buckets,
-                                                       uint64_t last_epoch, const uint64_t *keys, size_t key_count) {
+/* The entries that an opening is given, and what comes of their values. */
+static inline void value_open_entries(const uint64_t *keys, size_t key_count) {
     if (key_count > MOST_ENTRIES) value_is_wrong("more keys than values.h has room for", key_count, 0);
     for (size_t i = 0; i < key_count; i++) opening_entries[i] = value_opens(keys[i]);
-    vbr_answer answer = vbr_map_open_with(handles, count, slots, buckets, last_epoch, opening_entries, key_count);
+}
+
+VBR_NODISCARD static inline vbr_answer value_opened(vbr_answer answer, size_t key_count) {
     for (size_t i = 0; answer != VBR_NO && i < key_count; i++) value_write(&value_place(opening_entries[i].value)->stage, REFUSED);
     return answer;
+}
+
+VBR_NODISCARD static inline vbr_answer value_open_with(vbr_map_handle *handles, size_t count, uint32_t slots, uint32_t buckets,
+                                                       uint64_t last_epoch, const uint64_t *keys, size_t key_count) {
+    value_open_entries(keys, key_count);
+    return value_opened(vbr_map_open_with(handles, count, slots, buckets, last_epoch, opening_entries, key_count), key_count);
+}
+
+VBR_NODISCARD static inline vbr_answer value_open_seeded(vbr_map_handle *handles, size_t count, uint32_t slots, uint32_t buckets,
+                                                         uint64_t last_epoch, uint64_t seed, const uint64_t *keys, size_t key_count) {
+    value_open_entries(keys, key_count);
+    return value_opened(vbr_map_open_seeded(handles, count, slots, buckets, last_epoch, seed, opening_entries, key_count), key_count);
 }
 
 /* The entries of a report: each value is taken out, and its key is told. */
@@ -324,11 +338,14 @@ VBR_NODISCARD static inline vbr_answer value_report_all(vbr_map_handle *handles,
 #undef vbr_last_epoch
 #undef vbr_slots
 #undef vbr_buckets
+#undef vbr_seed
+#undef vbr_renew_all_seeded
 
 #define OF_VALUES
 #define vbr_handle vbr_map_handle
 #define vbr_open value_open
 #define vbr_open_with value_open_with
+#define vbr_open_seeded value_open_seeded
 #define vbr_insert value_insert
 #define vbr_remove value_remove
 #define vbr_has value_look_up
@@ -343,6 +360,8 @@ VBR_NODISCARD static inline vbr_answer value_report_all(vbr_map_handle *handles,
 #define vbr_last_epoch(handle) vbr_map_last_epoch(handle)
 #define vbr_slots(handle) vbr_map_slots(handle)
 #define vbr_buckets(handle) vbr_map_buckets(handle)
+#define vbr_seed(handle) vbr_map_seed(handle)
+#define vbr_renew_all_seeded(handles, count, slots, buckets, last_epoch, seed) vbr_map_renew_all_seeded(handles, count, slots, buckets, last_epoch, seed)
 #define vbr_lender vbr_map_lender
 #define vbr_lender_init vbr_map_lender_init
 #define vbr_lend vbr_map_lend

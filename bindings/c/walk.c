@@ -1,7 +1,7 @@
 /* Walks in one thread, with answers and budgets that are worked by hand: in which order keys come, how many steps each takes, how
    far a refused call comes, and what a walk gives whose keys go and come meanwhile.
 
-   Of four buckets a key is in that of the first two bits of its product with 0x9E3779B97F4A7C15, modulo 2^64. These products are the
+   With seed 0 a key is in that of four buckets which the first two bits of its product with 0x9E3779B97F4A7C15 tell, modulo 2^64. These products are the
    following parts of 2^64, so the buckets begin at 0, 1/4, 1/2 and 3/4:
 
        key    0     1     2     3     4     5     6     7     8     9     2^64 - 1
@@ -66,7 +66,7 @@ static int nothing_to_give(void) {
     memset(&as_it_was, 0x33, sizeof as_it_was);
     CHECK(vbr_next(&handle[0], &cursor, AMPLE, &key) == VBR_EMPTY && key == 77);
     CHECK(!memcmp(&cursor, &as_it_was, sizeof cursor));
-    CHECK(vbr_open(handle, 2, SLOTS, 4, VBR_MAX_EPOCH) == VBR_NO);
+    CHECK(vbr_open_seeded(handle, 2, SLOTS, 4, VBR_MAX_EPOCH, 0, all, 0) == VBR_NO);
     vbr_cursor begin = VBR_CURSOR_BEGIN, at = begin;
     CHECK(!ends(&handle[0], &at, 3 + 3 + 3 + 8)); /* four buckets are entered */
     at = begin;
@@ -80,7 +80,7 @@ static int bucket_by_bucket(void) {
     static const uint32_t before[KEYS] = {3, 3 + 5, 3 + 10, 3, 3 + 5, 3 + 10, 3, 3 + 5, 3 + 10, 3, 3 + 5};
     vbr_handle handle[2] = {{0}};
     vbr_cursor begin = VBR_CURSOR_BEGIN, cursor = begin;
-    CHECK(vbr_open_with(handle, 2, SLOTS, 4, VBR_MAX_EPOCH, all, KEYS) == VBR_NO);
+    CHECK(vbr_open_seeded(handle, 2, SLOTS, 4, VBR_MAX_EPOCH, 0, all, KEYS) == VBR_NO);
     for (int i = 0; i < KEYS; i++) {
         CHECK(!gives(&handle[0], &cursor, before[i] + 8, by_bucket[i]));
         CHECK(!gives_all(&handle[1], cursor, by_bucket + i + 1, KEYS - i - 1)); /* from a copy, by the other handle */
@@ -97,7 +97,7 @@ static int refused(void) {
     vbr_handle handle[2] = {{0}};
     vbr_cursor cursor = VBR_CURSOR_BEGIN, copy;
     uint64_t key = 77;
-    CHECK(vbr_open_with(handle, 2, SLOTS, 4, VBR_MAX_EPOCH, all, KEYS) == VBR_NO);
+    CHECK(vbr_open_seeded(handle, 2, SLOTS, 4, VBR_MAX_EPOCH, 0, all, KEYS) == VBR_NO);
     CHECK(vbr_next(&handle[0], &cursor, AMPLE, &key) == VBR_YES && vbr_next(&handle[0], &cursor, AMPLE, &key) == VBR_YES && key == 2);
     for (uint32_t budget = 0; budget < 3 + 10 + 8; budget++) CHECK(vbr_next(&handle[0], &cursor, budget, &key) == VBR_OUT_OF_STEPS && key == 2);
     copy = cursor;
@@ -122,7 +122,7 @@ static int past_removed_nodes(void) {
     static const uint64_t some[3] = {2, 5, 8};
     vbr_handle handle[2] = {{0}};
     vbr_cursor begin = VBR_CURSOR_BEGIN, cursor = begin, copy = begin;
-    CHECK(vbr_open_with(handle, 2, SLOTS, 4, VBR_MAX_EPOCH, some, 3) == VBR_NO);
+    CHECK(vbr_open_seeded(handle, 2, SLOTS, 4, VBR_MAX_EPOCH, 0, some, 3) == VBR_NO);
     CHECK(vbr_remove(&handle[0], 2, 3 + 5 + 7) == VBR_OUT_OF_STEPS && vbr_remove(&handle[0], 2, 3 + 5 + 8) == VBR_YES);
     CHECK(!gives(&handle[1], &cursor, 3 + 3 + 8, 5));
     CHECK(!gives(&handle[1], &cursor, 3 + 3 + 3 + 8, 8));
@@ -141,7 +141,7 @@ static int removed_on_the_way(void) {
     vbr_handle handle[2] = {{0}};
     vbr_cursor cursor = VBR_CURSOR_BEGIN;
     uint64_t key = 77;
-    CHECK(vbr_open_with(handle, 2, SLOTS, 4, VBR_MAX_EPOCH, all, KEYS) == VBR_NO);
+    CHECK(vbr_open_seeded(handle, 2, SLOTS, 4, VBR_MAX_EPOCH, 0, all, KEYS) == VBR_NO);
     for (int i = 0; i < KEYS; i++) {
         CHECK(vbr_next(&handle[0], &cursor, AMPLE, &key) == VBR_YES && key == by_bucket[i]);
         CHECK(vbr_remove(&handle[i % 2], key, AMPLE) == VBR_YES);
@@ -158,7 +158,7 @@ static int inserted_on_the_way(void) {
     vbr_handle handle[2] = {{0}};
     vbr_cursor cursor = VBR_CURSOR_BEGIN;
     uint64_t key = 77;
-    CHECK(vbr_open_with(handle, 2, SLOTS, 4, VBR_MAX_EPOCH, some, 4) == VBR_NO);
+    CHECK(vbr_open_seeded(handle, 2, SLOTS, 4, VBR_MAX_EPOCH, 0, some, 4) == VBR_NO);
     CHECK(vbr_next(&handle[0], &cursor, AMPLE, &key) == VBR_YES && key == 2);
     CHECK(vbr_insert(&handle[0], 0, AMPLE) == VBR_YES && vbr_insert(&handle[1], 5, AMPLE) == VBR_YES);
     CHECK(vbr_next(&handle[0], &cursor, AMPLE, &key) == VBR_YES && key == 4);
@@ -177,13 +177,13 @@ static int other_cursors(void) {
     vbr_cursor any, cursor = VBR_CURSOR_BEGIN;
     uint64_t key = 77;
     memset(&any, 0xff, sizeof any);
-    CHECK(vbr_open_with(handle, 2, SLOTS, 4, VBR_MAX_EPOCH, all, KEYS) == VBR_NO);
+    CHECK(vbr_open_seeded(handle, 2, SLOTS, 4, VBR_MAX_EPOCH, 0, all, KEYS) == VBR_NO);
     CHECK(vbr_next(&handle[0], &any, AMPLE, &key) == VBR_NO && vbr_next(&handle[0], &any, 0, &key) == VBR_NO && key == 77);
     for (int i = 0; i < 8; i++) CHECK(vbr_next(&handle[0], &cursor, AMPLE, &key) == VBR_YES && key == by_bucket[i]);
     CHECK(close_both(handle, KEYS)); /* the cursor is after 6, in the third bucket */
-    CHECK(vbr_open_with(handle, 2, SLOTS, 2, VBR_MAX_EPOCH, all, KEYS) == VBR_NO);
+    CHECK(vbr_open_seeded(handle, 2, SLOTS, 2, VBR_MAX_EPOCH, 0, all, KEYS) == VBR_NO);
     CHECK(!gives_all(&handle[0], cursor, NULL, 0) && close_both(handle, KEYS));
-    CHECK(vbr_open_with(handle, 2, SLOTS, 8, VBR_MAX_EPOCH, all, KEYS - 1) == VBR_NO);
+    CHECK(vbr_open_seeded(handle, 2, SLOTS, 8, VBR_MAX_EPOCH, 0, all, KEYS - 1) == VBR_NO);
     CHECK(!gives_all(&handle[0], cursor, after, 7) && close_both(handle, KEYS - 1));
     return 0;
 }
@@ -193,7 +193,7 @@ static int two_walks(void) {
     vbr_handle handle[2] = {{0}};
     vbr_cursor one = VBR_CURSOR_BEGIN, other = one;
     uint64_t key = 77;
-    CHECK(vbr_open_with(handle, 2, SLOTS, 4, VBR_MAX_EPOCH, all, KEYS) == VBR_NO);
+    CHECK(vbr_open_seeded(handle, 2, SLOTS, 4, VBR_MAX_EPOCH, 0, all, KEYS) == VBR_NO);
     for (int i = 0; i < KEYS; i++) {
         CHECK(vbr_next(&handle[0], &one, AMPLE, &key) == VBR_YES && key == by_bucket[i]);
         if (i % 2 == 0) CHECK(vbr_next(&handle[0], &other, AMPLE, &key) == VBR_YES && key == by_bucket[i / 2]);

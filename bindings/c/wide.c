@@ -40,11 +40,11 @@ static int given_back_ahead_of_the_search(void) {
     return 0;
 }
 
-/* All keys of one bucket: the first bucket of two has the keys whose product with the mixer has no highest bit. */
+/* All keys of one bucket: with seed 0 the first of two has the keys whose product with this number has no highest bit. */
 static int keys_of_one_bucket(void) {
     vbr_handle one = {0};
     uint64_t key = 0;
-    CHECK(vbr_open(&one, 1, 400, 2, VBR_MAX_EPOCH) == VBR_NO);
+    CHECK(vbr_open_seeded(&one, 1, 400, 2, VBR_MAX_EPOCH, 0, keys, 0) == VBR_NO);
     for (int i = 0; i < 400; i++, key++) {
         while (key * 0x9E3779B97F4A7C15 >> 63) key++;
         CHECK(vbr_insert(&one, key, BUDGET) == VBR_YES && vbr_insert(&one, key, BUDGET) == VBR_NO);

@@ -327,6 +327,38 @@ static int loans() {
     return 0;
 }
 
+// A seed that is given, kept, drawn and told, and the order of a walk, which it tells.
+static int seeds() {
+    const std::vector<std::uint64_t> keys{1, 2, 3, 4, 5, 6, 7, 8, 9};
+    auto walk = [](vbr::handle &mine) {
+        vbr::answer told{};
+        std::vector<std::uint64_t> given;
+        for (std::uint64_t key : mine.keys(100000, told)) given.push_back(key);
+        return given;
+    };
+    vbr::shape seeded = vbr::shape::for_keys(1024, 2);
+    seeded.seed = 7;
+    auto [opened, handles] = vbr::open_with(seeded, 2, keys);
+    CHECK(opened == vbr::open_answer::done);
+    vbr::handle &mine = handles[1];
+    CHECK(mine.seed() == 7 && handles[0].seed() == 7);
+    vbr::shape again = vbr::shape::for_keys(1024, 1);
+    again.seed = mine.seed(); // a shape whose sets have each key in the same bucket
+    auto other = vbr::open_with(again, 1, keys);
+    CHECK(other.answer == vbr::open_answer::done && walk(other.handles[0]) == walk(mine) && walk(mine).size() == 9);
+    CHECK(vbr::handle::renew_all(handles, vbr::shape::for_keys(2048, 2)) == vbr::all_answer::done && mine.seed() == 7); // it is kept
+    seeded.seed = vbr::random_seed(); // a renewal by this shape has another seed
+    CHECK(vbr::handle::renew_all(handles, seeded) == vbr::all_answer::done && mine.seed() != 7 && walk(mine).size() == 9);
+    auto drawn = vbr::open(vbr::shape::for_keys(8, 1), 1), next = vbr::open(vbr::shape::for_keys(8, 1), 1);
+    CHECK(drawn.handles[0].seed() != next.handles[0].seed());
+    vbr::shape with_seed = vbr::shape::for_keys(8, 1);
+    with_seed.seed = std::uint64_t{1} << 63;
+    auto map = vbr::open_map_with(with_seed, 1, {{5, 50}});
+    CHECK(map.answer == vbr::open_answer::done && map.handles[0].seed() == 0);
+    CHECK(vbr::map_handle::renew_all(map.handles, vbr::shape::for_keys(8, 1)) == vbr::all_answer::done && map.handles[0].seed() == 0);
+    return 0;
+}
+
 // Balances, and all handles at once: their report, and their renewal.
 static int all_handles() {
     auto both = vbr::open_with(vbr::shape{4, 1, 100}, 2, {2, 5});
@@ -353,7 +385,7 @@ static int all_handles() {
 }
 
 int main() {
-    if (example() || all_handles() || calls() || the_most() || refusals() || ranges() || walks() || walked_by_iterators() || refused_walks() || ends() || exceptions() || closes_at_once() || loans()) return 1;
+    if (example() || all_handles() || calls() || the_most() || refusals() || ranges() || walks() || walked_by_iterators() || refused_walks() || ends() || exceptions() || closes_at_once() || loans() || seeds()) return 1;
     std::puts("example in C++: passed");
     return 0;
 }

@@ -30,8 +30,8 @@
    Compare what a call answers with VBR_YES: a refusal is no 0, and so is true where a program asks `if (vbr_has(..))`.
 
    Link with -lvbr (`pkg-config --cflags --libs vbr`). The library needs nothing but malloc, realloc and
-   free, each block aligned to 16 bytes as these align it, what copies and fills memory, and madvise, by which it offers
-   large blocks to the kernel for large pages. It is built for processors of x86-64-v2 and later, under Linux.
+   free, each block aligned to 16 bytes as these align it, what copies and fills memory, madvise, by which it offers
+   large blocks to the kernel for large pages, and getrandom and clock_gettime for seeds. It is built for processors of x86-64-v2 and later, under Linux.
 
    Maps. Each call on a set has its like on a map, with `vbr_map_` in its name, and handles to maps are of a type of their own.
    What is said here of sets and their keys holds of maps and their entries too; vbr_map_get is a second kind of look-up, and
@@ -136,13 +136,21 @@
    one time, and 64 for each handle (see Slots). Open with as many buckets as keys, a power of two: a bucket then has
    about one node, and takes 8 bytes. Give keys that are there at the start to vbr_open_with, which lays them all in one go;
    by inserts a million took three times as long. Keys are spread over the buckets by a multiplication, so keys with a pattern (in
-   sequence, multiples of a page, pointers) do no harm; keys that somebody chooses to fall into one bucket do, and
-   each call then passes them all. Only calls that take a slot, for a key or a new value, advance the epoch, and once the last
+   sequence, multiples of a page, pointers) do no harm, and by a seed, so that nobody can choose keys which fall into one
+   bucket (see Seeds). Only calls that take a slot, for a key or a new value, advance the epoch, and once the last
    one is spent they may be refused: the greatest lasts fifteen hours at ten million inserts a second that advance it, as one in
    sixteen does of a cache that takes sixteen keys out at a time. Before it is spent a set is renewed:
    vbr_renew_all lets all its handles go on over a fresh one with its keys, at epoch 1. The numbers are 1 to VBR_MAX_SLOTS
    slots, 1 to VBR_MAX_BUCKETS buckets, and 1 to VBR_MAX_EPOCH as the last epoch; the most slots and buckets take 673
    million bytes, and of a map 807.
+
+   Seeds. The number that keys are multiplied by comes from a seed, any number of 64 bits. vbr_open, vbr_open_with and those of
+   maps draw one at each opening, by getrandom of the system; vbr_open_seeded is given one, and with the same one each key has the
+   same bucket. A renewal keeps the seed, and vbr_renew_all_seeded is given another. While a drawn seed is secret, any two keys
+   share a bucket with a probability of at most 2 / buckets, where these are a power of two, whoever chose the keys. What tells of
+   it is to be kept from those who choose keys: the order in which a walk gives keys, how many steps a call needs, and how long it
+   takes. Where that can't be, renew from time to time by vbr_renew_all_seeded with a seed of vbr_random_seed. Seeds whose
+   difference is 2^63 are alike.
 
    Slots. Each slot is in one place: in the pool that all handles share, with one handle, under a key, or in a
    removed node that is still in its list. A handle keeps slots to itself, at most 64 between two calls. A remove
@@ -292,6 +300,22 @@ VBR_NODISCARD vbr_answer vbr_open(vbr_handle *handles, size_t count, uint32_t sl
 VBR_NODISCARD vbr_answer vbr_open_with(vbr_handle *handles, size_t count, uint32_t slots, uint32_t buckets,
                                        uint64_t last_epoch, const uint64_t *keys, size_t key_count) VBR_NOEXCEPT VBR_NONNULL;
 
+/* Opens a set as vbr_open_with does, of `key_count` keys, which may be none, with its keys spread over the buckets by this seed:
+   VBR_NO. What it answers else is what vbr_open_with answers, and means the same. With the same seed and number of buckets each
+   key has the same bucket, so walks have the same order and calls take as many steps. With seed 0 keys are multiplied by 2^64
+   over the golden ratio, as all libraries before 0.3.0 did. "Seeds" tells which seed to choose.
+
+       if (vbr_open_seeded(handle, 2, 1024 + 2 * 64, 1024, VBR_MAX_EPOCH, 7, some, 3) != VBR_NO) return 1; */
+VBR_NODISCARD vbr_answer vbr_open_seeded(vbr_handle *handles, size_t count, uint32_t slots, uint32_t buckets, uint64_t last_epoch,
+                                         uint64_t seed, const uint64_t *keys, size_t key_count) VBR_NOEXCEPT VBR_NONNULL;
+
+/* A seed that the system draws at random, as vbr_open has it: by getrandom, and without waiting. Where the system has no random
+   number yet, shortly after it was started, or refuses the call, the seed is made of the time and an address of the stack: it
+   differs from one to the next, and somebody outside may guess it. It can't fail.
+
+       vbr_answer renewed = vbr_renew_all_seeded(handle, 2, 2048 + 2 * 64, 2048, VBR_MAX_EPOCH, vbr_random_seed()); */
+VBR_NODISCARD uint64_t vbr_random_seed(void) VBR_NOEXCEPT;
+
 /* Adds a key, in at most `budget` steps: VBR_YES if it was absent, VBR_NO if it was there. Else VBR_OUT_OF_STEPS,
    VBR_NO_SLOT, VBR_EPOCH_SPENT or VBR_EMPTY. At VBR_NO_SLOT remove keys, let a handle that has free slots make the
    insert, or make it again. It takes no memory and never waits.
@@ -358,6 +382,12 @@ VBR_NODISCARD uint32_t vbr_slots(vbr_handle *handle) VBR_NOEXCEPT VBR_NONNULL;
        int is_crowded = 3 > 2 * vbr_buckets(&handle[0]); // three keys, and more than two for each bucket */
 VBR_NODISCARD uint32_t vbr_buckets(vbr_handle *handle) VBR_NOEXCEPT VBR_NONNULL;
 
+/* The seed that spreads the keys of the set, drawn or given: the one that it was opened with, or, of one from 2^63 on, the one 2^63
+   less, which is its like; 0 for an empty handle.
+
+       uint64_t seed = vbr_seed(&handle[0]); // opens a set whose keys have the same buckets */
+VBR_NODISCARD uint64_t vbr_seed(vbr_handle *handle) VBR_NOEXCEPT VBR_NONNULL;
+
 /* How many keys the calls of the handle have added, less those that they took out: its inserts that were answered VBR_YES, less
    its removes that were. The first of the handles that were opened together begins with the keys that the set opened with, the
    others with 0; an empty handle has 0. It makes no step. "How many keys are in the set" tells what the sum of all is.
@@ -404,7 +434,7 @@ VBR_NODISCARD vbr_answer vbr_report_all(vbr_handle *handles, size_t count, uint6
                                         vbr_totals *report) VBR_NOEXCEPT VBR_NONNULL;
 
 /* Lets all `count` handles of a set, in any order, go on over a fresh set of this shape with the keys that were in it: VBR_NO. The
-   epoch is 1 again, the first handle's balance is the number of keys, and that of the others is 0. No other thread is in a call
+   set keeps its seed. The epoch is 1 again, the first handle's balance is the number of keys, and that of the others is 0. No other thread is in a call
    on one of them. It takes the memory of a report and of an opening with the keys, while the set is still there, whose memory is
    freed then.
    Else the handles stay as they were, and go on: VBR_BAD_SHAPE; VBR_EMPTY, one is empty; VBR_MIXED, two are of different sets, by
@@ -414,6 +444,12 @@ VBR_NODISCARD vbr_answer vbr_report_all(vbr_handle *handles, size_t count, uint6
        vbr_answer renewed = vbr_renew_all(handle, 2, 2048 + 2 * 64, 2048, VBR_MAX_EPOCH); // VBR_NO: twice as large */
 VBR_NODISCARD vbr_answer vbr_renew_all(vbr_handle *handles, size_t count, uint32_t slots, uint32_t buckets,
                                        uint64_t last_epoch) VBR_NOEXCEPT VBR_NONNULL;
+
+/* Lets all handles of a set go on over a fresh one of this shape, as vbr_renew_all does, with its keys spread by this seed.
+
+       vbr_answer renewed = vbr_renew_all_seeded(handle, 2, 2048 + 2 * 64, 2048, VBR_MAX_EPOCH, vbr_random_seed()); */
+VBR_NODISCARD vbr_answer vbr_renew_all_seeded(vbr_handle *handles, size_t count, uint32_t slots, uint32_t buckets,
+                                              uint64_t last_epoch, uint64_t seed) VBR_NOEXCEPT VBR_NONNULL;
 
 /* Gives a handle up, empty or full, and leaves it empty. Its pass is given back as by a close, and no
    report is told: the last handle of the set that is closed still gets it, and with the last one dropped
@@ -455,6 +491,14 @@ VBR_NODISCARD vbr_answer vbr_map_open(vbr_map_handle *handles, size_t count, uin
 VBR_NODISCARD vbr_answer vbr_map_open_with(vbr_map_handle *handles, size_t count, uint32_t slots, uint32_t buckets,
                                            uint64_t last_epoch, const vbr_entry *entries,
                                            size_t entry_count) VBR_NOEXCEPT VBR_NONNULL;
+
+/* Opens a map as vbr_map_open_with does, of `entry_count` entries, which may be none, with its keys spread over the buckets by this
+   seed, as vbr_open_seeded opens a set.
+
+       if (vbr_map_open_seeded(map, 2, 1024 + 2 * 64, 1024, VBR_MAX_EPOCH, 7, some_entries, 3) != VBR_NO) return 1; */
+VBR_NODISCARD vbr_answer vbr_map_open_seeded(vbr_map_handle *handles, size_t count, uint32_t slots, uint32_t buckets,
+                                             uint64_t last_epoch, uint64_t seed, const vbr_entry *entries,
+                                             size_t entry_count) VBR_NOEXCEPT VBR_NONNULL;
 
 /* Adds a key with its value, in at most `budget` steps: VBR_YES if the key was absent, VBR_NO if it was there; then it keeps
    the value that it has. Else VBR_OUT_OF_STEPS, VBR_NO_SLOT, VBR_EPOCH_SPENT or VBR_EMPTY. At VBR_NO_SLOT remove keys, let a
@@ -568,6 +612,11 @@ VBR_NODISCARD uint32_t vbr_map_slots(vbr_map_handle *handle) VBR_NOEXCEPT VBR_NO
        int is_crowded = 3 > 2 * vbr_map_buckets(&map[0]); // three keys, and more than two for each bucket */
 VBR_NODISCARD uint32_t vbr_map_buckets(vbr_map_handle *handle) VBR_NOEXCEPT VBR_NONNULL;
 
+/* The seed that spreads the keys of the map, as vbr_seed tells of a set.
+
+       uint64_t seed = vbr_map_seed(&map[0]); // opens a map whose keys have the same buckets */
+VBR_NODISCARD uint64_t vbr_map_seed(vbr_map_handle *handle) VBR_NOEXCEPT VBR_NONNULL;
+
 /* How many keys the calls of the handle have added, less those that they took out, as vbr_balance tells of a set. A call that
    changes a value leaves it as it was.
 
@@ -609,6 +658,12 @@ VBR_NODISCARD vbr_answer vbr_map_report_all(vbr_map_handle *handles, size_t coun
        vbr_answer renewed = vbr_map_renew_all(map, 2, 2048 + 2 * 64, 2048, VBR_MAX_EPOCH); // VBR_NO: twice as large */
 VBR_NODISCARD vbr_answer vbr_map_renew_all(vbr_map_handle *handles, size_t count, uint32_t slots, uint32_t buckets,
                                            uint64_t last_epoch) VBR_NOEXCEPT VBR_NONNULL;
+
+/* Lets all handles of a map go on over a fresh one of this shape, as vbr_map_renew_all does, with its keys spread by this seed.
+
+       vbr_answer renewed = vbr_map_renew_all_seeded(map, 2, 2048 + 2 * 64, 2048, VBR_MAX_EPOCH, vbr_random_seed()); */
+VBR_NODISCARD vbr_answer vbr_map_renew_all_seeded(vbr_map_handle *handles, size_t count, uint32_t slots, uint32_t buckets,
+                                                  uint64_t last_epoch, uint64_t seed) VBR_NOEXCEPT VBR_NONNULL;
 
 /* Gives a handle up, empty or full, and leaves it empty. Its pass is given back as by a close, and no report is told: the last
    handle of the map that is closed still gets it, and with the last one dropped the map ends. It needs no memory. With a null

@@ -70,6 +70,11 @@ struct shape {
     std::uint32_t slots = 0;
     std::uint32_t buckets = 0;
     std::uint64_t last_epoch = max_epoch;
+    /* What keys are spread by, as vbr.h tells under "Seeds"; without one an opening draws it, and a renewal keeps that of its set.
+
+           vbr::shape seeded = vbr::shape::for_keys(1024, 2);
+           seeded.seed = 7; */
+    std::optional<std::uint64_t> seed = std::nullopt;
 
     /* The shape for this many keys at one time and this many handles: a slot for each key and 64 for each handle, and the
        least power of two that isn't below the number of keys for the buckets. vbr.h says under "Slots" what that is enough
@@ -85,6 +90,11 @@ struct shape {
         return made;
     }
 };
+
+/* A seed that the system draws at random, as vbr_random_seed.
+
+       seeded.seed = vbr::random_seed(); // a renewal by this shape has another seed */
+inline std::uint64_t random_seed() noexcept { return vbr_random_seed(); }
 
 /* What a call on a key answers. It is no bool, so it is compared.
 
@@ -256,12 +266,13 @@ struct set_calls {
     static std::uint64_t last_epoch(raw *handle) noexcept { return vbr_last_epoch(handle); }
     static std::uint32_t slots(raw *handle) noexcept { return vbr_slots(handle); }
     static std::uint32_t buckets(raw *handle) noexcept { return vbr_buckets(handle); }
+    static std::uint64_t seed(raw *handle) noexcept { return vbr_seed(handle); }
     static std::int64_t balance(raw *handle) noexcept { return vbr_balance(handle); }
     static vbr_answer report_all(raw *handles, std::size_t count, item *keys, std::size_t room, vbr_totals *totals) noexcept {
         return vbr_report_all(handles, count, keys, room, totals);
     }
     static vbr_answer renew_all(raw *handles, std::size_t count, const shape &wanted) noexcept {
-        return vbr_renew_all(handles, count, wanted.slots, wanted.buckets, wanted.last_epoch);
+        return vbr_renew_all_seeded(handles, count, wanted.slots, wanted.buckets, wanted.last_epoch, wanted.seed ? *wanted.seed : seed(handles));
     }
     static vbr_answer close_all(raw *handles, std::size_t count, item *keys, std::size_t room, vbr_totals *totals) noexcept {
         return vbr_close_all(handles, count, keys, room, totals);
@@ -283,12 +294,13 @@ struct map_calls {
     static std::uint64_t last_epoch(raw *handle) noexcept { return vbr_map_last_epoch(handle); }
     static std::uint32_t slots(raw *handle) noexcept { return vbr_map_slots(handle); }
     static std::uint32_t buckets(raw *handle) noexcept { return vbr_map_buckets(handle); }
+    static std::uint64_t seed(raw *handle) noexcept { return vbr_map_seed(handle); }
     static std::int64_t balance(raw *handle) noexcept { return vbr_map_balance(handle); }
     static vbr_answer report_all(raw *handles, std::size_t count, item *entries, std::size_t room, vbr_totals *totals) noexcept {
         return vbr_map_report_all(handles, count, entries, room, totals);
     }
     static vbr_answer renew_all(raw *handles, std::size_t count, const shape &wanted) noexcept {
-        return vbr_map_renew_all(handles, count, wanted.slots, wanted.buckets, wanted.last_epoch);
+        return vbr_map_renew_all_seeded(handles, count, wanted.slots, wanted.buckets, wanted.last_epoch, wanted.seed ? *wanted.seed : seed(handles));
     }
     static vbr_answer close_all(raw *handles, std::size_t count, item *entries, std::size_t room, vbr_totals *totals) noexcept {
         return vbr_map_close_all(handles, count, entries, room, totals);
@@ -427,6 +439,11 @@ public:
     std::uint64_t last_epoch() noexcept { return Calls::last_epoch(&raw); }
     std::uint32_t slots() noexcept { return Calls::slots(&raw); }
     std::uint32_t buckets() noexcept { return Calls::buckets(&raw); }
+
+    /* The seed that spreads the keys of the set, as vbr_seed tells it.
+
+           again.seed = mine.seed(); // a shape whose sets have each key in the same bucket */
+    std::uint64_t seed() noexcept { return Calls::seed(&raw); }
 
     /* How many keys the calls of the handle have added, less those that they took out. The first of the handles that were opened
        together begins with the keys that the set opened with, the others with 0. While no call is under way the balances of all
@@ -793,24 +810,21 @@ Opened open_by(const shape &wanted, std::size_t count, const Open &call) {
     return {answer, std::move(handles)};
 }
 
-/* Opens an empty set with `count` handles, from 1 to 64.
-
-       auto [opened, handles] = vbr::open(vbr::shape::for_keys(1024, 2), 2); */
-inline opened open(const shape &wanted, std::size_t count) {
-    return open_by<opened>(wanted, count, [&](vbr_handle *handles, std::size_t number) {
-        return vbr_open(handles, number, wanted.slots, wanted.buckets, wanted.last_epoch);
-    });
-}
-
 /* Opens a set of these keys, which ascend, each above the one before.
 
        vbr::opened some = vbr::open_with(shape, 1, want.data(), want.size()); */
 inline opened open_with(const shape &wanted, std::size_t count, const std::uint64_t *keys, std::size_t key_count) {
     static constexpr std::uint64_t no_key = 0;
     return open_by<opened>(wanted, count, [&](vbr_handle *handles, std::size_t number) {
-        return vbr_open_with(handles, number, wanted.slots, wanted.buckets, wanted.last_epoch, key_count ? keys : &no_key, key_count);
+        std::uint64_t seed = wanted.seed ? *wanted.seed : random_seed();
+        return vbr_open_seeded(handles, number, wanted.slots, wanted.buckets, wanted.last_epoch, seed, key_count ? keys : &no_key, key_count);
     });
 }
+
+/* Opens an empty set with `count` handles, from 1 to 64.
+
+       auto [opened, handles] = vbr::open(vbr::shape::for_keys(1024, 2), 2); */
+inline opened open(const shape &wanted, std::size_t count) { return open_with(wanted, count, nullptr, 0); }
 
 /* The same with a list of keys.
 
@@ -850,24 +864,21 @@ opened open_with(const shape &wanted, std::size_t count, const Keys &keys) {
     }
 }
 
-/* Opens an empty map with `count` handles, from 1 to 64.
-
-       auto [opened, handles] = vbr::open_map(vbr::shape::for_keys(1024, 2), 2); */
-inline map_opened open_map(const shape &wanted, std::size_t count) {
-    return open_by<map_opened>(wanted, count, [&](vbr_map_handle *handles, std::size_t number) {
-        return vbr_map_open(handles, number, wanted.slots, wanted.buckets, wanted.last_epoch);
-    });
-}
-
 /* Opens a map of these entries, whose keys ascend, each above the one before.
 
        vbr::map_opened some = vbr::open_map_with(shape, 1, want.data(), want.size()); */
 inline map_opened open_map_with(const shape &wanted, std::size_t count, const entry *entries, std::size_t entry_count) {
     static constexpr entry no_entry = {0, 0};
     return open_by<map_opened>(wanted, count, [&](vbr_map_handle *handles, std::size_t number) {
-        return vbr_map_open_with(handles, number, wanted.slots, wanted.buckets, wanted.last_epoch, entry_count ? entries : &no_entry, entry_count);
+        std::uint64_t seed = wanted.seed ? *wanted.seed : random_seed();
+        return vbr_map_open_seeded(handles, number, wanted.slots, wanted.buckets, wanted.last_epoch, seed, entry_count ? entries : &no_entry, entry_count);
     });
 }
+
+/* Opens an empty map with `count` handles, from 1 to 64.
+
+       auto [opened, handles] = vbr::open_map(vbr::shape::for_keys(1024, 2), 2); */
+inline map_opened open_map(const shape &wanted, std::size_t count) { return open_map_with(wanted, count, nullptr, 0); }
 
 /* The same with a list of entries.
 

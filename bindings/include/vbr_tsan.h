@@ -198,6 +198,12 @@ VBR_NODISCARD static inline vbr_answer vbr_tsan_map_next(vbr_map_handle *handle,
         for (size_t i = 0; i < count; i++) vbr_tsan_##FOR##uses(&handles[i]); \
         return vbr_##FOR##renew_all(handles, count, slots, buckets, last_epoch); \
     } \
+    VBR_NODISCARD static inline vbr_answer vbr_tsan_##FOR##renew_all_seeded(vbr_##FOR##handle *handles, size_t count, uint32_t slots, \
+                                                                            uint32_t buckets, uint64_t last_epoch, \
+                                                                            uint64_t seed) VBR_NOEXCEPT { \
+        for (size_t i = 0; i < count; i++) vbr_tsan_##FOR##uses(&handles[i]); \
+        return vbr_##FOR##renew_all_seeded(handles, count, slots, buckets, last_epoch, seed); \
+    } \
     static inline void vbr_tsan_##FOR##drop(vbr_##FOR##handle *handle) VBR_NOEXCEPT { \
         vbr_tsan_##FOR##uses(handle); \
         __tsan_release(vbr_tsan_closed()); \
@@ -207,6 +213,7 @@ VBR_NODISCARD static inline vbr_answer vbr_tsan_map_next(vbr_map_handle *handle,
     VBR_TSAN_NUMBER(FOR, uint64_t, last_epoch) \
     VBR_TSAN_NUMBER(FOR, uint32_t, slots) \
     VBR_TSAN_NUMBER(FOR, uint32_t, buckets) \
+    VBR_TSAN_NUMBER(FOR, uint64_t, seed) \
     VBR_TSAN_NUMBER(FOR, int64_t, balance)
 
 /* A call that shows a number. */
@@ -226,6 +233,7 @@ VBR_TSAN_CALLS(map_, vbr_entry)
 #define vbr_last_epoch(handle) vbr_tsan_last_epoch(handle)
 #define vbr_slots(handle) vbr_tsan_slots(handle)
 #define vbr_buckets(handle) vbr_tsan_buckets(handle)
+#define vbr_seed(handle) vbr_tsan_seed(handle)
 #define vbr_insert(handle, key, budget) vbr_tsan_insert(handle, key, budget)
 #define vbr_remove(handle, key, budget) vbr_tsan_remove(handle, key, budget)
 #define vbr_has(handle, key, budget) vbr_tsan_has(handle, key, budget)
@@ -234,12 +242,14 @@ VBR_TSAN_CALLS(map_, vbr_entry)
 #define vbr_close_all(handles, count, keys, room, report) vbr_tsan_close_all(handles, count, keys, room, report)
 #define vbr_report_all(handles, count, keys, room, report) vbr_tsan_report_all(handles, count, keys, room, report)
 #define vbr_renew_all(handles, count, slots, buckets, last_epoch) vbr_tsan_renew_all(handles, count, slots, buckets, last_epoch)
+#define vbr_renew_all_seeded(handles, count, slots, buckets, last_epoch, seed) vbr_tsan_renew_all_seeded(handles, count, slots, buckets, last_epoch, seed)
 #define vbr_balance(handle) vbr_tsan_balance(handle)
 #define vbr_drop(handle) vbr_tsan_drop(handle)
 #define vbr_map_epoch(handle) vbr_tsan_map_epoch(handle)
 #define vbr_map_last_epoch(handle) vbr_tsan_map_last_epoch(handle)
 #define vbr_map_slots(handle) vbr_tsan_map_slots(handle)
 #define vbr_map_buckets(handle) vbr_tsan_map_buckets(handle)
+#define vbr_map_seed(handle) vbr_tsan_map_seed(handle)
 #define vbr_map_insert(handle, key, value, budget) vbr_tsan_map_insert(handle, key, value, budget)
 #define vbr_map_remove(handle, key, budget, value) vbr_tsan_map_remove(handle, key, budget, value)
 #define vbr_map_get(handle, key, budget, value) vbr_tsan_map_get(handle, key, budget, value)
@@ -254,6 +264,7 @@ VBR_TSAN_CALLS(map_, vbr_entry)
 #define vbr_map_close_all(handles, count, entries, room, report) vbr_tsan_map_close_all(handles, count, entries, room, report)
 #define vbr_map_report_all(handles, count, entries, room, report) vbr_tsan_map_report_all(handles, count, entries, room, report)
 #define vbr_map_renew_all(handles, count, slots, buckets, last_epoch) vbr_tsan_map_renew_all(handles, count, slots, buckets, last_epoch)
+#define vbr_map_renew_all_seeded(handles, count, slots, buckets, last_epoch, seed) vbr_tsan_map_renew_all_seeded(handles, count, slots, buckets, last_epoch, seed)
 #define vbr_map_balance(handle) vbr_tsan_map_balance(handle)
 #define vbr_map_drop(handle) vbr_tsan_map_drop(handle)
 

@@ -10,13 +10,15 @@
 // another one. Walks go on by any cursor, with other
 // calls in between: each gives the next key of the map in the order of buckets, and by how many steps is known too, but for removed
 // nodes that may still be in their lists.
-// Link with -Wl,--wrap=malloc,--wrap=realloc,--wrap=free.
+// Link with -Wl,--wrap=malloc,--wrap=realloc,--wrap=free,--wrap=getrandom.
 #include "fuzz.hpp"
 #include "vbr.h"
 
 #include <algorithm>
+#include <cstring>
 #include <map>
 #include <memory>
+#include <sys/types.h>
 
 using fuzz::fail;
 
@@ -52,6 +54,12 @@ extern "C" void *__wrap_realloc(void *old, size_t size) {
 extern "C" void __wrap_free(void *block) {
     blocks -= block != nullptr;
     __real_free(block);
+}
+
+// Each opening draws seed 0, so that an input has the same buckets each time.
+extern "C" ssize_t __wrap_getrandom(void *bytes, size_t count, unsigned) {
+    std::memset(bytes, 0, count);
+    return static_cast<ssize_t>(count);
 }
 
 // ---- what is called ------------------------------------------------------------------------------------------
@@ -188,7 +196,7 @@ struct Model {
         }
     }
 
-    // Where a key belongs: the upper half of its product with an odd number, as a part of the buckets.
+    // Where a key belongs: the upper half of its product with the number of seed 0, as a part of the buckets.
     uint64_t bucket_of(uint64_t key) const { return (key * 0x9E3779B97F4A7C15 >> 32) * buckets >> 32; }
 
     uint64_t marked_in(uint64_t bucket) const {

@@ -45,7 +45,8 @@ impl<K: Kind> HandleOf<K> {
 
     /// Lets the handles go on over a fresh set of this shape, with the keys that were in it, or a map with the entries: at epoch 1,
     /// and larger where there are to be more of them. The balance of the first handle is the number of keys then, and that of the
-    /// others is 0. The fresh set is opened before the other one is given up, so it takes the memory of both and of a report.
+    /// others is 0. The fresh set is opened before the other one is given up, so it takes the memory of both and of a report. It
+    /// has the seed of the shape, and where that has none, the seed of the set as it was.
     ///
     /// ```
     /// # use vbr::{Handle, Set, Shape};
@@ -63,10 +64,11 @@ impl<K: Kind> HandleOf<K> {
     pub fn renew_all(handles: &mut [HandleOf<K>], shape: Shape) -> Result<(), RenewError> {
         shape.check()?;
         let mut shared = shared_by(handles)?;
-        let Shape { slots, buckets, last_epoch } = shape;
+        let Shape { slots, buckets, last_epoch, seed } = shape;
+        let seed = seed.unwrap_or_else(|| handles[0].seed());
         let code = with_raw(handles, |all, count| {
             // SAFETY: these are all handles of the set or map, and nothing else has one of them.
-            unsafe { K::RENEW_ALL(all, count, slots, buckets, last_epoch) }
+            unsafe { K::RENEW_ALL(all, count, slots, buckets, last_epoch, seed) }
         });
         match code {
             0 => {

@@ -1,6 +1,6 @@
 //! Handles: opened together, and closed one by one or all at once; and their passes, which make the calls.
 use crate::library::{answer, answer_with, Raw, ReportNumbers};
-use crate::{CloseError, Cursor, Iter, Kind, OpenError, Refusal, Shape, Unclosed, MAX_HANDLES};
+use crate::{random_seed, CloseError, Cursor, Iter, Kind, OpenError, Refusal, Shape, Unclosed, MAX_HANDLES};
 use alloc::boxed::Box;
 use alloc::vec::Vec;
 use core::cell::UnsafeCell;
@@ -110,17 +110,16 @@ pub(crate) struct Contents<T> {
 impl<K: Kind> HandleOf<K> {
     /// The handles of an empty set.
     pub(crate) fn open(shape: Shape, handles: usize) -> Result<Vec<Self>, OpenError> {
-        let Shape { slots, buckets, last_epoch } = shape;
-        // SAFETY: the pointer has `count` empty handles, which nothing else reaches.
-        open_by(shape, handles, |raw, count| unsafe { K::OPEN(raw, count, slots, buckets, last_epoch) })
+        HandleOf::open_with(shape, handles, &[])
     }
 
     /// The handles of a set that has these keys.
     pub(crate) fn open_with(shape: Shape, handles: usize, items: &[K::Item]) -> Result<Vec<Self>, OpenError> {
-        let Shape { slots, buckets, last_epoch } = shape;
+        let Shape { slots, buckets, last_epoch, seed } = shape;
+        let seed = seed.unwrap_or_else(random_seed);
         // SAFETY: the pointer has `count` empty handles, which nothing else reaches, and `items` has as many as are told.
         open_by(shape, handles, |raw, count| unsafe {
-            K::OPEN_WITH(raw, count, slots, buckets, last_epoch, items.as_ptr(), items.len())
+            K::OPEN(raw, count, slots, buckets, last_epoch, seed, items.as_ptr(), items.len())
         })
     }
 }
@@ -308,6 +307,21 @@ impl<K: Kind> PassOf<K> {
     pub fn buckets(&self) -> u32 {
         // SAFETY: as for `has`.
         unsafe { K::BUCKETS(self.raw()) }
+    }
+
+    /// The seed that spreads the keys of the set over its buckets, drawn or given: the one that it was opened with, or, of one
+    /// from 2^63 on, the one 2^63 less, which is its like. With it a set has each key in the same bucket, where it has as many.
+    ///
+    /// ```
+    /// # use vbr::{Set, Shape};
+    /// let handle = Set::open(Shape::for_keys(1_000, 1).with_seed(7), 1)?.remove(0);
+    /// assert_eq!(handle.seed(), 7);
+    /// # Ok::<(), Box<dyn std::error::Error>>(())
+    /// ```
+    #[inline]
+    pub fn seed(&self) -> u64 {
+        // SAFETY: as for `has`.
+        unsafe { K::SEED(self.raw()) }
     }
 
     /// How many keys the calls of the handle have added, less those that they took out: the inserts that were answered yes, less

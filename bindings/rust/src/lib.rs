@@ -6,10 +6,9 @@
 //! in the set.
 //!
 //! ```
-//! use vbr::{MAX_EPOCH, Set, Shape};
+//! use vbr::{Set, Shape};
 //!
-//! let shape = Shape { slots: 1_024 + 2 * 64, buckets: 1_024, last_epoch: MAX_EPOCH };
-//! let mut handles = Set::open(shape, 2)?;
+//! let mut handles = Set::open(Shape::for_keys(1_024, 2), 2)?;
 //! let mut second = handles.pop().expect("two handles");
 //! let mut first = handles.pop().expect("two handles");
 //! std::thread::scope(|scope| {
@@ -152,7 +151,7 @@ pub use kind::{Entries, Keys, Kind};
 pub use lending::{Lent, LentBy, OwnedLent};
 pub use map::{Entry, Map, MapHandle, MapPass, MapReport};
 pub use set::{Handle, Pass, Report, Set};
-pub use shape::{Shape, ShapeError};
+pub use shape::{random_seed, Shape, ShapeError};
 pub use table::Table;
 
 /// The greatest number of slots.

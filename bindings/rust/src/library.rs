@@ -19,13 +19,14 @@ pub(crate) struct ReportNumbers {
 extern "C" {
     pub(crate) fn vbr_version() -> u32;
 
-    fn vbr_open(handles: *mut Raw, count: usize, slots: u32, buckets: u32, last_epoch: u64) -> i32;
-    fn vbr_open_with(
+    pub(crate) fn vbr_random_seed() -> u64;
+    fn vbr_open_seeded(
         handles: *mut Raw,
         count: usize,
         slots: u32,
         buckets: u32,
         last_epoch: u64,
+        seed: u64,
         keys: *const u64,
         key_count: usize,
     ) -> i32;
@@ -37,19 +38,20 @@ extern "C" {
     fn vbr_last_epoch(handle: *mut Raw) -> u64;
     fn vbr_slots(handle: *mut Raw) -> u32;
     fn vbr_buckets(handle: *mut Raw) -> u32;
+    fn vbr_seed(handle: *mut Raw) -> u64;
     fn vbr_balance(handle: *mut Raw) -> i64;
     fn vbr_close_all(handles: *mut Raw, count: usize, keys: *mut u64, room: usize, told: *mut ReportNumbers) -> i32;
     fn vbr_report_all(handles: *mut Raw, count: usize, keys: *mut u64, room: usize, told: *mut ReportNumbers) -> i32;
-    fn vbr_renew_all(handles: *mut Raw, count: usize, slots: u32, buckets: u32, last_epoch: u64) -> i32;
+    fn vbr_renew_all_seeded(handles: *mut Raw, count: usize, slots: u32, buckets: u32, last_epoch: u64, seed: u64) -> i32;
     fn vbr_drop(handle: *mut Raw);
 
-    fn vbr_map_open(handles: *mut Raw, count: usize, slots: u32, buckets: u32, last_epoch: u64) -> i32;
-    fn vbr_map_open_with(
+    fn vbr_map_open_seeded(
         handles: *mut Raw,
         count: usize,
         slots: u32,
         buckets: u32,
         last_epoch: u64,
+        seed: u64,
         entries: *const Entry,
         entry_count: usize,
     ) -> i32;
@@ -74,10 +76,11 @@ extern "C" {
     fn vbr_map_last_epoch(handle: *mut Raw) -> u64;
     fn vbr_map_slots(handle: *mut Raw) -> u32;
     fn vbr_map_buckets(handle: *mut Raw) -> u32;
+    fn vbr_map_seed(handle: *mut Raw) -> u64;
     fn vbr_map_balance(handle: *mut Raw) -> i64;
     fn vbr_map_close_all(handles: *mut Raw, count: usize, entries: *mut Entry, room: usize, told: *mut ReportNumbers) -> i32;
     fn vbr_map_report_all(handles: *mut Raw, count: usize, entries: *mut Entry, room: usize, told: *mut ReportNumbers) -> i32;
-    fn vbr_map_renew_all(handles: *mut Raw, count: usize, slots: u32, buckets: u32, last_epoch: u64) -> i32;
+    fn vbr_map_renew_all_seeded(handles: *mut Raw, count: usize, slots: u32, buckets: u32, last_epoch: u64, seed: u64) -> i32;
     fn vbr_map_drop(handle: *mut Raw);
 }
 
@@ -86,17 +89,17 @@ pub(crate) trait Calls<Item, Given, Told> {
     /// The names of a table, of its handles and of their passes.
     const NAMES: [&'static str; 3];
 
-    const OPEN: unsafe extern "C" fn(*mut Raw, usize, u32, u32, u64) -> i32;
-    const OPEN_WITH: unsafe extern "C" fn(*mut Raw, usize, u32, u32, u64, *const Item, usize) -> i32;
+    const OPEN: unsafe extern "C" fn(*mut Raw, usize, u32, u32, u64, u64, *const Item, usize) -> i32;
     const CLOSE_ALL: unsafe extern "C" fn(*mut Raw, usize, *mut Item, usize, *mut ReportNumbers) -> i32;
     const REPORT_ALL: unsafe extern "C" fn(*mut Raw, usize, *mut Item, usize, *mut ReportNumbers) -> i32;
-    const RENEW_ALL: unsafe extern "C" fn(*mut Raw, usize, u32, u32, u64) -> i32;
+    const RENEW_ALL: unsafe extern "C" fn(*mut Raw, usize, u32, u32, u64, u64) -> i32;
     const DROP: unsafe extern "C" fn(*mut Raw);
     const HAS: unsafe extern "C" fn(*mut Raw, u64, u32) -> i32;
     const EPOCH: unsafe extern "C" fn(*mut Raw) -> u64;
     const LAST_EPOCH: unsafe extern "C" fn(*mut Raw) -> u64;
     const SLOTS: unsafe extern "C" fn(*mut Raw) -> u32;
     const BUCKETS: unsafe extern "C" fn(*mut Raw) -> u32;
+    const SEED: unsafe extern "C" fn(*mut Raw) -> u64;
     const BALANCE: unsafe extern "C" fn(*mut Raw) -> i64;
 
     /// The next call of a walk.
@@ -113,17 +116,17 @@ pub(crate) trait Calls<Item, Given, Told> {
 impl Calls<u64, u64, Report> for Keys {
     const NAMES: [&'static str; 3] = ["Set", "Handle", "Pass"];
 
-    const OPEN: unsafe extern "C" fn(*mut Raw, usize, u32, u32, u64) -> i32 = vbr_open;
-    const OPEN_WITH: unsafe extern "C" fn(*mut Raw, usize, u32, u32, u64, *const u64, usize) -> i32 = vbr_open_with;
+    const OPEN: unsafe extern "C" fn(*mut Raw, usize, u32, u32, u64, u64, *const u64, usize) -> i32 = vbr_open_seeded;
     const CLOSE_ALL: unsafe extern "C" fn(*mut Raw, usize, *mut u64, usize, *mut ReportNumbers) -> i32 = vbr_close_all;
     const REPORT_ALL: unsafe extern "C" fn(*mut Raw, usize, *mut u64, usize, *mut ReportNumbers) -> i32 = vbr_report_all;
-    const RENEW_ALL: unsafe extern "C" fn(*mut Raw, usize, u32, u32, u64) -> i32 = vbr_renew_all;
+    const RENEW_ALL: unsafe extern "C" fn(*mut Raw, usize, u32, u32, u64, u64) -> i32 = vbr_renew_all_seeded;
     const DROP: unsafe extern "C" fn(*mut Raw) = vbr_drop;
     const HAS: unsafe extern "C" fn(*mut Raw, u64, u32) -> i32 = vbr_has;
     const EPOCH: unsafe extern "C" fn(*mut Raw) -> u64 = vbr_epoch;
     const LAST_EPOCH: unsafe extern "C" fn(*mut Raw) -> u64 = vbr_last_epoch;
     const SLOTS: unsafe extern "C" fn(*mut Raw) -> u32 = vbr_slots;
     const BUCKETS: unsafe extern "C" fn(*mut Raw) -> u32 = vbr_buckets;
+    const SEED: unsafe extern "C" fn(*mut Raw) -> u64 = vbr_seed;
     const BALANCE: unsafe extern "C" fn(*mut Raw) -> i64 = vbr_balance;
 
     #[inline]
@@ -139,17 +142,17 @@ impl Calls<u64, u64, Report> for Keys {
 impl Calls<Entry, (u64, u64), MapReport> for Entries {
     const NAMES: [&'static str; 3] = ["Map", "MapHandle", "MapPass"];
 
-    const OPEN: unsafe extern "C" fn(*mut Raw, usize, u32, u32, u64) -> i32 = vbr_map_open;
-    const OPEN_WITH: unsafe extern "C" fn(*mut Raw, usize, u32, u32, u64, *const Entry, usize) -> i32 = vbr_map_open_with;
+    const OPEN: unsafe extern "C" fn(*mut Raw, usize, u32, u32, u64, u64, *const Entry, usize) -> i32 = vbr_map_open_seeded;
     const CLOSE_ALL: unsafe extern "C" fn(*mut Raw, usize, *mut Entry, usize, *mut ReportNumbers) -> i32 = vbr_map_close_all;
     const REPORT_ALL: unsafe extern "C" fn(*mut Raw, usize, *mut Entry, usize, *mut ReportNumbers) -> i32 = vbr_map_report_all;
-    const RENEW_ALL: unsafe extern "C" fn(*mut Raw, usize, u32, u32, u64) -> i32 = vbr_map_renew_all;
+    const RENEW_ALL: unsafe extern "C" fn(*mut Raw, usize, u32, u32, u64, u64) -> i32 = vbr_map_renew_all_seeded;
     const DROP: unsafe extern "C" fn(*mut Raw) = vbr_map_drop;
     const HAS: unsafe extern "C" fn(*mut Raw, u64, u32) -> i32 = vbr_map_has;
     const EPOCH: unsafe extern "C" fn(*mut Raw) -> u64 = vbr_map_epoch;
     const LAST_EPOCH: unsafe extern "C" fn(*mut Raw) -> u64 = vbr_map_last_epoch;
     const SLOTS: unsafe extern "C" fn(*mut Raw) -> u32 = vbr_map_slots;
     const BUCKETS: unsafe extern "C" fn(*mut Raw) -> u32 = vbr_map_buckets;
+    const SEED: unsafe extern "C" fn(*mut Raw) -> u64 = vbr_map_seed;
     const BALANCE: unsafe extern "C" fn(*mut Raw) -> i64 = vbr_map_balance;
 
     #[inline]

@@ -1,4 +1,5 @@
 //! How large a set or a map is.
+use crate::library::vbr_random_seed;
 use crate::{MAX_BUCKETS, MAX_EPOCH, MAX_HANDLES, MAX_SLOTS};
 use core::error::Error;
 use core::fmt;
@@ -19,7 +20,11 @@ use core::fmt;
 /// slots. Of an insert that calls of others overlap that isn't proved.
 ///
 /// Keys are spread over the buckets by a multiplication, so keys with a pattern (in sequence, multiples of
-/// a page, pointers) do no harm; keys that somebody chooses to fall into one bucket do.
+/// a page, pointers) do no harm, and by a seed, so that nobody can choose keys which fall into one bucket: each opening
+/// draws one from the system, unless the shape has one ([`Shape::with_seed`]). A renewal keeps the seed of its set, unless its
+/// shape has one. While a drawn seed is secret, any two keys share a bucket with a probability of at most 2 / buckets, where
+/// these are a power of two. The order in which a walk gives keys, how many steps a call needs, and how long it takes tell
+/// of the seed, so keep them from those who choose keys.
 ///
 /// Keys that are there at the start are best given to [`Set::open_with`], which lays them all in one go; by inserts a
 /// million took three times as long.
@@ -29,7 +34,7 @@ use core::fmt;
 /// [`ample_budget`]: crate::ample_budget
 ///
 /// ```
-/// let shape = vbr::Shape { slots: 1_024 + 2 * 64, buckets: 1_024, last_epoch: vbr::MAX_EPOCH };
+/// let shape = vbr::Shape { slots: 1_024 + 2 * 64, buckets: 1_024, last_epoch: vbr::MAX_EPOCH, seed: None };
 /// assert_eq!(shape, vbr::Shape::for_keys(1_024, 2));
 /// ```
 #[derive(Clone, Copy, Debug, PartialEq, Eq, Hash)]
@@ -40,16 +45,18 @@ pub struct Shape {
     pub buckets: u32,
     /// From 1 to [`MAX_EPOCH`].
     pub last_epoch: u64,
+    /// What keys are spread by, any number; with `None` an opening draws it, and a renewal keeps that of its set.
+    pub seed: Option<u64>,
 }
 
 impl Shape {
     /// A shape of these numbers, which [`Set::open`](crate::Set::open) tests.
     ///
     /// ```
-    /// assert_eq!(vbr::Shape::new(128, 64, 1_000), vbr::Shape { slots: 128, buckets: 64, last_epoch: 1_000 });
+    /// assert_eq!(vbr::Shape::new(128, 64, 1_000), vbr::Shape { slots: 128, buckets: 64, last_epoch: 1_000, seed: None });
     /// ```
     pub const fn new(slots: u32, buckets: u32, last_epoch: u64) -> Shape {
-        Shape { slots, buckets, last_epoch }
+        Shape { slots, buckets, last_epoch, seed: None }
     }
 
     /// The shape for this many keys at one time and this many handles: a slot for each key and 64 for each handle, as
@@ -61,7 +68,25 @@ impl Shape {
     pub const fn for_keys(keys: u32, handles: usize) -> Shape {
         let own = 64 * if handles < MAX_HANDLES { handles } else { MAX_HANDLES } as u32;
         let buckets = if keys < MAX_BUCKETS { keys.next_power_of_two() } else { MAX_BUCKETS };
-        Shape { slots: keys.saturating_add(own), buckets, last_epoch: MAX_EPOCH }
+        Shape::new(keys.saturating_add(own), buckets, MAX_EPOCH)
+    }
+
+    /// The same shape with a seed: with the same one and as many buckets each key has the same bucket, so walks have the same
+    /// order and calls take as many steps. With seed 0 keys are multiplied by 2^64 over the golden ratio, as all were before
+    /// 0.3.0: the best for keys in sequence that nobody chooses. With [`random_seed`] a renewal has another.
+    ///
+    /// ```
+    /// use vbr::{random_seed, Handle, Set, Shape};
+    ///
+    /// let shape = Shape::for_keys(1_000, 1).with_seed(7);
+    /// let mut handles = Set::open_with(shape, 1, &[2, 5, 9])?;
+    /// Handle::renew_all(&mut handles, Shape { seed: None, ..shape })?;
+    /// assert_eq!(handles[0].seed(), 7); // it was kept
+    /// Handle::renew_all(&mut handles, shape.with_seed(random_seed()))?;
+    /// # Ok::<(), Box<dyn std::error::Error>>(())
+    /// ```
+    pub const fn with_seed(self, seed: u64) -> Shape {
+        Shape { seed: Some(seed), ..self }
     }
 
     /// The first of the three numbers that is out of its range, as [`Set::open`](crate::Set::open) tests them.
@@ -83,6 +108,19 @@ impl Shape {
             _ => Ok(()),
         }
     }
+}
+
+/// A seed that the system draws at random, as an opening has it whose shape has none: by `getrandom`, and without waiting. Where
+/// the system has no random number yet, shortly after it was started, or refuses the call, the seed is made of the time and an
+/// address of the stack: it differs from one to the next, and somebody outside may guess it.
+///
+/// ```
+/// assert_ne!(vbr::random_seed(), vbr::random_seed());
+/// ```
+#[must_use]
+pub fn random_seed() -> u64 {
+    // SAFETY: it takes nothing.
+    unsafe { vbr_random_seed() }
 }
 
 /// The number of a shape that is out of its range.

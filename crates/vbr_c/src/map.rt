@@ -36,8 +36,9 @@ pub extern "C" fn vbr_map_open_seeded(
     seed: u64,
     entries: &[Entry],
 ) -> i32
-    ensures { TellsMapOpeningWith handles.old handles.new
-        (entries_start slots buckets last_epoch seed entries.now) result }
+    ensures { TellsMapOpeningWith handles.old handles.new (entries_start
+        (record { slots = slots; buckets = buckets; last_epoch = last_epoch; seed = seed })
+        entries.now) result }
 {
     let numbers = ShapeNumbers {
         slots,

@@ -20,8 +20,8 @@ use vbr_words::Keys;
 /// Opens a set of these keys, of which there may be none, with a pass for each of the handles, which are
 /// empty: 0. The keys ascend, each above the one before. They are spread over the buckets by the seed, any
 /// number: with the same one each key has the same bucket, and one that is drawn at random and kept secret
-/// lets nobody choose keys that share a bucket. The epoch is 1, and no pass has made a step then. `vbr_open`
-/// and `vbr_open_with` of the library draw a seed and make this call.
+/// lets nobody choose keys that share a bucket. The epoch is 1, and no pass has made a step then. The plain
+/// openings of the library draw a seed and make this call (bindings/seeds.c).
 ///
 /// Refusals, tested in this order, which leave the handles as they were: -5, one of the handles isn't
 /// empty; -6, the numbers are no shape; -7, the number of handles is 0 or above 64; -10, the keys don't
@@ -40,8 +40,9 @@ pub extern "C" fn vbr_open_seeded(
     seed: u64,
     keys: &[u64],
 ) -> i32
-    ensures { TellsOpeningWith handles.old handles.new
-        (spread_start slots buckets last_epoch seed keys.now) result }
+    ensures { TellsOpeningWith handles.old handles.new (spread_start
+        (record { slots = slots; buckets = buckets; last_epoch = last_epoch; seed = seed })
+        keys.now) result }
 {
     let numbers = ShapeNumbers {
         slots,
@@ -251,8 +252,8 @@ pub extern "C" fn vbr_report_all(
 
 /// Lets all handles of a set, in any order, go on over a fresh set of these numbers, with the keys that were
 /// in it: 0. The epoch is 1 again, each handle has the fresh pass of its place, and the first one's balance is
-/// the number of keys. Its keys are spread over the buckets by the seed; `vbr_renew_all` of the library makes
-/// this call with that of the set as it was. It has no budget, and makes no call of the set. The fresh set is
+/// the number of keys. Its keys are spread over the buckets by the seed; the plain renewal of the
+/// library makes this call with that of the set as it was (bindings/seeds.c). It has no budget, and makes no call of the set. The fresh set is
 /// opened before the other one is given up. It asks that the handles which are full are of one set.
 ///
 /// Refusals, which leave the handles as they were: -6, the numbers are no shape; -4, one of the handles is

@@ -55,7 +55,7 @@ as_many_renewed kind members fresh shape r =
 
 -- and where there is no room there are more keys than slots
 pub more_than_slots : {Item R I : Type 0} (kind : KindOf Item R) (L : Listing R I) (members : List Member) (numbers : ShapeNumbers) (shape : Dimensions) → ((report : R) → length (L.items report) ≡ length (kind.contents report).listed.items)
-    → shape ≡ spread_shape numbers.slots numbers.buckets numbers.last_epoch numbers.seed false → HasNoRoom kind members shape → HasMoreThanSlots kind L members numbers
+    → shape ≡ spread_shape numbers false → HasNoRoom kind members shape → HasMoreThanSlots kind L members numbers
 more_than_slots kind L members numbers shape as_many spread h =
     let same = as_many h.report in
     let slots : shape.slots ≡ numbers.slots = ap (λ (d : Dimensions). d.slots) spread in
@@ -90,7 +90,7 @@ module _ {H : Type 0} (member : H → Option Member) where
   -- and are opened where fresh members come
   pub renewed : {Item R I : Type 0} (kind : KindOf Item R) (L : Listing R I) (members : List Member) (numbers : ShapeNumbers) (shape : Dimensions) (after : List H) (came : List Member)
       → ((shape : Dimensions) (report : R) → kind.start shape (kind.contents report).listed.items ≡ start_with (record shape { values = L.values }) (L.keys (L.items report)) (L.payloads (L.items report)))
-      → shape ≡ spread_shape numbers.slots numbers.buckets numbers.last_epoch numbers.seed false → map member after ≡ map Some came → RenewsAllBy kind members shape came → RenewsTo kind L member members numbers after
+      → shape ≡ spread_shape numbers false → map member after ≡ map Some came → RenewsAllBy kind members shape came → RenewsTo kind L member members numbers after
   renewed kind L members numbers shape after came restarts spread full r =
       let new = r.new in
       let set : TableView = new.set in

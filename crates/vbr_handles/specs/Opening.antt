@@ -12,21 +12,21 @@ use Rattle.vbr_handles.specs.declared.opening.OpenRefusal.{OpenRefusal}
 use Rattle.vbr_handles.specs.declared.opening.ShapeNumbers.{ShapeNumbers}
 use Rattle.vbr_handles.specs.declared.opening.OpenRefusal.TheVariants.{InUse, Shape, Passes, Keys, Memory}
 
--- the shape of these numbers with its keys spread over the buckets by a seed, whose nodes have values or not
-abbrev pub spread_shape : ℕ → ℕ → ℕ → ℕ → Bool → Dimensions
-spread_shape slots buckets last_epoch seed values = record { slots = slots; buckets = buckets; spread = Some (multiplier_of seed); last_epoch = last_epoch; values = values }
+-- the shape of these numbers with its keys spread over the buckets by their seed, whose nodes have values or not
+abbrev pub spread_shape : ShapeNumbers → Bool → Dimensions
+spread_shape numbers values = record { slots = numbers.slots; buckets = numbers.buckets; spread = Some (multiplier_of numbers.seed); last_epoch = numbers.last_epoch; values = values }
 
--- a set of these numbers, with its keys spread over the buckets by a seed, which opens with these keys
-abbrev pub spread_start : ℕ → ℕ → ℕ → ℕ → List ℕ → Start
-spread_start slots buckets last_epoch seed keys = start_with (spread_shape slots buckets last_epoch seed false) keys []
+-- a set of these numbers, with its keys spread over the buckets, which opens with these keys
+abbrev pub spread_start : ShapeNumbers → List ℕ → Start
+spread_start numbers keys = start_with (spread_shape numbers false) keys []
 
--- a set or a map of these numbers, with its keys spread over the buckets by their seed, which opens with what is listed
+-- a set or a map of these numbers, with its keys spread over the buckets, which opens with what is listed
 abbrev pub listed_start : {R I : Type 0} → Listing R I → ShapeNumbers → List I → Start
-listed_start L numbers items = start_with (spread_shape numbers.slots numbers.buckets numbers.last_epoch numbers.seed L.values) (L.keys items) (L.payloads items)
+listed_start L numbers items = start_with (spread_shape numbers L.values) (L.keys items) (L.payloads items)
 
 -- so it is of a map, which opens with these entries
-abbrev pub entries_start : ℕ → ℕ → ℕ → ℕ → List Entry → Start
-entries_start slots buckets last_epoch seed = listed_start as_entries (record { slots = slots; buckets = buckets; last_epoch = last_epoch; seed = seed })
+abbrev pub entries_start : ShapeNumbers → List Entry → Start
+entries_start = listed_start as_entries
 
 -- not from 1 to 64
 abbrev pub IsBadCount : ℕ → Type 0

@@ -29,7 +29,7 @@ module _ {Item R I : Type 0} (kind : KindOf Item R) (L : Listing R I) where
 
     -- why handles are not renewed
     abbrev pub IsWhyUnrenewed : List H → ShapeNumbers → RenewAllRefusal → Type 0
-    IsWhyUnrenewed handles numbers Shape = ¬ (IsShape (spread_shape numbers.slots numbers.buckets numbers.last_epoch numbers.seed L.values))
+    IsWhyUnrenewed handles numbers Shape = ¬ (IsShape (spread_shape numbers L.values))
     IsWhyUnrenewed handles numbers Empty = ¬ (AreFull member handles)
     IsWhyUnrenewed handles numbers Mixed = AreFull member handles
     IsWhyUnrenewed handles numbers Missing = AreFull member handles × AreNotAll (members_by member handles)

@@ -43,10 +43,8 @@ impl ShapeNumbers {
     // The shape of these numbers, with keys spread over the buckets by the seed; none, if one of them is
     // out of range.
     pub(crate) fn shape(self) -> Option<Shape>
-        ensures some { IfSome result
-            (λ shape. shape ≡ spread_shape self.slots self.buckets self.last_epoch self.seed false) }
-        ensures in_range { result ≡ None →
-            ¬ (IsShape (spread_shape self.slots self.buckets self.last_epoch self.seed false)) }
+        ensures some { IfSome result (λ shape. shape ≡ spread_shape self false) }
+        ensures in_range { result ≡ None → ¬ (IsShape (spread_shape self false)) }
     {
         let narrow = Shape::new(self.slots, 1, self.last_epoch).ok()?;
         narrow.spread_with(self.buckets, self.seed).ok()

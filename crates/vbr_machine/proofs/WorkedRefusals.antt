@@ -1,5 +1,5 @@
 -- Each refusal of the core, computed once, on a shape of one slot, one bucket and one epoch, with one pass.
-use Rattle.std.proofs.Common.{◌≡◌, [], ◌∷◌, take, refl, rules, tests, false}
+use Rattle.std.proofs.Common.{◌≡◌, [], ◌∷◌, take, None, refl, rules, tests, false}
 use Rattle.vbr_machine.specs.Start.{Start, empty_start}
 use Rattle.vbr_words.specs.Flags.{has_flag, first_bits, flag_word}
 use Rattle.vbr_words.specs.Words.{word_of, link_of}

@@ -130,6 +130,7 @@ fn refuses_buckets_to_spread_over(rt: HostRuntime) -> Result<(), Fail> {
     let shape = Shape::new(7, 3, 9)?;
     for buckets in [0, 16_777_217, u32::MAX] {
         assert_eq!(rt; shape.spread_over(buckets), Err(SpreadError));
+        assert_eq!(rt; shape.spread_with(buckets, 7), Err(SpreadError));
     }
     let widest = shape.spread_over(16_777_216)?;
     assert_eq!(rt;
@@ -167,6 +168,30 @@ fn spreads_keys(rt: HostRuntime) -> Result<(), Fail> {
     for (shape, key, bucket) in rows {
         assert_eq!(rt; shape.bucket_of(key), bucket, "{key}");
     }
+    Ok(())
+}
+
+/// By hand again: a seed has keys multiplied by 11400714819323198485 · (2 · seed + 1) mod 2^64. The seed
+/// that a shape tells is below 2^63.
+#[test]
+fn spreads_keys_by_seeds(rt: HostRuntime) -> Result<(), Fail> {
+    let shape = Shape::new(1, 1, 1)?;
+    let rows = [
+        (0, 0, [9, 3, 7, 6]),
+        (1, 1, [13, 11, 6, 2]),
+        (7, 7, [4, 8, 0, 11]),
+        (9_223_372_036_854_775_807, 9_223_372_036_854_775_807, [6, 12, 8, 9]),
+        (9_223_372_036_854_775_808, 0, [9, 3, 7, 6]),
+        (9_223_372_036_854_775_809, 1, [13, 11, 6, 2]),
+        (u64::MAX, 9_223_372_036_854_775_807, [6, 12, 8, 9]),
+    ];
+    for (seed, told, buckets) in rows {
+        let sixteen = shape.spread_with(16, seed)?;
+        assert_eq!(rt; sixteen.seed(), Some(told), "{seed}");
+        assert_eq!(rt; [1, 2, 4096, u64::MAX].map(|key| sixteen.bucket_of(key)), buckets, "{seed}");
+    }
+    assert_eq!(rt; shape.seed(), None);
+    assert_eq!(rt; shape.spread_over(3)?.seed(), Some(0));
     Ok(())
 }
 
