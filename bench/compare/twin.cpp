@@ -44,14 +44,16 @@ private:
 const bool singles_of_map = add_singles_of_map<Twin<twin::Entries>>("twin");
 const bool singles_of_set = add_singles_of_set<Twin<twin::Keys>>("twin set");
 
-// The library's calls, of a set and of a map, which has five kinds more. What has no value leaves `value` as it is.
+// The library's calls, of a set and of a map, which has five kinds more. What has no value leaves `value` as it is. Seed 0 spreads keys as
+// the twin does.
 struct Set {
     using Nodes = twin::Keys;
     static constexpr unsigned KINDS = 4;
     vbr_handle handles[2] = {};
 
     Set(uint32_t slots, uint32_t buckets, uint64_t last_epoch) {
-        if (vbr_open(handles, 2, slots, buckets, last_epoch) != VBR_NO) std::abort();
+        static constexpr uint64_t none = 0;
+        if (vbr_open_seeded(handles, 2, slots, buckets, last_epoch, 0, &none, 0) != VBR_NO) std::abort();
     }
     ~Set() {
         for (vbr_handle &handle : handles) vbr_drop(&handle);
@@ -69,7 +71,8 @@ struct Map {
     vbr_map_handle handles[2] = {};
 
     Map(uint32_t slots, uint32_t buckets, uint64_t last_epoch) {
-        if (vbr_map_open(handles, 2, slots, buckets, last_epoch) != VBR_NO) std::abort();
+        static constexpr vbr_entry none = {0, 0};
+        if (vbr_map_open_seeded(handles, 2, slots, buckets, last_epoch, 0, &none, 0) != VBR_NO) std::abort();
     }
     ~Map() {
         for (vbr_map_handle &handle : handles) vbr_map_drop(&handle);

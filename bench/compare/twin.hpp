@@ -184,7 +184,7 @@ private:
         madvise(reinterpret_cast<void *>(first), ((start + size) & ~(PAGE - 1)) - first, MADV_HUGEPAGE);
     }
 
-    // By multiplicative hashing, as the library spreads keys.
+    // By multiplicative hashing, as the library spreads keys with seed 0.
     uint64_t head_of(uint64_t key) const { return HEADS + ((key * 0x9e3779b97f4a7c15u >> 32) * buckets >> 32); }
     uint64_t link_of(uint64_t named) const { return slots_at + WORDS * (named - 1); }
 

@@ -180,7 +180,11 @@ fn spreads_keys_by_seeds(rt: HostRuntime) -> Result<(), Fail> {
         (0, 0, [9, 3, 7, 6]),
         (1, 1, [13, 11, 6, 2]),
         (7, 7, [4, 8, 0, 11]),
-        (9_223_372_036_854_775_807, 9_223_372_036_854_775_807, [6, 12, 8, 9]),
+        (
+            9_223_372_036_854_775_807,
+            9_223_372_036_854_775_807,
+            [6, 12, 8, 9],
+        ),
         (9_223_372_036_854_775_808, 0, [9, 3, 7, 6]),
         (9_223_372_036_854_775_809, 1, [13, 11, 6, 2]),
         (u64::MAX, 9_223_372_036_854_775_807, [6, 12, 8, 9]),
@@ -188,7 +192,11 @@ fn spreads_keys_by_seeds(rt: HostRuntime) -> Result<(), Fail> {
     for (seed, told, buckets) in rows {
         let sixteen = shape.spread_with(16, seed)?;
         assert_eq!(rt; sixteen.seed(), Some(told), "{seed}");
-        assert_eq!(rt; [1, 2, 4096, u64::MAX].map(|key| sixteen.bucket_of(key)), buckets, "{seed}");
+        assert_eq!(rt;
+            [1, 2, 4096, u64::MAX].map(|key| sixteen.bucket_of(key)),
+            buckets,
+            "{seed}"
+        );
     }
     assert_eq!(rt; shape.seed(), None);
     assert_eq!(rt; shape.spread_over(3)?.seed(), Some(0));
