@@ -14,7 +14,6 @@ static const uint64_t MIXER = 0x9E3779B97F4A7C15u, INVERSE = 0xF1DE83E19937733Du
 enum { BUCKETS = 1 << 14, CHOSEN = 10209, SLOTS = BUCKETS + 64, ORDERED = 200 };
 
 static uint64_t chosen[CHOSEN + 1], ordered[ORDERED], given[ORDERED], others[ORDERED];
-static vbr_totals report;
 
 ssize_t __real_getrandom(void *bytes, size_t count, unsigned flags);
 ssize_t __wrap_getrandom(void *bytes, size_t count, unsigned flags);

@@ -126,10 +126,10 @@ static int ranges() {
     return 0;
 }
 
-// A handle to a set of the keys 1 to 9 in four buckets. The bucket of a key is told by the part behind the point of its product with
-// 0.618034: below a quarter it is the first, and so on.
+// A handle to a set of the keys 1 to 9 in four buckets. With seed 0 the bucket of a key is told by the part behind the point of its
+// product with 0.618034: below a quarter it is the first, and so on.
 static vbr::handle opened_with_nine() {
-    vbr::opened nine = vbr::open_with(vbr::shape{9 + 64, 4, vbr::max_epoch}, 1, {1, 2, 3, 4, 5, 6, 7, 8, 9});
+    vbr::opened nine = vbr::open_with(vbr::shape{9 + 64, 4, vbr::max_epoch, 0}, 1, {1, 2, 3, 4, 5, 6, 7, 8, 9});
     return nine.answer == vbr::open_answer::done ? std::move(nine.handles[0]) : vbr::handle();
 }
 
@@ -190,7 +190,7 @@ static int walked_by_iterators() {
 // A range asks again while its cursor moves: eleven steps are enough for a key in a bucket of its own, among empty ones, and not
 // for the second key of a bucket. Then it ends, with the refusal, and goes on from there with more.
 static int refused_walks() {
-    vbr::opened wide = vbr::open_with(vbr::shape{1 + 64, 4096, vbr::max_epoch}, 1, {7});
+    vbr::opened wide = vbr::open_with(vbr::shape{1 + 64, 4096, vbr::max_epoch, 0}, 1, {7});
     CHECK(wide.answer == vbr::open_answer::done);
     vbr::answer told{};
     vbr::cursor at;

@@ -156,7 +156,7 @@ static int ranges() {
 // All entries, bucket by bucket: each key with its value; from a cursor on; and each refusal.
 static int walks() {
     constexpr std::uint32_t budget = 1000;
-    vbr::map_opened nine = vbr::open_map_with(vbr::shape{9 + 64, 4, vbr::max_epoch}, 1,
+    vbr::map_opened nine = vbr::open_map_with(vbr::shape{9 + 64, 4, vbr::max_epoch, 0}, 1,
                                               {{1, 10}, {2, 20}, {3, 30}, {4, 40}, {5, 50}, {6, 60}, {7, 70}, {8, 80}, {9, 90}});
     CHECK(nine.answer == vbr::open_answer::done);
     vbr::map_handle mine = std::move(nine.handles[0]);
