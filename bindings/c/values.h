@@ -275,6 +275,15 @@ VBR_NODISCARD static inline vbr_answer value_open_with(vbr_map_handle *handles, 
     return answer;
 }
 
+VBR_NODISCARD static inline vbr_answer value_open_many(vbr_map_handle *handles, size_t count, uint32_t slots, uint32_t buckets,
+                                                       uint64_t last_epoch, const uint64_t *keys, size_t key_count) {
+    if (key_count > MOST_ENTRIES) value_is_wrong("more keys than values.h has room for", key_count, 0);
+    for (size_t i = 0; i < key_count; i++) opening_entries[i] = value_opens(keys[i]);
+    vbr_answer answer = vbr_map_open_many(handles, count, slots, buckets, last_epoch, opening_entries, key_count);
+    for (size_t i = 0; answer != VBR_NO && i < key_count; i++) value_write(&value_place(opening_entries[i].value)->stage, REFUSED);
+    return answer;
+}
+
 /* The entries of a report: each value is taken out, and its key is told. */
 static inline void value_report(uint64_t *keys, size_t count) {
     uint64_t now = value_read(&value_time);
@@ -329,6 +338,7 @@ VBR_NODISCARD static inline vbr_answer value_report_all(vbr_map_handle *handles,
 #define vbr_handle vbr_map_handle
 #define vbr_open value_open
 #define vbr_open_with value_open_with
+#define vbr_open_many value_open_many
 #define vbr_insert value_insert
 #define vbr_remove value_remove
 #define vbr_has value_look_up

@@ -29,6 +29,15 @@ extern "C" {
         keys: *const u64,
         key_count: usize,
     ) -> i32;
+    fn vbr_open_many(
+        handles: *mut Raw,
+        count: usize,
+        slots: u32,
+        buckets: u32,
+        last_epoch: u64,
+        keys: *const u64,
+        key_count: usize,
+    ) -> i32;
     pub(crate) fn vbr_insert(handle: *mut Raw, key: u64, budget: u32) -> i32;
     pub(crate) fn vbr_remove(handle: *mut Raw, key: u64, budget: u32) -> i32;
     fn vbr_has(handle: *mut Raw, key: u64, budget: u32) -> i32;
@@ -45,6 +54,15 @@ extern "C" {
 
     fn vbr_map_open(handles: *mut Raw, count: usize, slots: u32, buckets: u32, last_epoch: u64) -> i32;
     fn vbr_map_open_with(
+        handles: *mut Raw,
+        count: usize,
+        slots: u32,
+        buckets: u32,
+        last_epoch: u64,
+        entries: *const Entry,
+        entry_count: usize,
+    ) -> i32;
+    fn vbr_map_open_many(
         handles: *mut Raw,
         count: usize,
         slots: u32,
@@ -88,6 +106,7 @@ pub(crate) trait Calls<Item, Given, Told> {
 
     const OPEN: unsafe extern "C" fn(*mut Raw, usize, u32, u32, u64) -> i32;
     const OPEN_WITH: unsafe extern "C" fn(*mut Raw, usize, u32, u32, u64, *const Item, usize) -> i32;
+    const OPEN_MANY: unsafe extern "C" fn(*mut Raw, usize, u32, u32, u64, *const Item, usize) -> i32;
     const CLOSE_ALL: unsafe extern "C" fn(*mut Raw, usize, *mut Item, usize, *mut ReportNumbers) -> i32;
     const REPORT_ALL: unsafe extern "C" fn(*mut Raw, usize, *mut Item, usize, *mut ReportNumbers) -> i32;
     const RENEW_ALL: unsafe extern "C" fn(*mut Raw, usize, u32, u32, u64) -> i32;
@@ -115,6 +134,7 @@ impl Calls<u64, u64, Report> for Keys {
 
     const OPEN: unsafe extern "C" fn(*mut Raw, usize, u32, u32, u64) -> i32 = vbr_open;
     const OPEN_WITH: unsafe extern "C" fn(*mut Raw, usize, u32, u32, u64, *const u64, usize) -> i32 = vbr_open_with;
+    const OPEN_MANY: unsafe extern "C" fn(*mut Raw, usize, u32, u32, u64, *const u64, usize) -> i32 = vbr_open_many;
     const CLOSE_ALL: unsafe extern "C" fn(*mut Raw, usize, *mut u64, usize, *mut ReportNumbers) -> i32 = vbr_close_all;
     const REPORT_ALL: unsafe extern "C" fn(*mut Raw, usize, *mut u64, usize, *mut ReportNumbers) -> i32 = vbr_report_all;
     const RENEW_ALL: unsafe extern "C" fn(*mut Raw, usize, u32, u32, u64) -> i32 = vbr_renew_all;
@@ -141,6 +161,7 @@ impl Calls<Entry, (u64, u64), MapReport> for Entries {
 
     const OPEN: unsafe extern "C" fn(*mut Raw, usize, u32, u32, u64) -> i32 = vbr_map_open;
     const OPEN_WITH: unsafe extern "C" fn(*mut Raw, usize, u32, u32, u64, *const Entry, usize) -> i32 = vbr_map_open_with;
+    const OPEN_MANY: unsafe extern "C" fn(*mut Raw, usize, u32, u32, u64, *const Entry, usize) -> i32 = vbr_map_open_many;
     const CLOSE_ALL: unsafe extern "C" fn(*mut Raw, usize, *mut Entry, usize, *mut ReportNumbers) -> i32 = vbr_map_close_all;
     const REPORT_ALL: unsafe extern "C" fn(*mut Raw, usize, *mut Entry, usize, *mut ReportNumbers) -> i32 = vbr_map_report_all;
     const RENEW_ALL: unsafe extern "C" fn(*mut Raw, usize, u32, u32, u64) -> i32 = vbr_map_renew_all;

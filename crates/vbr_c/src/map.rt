@@ -7,7 +7,7 @@ ghost use Rattle.vbr_handles.specs.Calls.{TellsCall, TellsInsertEntry};
 ghost use Rattle.vbr_handles.specs.Iterating.{TellsNextEntry};
 ghost use Rattle.vbr_handles.specs.ValueCalls.{TellsExchange, TellsGetEntry, TellsGetOrInsert, TellsPut, TellsRemoveEntry, TellsRemoveIf, TellsReplace};
 ghost use Rattle.vbr_handles.specs.Opening.{entries_start};
-ghost use Rattle.vbr_handles.specs.OpeningCodes.{TellsMapOpening, TellsMapOpeningWith};
+ghost use Rattle.vbr_handles.specs.OpeningCodes.{TellsMapOpening, TellsMapOpeningMany, TellsMapOpeningWith};
 ghost use Rattle.vbr_handles.specs.AllHandles.{map_members_in};
 ghost use Rattle.vbr_handles.specs.Renewals.{TellsMapRenewal};
 ghost use Rattle.vbr_handles.specs.Reports.{TellsMapClose, TellsMapCloseAll, TellsMapReport};
@@ -63,6 +63,32 @@ pub extern "C" fn vbr_map_open_with(
         last_epoch,
     };
     numbers::open_with::<Entries, Entry, MapHandle>(alloc, handles, numbers, entries)
+}
+
+/// Opens a map of these entries, as [`vbr_map_open_with`] does, for many handles, as
+/// [`crate::set::vbr_open_many`] opens a set of keys.
+///
+/// ```c file=bindings/c/map_calls.c
+/// if (vbr_map_open_many(many, 1000, 1024 + 1000 * 64, 1024, VBR_MAX_EPOCH, some, 3) != VBR_NO) return 1;
+/// ```
+#[unsafe(no_mangle)]
+pub extern "C" fn vbr_map_open_many(
+    alloc: Global,
+    handles: &mut [MapHandle],
+    slots: u32,
+    buckets: u32,
+    last_epoch: u64,
+    entries: &[Entry],
+) -> i32
+    ensures { TellsMapOpeningMany handles.old handles.new
+        (entries_start slots buckets last_epoch entries.now) result }
+{
+    let numbers = ShapeNumbers {
+        slots,
+        buckets,
+        last_epoch,
+    };
+    numbers::open_many::<Entries, Entry, MapHandle>(alloc, handles, numbers, entries)
 }
 
 /// Adds a key with its value, as [`crate::set::vbr_insert`] adds a key: 1 if the key was absent, 0 if it

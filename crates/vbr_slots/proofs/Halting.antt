@@ -8,7 +8,7 @@ use Rattle.vbr_slots.specs.declared.snapshot.Halted.{Halted}
 use Rattle.vbr_slots.specs.Closing.{AllOf}
 use Rattle.vbr_slots.specs.Rule.{head_of, opened_of, tail_of, witness}
 use Rattle.vbr_slots.specs.RunnerView.{IsSoundRunner, trace_of}
-use Rattle.vbr_slots.specs.Snapshots.{AreHalted, EachLow, IsHalting, IsJoined, IsKeptOf, witnesses_of}
+use Rattle.vbr_slots.specs.Snapshots.{AreHalted, EachLow, IsHalting, IsJoined, IsKeptOf, stepper_with, witnesses_of}
 use Rattle.vbr_slots.specs.StepperView.{IsWell}
 use Rattle.vbr_slots.specs.Views.{IsOf, PassView, TableView, Trace, counted_steps, steps_of}
 use Rattle.vbr_slots.proofs.Closings.{one_of}
@@ -117,8 +117,8 @@ module _ {t : TableView} {all left : List PassView} {joined : Seat (Unit {0}) (L
   pub sound_again : IsSoundRunner q
   sound_again = again.0
 
-  pub well_again : IsWell (record { runner = trace_of q; pool = kept.pool; hand = kept.hand; tried = kept.tried })
-  well_again = subst (λ (w : Trace). IsWell (record { runner = w; pool = kept.pool; hand = kept.hand; tried = kept.tried })) (sym again.1) next.keeps.well
+  pub well_again : IsWell (stepper_with (trace_of q) kept)
+  well_again = subst (λ (w : Trace). IsWell (stepper_with w kept)) (sym again.1) next.keeps.well
 
   pub exact_again : kept.steps ≡ counted_steps (steps_of (trace_of q))
   exact_again = next.keeps.steps ∙ ap (λ (w : Trace). counted_steps (steps_of w)) (sym again.1)

@@ -12,9 +12,10 @@ use Rattle.vbr_slots.specs.declared.rule.Witness.{Witness}
 use Rattle.vbr_slots.specs.Rule.{EachBegins, HasSeen, opened_of, witness}
 use Rattle.vbr_slots.specs.RunnerView.{IsSoundRunner, trace_of}
 use Rattle.vbr_slots.specs.StepperView.{IsWell}
-use Rattle.vbr_slots.specs.Views.{PassView, TableView, counted_steps, steps_of}
+use Rattle.vbr_slots.specs.Views.{PassView, TableView, Trace, counted_steps, steps_of}
 use Rattle.vbr_slots.specs.declared.runner.Runner.TheInside.{Inside as RunnerInside}
 use Rattle.vbr_slots.specs.declared.snapshot.Halted.{Halted}
+use Rattle.vbr_slots.specs.declared.stepper.Stepper.TheInside.{Inside as StepperInside}
 use Rattle.vbr_slots.specs.Words.{AreWordsOf}
 
 -- the witnesses of the seats of passes
@@ -33,6 +34,10 @@ pub record IsJoined (t : TableView) (seat : Seat (Unit {0}) (List Witness)) : Ty
   pub free : seat.me.1 ≡ []
   pub low : EachLow t.passes seat.me.0
 
+-- a stepper of this pass with what is kept
+abbrev pub stepper_with : Trace → Halted → StepperInside
+stepper_with trace kept = record { runner = trace; pool = kept.pool; hand = kept.hand; tried = kept.tried }
+
 -- what is kept is all of the pass but its seat: with a seat that has the witness of the pass alone it is that pass again
 pub record IsKeptOf (p : PassView) (kept : Halted) : Type 0 where
   pub runner : RunnerInside
@@ -41,7 +46,7 @@ pub record IsKeptOf (p : PassView) (kept : Halted) : Type 0 where
   pub same : (kept.who ≡ runner.who) × (kept.opening ≡ runner.opening) × (kept.epoch ≡ runner.epoch)
   pub pool : kept.pool.items ≡ p.pool
   pub hand : kept.hand ≡ p.hand
-  pub well : IsWell (record { runner = p.trace; pool = kept.pool; hand = kept.hand; tried = kept.tried })
+  pub well : IsWell (stepper_with p.trace kept)
   pub steps : kept.steps ≡ counted_steps (steps_of p.trace)
 
 -- this is kept of these passes, of the last one first

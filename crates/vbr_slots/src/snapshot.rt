@@ -80,8 +80,8 @@ impl<N: Nodes> Slots<N> {
         requires room { length passes.old.items ≤ vec_capacity halted.old }
         ensures seat { IsJoined self.now result }
         ensures me { result.me ≡ (witnesses_of passes.old.items, []) }
-        ensures left { passes.new.items ≡ [] }
-        ensures capacity { vec_capacity passes.new ≡ vec_capacity passes.old }
+        ensures left { (passes.new.items ≡ [])
+            × (vec_capacity passes.new ≡ vec_capacity passes.old) }
         ensures halted { AreHalted passes.old.items halted.new.items }
     {
         let mut joined = none;

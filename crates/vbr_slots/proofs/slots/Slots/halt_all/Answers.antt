@@ -39,7 +39,7 @@ loop-pass-preserved g c =
             same = (refl, refl, refl);
             pool = ap (λ (w : PassView). w.pool) pass_is;
             hand = ap (λ (w : PassView). w.hand) pass_is;
-            well = subst (λ (w : Trace). IsWell (record { runner = w; pool = c.stepper.inside.pool; hand = c.stepper.inside.hand; tried = c.stepper.inside.tried })) (ap (λ (w : PassView). w.trace) pass_is) c.stepper.invariant;
+            well = subst (λ (w : Trace). IsWell (record c.stepper.inside { runner = w })) (ap (λ (w : PassView). w.trace) pass_is) c.stepper.invariant;
             steps = c.pass.invariant.steps ∙ ap (λ (w : PassView). counted_steps (steps_of w.trace)) c.pass.view_is;
           });
       room = let room = i.room in let more = c.in-Ok.ensures.capacity in omega arith;
