@@ -10,6 +10,8 @@ int clock_gettime(int clock, void *now);
 
 int vbr_open_seeded(void *handles, word count, unsigned slots, unsigned buckets, word last_epoch, word seed, const void *keys, word key_count);
 int vbr_map_open_seeded(void *handles, word count, unsigned slots, unsigned buckets, word last_epoch, word seed, const void *entries, word entry_count);
+int vbr_open_many_seeded(void *handles, word count, unsigned slots, unsigned buckets, word last_epoch, word seed, const void *keys, word key_count);
+int vbr_map_open_many_seeded(void *handles, word count, unsigned slots, unsigned buckets, word last_epoch, word seed, const void *entries, word entry_count);
 int vbr_renew_all_seeded(void *handles, word count, unsigned slots, unsigned buckets, word last_epoch, word seed);
 int vbr_map_renew_all_seeded(void *handles, word count, unsigned slots, unsigned buckets, word last_epoch, word seed);
 word vbr_seed(void *handle);
@@ -18,9 +20,11 @@ word vbr_map_seed(void *handle);
 word vbr_random_seed(void);
 int vbr_open(void *handles, word count, unsigned slots, unsigned buckets, word last_epoch);
 int vbr_open_with(void *handles, word count, unsigned slots, unsigned buckets, word last_epoch, const void *keys, word key_count);
+int vbr_open_many(void *handles, word count, unsigned slots, unsigned buckets, word last_epoch, const void *keys, word key_count);
 int vbr_renew_all(void *handles, word count, unsigned slots, unsigned buckets, word last_epoch);
 int vbr_map_open(void *handles, word count, unsigned slots, unsigned buckets, word last_epoch);
 int vbr_map_open_with(void *handles, word count, unsigned slots, unsigned buckets, word last_epoch, const void *entries, word entry_count);
+int vbr_map_open_many(void *handles, word count, unsigned slots, unsigned buckets, word last_epoch, const void *entries, word entry_count);
 int vbr_map_renew_all(void *handles, word count, unsigned slots, unsigned buckets, word last_epoch);
 
 enum { AT_ONCE = 1, SINCE_BOOT = 1 }; /* GRND_NONBLOCK and CLOCK_MONOTONIC of the kernel's interface */
@@ -52,6 +56,11 @@ int vbr_open_with(void *handles, word count, unsigned slots, unsigned buckets, w
     return vbr_open_seeded(handles, count, slots, buckets, last_epoch, vbr_random_seed(), keys, key_count);
 }
 
+int vbr_open_many(void *handles, word count, unsigned slots, unsigned buckets, word last_epoch, const void *keys, word key_count)
+{
+    return vbr_open_many_seeded(handles, count, slots, buckets, last_epoch, vbr_random_seed(), keys, key_count);
+}
+
 int vbr_renew_all(void *handles, word count, unsigned slots, unsigned buckets, word last_epoch)
 {
     return vbr_renew_all_seeded(handles, count, slots, buckets, last_epoch, count ? vbr_seed(handles) : 0);
@@ -65,6 +74,11 @@ int vbr_map_open(void *handles, word count, unsigned slots, unsigned buckets, wo
 int vbr_map_open_with(void *handles, word count, unsigned slots, unsigned buckets, word last_epoch, const void *entries, word entry_count)
 {
     return vbr_map_open_seeded(handles, count, slots, buckets, last_epoch, vbr_random_seed(), entries, entry_count);
+}
+
+int vbr_map_open_many(void *handles, word count, unsigned slots, unsigned buckets, word last_epoch, const void *entries, word entry_count)
+{
+    return vbr_map_open_many_seeded(handles, count, slots, buckets, last_epoch, vbr_random_seed(), entries, entry_count);
 }
 
 int vbr_map_renew_all(void *handles, word count, unsigned slots, unsigned buckets, word last_epoch)

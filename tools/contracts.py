@@ -28,8 +28,8 @@ ON_SHARED_WORDS = {
         "catch_up_as": "join_seat load",
     },
     "snapshot.rt": {
-        "snapshot": "load_new_seat",
-        "read_with": "split_seat join_seat split_seat",
+        "snapshot": "load_new_seat split_seat",
+        "halt_all": "join_seat",
         "read_all_as": "load",
     },
     "opening.rt": {"build": "split_seat"},

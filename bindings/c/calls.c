@@ -42,6 +42,17 @@ static int all_at_once(void) {
     return 0;
 }
 
+static int many_handles(void) {
+    static const uint64_t some[3] = {2, 5, 9};
+    vbr_totals report = {0};
+    static vbr_handle many[1000];
+    if (1000 > VBR_MAX_MANY_HANDLES) return 1; // else vbr_open_many answers VBR_BAD_COUNT
+    if (vbr_open_many(many, 1000, 1024 + 1000 * 64, 1024, VBR_MAX_EPOCH, some, 3) != VBR_NO) return 1;
+    CHECK(vbr_insert(&many[999], 7, 100000) == VBR_YES && vbr_has(&many[64], 7, 100000) == VBR_YES);
+    CHECK(vbr_close_all(many, 1000, keys, 8, &report) == VBR_YES && report.live == 4 && keys[2] == 7);
+    return 0;
+}
+
 static int walked(void) {
     vbr_handle handle[2] = {{0}};
     vbr_totals report = {0};
@@ -108,7 +119,7 @@ static int lent(void) {
 }
 
 int main(void) {
-    if (one_by_one() || all_at_once() || walked() || refused() || the_most() || given_up() || lent()) return 1;
+    if (one_by_one() || all_at_once() || many_handles() || walked() || refused() || the_most() || given_up() || lent()) return 1;
     puts("examples of each call in C: passed");
     return 0;
 }

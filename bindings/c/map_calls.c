@@ -68,6 +68,16 @@ static int all_at_once(void) {
     return 0;
 }
 
+static int many_handles(void) {
+    static const vbr_entry some[3] = {{2, 20}, {5, 50}, {9, 90}};
+    vbr_totals report = {0};
+    static vbr_map_handle many[1000];
+    if (vbr_map_open_many(many, 1000, 1024 + 1000 * 64, 1024, VBR_MAX_EPOCH, some, 3) != VBR_NO) return 1;
+    CHECK(vbr_map_insert(&many[999], 7, 70, 100000) == VBR_YES && vbr_map_has(&many[64], 7, 100000) == VBR_YES);
+    CHECK(vbr_map_close_all(many, 1000, entries, 8, &report) == VBR_YES && report.live == 4 && entries[2].value == 70);
+    return 0;
+}
+
 static int walked(void) {
     vbr_map_handle map[2] = {{0}};
     vbr_totals report = {0};
@@ -111,7 +121,7 @@ static int lent(void) {
 }
 
 int main(void) {
-    if (one_by_one() || changed_by_what_is_there() || all_at_once() || walked() || given_up() || lent()) return 1;
+    if (one_by_one() || changed_by_what_is_there() || all_at_once() || many_handles() || walked() || given_up() || lent()) return 1;
     puts("examples of each call on maps in C: passed");
     return 0;
 }

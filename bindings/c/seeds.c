@@ -161,9 +161,29 @@ static int opened_alike(void) {
     return 0;
 }
 
+/* A thousand handles, by a given seed and by a drawn one. */
+static int many_alike(void) {
+    static const uint64_t some[3] = {2, 5, 9};
+    static const vbr_entry some_entries[3] = {{2, 20}, {5, 50}, {9, 90}};
+    static vbr_handle seeded[1000];
+    static vbr_map_handle seeded_maps[1000];
+    uint64_t value = 0;
+    if (vbr_open_many_seeded(seeded, 1000, 1024 + 1000 * 64, 1024, VBR_MAX_EPOCH, 7, some, 3) != VBR_NO) return 1;
+    if (vbr_map_open_many_seeded(seeded_maps, 1000, 1024 + 1000 * 64, 1024, VBR_MAX_EPOCH, 7, some_entries, 3) != VBR_NO) return 1;
+    CHECK(vbr_seed(&seeded[999]) == 7 && vbr_has(&seeded[999], 9, 1000) == VBR_YES);
+    CHECK(vbr_map_seed(&seeded_maps[64]) == 7 && vbr_map_get(&seeded_maps[64], 9, 1000, &value) == VBR_YES && value == 90);
+    for (int i = 0; i < 1000; i++) vbr_drop(&seeded[i]), vbr_map_drop(&seeded_maps[i]);
+    draws = 0;
+    CHECK(vbr_open_many(seeded, 100, 1024 + 100 * 64, 1024, VBR_MAX_EPOCH, some, 3) == VBR_NO);
+    CHECK(vbr_map_open_many(seeded_maps, 100, 1024 + 100 * 64, 1024, VBR_MAX_EPOCH, some_entries, 3) == VBR_NO && draws == 2);
+    CHECK(vbr_seed(&seeded[0]) == vbr_seed(&seeded[99]) && vbr_seed(&seeded[0]) != vbr_map_seed(&seeded_maps[0]));
+    for (int i = 0; i < 100; i++) vbr_drop(&seeded[i]), vbr_map_drop(&seeded_maps[i]);
+    return 0;
+}
+
 int main(void) {
     for (int i = 0; i < ORDERED; i++) ordered[i] = (uint64_t)i * 4096;
-    if (choose_keys() || chosen_against_the_known_seed() || given_seeds() || refused() || opened_alike()) return 1;
+    if (choose_keys() || chosen_against_the_known_seed() || given_seeds() || refused() || opened_alike() || many_alike()) return 1;
     for (system_refuses = 0; system_refuses < 2; system_refuses++)
         if (the_same_keys_with_a_drawn_seed() || drawn_seeds()) return 1;
     puts("seeds in C: passed");

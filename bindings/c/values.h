@@ -289,6 +289,18 @@ VBR_NODISCARD static inline vbr_answer value_open_seeded(vbr_map_handle *handles
     return value_opened(vbr_map_open_seeded(handles, count, slots, buckets, last_epoch, seed, opening_entries, key_count), key_count);
 }
 
+VBR_NODISCARD static inline vbr_answer value_open_many(vbr_map_handle *handles, size_t count, uint32_t slots, uint32_t buckets,
+                                                       uint64_t last_epoch, const uint64_t *keys, size_t key_count) {
+    value_open_entries(keys, key_count);
+    return value_opened(vbr_map_open_many(handles, count, slots, buckets, last_epoch, opening_entries, key_count), key_count);
+}
+
+VBR_NODISCARD static inline vbr_answer value_open_many_seeded(vbr_map_handle *handles, size_t count, uint32_t slots, uint32_t buckets,
+                                                              uint64_t last_epoch, uint64_t seed, const uint64_t *keys, size_t key_count) {
+    value_open_entries(keys, key_count);
+    return value_opened(vbr_map_open_many_seeded(handles, count, slots, buckets, last_epoch, seed, opening_entries, key_count), key_count);
+}
+
 /* The entries of a report: each value is taken out, and its key is told. */
 static inline void value_report(uint64_t *keys, size_t count) {
     uint64_t now = value_read(&value_time);
@@ -346,6 +358,8 @@ VBR_NODISCARD static inline vbr_answer value_report_all(vbr_map_handle *handles,
 #define vbr_open value_open
 #define vbr_open_with value_open_with
 #define vbr_open_seeded value_open_seeded
+#define vbr_open_many value_open_many
+#define vbr_open_many_seeded value_open_many_seeded
 #define vbr_insert value_insert
 #define vbr_remove value_remove
 #define vbr_has value_look_up

@@ -85,6 +85,31 @@ static int the_most() {
     return 0;
 }
 
+// A thousand callers in threads, all at once, and one after another; and the numbers that are refused.
+static int crowds() {
+    static_assert(vbr::max_many_handles >= 1000);
+    vbr::opened crowd = vbr::open_many(vbr::shape::for_keys(1024, 1000), 1000);
+    CHECK(crowd.answer == vbr::open_answer::done && crowd.handles.size() == 1000);
+    std::vector<vbr::answer> added(crowd.handles.size());
+    std::vector<std::thread> threads;
+    for (std::size_t i = 0; i < added.size(); i++) threads.emplace_back([&, i] { added[i] = crowd.handles[i].insert(i, 100000); });
+    for (std::thread &each : threads) each.join();
+    for (vbr::answer each : added) CHECK(each == vbr::answer::yes);
+    vbr::told now = vbr::handle::report_all(crowd.handles);
+    CHECK(now.report && now.report->keys.size() == 1000 && now.report->keys.back() == 999);
+    CHECK(vbr::handle::renew_all(crowd.handles, vbr::shape::for_keys(2048, 1000)) == vbr::all_answer::done);
+    for (std::size_t i = 0; i < added.size(); i++) CHECK(crowd.handles[i].has(999 - i, 100000) == vbr::answer::yes);
+    while (crowd.handles.size() > 1) crowd.handles.pop_back(); // which closes it
+    vbr::closed last = crowd.handles[0].close();
+    CHECK(last.answer == vbr::close_answer::last && last.report->keys.size() == 1000);
+    const std::uint64_t some[] = {2, 5, 9};
+    CHECK(vbr::open_many(vbr::shape::for_keys(8, 65), 65, some, 3).handles.at(64).has(5, 1000) == vbr::answer::yes);
+    CHECK(vbr::open(vbr::shape::for_keys(8, 65), 65).answer == vbr::open_answer::bad_count);
+    CHECK(vbr::open_many(vbr::shape::for_keys(8, 1), 0).answer == vbr::open_answer::bad_count);
+    CHECK(vbr::open_many(vbr::shape::for_keys(8, 1), vbr::max_many_handles + 1).answer == vbr::open_answer::bad_count);
+    return 0;
+}
+
 static int refusals() {
     vbr::shape small{2, 1, 1};
     auto [opened, handles] = vbr::open(small, 1);
@@ -385,7 +410,7 @@ static int all_handles() {
 }
 
 int main() {
-    if (example() || all_handles() || calls() || the_most() || refusals() || ranges() || walks() || walked_by_iterators() || refused_walks() || ends() || exceptions() || closes_at_once() || loans() || seeds()) return 1;
+    if (example() || all_handles() || calls() || the_most() || crowds() || refusals() || ranges() || walks() || walked_by_iterators() || refused_walks() || ends() || exceptions() || closes_at_once() || loans() || seeds()) return 1;
     std::puts("example in C++: passed");
     return 0;
 }

@@ -183,6 +183,19 @@ static int walks() {
 }
 
 // A map whose report is the opening of the next one: each key keeps its value.
+// A thousand callers of a map.
+static int crowds() {
+    vbr::map_opened crowd = vbr::open_map_many(vbr::shape::for_keys(1024, 1000), 1000);
+    CHECK(crowd.answer == vbr::open_answer::done && crowd.handles.size() == 1000);
+    for (std::size_t i = 0; i < 1000; i++) CHECK(crowd.handles[i].insert(i, 3 * i, 100000) == vbr::answer::yes);
+    CHECK(vbr::map_handle::renew_all(crowd.handles, vbr::shape::for_keys(2048, 1000)) == vbr::all_answer::done);
+    for (std::size_t i = 0; i < 1000; i++) CHECK(crowd.handles[i].get(999 - i, 100000).value == 3 * (999 - i));
+    auto now = vbr::map_handle::report_all(crowd.handles);
+    CHECK(now.report && now.report->entries.size() == 1000);
+    CHECK(vbr::open_map_many(vbr::shape::for_keys(8, 1), vbr::max_many_handles + 1).answer == vbr::open_answer::bad_count);
+    return 0;
+}
+
 static int renewals() {
     const vbr::shape shape{8 + 2 * 64, 8, 20};
     auto opened = vbr::open_map(shape, 2);
@@ -307,7 +320,7 @@ static int all_handles() {
 }
 
 int main() {
-    if (example() || all_handles() || calls() || changes() || updates() || refusals() || ranges() || walks() || renewals() || ends() || exceptions() || loans()) return 1;
+    if (example() || all_handles() || calls() || changes() || updates() || refusals() || ranges() || walks() || crowds() || renewals() || ends() || exceptions() || loans()) return 1;
     std::puts("example of maps in C++: passed");
     return 0;
 }

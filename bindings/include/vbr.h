@@ -54,7 +54,7 @@
    a remove with the old value and an insert with the new one, next to each other: no call finds the key absent in between, and
    a walk gives it with the one value or the other. A call that changed nothing is a look-up.
 
-   Who owns what. A set is opened with 1 to 64 handles, and each handle owns one pass of the set, the
+   Who owns what. A set is opened with 1 to 64 handles, or by vbr_open_many with up to 65,536, and each handle owns one pass of the set, the
    right to make calls, and a share of the set. A handle is all zero while it is empty: write {0}, or {} in
    C++, before it is opened. A full one belongs to the library: it may be moved (copied, and the old place set to
    zero, or never used again), and is never copied, compared, read or written otherwise. A full handle
@@ -217,6 +217,12 @@ extern "C" {
 #define VBR_MAX_EPOCH 549755813887ull
 #define VBR_MAX_HANDLES 64u
 
+/* The most handles of a set or a map that vbr_open_many and vbr_map_open_many open.
+
+       static vbr_handle many[1000];
+       if (1000 > VBR_MAX_MANY_HANDLES) return 1; // else vbr_open_many answers VBR_BAD_COUNT */
+#define VBR_MAX_MANY_HANDLES 65536u
+
 /* A budget that no call runs out of in short buckets, in a set of so many slots.
 
        uint32_t budget = VBR_AMPLE_BUDGET(vbr_slots(&handle[0])); */
@@ -250,7 +256,7 @@ typedef enum vbr_answer {
     VBR_EMPTY = -4,        /* the handle is empty, or null where it may be; nothing was done */
     VBR_IN_USE = -5,       /* open: one of the handles is not empty; nothing was done */
     VBR_BAD_SHAPE = -6,    /* open, renew_all: slots, buckets or last_epoch is out of range; nothing was done */
-    VBR_BAD_COUNT = -7,    /* open: count is not from 1 to 64; nothing was done */
+    VBR_BAD_COUNT = -7,    /* open: count is not from 1 to 64, of open_many to 65,536; nothing was done */
     VBR_NO_MEMORY = -8,    /* open: nothing was done; close: it is the last and stays as it was; report_all, close_all,
                               renew_all: they are as they were */
     VBR_LOST = -9,         /* close: it was the last, and a pass is not there; the set is gone. A handle
@@ -315,6 +321,23 @@ VBR_NODISCARD vbr_answer vbr_open_seeded(vbr_handle *handles, size_t count, uint
 
        vbr_answer renewed = vbr_renew_all_seeded(handle, 2, 2048 + 2 * 64, 2048, VBR_MAX_EPOCH, vbr_random_seed()); */
 VBR_NODISCARD uint64_t vbr_random_seed(void) VBR_NOEXCEPT;
+
+/* Opens a set of `key_count` keys, which may be none, as vbr_open_with does, with up to VBR_MAX_MANY_HANDLES handles: VBR_NO. Else
+   what vbr_open_with answers, in its order; VBR_BAD_COUNT where count is 0 or above VBR_MAX_MANY_HANDLES. No call on a key takes a
+   step more for more handles, and those that take all handles take time in proportion to them. Each handle may keep 64 slots, as
+   ever, so a thousand want 64,000 more than keys.
+
+       static vbr_handle many[1000];
+       if (vbr_open_many(many, 1000, 1024 + 1000 * 64, 1024, VBR_MAX_EPOCH, some, 3) != VBR_NO) return 1; */
+VBR_NODISCARD vbr_answer vbr_open_many(vbr_handle *handles, size_t count, uint32_t slots, uint32_t buckets,
+                                       uint64_t last_epoch, const uint64_t *keys, size_t key_count) VBR_NOEXCEPT VBR_NONNULL;
+
+/* Opens a set as vbr_open_many does, with its keys spread by this seed, as vbr_open_seeded.
+
+       static vbr_handle seeded[1000];
+       if (vbr_open_many_seeded(seeded, 1000, 1024 + 1000 * 64, 1024, VBR_MAX_EPOCH, 7, some, 3) != VBR_NO) return 1; */
+VBR_NODISCARD vbr_answer vbr_open_many_seeded(vbr_handle *handles, size_t count, uint32_t slots, uint32_t buckets, uint64_t last_epoch,
+                                              uint64_t seed, const uint64_t *keys, size_t key_count) VBR_NOEXCEPT VBR_NONNULL;
 
 /* Adds a key, in at most `budget` steps: VBR_YES if it was absent, VBR_NO if it was there. Else VBR_OUT_OF_STEPS,
    VBR_NO_SLOT, VBR_EPOCH_SPENT or VBR_EMPTY. At VBR_NO_SLOT remove keys, let a handle that has free slots make the
@@ -499,6 +522,23 @@ VBR_NODISCARD vbr_answer vbr_map_open_with(vbr_map_handle *handles, size_t count
 VBR_NODISCARD vbr_answer vbr_map_open_seeded(vbr_map_handle *handles, size_t count, uint32_t slots, uint32_t buckets,
                                              uint64_t last_epoch, uint64_t seed, const vbr_entry *entries,
                                              size_t entry_count) VBR_NOEXCEPT VBR_NONNULL;
+
+/* Opens a map of `entry_count` entries, which may be none, as vbr_map_open_with does, with up to VBR_MAX_MANY_HANDLES handles, as
+   vbr_open_many does.
+
+       static vbr_map_handle many[1000];
+       if (vbr_map_open_many(many, 1000, 1024 + 1000 * 64, 1024, VBR_MAX_EPOCH, some, 3) != VBR_NO) return 1; */
+VBR_NODISCARD vbr_answer vbr_map_open_many(vbr_map_handle *handles, size_t count, uint32_t slots, uint32_t buckets,
+                                           uint64_t last_epoch, const vbr_entry *entries,
+                                           size_t entry_count) VBR_NOEXCEPT VBR_NONNULL;
+
+/* Opens a map as vbr_map_open_many does, with its keys spread by this seed, as vbr_open_seeded opens a set.
+
+       static vbr_map_handle seeded_maps[1000];
+       if (vbr_map_open_many_seeded(seeded_maps, 1000, 1024 + 1000 * 64, 1024, VBR_MAX_EPOCH, 7, some_entries, 3) != VBR_NO) return 1; */
+VBR_NODISCARD vbr_answer vbr_map_open_many_seeded(vbr_map_handle *handles, size_t count, uint32_t slots, uint32_t buckets,
+                                                  uint64_t last_epoch, uint64_t seed, const vbr_entry *entries,
+                                                  size_t entry_count) VBR_NOEXCEPT VBR_NONNULL;
 
 /* Adds a key with its value, in at most `budget` steps: VBR_YES if the key was absent, VBR_NO if it was there; then it keeps
    the value that it has. Else VBR_OUT_OF_STEPS, VBR_NO_SLOT, VBR_EPOCH_SPENT or VBR_EMPTY. At VBR_NO_SLOT remove keys, let a

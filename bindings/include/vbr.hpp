@@ -57,6 +57,11 @@ inline constexpr std::uint32_t max_buckets = VBR_MAX_BUCKETS;
 inline constexpr std::uint64_t max_epoch = VBR_MAX_EPOCH;
 inline constexpr std::size_t max_handles = VBR_MAX_HANDLES;
 
+/* The most handles that open_many and open_map_many open.
+
+       static_assert(vbr::max_many_handles >= 1000); */
+inline constexpr std::size_t max_many_handles = VBR_MAX_MANY_HANDLES;
+
 /* A budget that no call runs out of in short buckets, in a set of so many slots.
 
        constexpr std::uint32_t budget = vbr::ample_budget(shape.slots); */
@@ -83,7 +88,7 @@ struct shape {
            auto [opened, handles] = vbr::open(vbr::shape::for_keys(1024, 2), 2); */
     static constexpr shape for_keys(std::uint32_t keys, std::size_t handles) noexcept {
         shape made;
-        std::uint64_t slots = std::uint64_t{keys} + 64 * (handles < max_handles ? handles : max_handles);
+        std::uint64_t slots = std::uint64_t{keys} + 64 * (handles < max_many_handles ? handles : max_many_handles);
         made.slots = slots <= max_slots ? static_cast<std::uint32_t>(slots) : max_slots + 1;
         made.buckets = 1;
         while (made.buckets < keys && made.buckets < max_buckets) made.buckets *= 2;
@@ -143,7 +148,7 @@ struct [[nodiscard]] given {
 enum class [[nodiscard]] open_answer : std::int32_t {
     done = VBR_NO,
     bad_shape = VBR_BAD_SHAPE, /* a number of the shape is out of range */
-    bad_count = VBR_BAD_COUNT, /* the number of handles is not from 1 to 64 */
+    bad_count = VBR_BAD_COUNT, /* the number of handles is not from 1 to 64, of open_many to 65,536 */
     no_memory = VBR_NO_MEMORY,
     bad_keys = VBR_BAD_KEYS /* the keys do not ascend, or there are more than slots */
 };
@@ -314,7 +319,7 @@ struct shared {
     std::atomic<std::size_t> open{0};
     std::size_t count = 0;
     std::uint32_t slots = 0;
-    typename Calls::raw parked[max_handles] = {};
+    std::vector<typename Calls::raw> parked; /* a place for each handle, empty while it is open */
 };
 
 template <class Handle>
@@ -670,7 +675,7 @@ public:
 
 private:
     template <class Opened, class Open>
-    friend Opened open_by(const shape &, std::size_t, const Open &);
+    friend Opened open_by(const shape &, std::size_t, const Open &, std::size_t);
     template <class Handle>
     friend class detail::lending;
 
@@ -687,9 +692,9 @@ private:
     /* Makes a call with all of them side by side, and then each has what is at its place. */
     template <class Call>
     static vbr_answer with_all(std::vector<basic_handle> &handles, const Call &call) noexcept {
-        typename calls::raw all[max_handles] = {};
+        auto &all = handles.front().shared->parked; // all are open, so each place is empty
         for (std::size_t i = 0; i < handles.size(); i++) std::swap(all[i], handles[i].raw);
-        vbr_answer code = call(all);
+        vbr_answer code = call(all.data());
         for (std::size_t i = 0; i < handles.size(); i++) std::swap(all[i], handles[i].raw);
         return code;
     }
@@ -737,7 +742,7 @@ private:
     closed_type close_last(items room) {
         vbr_totals totals = {};
         std::swap(shared->parked[number], raw);
-        vbr_answer code = calls::close_all(shared->parked, shared->count, room.data(), room.size(), &totals);
+        vbr_answer code = calls::close_all(shared->parked.data(), shared->count, room.data(), room.size(), &totals);
         std::swap(shared->parked[number], raw);
         if (code == VBR_NO_MEMORY) return {close_answer::no_memory, std::nullopt};
         end_last();
@@ -791,13 +796,14 @@ struct [[nodiscard]] map_opened {
 
 /* What all openings do, by the call of vbr.h that they are given. It is no part of the interface. */
 template <class Opened, class Open>
-Opened open_by(const shape &wanted, std::size_t count, const Open &call) {
+Opened open_by(const shape &wanted, std::size_t count, const Open &call, std::size_t most = max_handles) {
     using handle_type = typename decltype(Opened::handles)::value_type;
     using calls = typename handle_type::calls;
     auto shared = std::make_shared<detail::shared<calls>>();
-    typename calls::raw raw[max_handles] = {};
-    std::vector<handle_type> handles(count <= max_handles ? count : 0);
-    auto answer = open_answer{static_cast<std::int32_t>(call(raw, handles.size()))};
+    std::vector<handle_type> handles(count <= most ? count : 0);
+    shared->parked.resize(handles.size());
+    std::vector<typename calls::raw> raw(handles.empty() ? 1 : handles.size());
+    auto answer = open_answer{static_cast<std::int32_t>(call(raw.data(), handles.size()))};
     if (answer != open_answer::done) return {answer, {}};
     shared->open.store(count, std::memory_order_relaxed);
     shared->count = count;
@@ -864,6 +870,18 @@ opened open_with(const shape &wanted, std::size_t count, const Keys &keys) {
     }
 }
 
+/* Opens a set of these keys, which ascend and may be none, with `count` handles, from 1 to max_many_handles.
+
+       vbr::opened crowd = vbr::open_many(vbr::shape::for_keys(1024, 1000), 1000); */
+inline opened open_many(const shape &wanted, std::size_t count, const std::uint64_t *keys = nullptr, std::size_t key_count = 0) {
+    static constexpr std::uint64_t no_key = 0;
+    const auto call = [&](vbr_handle *handles, std::size_t number) {
+        std::uint64_t seed = wanted.seed ? *wanted.seed : random_seed();
+        return vbr_open_many_seeded(handles, number, wanted.slots, wanted.buckets, wanted.last_epoch, seed, key_count ? keys : &no_key, key_count);
+    };
+    return open_by<opened>(wanted, count, call, max_many_handles);
+}
+
 /* Opens a map of these entries, whose keys ascend, each above the one before.
 
        vbr::map_opened some = vbr::open_map_with(shape, 1, want.data(), want.size()); */
@@ -904,6 +922,18 @@ map_opened open_map_with(const shape &wanted, std::size_t count, const Entries &
         }
         return open_map_with(wanted, count, copy.data(), copy.size());
     }
+}
+
+/* Opens a map of these entries, whose keys ascend, and which may be none, with `count` handles, from 1 to max_many_handles.
+
+       vbr::map_opened crowd = vbr::open_map_many(vbr::shape::for_keys(1024, 1000), 1000); */
+inline map_opened open_map_many(const shape &wanted, std::size_t count, const entry *entries = nullptr, std::size_t entry_count = 0) {
+    static constexpr entry no_entry = {0, 0};
+    const auto call = [&](vbr_map_handle *handles, std::size_t number) {
+        std::uint64_t seed = wanted.seed ? *wanted.seed : random_seed();
+        return vbr_map_open_many_seeded(handles, number, wanted.slots, wanted.buckets, wanted.last_epoch, seed, entry_count ? entries : &no_entry, entry_count);
+    };
+    return open_by<map_opened>(wanted, count, call, max_many_handles);
 }
 
 } // namespace vbr

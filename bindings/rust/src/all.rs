@@ -1,10 +1,10 @@
 //! All handles of a set or a map at once: their report, and their renewal.
 use crate::handle::{Contents, HandleOf, Shared};
 use crate::library::{Raw, ReportNumbers};
-use crate::{Kind, RenewError, ReportError, Shape, MAX_HANDLES};
+use crate::{Kind, RenewError, ReportError, Shape};
 use alloc::vec::Vec;
-use core::mem::swap;
 use core::ptr::{null_mut, NonNull};
+use core::sync::atomic::Ordering;
 
 /// Calls of all handles of a set, in any order, of which none is in a call meanwhile.
 impl<K: Kind> HandleOf<K> {
@@ -31,7 +31,7 @@ impl<K: Kind> HandleOf<K> {
         items.try_reserve_exact(slots).map_err(|_| ReportError::Memory)?;
         items.resize(slots, K::Item::default());
         let mut told = ReportNumbers::default();
-        let code = with_raw(handles, |all, count| {
+        let code = with_raw(shared, handles, |all, count| {
             // SAFETY: these are all handles of the set or map, nothing else has one of them, and `items` has as much room.
             unsafe { K::REPORT_ALL(all, count, items.as_mut_ptr(), items.len(), &mut told) }
         });
@@ -66,7 +66,7 @@ impl<K: Kind> HandleOf<K> {
         let mut shared = shared_by(handles)?;
         let Shape { slots, buckets, last_epoch, seed } = shape;
         let seed = seed.unwrap_or_else(|| handles[0].seed());
-        let code = with_raw(handles, |all, count| {
+        let code = with_raw(shared, handles, |all, count| {
             // SAFETY: these are all handles of the set or map, and nothing else has one of them.
             unsafe { K::RENEW_ALL(all, count, slots, buckets, last_epoch, seed) }
         });
@@ -96,14 +96,15 @@ fn shared_by<K: Kind>(handles: &[HandleOf<K>]) -> Result<NonNull<Shared>, Report
 }
 
 /// Makes a call of the library with all handles side by side, and then each handle has what is at its place.
-fn with_raw<K: Kind>(handles: &mut [HandleOf<K>], call: impl FnOnce(*mut Raw, usize) -> i32) -> i32 {
-    let mut all: [Raw; MAX_HANDLES] = [const { Raw(null_mut()) }; MAX_HANDLES];
-    for (place, handle) in all.iter_mut().zip(handles.iter_mut()) {
-        swap(place, handle.raw.get_mut());
+fn with_raw<K: Kind>(shared: NonNull<Shared>, handles: &mut [HandleOf<K>], call: impl FnOnce(*mut Raw, usize) -> i32) -> i32 {
+    // SAFETY: it is there while one of its handles is open, and these are.
+    let shared = unsafe { shared.as_ref() };
+    for (place, handle) in shared.parked.iter().zip(handles.iter_mut()) {
+        place.store(handle.raw.get_mut().0, Ordering::Relaxed);
     }
-    let code = call(all.as_mut_ptr(), handles.len());
-    for (place, handle) in all.iter_mut().zip(handles.iter_mut()) {
-        swap(place, handle.raw.get_mut());
+    let code = call(shared.all(), handles.len());
+    for (place, handle) in shared.parked.iter().zip(handles.iter_mut()) {
+        handle.raw.get_mut().0 = place.swap(null_mut(), Ordering::Relaxed);
     }
     code
 }

@@ -15,6 +15,8 @@ pub enum OpenError {
     Shape(ShapeError),
     /// The number of handles is not from 1 to 64.
     Handles,
+    /// The number of handles is not from 1 to 65,536, of [`Set::open_many`](crate::Set::open_many).
+    ManyHandles,
     /// The keys, or those of the entries, don't ascend, each above the one before, or there are more of them than slots.
     Keys,
     /// There is no memory.
@@ -221,6 +223,7 @@ impl fmt::Display for OpenError {
         f.write_str(match self {
             OpenError::Shape(number) => return number.fmt(f),
             OpenError::Handles => "the number of handles is not from 1 to 64",
+            OpenError::ManyHandles => "the number of handles is not from 1 to 65536",
             OpenError::Keys => "the keys do not ascend, or there are more than slots",
             OpenError::Memory => "there is no memory for the set or map",
         })

@@ -1,13 +1,12 @@
 //! Handles: opened together, and closed one by one or all at once; and their passes, which make the calls.
 use crate::library::{answer, answer_with, Raw, ReportNumbers};
-use crate::{random_seed, CloseError, Cursor, Iter, Kind, OpenError, Refusal, Shape, Unclosed, MAX_HANDLES};
+use crate::{random_seed, CloseError, Cursor, Iter, Kind, OpenError, Refusal, Shape, Unclosed, MAX_HANDLES, MAX_MANY_HANDLES};
 use alloc::boxed::Box;
 use alloc::vec::Vec;
 use core::cell::UnsafeCell;
 use core::ffi::c_void;
 use core::fmt;
 use core::marker::PhantomData;
-use core::mem::swap;
 use core::ops::{Deref, DerefMut};
 use core::ptr::{null_mut, NonNull};
 use core::slice;
@@ -88,7 +87,8 @@ pub(crate) struct Shared {
     /// How many handles were opened.
     pub(crate) count: usize,
     pub(crate) slots: u32,
-    parked: [AtomicPtr<c_void>; MAX_HANDLES],
+    /// A place for each handle, null while it is open.
+    pub(crate) parked: Vec<AtomicPtr<c_void>>,
 }
 
 /// Why a set or a map that is closed tells no report.
@@ -113,12 +113,22 @@ impl<K: Kind> HandleOf<K> {
         HandleOf::open_with(shape, handles, &[])
     }
 
+    /// The handles of a set that has these keys, which may be many.
+    pub(crate) fn open_many(shape: Shape, handles: usize, items: &[K::Item]) -> Result<Vec<Self>, OpenError> {
+        let Shape { slots, buckets, last_epoch, seed } = shape;
+        let seed = seed.unwrap_or_else(random_seed);
+        // SAFETY: the pointer has `count` empty handles, which nothing else reaches, and `items` has as many as are told.
+        open_by(shape, handles, MAX_MANY_HANDLES, |raw, count| unsafe {
+            K::OPEN_MANY(raw, count, slots, buckets, last_epoch, seed, items.as_ptr(), items.len())
+        })
+    }
+
     /// The handles of a set that has these keys.
     pub(crate) fn open_with(shape: Shape, handles: usize, items: &[K::Item]) -> Result<Vec<Self>, OpenError> {
         let Shape { slots, buckets, last_epoch, seed } = shape;
         let seed = seed.unwrap_or_else(random_seed);
         // SAFETY: the pointer has `count` empty handles, which nothing else reaches, and `items` has as many as are told.
-        open_by(shape, handles, |raw, count| unsafe {
+        open_by(shape, handles, MAX_HANDLES, |raw, count| unsafe {
             K::OPEN(raw, count, slots, buckets, last_epoch, seed, items.as_ptr(), items.len())
         })
     }
@@ -399,15 +409,14 @@ impl<K: Kind> HandleOf<K> {
         let mut items = Vec::new();
         items.try_reserve_exact(shared.slots as usize).map_err(|_| Unreported::Memory)?;
         items.resize(shared.slots as usize, K::Item::default());
-        let mut all = shared.take_parked();
-        swap(&mut all[self.number], self.raw.get_mut());
+        let mine = &shared.parked[self.number];
+        mine.store(self.raw.get_mut().0, Ordering::Relaxed);
         let mut told = ReportNumbers::default();
         // SAFETY: these are all handles of the set or map, nothing else has one of them, and `items` has as much room as is
         // told.
-        let code = unsafe { K::CLOSE_ALL(all.as_mut_ptr(), shared.count, items.as_mut_ptr(), items.len(), &mut told) };
+        let code = unsafe { K::CLOSE_ALL(shared.all(), shared.count, items.as_mut_ptr(), items.len(), &mut told) };
         // They are empty now, or stay as they were.
-        swap(&mut all[self.number], self.raw.get_mut());
-        shared.park(all);
+        self.raw.get_mut().0 = mine.swap(null_mut(), Ordering::Relaxed);
         match code {
             1 => {
                 let ReportNumbers { epoch, live, marked, free } = told;
@@ -448,15 +457,9 @@ impl<K: Kind> HandleOf<K> {
 }
 
 impl Shared {
-    /// The handles that are parked, each at its number.
-    fn take_parked(&self) -> [Raw; MAX_HANDLES] {
-        self.parked.each_ref().map(|it| Raw(it.swap(null_mut(), Ordering::Relaxed)))
-    }
-
-    fn park(&self, handles: [Raw; MAX_HANDLES]) {
-        for (place, handle) in self.parked.iter().zip(handles) {
-            place.store(handle.0, Ordering::Relaxed);
-        }
+    /// The places of the handles, as the library takes them; a place is one pointer, which may be written through `&`.
+    pub(crate) fn all(&self) -> *mut Raw {
+        self.parked.as_ptr().cast_mut().cast()
     }
 }
 
@@ -498,8 +501,8 @@ impl<K: Kind> Drop for HandleOf<K> {
         // SAFETY: all others are closed, so nothing else reaches what they shared, which was one boxed value; and `&mut`
         // is exclusive. A handle that is empty, after its close, stays so.
         unsafe {
-            for mut handle in shared.as_ref().take_parked() {
-                K::DROP(&mut handle);
+            for place in &shared.as_ref().parked {
+                K::DROP(&mut Raw(place.swap(null_mut(), Ordering::Relaxed)));
             }
             K::DROP(self.raw.get());
             drop(Box::from_raw(shared.as_ptr()));
@@ -511,24 +514,29 @@ impl<K: Kind> Drop for HandleOf<K> {
 fn open_by<K: Kind>(
     shape: Shape,
     handles: usize,
+    most: usize,
     open: impl FnOnce(*mut Raw, usize) -> i32,
 ) -> Result<Vec<HandleOf<K>>, OpenError> {
     shape.check()?;
-    let mut raw: [Raw; MAX_HANDLES] = [const { Raw(null_mut()) }; MAX_HANDLES];
-    let mut opened = Vec::new();
-    let mut shared = Vec::new();
-    if opened.try_reserve_exact(handles.min(MAX_HANDLES)).is_err() || shared.try_reserve_exact(1).is_err() {
+    // The library reads no handle of an opening whose count is out of range.
+    let count = if handles > most { 0 } else { handles };
+    let (mut raw, mut parked, mut opened, mut shared) = (Vec::new(), Vec::new(), Vec::new(), Vec::new());
+    if raw.try_reserve_exact(count.max(1)).is_err()
+        || parked.try_reserve_exact(count).is_err()
+        || opened.try_reserve_exact(count).is_err()
+        || shared.try_reserve_exact(1).is_err()
+    {
         return Err(OpenError::Memory);
     }
-    // The library reads no handle of an opening whose count is out of range.
-    let count = if handles > MAX_HANDLES { 0 } else { handles };
+    raw.resize_with(count.max(1), || Raw(null_mut()));
+    parked.resize_with(count, || AtomicPtr::new(null_mut()));
     match open(raw.as_mut_ptr(), count) {
         0 => {}
-        -7 => return Err(OpenError::Handles),
+        -7 if most == MAX_HANDLES => return Err(OpenError::Handles),
+        -7 => return Err(OpenError::ManyHandles),
         -10 => return Err(OpenError::Keys),
         _ => return Err(OpenError::Memory),
     }
-    let parked = [const { AtomicPtr::new(null_mut()) }; MAX_HANDLES];
     shared.push(Shared { open: AtomicUsize::new(count), count, slots: shape.slots, parked });
     // Whoever closes the last handle frees it.
     let shared = NonNull::from(Box::leak(shared.into_boxed_slice())).cast::<Shared>();

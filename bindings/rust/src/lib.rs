@@ -184,6 +184,15 @@ pub const MAX_EPOCH: u64 = 549_755_813_887;
 /// ```
 pub const MAX_HANDLES: usize = 64;
 
+/// The greatest number of handles that [`Set::open_many`] and [`Map::open_many`] open.
+///
+/// ```
+/// let handles = vbr::Set::open_many(vbr::Shape::for_keys(8, 1_000), 1_000, &[5, 7])?;
+/// assert!(handles.len() <= vbr::MAX_MANY_HANDLES);
+/// # Ok::<(), vbr::OpenError>(())
+/// ```
+pub const MAX_MANY_HANDLES: usize = 65_536;
+
 /// The version of the library: major * 1000000 + minor * 1000 + patch.
 ///
 /// ```

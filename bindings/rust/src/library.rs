@@ -30,6 +30,16 @@ extern "C" {
         keys: *const u64,
         key_count: usize,
     ) -> i32;
+    fn vbr_open_many_seeded(
+        handles: *mut Raw,
+        count: usize,
+        slots: u32,
+        buckets: u32,
+        last_epoch: u64,
+        seed: u64,
+        keys: *const u64,
+        key_count: usize,
+    ) -> i32;
     pub(crate) fn vbr_insert(handle: *mut Raw, key: u64, budget: u32) -> i32;
     pub(crate) fn vbr_remove(handle: *mut Raw, key: u64, budget: u32) -> i32;
     fn vbr_has(handle: *mut Raw, key: u64, budget: u32) -> i32;
@@ -46,6 +56,16 @@ extern "C" {
     fn vbr_drop(handle: *mut Raw);
 
     fn vbr_map_open_seeded(
+        handles: *mut Raw,
+        count: usize,
+        slots: u32,
+        buckets: u32,
+        last_epoch: u64,
+        seed: u64,
+        entries: *const Entry,
+        entry_count: usize,
+    ) -> i32;
+    fn vbr_map_open_many_seeded(
         handles: *mut Raw,
         count: usize,
         slots: u32,
@@ -90,6 +110,7 @@ pub(crate) trait Calls<Item, Given, Told> {
     const NAMES: [&'static str; 3];
 
     const OPEN: unsafe extern "C" fn(*mut Raw, usize, u32, u32, u64, u64, *const Item, usize) -> i32;
+    const OPEN_MANY: unsafe extern "C" fn(*mut Raw, usize, u32, u32, u64, u64, *const Item, usize) -> i32;
     const CLOSE_ALL: unsafe extern "C" fn(*mut Raw, usize, *mut Item, usize, *mut ReportNumbers) -> i32;
     const REPORT_ALL: unsafe extern "C" fn(*mut Raw, usize, *mut Item, usize, *mut ReportNumbers) -> i32;
     const RENEW_ALL: unsafe extern "C" fn(*mut Raw, usize, u32, u32, u64, u64) -> i32;
@@ -117,6 +138,7 @@ impl Calls<u64, u64, Report> for Keys {
     const NAMES: [&'static str; 3] = ["Set", "Handle", "Pass"];
 
     const OPEN: unsafe extern "C" fn(*mut Raw, usize, u32, u32, u64, u64, *const u64, usize) -> i32 = vbr_open_seeded;
+    const OPEN_MANY: unsafe extern "C" fn(*mut Raw, usize, u32, u32, u64, u64, *const u64, usize) -> i32 = vbr_open_many_seeded;
     const CLOSE_ALL: unsafe extern "C" fn(*mut Raw, usize, *mut u64, usize, *mut ReportNumbers) -> i32 = vbr_close_all;
     const REPORT_ALL: unsafe extern "C" fn(*mut Raw, usize, *mut u64, usize, *mut ReportNumbers) -> i32 = vbr_report_all;
     const RENEW_ALL: unsafe extern "C" fn(*mut Raw, usize, u32, u32, u64, u64) -> i32 = vbr_renew_all_seeded;
@@ -143,6 +165,7 @@ impl Calls<Entry, (u64, u64), MapReport> for Entries {
     const NAMES: [&'static str; 3] = ["Map", "MapHandle", "MapPass"];
 
     const OPEN: unsafe extern "C" fn(*mut Raw, usize, u32, u32, u64, u64, *const Entry, usize) -> i32 = vbr_map_open_seeded;
+    const OPEN_MANY: unsafe extern "C" fn(*mut Raw, usize, u32, u32, u64, u64, *const Entry, usize) -> i32 = vbr_map_open_many_seeded;
     const CLOSE_ALL: unsafe extern "C" fn(*mut Raw, usize, *mut Entry, usize, *mut ReportNumbers) -> i32 = vbr_map_close_all;
     const REPORT_ALL: unsafe extern "C" fn(*mut Raw, usize, *mut Entry, usize, *mut ReportNumbers) -> i32 = vbr_map_report_all;
     const RENEW_ALL: unsafe extern "C" fn(*mut Raw, usize, u32, u32, u64, u64) -> i32 = vbr_map_renew_all_seeded;

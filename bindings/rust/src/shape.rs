@@ -1,6 +1,6 @@
 //! How large a set or a map is.
 use crate::library::vbr_random_seed;
-use crate::{MAX_BUCKETS, MAX_EPOCH, MAX_HANDLES, MAX_SLOTS};
+use crate::{MAX_BUCKETS, MAX_EPOCH, MAX_MANY_HANDLES, MAX_SLOTS};
 use core::error::Error;
 use core::fmt;
 
@@ -66,7 +66,7 @@ impl Shape {
     /// assert_eq!(vbr::Shape::for_keys(1_000, 2), vbr::Shape::new(1_128, 1_024, vbr::MAX_EPOCH));
     /// ```
     pub const fn for_keys(keys: u32, handles: usize) -> Shape {
-        let own = 64 * if handles < MAX_HANDLES { handles } else { MAX_HANDLES } as u32;
+        let own = 64 * if handles < MAX_MANY_HANDLES { handles } else { MAX_MANY_HANDLES } as u32;
         let buckets = if keys < MAX_BUCKETS { keys.next_power_of_two() } else { MAX_BUCKETS };
         Shape::new(keys.saturating_add(own), buckets, MAX_EPOCH)
     }

@@ -87,6 +87,31 @@ impl<K: Kind> Table<K> {
         HandleOf::open_with(shape, handles, items)
     }
 
+    /// Opens a set of these keys, which ascend and may be none, for many handles, from 1 to
+    /// [`MAX_MANY_HANDLES`](crate::MAX_MANY_HANDLES) of them. All else is as of [`Table::open_with`]. No call on a key takes a
+    /// step more for more handles; a close takes time in proportion to them.
+    ///
+    /// ```
+    /// use vbr::{ample_budget, Map, OpenError, Set, Shape};
+    ///
+    /// let shape = Shape::for_keys(2_000, 1_000);
+    /// let handles = Set::open_many(shape, 1_000, &[])?;
+    /// std::thread::scope(|scope| {
+    ///     for (page, mut mine) in (0..).zip(handles) {
+    ///         scope.spawn(move || mine.insert(page, ample_budget(shape.slots)));
+    ///     }
+    /// });
+    /// assert_eq!(Map::open_many(shape, 0, &[]).unwrap_err(), OpenError::ManyHandles);
+    /// # Ok::<(), OpenError>(())
+    /// ```
+    ///
+    /// # Errors
+    ///
+    /// Those of [`Table::open_with`], but for [`OpenError::ManyHandles`] in place of [`OpenError::Handles`].
+    pub fn open_many(shape: Shape, handles: usize, items: &[K::Item]) -> Result<Vec<HandleOf<K>>, OpenError> {
+        HandleOf::open_many(shape, handles, items)
+    }
+
     /// Opens an empty set that lends its handles, from 1 to [`MAX_HANDLES`](crate::MAX_HANDLES) of them.
     ///
     /// ```

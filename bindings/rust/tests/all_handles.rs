@@ -1,5 +1,5 @@
 //! All handles of a set or a map at once: their balances, their report and their renewal, and each refusal.
-use vbr::{Entry, Handle, Map, MapHandle, RenewError, ReportError, Set, Shape, ShapeError};
+use vbr::{Entry, Handle, Map, MapHandle, OpenError, RenewError, ReportError, Set, Shape, ShapeError, MAX_MANY_HANDLES};
 
 const BUDGET: u32 = 100_000;
 
@@ -50,4 +50,36 @@ fn refusals_leave_the_handles() {
     std::mem::swap(&mut handles[1], &mut others[0]);
     assert_eq!(Handle::report_all(&mut handles).expect("a report").keys, [2, 5]);
     assert!(handles[1].has(5, BUDGET).expect("an answer"));
+}
+
+#[test]
+fn a_thousand_handles() {
+    let shape = Shape::for_keys(2_048, 1_000);
+    let mut handles = Set::open_many(shape, 1_000, &[5_000]).expect("a set");
+    std::thread::scope(|scope| {
+        for (key, mine) in (0..).zip(&mut handles) {
+            scope.spawn(move || assert_eq!(mine.insert(key, BUDGET), Ok(true)));
+        }
+    });
+    assert_eq!(Handle::report_all(&mut handles).expect("a report").keys.len(), 1_001);
+    Handle::renew_all(&mut handles, shape).expect("a fresh set");
+    for (key, mine) in (0..).zip(handles.iter_mut().rev()) {
+        assert_eq!(mine.has(key, BUDGET), Ok(true));
+    }
+    let last = handles.remove(64);
+    drop(handles);
+    assert_eq!(last.close().expect("a report").expect("the last handle").keys.last(), Some(&5_000));
+
+    let mut maps = Map::open_many(shape, 65, &[Entry::from((5, 50))]).expect("a map");
+    assert_eq!(maps[64].put(5, 51, BUDGET), Ok(Some(50)));
+    assert_eq!(MapHandle::report_all(&mut maps).expect("a report").entries, [Entry::from((5, 51))]);
+}
+
+#[test]
+fn numbers_of_handles_that_are_refused() {
+    let shape = Shape::new(1, 1, 100);
+    assert_eq!(Set::open(shape, 65).err(), Some(OpenError::Handles));
+    for handles in [0, MAX_MANY_HANDLES + 1] {
+        assert_eq!(Set::open_many(shape, handles, &[]).err(), Some(OpenError::ManyHandles));
+    }
 }

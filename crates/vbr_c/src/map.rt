@@ -7,7 +7,7 @@ ghost use Rattle.vbr_handles.specs.Calls.{TellsCall, TellsInsertEntry};
 ghost use Rattle.vbr_handles.specs.Iterating.{TellsNextEntry};
 ghost use Rattle.vbr_handles.specs.ValueCalls.{TellsExchange, TellsGetEntry, TellsGetOrInsert, TellsPut, TellsRemoveEntry, TellsRemoveIf, TellsReplace};
 ghost use Rattle.vbr_handles.specs.Opening.{entries_start};
-ghost use Rattle.vbr_handles.specs.OpeningCodes.{TellsMapOpeningWith};
+ghost use Rattle.vbr_handles.specs.OpeningCodes.{TellsMapOpeningMany, TellsMapOpeningWith};
 ghost use Rattle.vbr_handles.specs.AllHandles.{map_members_in};
 ghost use Rattle.vbr_handles.specs.Renewals.{TellsMapRenewal};
 ghost use Rattle.vbr_handles.specs.Reports.{TellsMapClose, TellsMapCloseAll, TellsMapReport};
@@ -47,6 +47,36 @@ pub extern "C" fn vbr_map_open_seeded(
         seed,
     };
     numbers::open_with::<Entries, Entry, MapHandle>(alloc, handles, numbers, entries)
+}
+
+/// Opens a map of these entries, as [`vbr_map_open_seeded`] does, for many handles, as
+/// [`crate::set::vbr_open_many_seeded`] opens a set of keys.
+///
+/// ```c file=bindings/c/seeds.c
+/// if (vbr_map_open_many_seeded(seeded_maps, 1000, 1024 + 1000 * 64, 1024, VBR_MAX_EPOCH, 7, some_entries, 3) != VBR_NO) return 1;
+/// ```
+#[unsafe(no_mangle)]
+pub extern "C" fn vbr_map_open_many_seeded(
+    alloc: Global,
+    handles: &mut [MapHandle],
+    slots: u32,
+    buckets: u32,
+    last_epoch: u64,
+    seed: u64,
+    entries: &[Entry],
+) -> i32
+    ensures { TellsMapOpeningMany handles.old handles.new
+        (entries_start
+        (record { slots = slots; buckets = buckets; last_epoch = last_epoch; seed = seed })
+        entries.now) result }
+{
+    let numbers = ShapeNumbers {
+        slots,
+        buckets,
+        last_epoch,
+        seed,
+    };
+    numbers::open_many::<Entries, Entry, MapHandle>(alloc, handles, numbers, entries)
 }
 
 /// Adds a key with its value, as [`crate::set::vbr_insert`] adds a key: 1 if the key was absent, 0 if it

@@ -4,7 +4,7 @@ ghost use Rattle.vbr_machine.specs.declared.history.Op.TheVariants.{Insert, Remo
 ghost use Rattle.vbr_handles.specs.Calls.{TellsCall};
 ghost use Rattle.vbr_handles.specs.Iterating.{TellsNext};
 ghost use Rattle.vbr_handles.specs.Opening.{spread_start};
-ghost use Rattle.vbr_handles.specs.OpeningCodes.{TellsOpeningWith};
+ghost use Rattle.vbr_handles.specs.OpeningCodes.{TellsOpeningMany, TellsOpeningWith};
 ghost use Rattle.vbr_handles.specs.AllHandles.{members_in};
 ghost use Rattle.vbr_handles.specs.Renewals.{TellsRenewal};
 ghost use Rattle.vbr_handles.specs.Reports.{TellsClose, TellsCloseAll, TellsReport};
@@ -51,6 +51,38 @@ pub extern "C" fn vbr_open_seeded(
         seed,
     };
     numbers::open_with::<Keys, u64, Handle>(alloc, handles, numbers, keys)
+}
+
+/// Opens a set of these keys, as [`vbr_open_seeded`] does, for many handles, up to 65,536: 0. No call takes a
+/// step more for more handles.
+///
+/// The refusals are those of [`vbr_open_seeded`], in its order; -7, the number of handles is 0 or above 65,536.
+///
+/// ```c file=bindings/c/seeds.c
+/// if (vbr_open_many_seeded(seeded, 1000, 1024 + 1000 * 64, 1024, VBR_MAX_EPOCH, 7, some, 3) != VBR_NO) return 1;
+/// ```
+#[unsafe(no_mangle)]
+pub extern "C" fn vbr_open_many_seeded(
+    alloc: Global,
+    handles: &mut [Handle],
+    slots: u32,
+    buckets: u32,
+    last_epoch: u64,
+    seed: u64,
+    keys: &[u64],
+) -> i32
+    ensures { TellsOpeningMany handles.old handles.new
+        (spread_start
+        (record { slots = slots; buckets = buckets; last_epoch = last_epoch; seed = seed })
+        keys.now) result }
+{
+    let numbers = ShapeNumbers {
+        slots,
+        buckets,
+        last_epoch,
+        seed,
+    };
+    numbers::open_many::<Keys, u64, Handle>(alloc, handles, numbers, keys)
 }
 
 /// Adds a key: 1 if it was absent, 0 if it was there. It makes at most `budget` steps. While the other

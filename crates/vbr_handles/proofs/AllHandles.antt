@@ -34,15 +34,14 @@ module _ {H : Type 0} (member : H → Option Member) where
   filled (x ∷ handles) zero h within = refl
   filled (x ∷ handles) (suc i) h within = ap (λ (ms : List (Option Member)). member x ∷ ms) (filled handles i h (omega arith))
 
-  pub one_more : (handles : List H) (i : ℕ) (h : H) (owner : Owner Member) (all rest : List (Owner Member)) (whole : List (Option Member)) → i < length handles → all ≡ owner ∷ rest → member h ≡ owner.member
-      → take i (map member handles) ++ map (λ o. o.member) all ≡ whole → take (i + 1) (map member (slice_set handles i h)) ++ map (λ o. o.member) rest ≡ whole
-  one_more handles i h owner all rest whole within split is so_far =
-      let f : Owner Member → Option Member = λ o. o.member in
+  pub one_more : {X : Type 0} (f : X → Option Member) (handles : List H) (i : ℕ) (h : H) (x : X) (all rest : List X) (whole : List (Option Member)) → i < length handles → all ≡ x ∷ rest → member h ≡ f x
+      → take i (map member handles) ++ map f all ≡ whole → take (i + 1) (map member (slice_set handles i h)) ++ map f rest ≡ whole
+  one_more {X} f handles i h x all rest whole within split is so_far =
       let before : List (Option Member) = take i (map member handles) in
       let next : i + 1 ≡ suc i = omega arith in
       ap (λ (n : ℕ). take n (map member (slice_set handles i h)) ++ map f rest) next
       ∙ ap (λ (xs : List (Option Member)). xs ++ map f rest) (filled handles i h within)
       ∙ append_assoc before (member h ∷ []) (map f rest)
       ∙ ap (λ (m : Option Member). before ++ m ∷ map f rest) is
-      ∙ sym (ap (λ (os : List (Owner Member)). before ++ map f os) split)
+      ∙ sym (ap (λ (xs : List X). before ++ map f xs) split)
       ∙ so_far

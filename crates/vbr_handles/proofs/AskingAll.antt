@@ -1,9 +1,9 @@
 -- Members that were asked come back to their handles.
-use Rattle.std.proofs.Common.{◌≡◌, ℕ, zero, suc, ◌<◌, false, List, [], ◌∷◌, ◌++◌, length, map, append-nil, append_assoc, refl, sym, ap, ◌∙◌, subst, arith}
+use Rattle.std.proofs.Common.{◌≡◌, ℕ, zero, suc, ◌+◌, ◌<◌, false, List, [], ◌∷◌, ◌++◌, length, map, drop, refl, sym, ap, ◌∙◌, subst, arith}
 use Rattle.std.specs.Prelude.{IsSome, Option, None, Some, slice_index_or, slice_set}
 use Rattle.std.proofs.lemmas.Bool.{false≢true}
-use Rattle.std.proofs.lemmas.List.{length-append, length-map}
-use Rattle.std.proofs.lemmas.List.Elements.{All-head, All-tail}
+use Rattle.std.proofs.lemmas.List.{length-map}
+use Rattle.std.proofs.lemmas.List.Elements.{All-head, All-rest, All-same, All-tail}
 use Rattle.vbr_words.specs.Dimensions.{Dimensions}
 use Rattle.vbr_machine.specs.Start.{Start, start_with}
 use Rattle.vbr_slots.specs.Views.{PassView, TableView, new_passes}
@@ -11,40 +11,45 @@ use Rattle.vbr_set.specs.Kinds.{KindOf}
 use Rattle.vbr_set.specs.Members.{MemberView as Member, new_members}
 use Rattle.vbr_set.specs.RenewingAll.{HasNoRoom, RenewsAllBy}
 use Rattle.vbr_handles.specs.AllHandles.{AreFull, StaySo, joined, members_by}
-use Rattle.vbr_handles.specs.AskingAll.{AsksThem, Tells}
 use Rattle.vbr_handles.specs.Listings.{Listing}
 use Rattle.vbr_handles.specs.Opening.{listed_start, spread_shape}
 use Rattle.vbr_handles.specs.RenewingAll.{HasMoreThanSlots, RenewsTo}
-use Rattle.vbr_handles.specs.declared.asking_all.Question.{Question}
-use Rattle.vbr_handles.specs.declared.asking_all.Told.{Told}
 use Rattle.vbr_handles.specs.declared.opening.ShapeNumbers.{ShapeNumbers}
 use Rattle.vbr_handles.proofs.AllHandles.{moved}
 use Rattle.vbr_handles.proofs.Opened.{new_count}
 
-module _ {Item R H : Type 0} (kind : KindOf Item R) (member : H → Option Member) (asked : Question) where
-  -- no handle is left
-  pub asked_none : (ms back : List Member) (handles : List H) (answer : Told R) → length handles ≡ 0 → length back ≡ length ms → Tells kind asked ms back answer → AsksThem kind member asked ms handles handles back answer
-  asked_none ms back [] answer none many tells = record {
-    came = [];
-    tells = subst (λ (x : List Member × List Member). Tells kind asked x.0 x.1 answer) (λ i. (sym (append-nil ms) i, sym (append-nil back) i)) tells;
-    many = many;
-    full = refl;
-  }
-  asked_none ms back (h ∷ hs) answer none many tells = absurd (omega (arith, none))
+module _ {H : Type 0} (member : H → Option Member) where
+  -- a handle of those from a number on, and the others
+  pub from_here : (handles : List H) (i : ℕ) (d : H) → i < length handles → drop i handles ≡ slice_index_or handles i d ∷ drop (suc i) handles
+  from_here [] i d within = absurd (omega (arith, within))
+  from_here (x ∷ hs) zero d within = refl
+  from_here (x ∷ hs) (suc i) d within = from_here hs i d (omega (arith, within))
 
-  -- one more handle has its member
-  pub asked_more : {ms ms' back rest : List Member} {m m' : Member} {first first' : H} {others others' handles : List H} {answer : Told R}
-      → ms' ≡ ms ++ m ∷ [] → handles ≡ first ∷ others → member first ≡ Some m → back ≡ rest ++ m' ∷ [] → member first' ≡ Some m' → AsksThem kind member asked ms' others others' back answer → AsksThem kind member asked ms handles (first' ∷ others') rest answer
-  asked_more {ms} {ms'} {back} {rest} {m} {m'} {first} {first'} {others} {others'} {handles} {answer} more split is popped is' so_far =
-      let longer = ap (λ (xs : List Member). length xs) more ∙ length-append ms (m ∷ []) in
-      let shorter = ap (λ (xs : List Member). length xs) popped ∙ length-append rest (m' ∷ []) in
-      let same = so_far.many in
-      record {
-        came = m' ∷ so_far.came;
-        tells = subst (λ (x : List Member × List Member). Tells kind asked x.0 x.1 answer) (λ i. (moved member ms ms' m first others handles more split is i, (ap (λ (xs : List Member). xs ++ so_far.came) popped ∙ append_assoc rest (m' ∷ []) so_far.came) i)) so_far.tells;
-        many = omega (arith, longer, shorter, same);
-        full = λ i. is' i ∷ so_far.full i;
-      }
+  -- what becomes of it leaves those after it
+  others_stay : (handles : List H) (i : ℕ) (h : H) → drop (suc i) (slice_set handles i h) ≡ drop (suc i) handles
+  others_stay [] i h = refl
+  others_stay (x ∷ hs) zero h = refl
+  others_stay (x ∷ hs) (suc i) h = others_stay hs i h
+
+  -- one more member is taken out
+  pub one_out : (ms ms' whole : List Member) (m : Member) (handles : List H) (i : ℕ) (d h : H) → i < length handles → member (slice_index_or handles i d) ≡ Some m → ms' ≡ ms ++ m ∷ [] → ms ++ members_by member (drop i handles) ≡ whole
+      → ms' ++ members_by member (drop (i + 1) (slice_set handles i h)) ≡ whole
+  one_out ms ms' whole m handles i d h within is more so_far =
+      let next : i + 1 ≡ suc i = omega arith in
+      ap (λ (n : ℕ). ms' ++ members_by member (drop n (slice_set handles i h))) next
+      ∙ ap (λ (hs : List H). ms' ++ members_by member hs) (others_stay handles i h)
+      ∙ moved member ms ms' m (slice_index_or handles i d) (drop (suc i) handles) (drop i handles) more (from_here handles i d within) is
+      ∙ so_far
+
+  -- and the others are still full
+  pub still_full : (handles : List H) (i : ℕ) (d h : H) → i < length handles → AreFull member (drop i handles) → AreFull member (drop (i + 1) (slice_set handles i h))
+  still_full handles i d h within full =
+      let next : i + 1 ≡ suc i = omega arith in
+      subst (AreFull member) (sym (ap (λ (n : ℕ). drop n (slice_set handles i h)) next ∙ others_stay handles i h))
+      (All-rest (λ (h : H). IsSome (member h)) (slice_index_or handles i d) (drop (suc i) handles) (drop i handles) (from_here handles i d within) full)
+
+  pub here_full : (handles : List H) (i : ℕ) (d : H) → i < length handles → AreFull member (drop i handles) → IsSome (member (slice_index_or handles i d))
+  here_full handles i d within full = All-head (λ (h : H). IsSome (member h)) (slice_index_or handles i d) (drop (suc i) handles) (All-same (λ (h : H). IsSome (member h)) _ (drop i handles) (sym (from_here handles i d within)) full)
 
 -- as many members come back renewed
 pub as_many_renewed : {Item R : Type 0} (kind : KindOf Item R) (members fresh : List Member) (shape : Dimensions) → RenewsAllBy kind members shape fresh → length fresh ≡ length members

@@ -1,5 +1,5 @@
 -- What is asked of all members of handles at once, and what comes back to them. Only contracts of private functions cite this.
-use Rattle.std.specs.Prelude.{◌≡◌, List, [], ◌++◌, length, map, Option, Some, Result, Ok, Err}
+use Rattle.std.specs.Prelude.{◌≡◌, List, map, Option, Some, Result, Ok, Err}
 use Rattle.vbr_set.specs.AllMembers.{AreTooFew, ReportsAllBy}
 use Rattle.vbr_set.specs.Closing.{ClosesBy}
 use Rattle.vbr_set.specs.Kinds.{KindOf}
@@ -27,11 +27,10 @@ module _ {Item R : Type 0} (kind : KindOf Item R) where
   Tells (question.Renew shape) members back _ = ⊥
 
   module _ {H : Type 0} (member : H → Option Member) (asked : Question) where
-    -- the members of handles were asked behind others; as many of those came back, and each handle has the one that came back for it
-    pub record AsksThem (others : List Member) (before after : List H) (back : List Member) (answer : Told R) : Type 0 where
+    -- the members of handles were asked, and each handle has the one that came back for it
+    pub record AsksThem (before after : List H) (answer : Told R) : Type 0 where
       pub came : List Member
-      pub tells : Tells asked (others ++ members_by member before) (back ++ came) answer
-      pub many : length back ≡ length others
+      pub tells : Tells asked (members_by member before) came answer
       pub full : map member after ≡ map Some came
 
     -- why they were asked nothing
@@ -40,7 +39,7 @@ module _ {Item R : Type 0} (kind : KindOf Item R) where
     IsWhyUnasked handles asking.Mixed = AreFull member handles
     IsWhyUnasked handles asking.Memory = AreFull member handles
 
-    -- the members of handles were asked alone; and else the handles are as they were
+    -- the members of handles were asked; and else the handles are as they were
     abbrev pub AsksAllOf : List H → List H → Result (Told R) AskRefusal → Type 0
-    AsksAllOf before after (Ok answer) = AreFull member before × AsksThem [] before after [] answer
+    AsksAllOf before after (Ok answer) = AreFull member before × AsksThem before after answer
     AsksAllOf before after (Err refusal) = (after ≡ before) × IsWhyUnasked before refusal

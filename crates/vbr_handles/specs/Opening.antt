@@ -28,9 +28,9 @@ listed_start L numbers items = start_with (spread_shape numbers L.values) (L.key
 abbrev pub entries_start : ShapeNumbers → List Entry → Start
 entries_start = listed_start as_entries
 
--- not from 1 to 64
-abbrev pub IsBadCount : ℕ → Type 0
-IsBadCount count = (count ≡ 0) ⊎ (64 < count)
+-- not from 1 to the most that there may be
+abbrev pub IsBadCount : ℕ → ℕ → Type 0
+IsBadCount most count = (count ≡ 0) ⊎ (most < count)
 
 -- the numbers of a shape are in range
 abbrev pub AreInRange : Start → Type 0
@@ -55,11 +55,11 @@ module _ {H : Type 0} (member : H → Option Member) where
     pub counted : set.passes ≡ length handles
     pub members : map member handles ≡ map Some (new_members set (length handles))
 
-  -- the handles are opened where they were empty, the numbers are in range and the keys ascend; and else they are as they were, and the answer is the first test that failed
-  abbrev pub Opens : List H → List H → Start → Result (Unit {0}) OpenRefusal → Type 0
-  Opens before after start (Ok done) = AreEmpty before × AreInRange start × ¬ (IsBadCount (length before)) × HasOpeningKeys start × AreOpened start after
-  Opens before after start (Err InUse) = (after ≡ before) × ¬ (AreEmpty before)
-  Opens before after start (Err Shape) = (after ≡ before) × AreEmpty before × ¬ (AreInRange start)
-  Opens before after start (Err Passes) = (after ≡ before) × AreEmpty before × AreInRange start × IsBadCount (length before)
-  Opens before after start (Err Keys) = (after ≡ before) × AreEmpty before × AreInRange start × ¬ (IsBadCount (length before)) × ¬ (HasOpeningKeys start)
-  Opens before after start (Err Memory) = (after ≡ before) × AreEmpty before × AreInRange start × ¬ (IsBadCount (length before)) × HasOpeningKeys start
+  -- of handles up to a number: they are opened where they were empty, the numbers are in range and the keys ascend; and else they are as they were, and the answer is the first test that failed
+  abbrev pub Opens : ℕ → List H → List H → Start → Result (Unit {0}) OpenRefusal → Type 0
+  Opens most before after start (Ok done) = AreEmpty before × AreInRange start × ¬ (IsBadCount most (length before)) × HasOpeningKeys start × AreOpened start after
+  Opens most before after start (Err InUse) = (after ≡ before) × ¬ (AreEmpty before)
+  Opens most before after start (Err Shape) = (after ≡ before) × AreEmpty before × ¬ (AreInRange start)
+  Opens most before after start (Err Passes) = (after ≡ before) × AreEmpty before × AreInRange start × IsBadCount most (length before)
+  Opens most before after start (Err Keys) = (after ≡ before) × AreEmpty before × AreInRange start × ¬ (IsBadCount most (length before)) × ¬ (HasOpeningKeys start)
+  Opens most before after start (Err Memory) = (after ≡ before) × AreEmpty before × AreInRange start × ¬ (IsBadCount most (length before)) × HasOpeningKeys start

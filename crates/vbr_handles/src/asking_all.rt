@@ -1,9 +1,9 @@
 //! What is asked of all members of handles at once, while none of them makes a call.
-ghost use Rattle.std.specs.Prelude.{◌≡◌, ◌+◌, ◌≤◌, ◌++◌, true, false, length, None, Some, IfSome, IsSome};
+ghost use Rattle.std.specs.Prelude.{◌≡◌, ◌≤◌, [], true, false, length, map, None, Some, IfSome, IsSome};
 ghost use Rattle.std.specs.Vec.{vec_capacity};
 ghost use Rattle.vbr_set.specs.AllMembers.{AreOfOneSet};
 ghost use Rattle.vbr_handles.specs.AllHandles.{AreFull, members_by};
-ghost use Rattle.vbr_handles.specs.AskingAll.{AsksAllOf, AsksThem, Tells};
+ghost use Rattle.vbr_handles.specs.AskingAll.{AsksAllOf, Tells};
 
 use crate::handle_of::HandleOf;
 use crate::owner::Owner;
@@ -68,40 +68,79 @@ pub(crate) fn ask_all<N: Kind, H: HandleOf<N>>(
     let Ok(members) = Vec::with_capacity(alloc, handles.len()) else {
         return Err(AskRefusal::Memory);
     };
-    let (told, none) = ask_with::<N, H>(alloc, handles, members, question);
-    drop(none);
+    let Ok(blocks) = Vec::with_capacity(alloc, handles.len()) else {
+        return Err(AskRefusal::Memory);
+    };
+    let (members, blocks) = take_all_out::<N, H>(alloc, handles, members, blocks);
+    let (told, members) = ask::<N>(alloc, members, question);
+    put_all_back::<N, H>(alloc, handles, members, blocks);
     Ok(told)
 }
 
-// Takes the members out of the handles, asks these behind others, and puts back as many; the others come
-// back.
-fn ask_with<N: Kind, H: HandleOf<N>>(
+// The block that a member lay in.
+struct Block<M> {
+    vacant: Vacant<M, Global>,
+}
+
+impl<M> Block<M> {
+    fn into_vacant(self) -> Vacant<M, Global> {
+        let Block { vacant } = self;
+        vacant
+    }
+}
+
+impl<M> Drop for Block<M> {
+    fn drop(self) {
+        drop(self.into_vacant().free());
+    }
+}
+
+// Takes the members out of the handles, in their order, into vectors with room for all.
+fn take_all_out<N: Nodes, H: HandleOf<N>>(
     alloc: Global,
     handles: &mut [H],
     mut members: Vec<Member<N>>,
-    question: Question,
-) -> (Told<N::Report>, Vec<Member<N>>)
+    mut blocks: Vec<Block<Member<N>>>,
+) -> (Vec<Member<N>>, Vec<Block<Member<N>>>)
     requires full { AreFull H.member handles.old }
-    requires one_set { AreOfOneSet (members.items ++ members_by H.member handles.old) }
-    requires room { length members.items + length handles.old ≤ vec_capacity members }
-    ensures { AsksThem N.kind H.member question members.items handles.old handles.new
-        result.1.items result.0 }
+    requires none { (members.items ≡ []) × (blocks.items ≡ []) }
+    requires room { (length handles.old ≤ vec_capacity members)
+        × (length handles.old ≤ vec_capacity blocks) }
+    ensures members { result.0.items ≡ members_by H.member handles.old }
+    ensures many { length result.0.items ≡ length handles.old }
+    ensures blocks { length result.1.items ≡ length handles.old }
+    ensures long { length handles.new ≡ length handles.old }
 {
-    let Some((first, others)) = handles.split_first_mut() else {
-        return ask::<N>(alloc, members, question);
-    };
-    let Some((member, block)) = take_out::<N, H>(alloc, first) else {
-        unreachable!()
-    };
-    let Ok(()) = members.push(member) else {
-        unreachable!()
-    };
-    let (told, mut members) = ask_with::<N, H>(alloc, others, members, question);
-    let Some(member) = members.pop() else {
-        unreachable!()
-    };
-    put_back::<N, H>(alloc, first, member, block);
-    (told, members)
+    for i in 0..handles.len() {
+        let Some((member, vacant)) = take_out::<N, H>(alloc, &mut handles[i]) else {
+            unreachable!()
+        };
+        let (Ok(()), Ok(())) = (members.push(member), blocks.push(Block { vacant })) else {
+            unreachable!()
+        };
+    }
+    (members, blocks)
+}
+
+// Puts a member back into each handle, in their order.
+fn put_all_back<N: Nodes, H: HandleOf<N>>(
+    alloc: Global,
+    handles: &mut [H],
+    members: Vec<Member<N>>,
+    blocks: Vec<Block<Member<N>>>,
+)
+    requires members { length members.items ≡ length handles.old }
+    requires blocks { length blocks.items ≡ length handles.old }
+    ensures { map H.member handles.new ≡ map Some members.items }
+{
+    let mut members = members.into_iter();
+    let mut blocks = blocks.into_iter();
+    for i in 0..handles.len() {
+        let (Some(member), Some(block)) = (members.next(), blocks.next()) else {
+            unreachable!()
+        };
+        put_back::<N, H>(alloc, &mut handles[i], member, block.into_vacant());
+    }
 }
 
 // Asks members, and gives as many back, in the order in which handles are to have them.

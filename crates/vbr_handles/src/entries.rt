@@ -7,7 +7,7 @@ use crate::entry::Entry;
 use crate::listed::Listed;
 use crate::report_numbers::ReportNumbers;
 use std::alloc::{AllocError, Global};
-use vbr_set::{MapMember, MapReport, OpenError};
+use vbr_set::{MapMember, MapReport, OpenManyError};
 use vbr_words::{Entries, Shape};
 
 impl Listed<Entries> for Entry {
@@ -24,11 +24,11 @@ impl Listed<Entries> for Entry {
         shape: Shape,
         passes: u32,
         entries: &[Entry],
-    ) -> Result<Vec<MapMember>, OpenError> {
+    ) -> Result<Vec<MapMember>, OpenManyError> {
         let Ok(pairs) = pairs_of(alloc, entries) else {
-            return Err(OpenError::Memory);
+            return Err(OpenManyError::Memory);
         };
-        MapMember::open_with(alloc, shape, passes, &pairs)
+        MapMember::open_many(alloc, shape, passes, &pairs)
     }
 
     fn numbers(report: &MapReport) -> ReportNumbers {

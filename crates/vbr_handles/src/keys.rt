@@ -5,7 +5,7 @@ ghost use Rattle.vbr_handles.specs.ListedKeys.{as_many_listed, each_key, keys_re
 use crate::listed::Listed;
 use crate::report_numbers::ReportNumbers;
 use std::alloc::Global;
-use vbr_set::{Member, OpenError, Report};
+use vbr_set::{Member, OpenManyError, Report};
 use vbr_words::{Keys, Shape};
 
 impl Listed<Keys> for u64 {
@@ -22,8 +22,8 @@ impl Listed<Keys> for u64 {
         shape: Shape,
         passes: u32,
         keys: &[u64],
-    ) -> Result<Vec<Member>, OpenError> {
-        Member::open_with(alloc, shape, passes, keys)
+    ) -> Result<Vec<Member>, OpenManyError> {
+        Member::open_many(alloc, shape, passes, keys)
     }
 
     fn numbers(report: &Report) -> ReportNumbers {

@@ -32,7 +32,7 @@ pub use entry::Entry;
 pub use handle::{Handle, MapHandle};
 pub use handle_of::HandleOf;
 pub use listed::Listed;
-pub use opening::{OpenRefusal, ShapeNumbers, open_with};
+pub use opening::{OpenRefusal, ShapeNumbers, open_many, open_with};
 pub use owner::Owner;
 pub use renewing_all::{RenewAllRefusal, renew_all};
 pub use report_numbers::ReportNumbers;

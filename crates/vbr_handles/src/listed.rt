@@ -3,6 +3,7 @@ ghost use Rattle.std.specs.Prelude.{◌≡◌, ℕ, ◌<◌, ◌≤◌, ◌++◌
 ghost use Rattle.std.specs.List.Sorted.{IsStrictlyIncreasing};
 ghost use Rattle.vbr_words.specs.Dimensions.{Dimensions};
 ghost use Rattle.vbr_machine.specs.Start.{start_with};
+ghost use Rattle.vbr_slots.specs.declared.opening.TheConstants.{MAX_MANY_PASSES};
 ghost use Rattle.vbr_set.specs.Members.{AreNew};
 ghost use Rattle.vbr_handles.specs.Listings.{Listing};
 ghost use Rattle.vbr_handles.specs.Opening.{CanOpen};
@@ -10,7 +11,7 @@ ghost use Rattle.vbr_handles.specs.Opening.{CanOpen};
 use crate::report_numbers::ReportNumbers;
 use std::alloc::Global;
 use vbr_set::member::Member;
-use vbr_set::{Kind, OpenError};
+use vbr_set::{Kind, OpenManyError};
 use vbr_words::Shape;
 
 /// What is listed of a node of a kind: its key, or its key with its value. A set or a map opens with such
@@ -24,18 +25,20 @@ pub trait Listed<N: Kind>: Copy {
     fn key(&self) -> u64
         ensures { result ≡ key self.now };
 
-    /// Opens a set of these keys, or a map of these entries, and gives its members.
+    /// Opens a set of these keys, or a map of these entries, and gives its members, from 1 to
+    /// [`vbr_set::MAX_MANY_PASSES`] of them.
     fn open(
         alloc: Global,
         shape: Shape,
         passes: u32,
         items: &[Self],
-    ) -> Result<Vec<Member<N>>, OpenError>
+    ) -> Result<Vec<Member<N>>, OpenManyError>
         requires { CanOpen (listing.keys items.now) shape.slots }
         ensures members { IfOk result (λ members. AreNew (start_with
             (record shape { values = listing.values })
             (listing.keys items.now) (listing.payloads items.now)) passes members.items) }
-        ensures refused { IsErrOf result OpenError.Passes → ((passes ≡ 0) ⊎ (64 < passes)) };
+        ensures refused { IsErrOf result OpenManyError.Passes
+            → ((passes ≡ 0) ⊎ (MAX_MANY_PASSES < passes)) };
 
     /// The numbers of a report.
     fn numbers(report: &N::Report) -> ReportNumbers

@@ -2,6 +2,7 @@
 //! another value than the expected one was there, and each refusal has a number below 0.
 ghost use Rattle.std.specs.Prelude.{◌≡◌, ◌≤◌, [], length, IfOk};
 ghost use Rattle.vbr_machine.specs.declared.history.Op.TheVariants.{Insert, Remove, Has};
+ghost use Rattle.vbr_slots.specs.declared.opening.TheConstants.{MAX_MANY_PASSES, MAX_PASSES};
 ghost use Rattle.vbr_set.specs.AllMembers.{AreOfOneSet};
 ghost use Rattle.vbr_set.specs.Closing.{ClosesBy};
 ghost use Rattle.vbr_handles.specs.AllHandles.{members_by};
@@ -67,10 +68,23 @@ pub fn open_with<N: Kind, I: Listed<N>, H: HandleOf<N>>(
     numbers: ShapeNumbers,
     items: &[I],
 ) -> i32
-    ensures { TellsOpeningBy H.member handles.old handles.new
+    ensures { TellsOpeningBy H.member MAX_PASSES handles.old handles.new
         (listed_start I.listing numbers items.now) result }
 {
     open_code(crate::opening::open_with::<N, I, H>(alloc, handles, numbers, items))
+}
+
+/// Opens a set of these keys for many handles, or a map of these entries, as [`crate::open_many`] does.
+pub fn open_many<N: Kind, I: Listed<N>, H: HandleOf<N>>(
+    alloc: Global,
+    handles: &mut [H],
+    numbers: ShapeNumbers,
+    items: &[I],
+) -> i32
+    ensures { TellsOpeningBy H.member MAX_MANY_PASSES handles.old handles.new
+        (listed_start I.listing numbers items.now) result }
+{
+    open_code(crate::opening::open_many::<N, I, H>(alloc, handles, numbers, items))
 }
 
 /// Adds a key by the member of a handle.

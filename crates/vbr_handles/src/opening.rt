@@ -1,6 +1,7 @@
 //! Opening a set, or a map, for handles.
 ghost use Rattle.std.specs.Prelude.{◌≡◌, true, false, length, map, None, Some, IfOk, IfSome};
 ghost use Rattle.vbr_words.specs.Dimensions.{IsShape};
+ghost use Rattle.vbr_slots.specs.declared.opening.TheConstants.{MAX_MANY_PASSES, MAX_PASSES};
 ghost use Rattle.vbr_handles.specs.Opening.{AreEmpty, Opens, listed_start, spread_shape};
 
 use crate::handle_of::HandleOf;
@@ -8,7 +9,7 @@ use crate::listed::Listed;
 use crate::owner::Owner;
 use std::alloc::{AllocError, Global};
 use vbr_set::member::Member;
-use vbr_set::{Kind, OpenError, Shape};
+use vbr_set::{Kind, MAX_MANY_PASSES, MAX_PASSES, OpenManyError, Shape};
 use vbr_words::Nodes;
 
 /// Why handles were not opened. The tests are made in this order, and the handles are as they were.
@@ -18,7 +19,7 @@ pub enum OpenRefusal {
     InUse,
     /// The numbers are no shape.
     Shape,
-    /// There is no handle, or there are more than 64.
+    /// There is no handle, or there are more than may be opened so.
     Passes,
     /// The keys don't ascend, each above the one before, or there are more of them than slots.
     Keys,
@@ -52,15 +53,44 @@ impl ShapeNumbers {
 }
 
 /// Opens a set of these keys, which ascend, each above the one before, with a pass for each of the
-/// handles, in the order of the passes' numbers. It goes once over the keys, and takes 8 bytes for each
-/// while it runs. For the handles of a map it opens one of these entries, and takes 48 bytes for each.
+/// handles, 64 at most, in the order of the passes' numbers. It goes once over the keys, and takes 8 bytes
+/// for each while it runs. For the handles of a map it opens one of these entries, and takes 48 bytes for each.
 pub fn open_with<N: Kind, I: Listed<N>, H: HandleOf<N>>(
     alloc: Global,
     handles: &mut [H],
     numbers: ShapeNumbers,
     items: &[I],
 ) -> Result<(), OpenRefusal>
-    ensures { Opens H.member handles.old handles.new
+    ensures { Opens H.member MAX_PASSES handles.old handles.new
+        (listed_start I.listing numbers items.now) result }
+{
+    open_up_to::<N, I, H>(alloc, handles, MAX_PASSES, numbers, items)
+}
+
+/// Opens a set of these keys, or a map of these entries, as [`open_with`] does, for as many handles as
+/// [`MAX_MANY_PASSES`].
+pub fn open_many<N: Kind, I: Listed<N>, H: HandleOf<N>>(
+    alloc: Global,
+    handles: &mut [H],
+    numbers: ShapeNumbers,
+    items: &[I],
+) -> Result<(), OpenRefusal>
+    ensures { Opens H.member MAX_MANY_PASSES handles.old handles.new
+        (listed_start I.listing numbers items.now) result }
+{
+    open_up_to::<N, I, H>(alloc, handles, MAX_MANY_PASSES, numbers, items)
+}
+
+// Opens a set of these keys, or a map of these entries, for so many handles at most.
+fn open_up_to<N: Kind, I: Listed<N>, H: HandleOf<N>>(
+    alloc: Global,
+    handles: &mut [H],
+    most: u32,
+    numbers: ShapeNumbers,
+    items: &[I],
+) -> Result<(), OpenRefusal>
+    requires { most ≤ MAX_MANY_PASSES }
+    ensures { Opens H.member most handles.old handles.new
         (listed_start I.listing numbers items.now) result }
 {
     if !are_empty::<N, H>(handles) {
@@ -69,7 +99,7 @@ pub fn open_with<N: Kind, I: Listed<N>, H: HandleOf<N>>(
     let Some(shape) = numbers.shape() else {
         return Err(OpenRefusal::Shape);
     };
-    if handles.is_empty() || handles.len() > 64 {
+    if handles.is_empty() || handles.len() > most as usize {
         return Err(OpenRefusal::Passes);
     }
     if !I::can_open(items, numbers.slots) {
@@ -77,8 +107,8 @@ pub fn open_with<N: Kind, I: Listed<N>, H: HandleOf<N>>(
     }
     let members = match I::open(alloc, shape, handles.len() as u32, items) {
         Ok(members) => members,
-        Err(OpenError::Passes) => return Err(OpenRefusal::Passes),
-        Err(OpenError::Memory) => return Err(OpenRefusal::Memory),
+        Err(OpenManyError::Passes) => return Err(OpenRefusal::Passes),
+        Err(OpenManyError::Memory) => return Err(OpenRefusal::Memory),
     };
     let Ok(opened) = box_all(alloc, members) else {
         return Err(OpenRefusal::Memory);

@@ -12,6 +12,7 @@ ghost use Rattle.vbr_slots.specs.Closing.{AllOf};
 ghost use Rattle.vbr_slots.specs.Openings.{Opens};
 ghost use Rattle.vbr_slots.specs.Rule.{with_opened};
 ghost use Rattle.vbr_slots.specs.Views.{PassView, TableView};
+ghost use Rattle.vbr_slots.specs.declared.opening.TheConstants.{MAX_MANY_PASSES};
 ghost use Rattle.vbr_slots.specs.declared.rule.Opened.{Opened};
 ghost use Rattle.vbr_set.specs.Closing.{ClosesBy};
 ghost use Rattle.vbr_set.specs.Contents.{TellsEnd};
@@ -23,7 +24,7 @@ mod keys;
 
 use crate::contents::Contents;
 use std::alloc::Global;
-use vbr_slots::{OpenError, Pass, Slots};
+use vbr_slots::{OpenManyError, Pass, Slots};
 use vbr_words::{Nodes, Shape};
 
 /// What the kind of nodes decides: [`vbr_words::Keys`] are those of a set, and [`vbr_words::Entries`] those
@@ -39,18 +40,20 @@ pub trait Kind: Nodes + Sized {
 
     ghost shown: { Incarnations → ℕ → Self.Item };
 
-    /// Opens slots with these items, the keys of which ascend, and with so many passes.
+    /// Opens slots with these items, the keys of which ascend, and with so many passes, from 1 to
+    /// [`vbr_slots::MAX_MANY_PASSES`].
     fn open_slots(
         alloc: Global,
         shape: Shape,
         passes: u32,
         items: &[Self::Item],
-    ) -> Result<(Slots<Self>, Vec<Pass>), OpenError>
+    ) -> Result<(Slots<Self>, Vec<Pass>), OpenManyError>
         requires ascending { IsStrictlyIncreasing (kind.keys items.now) }
         requires few { length items.now ≤ shape.slots }
         ensures opened { IfOk result (λ r.
             Opens (kind.start shape items.now) passes r.0 r.1.items) }
-        ensures refused { IsErrOf result OpenError.Passes ↔ ((passes ≡ 0) ⊎ (64 < passes)) };
+        ensures refused { IsErrOf result OpenManyError.Passes
+            ↔ ((passes ≡ 0) ⊎ (MAX_MANY_PASSES < passes)) };
 
     /// The item of the node of a slot, by the words of a closed table.
     fn read(shape: &Shape, words: &[u64], slot: u32) -> Self::Item

@@ -62,7 +62,9 @@ pub use report::{MapReport, Report};
 pub use set_ref::VbrSetRef;
 pub use vbr_list::{Cursor, Refusal, Wanted};
 pub use vbr_machine::{Call, Op};
-pub use vbr_slots::{CloseError, OpenError, Pass, Seen};
+pub use vbr_slots::{
+    CloseError, MAX_MANY_PASSES, MAX_PASSES, OpenError, OpenManyError, Pass, Seen,
+};
 pub use vbr_words::link::MAX_SLOTS;
 pub use vbr_words::shape::{MAX_BUCKETS, MAX_EPOCH, MAX_SPREAD_BUCKETS};
 pub use vbr_words::{Shape, ShapeError, SpreadError};

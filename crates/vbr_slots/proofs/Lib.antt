@@ -13,6 +13,7 @@ mod Seats
 mod Openings
 mod Closings
 mod Snapshots
+mod Halting
 mod Pools
 mod Passes
 mod Running

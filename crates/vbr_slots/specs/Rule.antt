@@ -15,6 +15,7 @@ use Rattle.vbr_machine.specs.declared.event.Step.TheVariants.{ReadEpoch}
 use Rattle.vbr_slots.specs.declared.rule.Opened.{Opened}
 use Rattle.vbr_slots.specs.declared.rule.Witness.{Witness}
 use Rattle.vbr_slots.specs.TableStart.{TableStart}
+use Rattle.vbr_slots.specs.declared.opening.TheConstants.{MAX_MANY_PASSES}
 use Rattle.vbr_slots.specs.Words.{AreWordsOf}
 
 -- ---- what a table opened with
@@ -62,9 +63,9 @@ abbrev pub first_opened : List Witness → Opened
 first_opened [] = record { keys = []; payloads = [] }
 first_opened (m ∷ ms) = m.opened
 
--- the number of the witness of a token: no pass has it, since a table has at most 64 passes
+-- the number of the witness of a token: no pass has it, since a table has at most so many passes, counted from 0
 abbrev pub nobody : ℕ
-nobody = 64
+nobody = MAX_MANY_PASSES
 
 -- the witness of a token that tells what the first witness has seen
 abbrev pub noted : List Witness → List Witness

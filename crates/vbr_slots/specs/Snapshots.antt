@@ -1,5 +1,5 @@
 -- Reading the words of a table one after another while all its passes stand still. Only contracts of private functions cite this.
-use Rattle.std.specs.Prelude.{◌≡◌, ◌⊎◌, ℕ, ◌<◌, List, [], ◌∷◌}
+use Rattle.std.specs.Prelude.{◌≡◌, ◌⊎◌, ℕ, ◌<◌, List, [], ◌∷◌, ◌++◌}
 use Rattle.atomic_table.specs.Table.{Me}
 use Rattle.atomic_table.specs.declared.shared.Seat.{Seat}
 use Rattle.vbr_words.specs.Places.{IsIn, index_of}
@@ -10,7 +10,12 @@ use Rattle.vbr_machine.specs.declared.event.Event.{Event}
 use Rattle.vbr_slots.specs.TableStart.{TableStart}
 use Rattle.vbr_slots.specs.declared.rule.Witness.{Witness}
 use Rattle.vbr_slots.specs.Rule.{EachBegins, HasSeen, opened_of, witness}
-use Rattle.vbr_slots.specs.Views.{PassView, TableView}
+use Rattle.vbr_slots.specs.RunnerView.{IsSoundRunner, trace_of}
+use Rattle.vbr_slots.specs.StepperView.{IsWell}
+use Rattle.vbr_slots.specs.Views.{PassView, TableView, Trace, counted_steps, steps_of}
+use Rattle.vbr_slots.specs.declared.runner.Runner.TheInside.{Inside as RunnerInside}
+use Rattle.vbr_slots.specs.declared.snapshot.Halted.{Halted}
+use Rattle.vbr_slots.specs.declared.stepper.Stepper.TheInside.{Inside as StepperInside}
 use Rattle.vbr_slots.specs.Words.{AreWordsOf}
 
 -- the witnesses of the seats of passes
@@ -28,6 +33,34 @@ pub record IsJoined (t : TableView) (seat : Seat (Unit {0}) (List Witness)) : Ty
   pub table : seat.table_id ≡ t.table
   pub free : seat.me.1 ≡ []
   pub low : EachLow t.passes seat.me.0
+
+-- a stepper of this pass with what is kept
+abbrev pub stepper_with : Trace → Halted → StepperInside
+stepper_with trace kept = record { runner = trace; pool = kept.pool; hand = kept.hand; tried = kept.tried }
+
+-- what is kept is all of the pass but its seat: with a seat that has the witness of the pass alone it is that pass again
+pub record IsKeptOf (p : PassView) (kept : Halted) : Type 0 where
+  pub runner : RunnerInside
+  pub sound : IsSoundRunner runner
+  pub trace : trace_of runner ≡ p.trace
+  pub same : (kept.who ≡ runner.who) × (kept.opening ≡ runner.opening) × (kept.epoch ≡ runner.epoch)
+  pub pool : kept.pool.items ≡ p.pool
+  pub hand : kept.hand ≡ p.hand
+  pub well : IsWell (stepper_with p.trace kept)
+  pub steps : kept.steps ≡ counted_steps (steps_of p.trace)
+
+-- this is kept of these passes, of the last one first
+abbrev pub AreHalted : List PassView → List Halted → Type 0
+AreHalted [] halted = halted ≡ []
+AreHalted (p ∷ ps) halted = (others : List Halted) × (kept : Halted) × (halted ≡ others ++ kept ∷ []) × IsKeptOf p kept × AreHalted ps others
+
+-- of all passes some are left, and the others are halted: their witnesses are in this seat of the table, and this is kept of them
+pub record IsHalting (t : TableView) (all left : List PassView) (seat : Seat (Unit {0}) (List Witness)) (halted : List Halted) : Type 0 where
+  pub taken : List PassView
+  pub parts : left ++ taken ≡ all
+  pub table : seat.table_id ≡ t.table
+  pub me : seat.me ≡ (witnesses_of taken, [])
+  pub kept : AreHalted taken halted
 
 -- what each witness has seen begins the run, and one of them has seen all of it, or nothing has happened
 abbrev pub IsLatest : List Event → List Witness → Type 0

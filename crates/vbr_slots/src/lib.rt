@@ -32,7 +32,7 @@ mod stepping;
 
 pub use at_table::AtTable;
 pub use close_error::CloseError;
-pub use opening::OpenError;
+pub use opening::{MAX_MANY_PASSES, MAX_PASSES, OpenError, OpenManyError};
 pub use pass::Pass;
 pub use seen::Seen;
 pub use slots::Slots;

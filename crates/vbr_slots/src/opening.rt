@@ -5,6 +5,7 @@ ghost use Rattle.vbr_machine.specs.Maps.{keys_listed, map_start};
 ghost use Rattle.vbr_machine.specs.Start.{ArePaired, set_start, start_with};
 ghost use Rattle.vbr_slots.specs.Openings.{Opens};
 ghost use Rattle.vbr_slots.specs.Tried.{first_tried};
+ghost use Rattle.vbr_slots.specs.declared.opening.TheConstants.{MAX_MANY_PASSES};
 
 use crate::laying::opening_words;
 use crate::pass::Pass;
@@ -21,6 +22,13 @@ use std::marker::PhantomData;
 use vbr_machine::keys_and_values;
 use vbr_words::flags::{FLAGS, flag_words};
 use vbr_words::{Entries, Nodes, Shape};
+
+/// The greatest number of passes that [`Slots::open`], [`Slots::open_with`] and
+/// [`Slots::open_with_entries`] take.
+pub const MAX_PASSES: u32 = 64;
+
+/// The greatest number of passes that [`Slots::open_many`] and [`Slots::open_many_with_entries`] take.
+pub const MAX_MANY_PASSES: u32 = 65_536;
 
 /// Why a table isn't opened. The tests are made in this order.
 #[derive(Clone, Copy, Debug, PartialEq, Eq, Hash)]
@@ -54,6 +62,41 @@ impl From<AllocError> for OpenError {
 
     fn from(_error: AllocError) -> OpenError {
         OpenError::Memory
+    }
+}
+
+/// Why a table of many passes isn't opened. The tests are made in this order.
+#[derive(Clone, Copy, Debug, PartialEq, Eq, Hash)]
+pub enum OpenManyError {
+    /// The number of passes is 0 or above `MAX_MANY_PASSES`.
+    Passes,
+    /// There is no memory for the table.
+    Memory,
+}
+
+impl fmt::Display for OpenManyError {
+    ghost use Rattle.std.specs.Prelude.{Some};
+    ghost use Rattle.vbr_slots.specs.Messages.{open_many_error_text};
+
+    ghost output = { λ e. Some (open_many_error_text e) };
+
+    fn fmt<W: fmt::Write>(&self, f: &mut fmt::Formatter<W>) -> fmt::Result {
+        match self {
+            OpenManyError::Passes => write!(f, "the number of passes is not from 1 to 65536"),
+            OpenManyError::Memory => write!(f, "there is no memory for the table"),
+        }
+    }
+}
+
+impl Error for OpenManyError {}
+
+impl From<AllocError> for OpenManyError {
+    ghost use Rattle.vbr_slots.specs.declared.opening.OpenManyError.TheVariants.{Memory};
+
+    ghost from_gives = { λ _ e. e ≡ Memory };
+
+    fn from(_error: AllocError) -> OpenManyError {
+        OpenManyError::Memory
     }
 }
 
@@ -92,6 +135,34 @@ impl Slots {
             Opens (set_start shape keys.now) passes r.0 r.1.items) }
         ensures refused { IsErrOf result OpenError.Passes ↔ ((passes ≡ 0) ⊎ (64 < passes)) }
     {
+        if passes == 0 || passes > MAX_PASSES {
+            return Err(OpenError::Passes);
+        }
+        match Slots::open_many(alloc, shape, passes, keys) {
+            Ok(opened) => Ok(opened),
+            Err(OpenManyError::Memory) => Err(OpenError::Memory),
+            Err(OpenManyError::Passes) => unreachable!(),
+        }
+    }
+
+    /// Opens the table of a set with these keys, as [`Slots::open_with`] does, for more passes: from 1 to
+    /// [`MAX_MANY_PASSES`]. Each takes as much memory as there, and no step of a pass takes longer for more of
+    /// them.
+    ///
+    /// The refusals are tested in the order of [`OpenManyError`], and nothing is kept then.
+    pub fn open_many(
+        alloc: Global,
+        shape: Shape,
+        passes: u32,
+        keys: &[u64],
+    ) -> Result<(Slots, Vec<Pass>), OpenManyError>
+        requires ascending { IsStrictlyIncreasing keys.now }
+        requires few { length keys.now ≤ shape.slots }
+        ensures opened { IfOk result (λ r.
+            Opens (set_start shape keys.now) passes r.0 r.1.items) }
+        ensures refused { IsErrOf result OpenManyError.Passes
+            ↔ ((passes ≡ 0) ⊎ (MAX_MANY_PASSES < passes)) }
+    {
         let opening = Opening {
             shape: shape.without_values(),
             passes,
@@ -121,8 +192,35 @@ impl Slots<Entries> {
             Opens (map_start shape entries.now) passes r.0 r.1.items) }
         ensures refused { IsErrOf result OpenError.Passes ↔ ((passes ≡ 0) ⊎ (64 < passes)) }
     {
-        if passes == 0 || passes > 64 {
+        if passes == 0 || passes > MAX_PASSES {
             return Err(OpenError::Passes);
+        }
+        match Slots::open_many_with_entries(alloc, shape, passes, entries) {
+            Ok(opened) => Ok(opened),
+            Err(OpenManyError::Memory) => Err(OpenError::Memory),
+            Err(OpenManyError::Passes) => unreachable!(),
+        }
+    }
+
+    /// Opens the table of a map with these entries, as [`Slots::open_with_entries`] does, for more passes:
+    /// from 1 to [`MAX_MANY_PASSES`].
+    ///
+    /// The refusals are tested in the order of [`OpenManyError`], and nothing is kept then.
+    pub fn open_many_with_entries(
+        alloc: Global,
+        shape: Shape,
+        passes: u32,
+        entries: &[(u64, u64)],
+    ) -> Result<(Slots<Entries>, Vec<Pass>), OpenManyError>
+        requires ascending { IsStrictlyIncreasing (keys_listed entries.now) }
+        requires few { length entries.now ≤ shape.slots }
+        ensures opened { IfOk result (λ r.
+            Opens (map_start shape entries.now) passes r.0 r.1.items) }
+        ensures refused { IsErrOf result OpenManyError.Passes
+            ↔ ((passes ≡ 0) ⊎ (MAX_MANY_PASSES < passes)) }
+    {
+        if passes == 0 || passes > MAX_MANY_PASSES {
+            return Err(OpenManyError::Passes);
         }
         let opening = Opening {
             shape: shape.with_values(),
@@ -138,7 +236,7 @@ impl Slots<Entries> {
 // all change one word.
 fn first_tried(opening: Opening, who: u32) -> u32
     requires who { who < opening.passes }
-    requires few { opening.passes ≤ 64 }
+    requires few { opening.passes ≤ MAX_MANY_PASSES }
     ensures first { result ≡ first_tried opening.shape opening.passes who }
     ensures low { result < opening.shape.slots }
 {
@@ -147,7 +245,8 @@ fn first_tried(opening: Opening, who: u32) -> u32
     if !shape.is_spread() {
         return 0;
     }
-    FLAGS * (who * flag_words(&shape) / opening.passes)
+    let before = u64::from(who) * u64::from(flag_words(&shape)) / u64::from(opening.passes);
+    FLAGS * before as u32
 }
 
 impl<N: Nodes> Slots<N> {
@@ -157,18 +256,18 @@ impl<N: Nodes> Slots<N> {
         opening: Opening,
         keys: &[u64],
         values: &[u64],
-    ) -> Result<(Slots<N>, Vec<Pass>), OpenError>
+    ) -> Result<(Slots<N>, Vec<Pass>), OpenManyError>
         requires ascending { IsStrictlyIncreasing keys.now }
         requires few { length keys.now ≤ opening.shape.slots }
         requires kind { opening.shape.values ≡ N.VALUES }
         requires paired { ArePaired opening.shape keys.now values.now }
         ensures opened { IfOk result (λ r.
             Opens (start_with opening.shape keys.now values.now) opening.passes r.0 r.1.items) }
-        ensures refused { IsErrOf result OpenError.Passes
-            ↔ ((opening.passes ≡ 0) ⊎ (64 < opening.passes)) }
+        ensures refused { IsErrOf result OpenManyError.Passes
+            ↔ ((opening.passes ≡ 0) ⊎ (MAX_MANY_PASSES < opening.passes)) }
     {
-        if opening.passes == 0 || opening.passes > 64 {
-            return Err(OpenError::Passes);
+        if opening.passes == 0 || opening.passes > MAX_MANY_PASSES {
+            return Err(OpenManyError::Passes);
         }
         prove!(opening.shape.slots() > 0);
         let words = opening_words(alloc, &opening.shape, keys, values)?;
@@ -190,7 +289,7 @@ impl<N: Nodes> Slots<N> {
                 tried: first_tried(opening, who),
             };
             let Ok(()) = passes.push(Pass { stepper, steps: 0 }) else {
-                return Err(OpenError::Memory);
+                return Err(OpenManyError::Memory);
             };
             seat = next;
         }

@@ -1,6 +1,7 @@
 //! The table.
 ghost use Rattle.std.specs.Prelude.{◌≡◌, ◌<◌, ◌≤◌, []};
 ghost use Rattle.vbr_machine.specs.Start.{IsStart};
+ghost use Rattle.vbr_slots.specs.declared.opening.TheConstants.{MAX_MANY_PASSES};
 
 use crate::rule::{Opening, OpeningWithEntries, RunRule, Witness};
 use atomic_table::Table;
@@ -49,12 +50,12 @@ impl<N: Nodes> Slots<N> {
         self.opening.shape
     }
 
-    /// How many passes it was opened with, from 1 to 64.
+    /// How many passes it was opened with: from 1 to `MAX_MANY_PASSES`.
     #[inline]
     pub fn passes(&self) -> u32
         ensures passes { result ≡ self.now.passes }
         ensures some { 0 < result }
-        ensures few { result ≤ 64 }
+        ensures few { result ≤ MAX_MANY_PASSES }
     {
         self.opening.passes
     }

@@ -1,13 +1,16 @@
 //! Reading the words of a table that stays open.
-ghost use Rattle.std.specs.Prelude.{◌≡◌, ◌+◌, ◌≤◌, [], ◌++◌, length, IfOk};
+ghost use Rattle.std.specs.Prelude.{◌≡◌, ◌≤◌, [], length, IfOk};
 ghost use Rattle.std.specs.Vec.{vec_capacity};
 ghost use Rattle.vbr_words.specs.Places.{words_in};
 ghost use Rattle.vbr_slots.specs.Closing.{AllOf, Ends};
-ghost use Rattle.vbr_slots.specs.Snapshots.{AreReadBy, IsJoined, witnesses_of};
+ghost use Rattle.vbr_slots.specs.Snapshots.{AreHalted, AreReadBy, IsJoined, witnesses_of};
 
 use crate::pass::Pass;
-use crate::rule::{Both, First, Naming, Nobody, Surveys, Whole, Witness};
+use crate::pool::Pool;
+use crate::rule::{Both, First, Naming, Nobody, Opening, Surveys, Witness};
+use crate::runner::Runner;
 use crate::slots::Slots;
+use crate::stepper::Stepper;
 use atomic_table::Seat;
 use std::alloc::{AllocError, Global};
 use std::collections::LinkedList;
@@ -16,48 +19,102 @@ use vbr_words::Nodes;
 
 type AnySeat = Seat<(), LinkedList<Witness>>;
 
+// What is kept of a pass while its seat is joined to those of the others.
+#[derive(Drop)]
+pub(crate) struct Halted {
+    opening: Opening,
+    who: u32,
+    epoch: u64,
+    pool: Pool,
+    hand: Option<u32>,
+    tried: u32,
+    steps: u64,
+}
+
 impl<N: Nodes> Slots<N> {
     /// The words of the table, in the order of `place_index`, as [`Slots::close`] gives them, and the
     /// table stays open: the image of a run that begins with what each pass has seen and has no other
     /// event of it. It has all passes, so no step is made meanwhile; the passes stay as they were.
     ///
-    /// It loads each word once, which is no step. It takes 8 bytes for each word, before it loads any.
-    pub fn snapshot(&self, alloc: Global, passes: &mut [Pass]) -> Result<Vec<u64>, AllocError>
-        requires of_table { AllOf self.now passes.old }
-        requires all { self.now.passes ≤ length passes.old }
-        ensures same { passes.new ≡ passes.old }
-        ensures words { IfOk result (λ words. Ends self.now passes.old words.items) }
+    /// It loads each word once, which is no step, and twice one for each pass. It takes 8 bytes for each word
+    /// and 320 for each pass, before it loads any.
+    pub fn snapshot(&self, alloc: Global, passes: &mut Vec<Pass>) -> Result<Vec<u64>, AllocError>
+        requires of_table { AllOf self.now passes.old.items }
+        requires all { self.now.passes ≤ length passes.old.items }
+        ensures same { passes.new.items ≡ passes.old.items }
+        ensures words { IfOk result (λ words. Ends self.now passes.old.items words.items) }
     {
         let mut words = Vec::with_capacity(alloc, self.table.word_count())?;
-        let (_, seat) = self.table.shared.load_new_seat::<Nobody>(0);
-        let seat = self.read_with(seat, passes, &mut words);
-        drop(seat);
+        let mut halted = Vec::with_capacity(alloc, passes.len())?;
+        let (_, none) = self.table.shared.load_new_seat::<Nobody>(0);
+        let mut joined = self.halt_all(none, passes, &mut halted);
+        self.read_all(&mut joined, &mut words);
+        while let Some(kept) = halted.pop() {
+            let others = self.table.shared.split_seat::<First>(&mut joined);
+            let runner = Runner {
+                seat: joined,
+                opening: kept.opening,
+                who: kept.who,
+                epoch: kept.epoch,
+            };
+            let stepper = Stepper {
+                runner,
+                pool: kept.pool,
+                hand: kept.hand,
+                tried: kept.tried,
+            };
+            let steps = kept.steps;
+            let Ok(()) = passes.push(Pass { stepper, steps }) else {
+                unreachable!()
+            };
+            joined = others;
+        }
         Ok(words)
     }
 
-    // Joins this seat to those of the passes, from the last one on, reads all words, and parts them again.
-    fn read_with(&self, seat: AnySeat, passes: &mut [Pass], words: &mut Vec<u64>) -> AnySeat
-        requires seat { IsJoined self.now seat }
-        requires of_table { AllOf self.now passes.old }
-        requires all { self.now.passes ≤ length passes.old + length seat.me.0 }
-        requires none { words.old.items ≡ [] }
-        requires room { words_in self.now.start.shape ≤ vec_capacity words.old }
-        ensures same { passes.new ≡ passes.old }
-        ensures seat { (result.table_id ≡ seat.table_id) × (result.me ≡ seat.me) }
-        ensures read { AreReadBy self.now (witnesses_of passes.old ++ seat.me.0) words.new.items }
+    // Joins this seat, which has no witness, to those of the passes, from the last one on, and keeps the rest.
+    fn halt_all(&self, none: AnySeat, passes: &mut Vec<Pass>, halted: &mut Vec<Halted>) -> AnySeat
+        requires of_table { AllOf self.now passes.old.items }
+        requires none { (none.table_id ≡ self.now.table) × (none.me ≡ ([], [])) }
+        requires empty { halted.old.items ≡ [] }
+        requires room { length passes.old.items ≤ vec_capacity halted.old }
+        ensures seat { IsJoined self.now result }
+        ensures me { result.me ≡ (witnesses_of passes.old.items, []) }
+        ensures left { (passes.new.items ≡ [])
+            × (vec_capacity passes.new ≡ vec_capacity passes.old) }
+        ensures halted { AreHalted passes.old.items halted.new.items }
     {
-        let Some((last, others)) = passes.split_last_mut() else {
-            let mut seat = seat;
-            self.read_all(&mut seat, words);
-            return seat;
-        };
-        let runner = &mut last.stepper.runner;
-        let mut both = self.table.shared.split_seat::<Whole>(&mut runner.seat);
-        self.table.shared.join_seat::<Both>(&mut both, seat);
-        let mut parted = self.read_with(both, others, words);
-        let seat = self.table.shared.split_seat::<First>(&mut parted);
-        runner.seat = parted;
-        seat
+        let mut joined = none;
+        while let Some(pass) = passes.pop() {
+            let Pass { stepper, steps } = pass;
+            let Stepper {
+                runner,
+                pool,
+                hand,
+                tried,
+            } = stepper;
+            let Runner {
+                mut seat,
+                opening,
+                who,
+                epoch,
+            } = runner;
+            self.table.shared.join_seat::<Both>(&mut seat, joined);
+            joined = seat;
+            let kept = Halted {
+                opening,
+                who,
+                epoch,
+                pool,
+                hand,
+                tried,
+                steps,
+            };
+            let Ok(()) = halted.push(kept) else {
+                unreachable!()
+            };
+        }
+        joined
     }
 
     // Reads all words by a seat with the witnesses of all passes.

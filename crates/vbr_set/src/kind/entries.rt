@@ -12,7 +12,7 @@ use crate::kind::Kind;
 use crate::report::MapReport;
 use std::alloc::Global;
 use vbr_machine::laws::a_run_is_a_map;
-use vbr_slots::{OpenError, Pass, Slots};
+use vbr_slots::{OpenManyError, Pass, Slots};
 use vbr_words::{Entries, Place, Shape, place_index};
 
 impl Kind for Entries {
@@ -30,8 +30,8 @@ impl Kind for Entries {
         shape: Shape,
         passes: u32,
         entries: &[(u64, u64)],
-    ) -> Result<(Slots<Entries>, Vec<Pass>), OpenError> {
-        Slots::open_with_entries(alloc, shape, passes, entries)
+    ) -> Result<(Slots<Entries>, Vec<Pass>), OpenManyError> {
+        Slots::open_many_with_entries(alloc, shape, passes, entries)
     }
 
     #[inline]

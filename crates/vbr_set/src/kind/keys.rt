@@ -12,7 +12,7 @@ use crate::contents::Contents;
 use crate::kind::Kind;
 use crate::report::Report;
 use std::alloc::Global;
-use vbr_slots::{OpenError, Pass, Slots};
+use vbr_slots::{OpenManyError, Pass, Slots};
 use vbr_words::{Keys, Place, Shape, place_index};
 
 impl Kind for Keys {
@@ -30,8 +30,8 @@ impl Kind for Keys {
         shape: Shape,
         passes: u32,
         keys: &[u64],
-    ) -> Result<(Slots, Vec<Pass>), OpenError> {
-        Slots::open_with(alloc, shape, passes, keys)
+    ) -> Result<(Slots, Vec<Pass>), OpenManyError> {
+        Slots::open_many(alloc, shape, passes, keys)
     }
 
     #[inline]

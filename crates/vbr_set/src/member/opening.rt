@@ -3,6 +3,7 @@ ghost use Rattle.std.specs.Prelude.{◌≡◌, ◌<◌, ◌≤◌, ◌↔◌, �
 ghost use Rattle.std.specs.List.Sorted.{IsStrictlyIncreasing};
 ghost use Rattle.vbr_slots.specs.Calls.{made_by};
 ghost use Rattle.vbr_slots.specs.Views.{TableView, new_passes};
+ghost use Rattle.vbr_slots.specs.declared.opening.TheConstants.{MAX_MANY_PASSES};
 ghost use Rattle.vbr_set.specs.MemberView.{IsMember};
 ghost use Rattle.vbr_set.specs.Balances.{balance_of};
 ghost use Rattle.vbr_set.specs.Members.{AreNew, as_member};
@@ -19,7 +20,7 @@ use crate::set::VbrSet;
 use atomic_table::Seat;
 use std::alloc::{AllocError, Global};
 use std::sync::Arc;
-use vbr_slots::{OpenError, Pass};
+use vbr_slots::{MAX_PASSES, OpenError, OpenManyError, Pass};
 use vbr_words::{Nodes, Shape};
 
 impl<N: Kind> Member<N> {
@@ -82,10 +83,51 @@ impl<N: Kind> Member<N> {
             AreNew (N.kind.start shape items.now) passes members.items) }
         ensures refused { IsErrOf result OpenError.Passes ↔ ((passes ≡ 0) ⊎ (64 < passes)) }
     {
-        let (set, opened) = VbrSet::<N>::open_with(alloc, shape, passes, items)?;
+        if passes == 0 || passes > MAX_PASSES {
+            return Err(OpenError::Passes);
+        }
+        match Member::<N>::open_many(alloc, shape, passes, items) {
+            Ok(members) => Ok(members),
+            Err(OpenManyError::Memory) => Err(OpenError::Memory),
+            Err(OpenManyError::Passes) => unreachable!(),
+        }
+    }
+
+    /// Opens a set that has these keys, or a map that has these entries, and gives its members, as
+    /// [`Member::open_with`] does, for more of them: from 1 to [`MAX_MANY_PASSES`]. Time and memory are as
+    /// there.
+    ///
+    /// # Errors
+    ///
+    /// They are tested in this order, and nothing is kept then.
+    ///
+    /// - Passes: the number of passes is 0 or above [`MAX_MANY_PASSES`].
+    /// - Memory: there is no room for the words, the copies or the members.
+    ///
+    /// # Example
+    ///
+    /// ```rattle file=crates/vbr_set/src/member/renewing_all.rt
+    /// match Member::<N>::open_many(alloc, shape, passes, items) {
+    /// ```
+    ///
+    /// [`MAX_MANY_PASSES`]: crate::MAX_MANY_PASSES
+    pub fn open_many(
+        alloc: Global,
+        shape: Shape,
+        passes: u32,
+        items: &[N::Item],
+    ) -> Result<Vec<Member<N>>, OpenManyError>
+        requires ascending { IsStrictlyIncreasing (N.kind.keys items.now) }
+        requires few { length items.now ≤ shape.slots }
+        ensures members { IfOk result (λ members.
+            AreNew (N.kind.start shape items.now) passes members.items) }
+        ensures refused { IsErrOf result OpenManyError.Passes
+            ↔ ((passes ≡ 0) ⊎ (MAX_MANY_PASSES < passes)) }
+    {
+        let (set, opened) = VbrSet::<N>::open_many(alloc, shape, passes, items)?;
         match hand_out(alloc, set, opened, items.len() as u32) {
             Ok(members) => Ok(members),
-            Err(_) => Err(OpenError::Memory),
+            Err(_) => Err(OpenManyError::Memory),
         }
     }
 }

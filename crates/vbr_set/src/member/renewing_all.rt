@@ -8,7 +8,6 @@ use crate::kind::Kind;
 use crate::member::Member;
 use crate::renew_all_error::RenewAllError;
 use std::alloc::Global;
-use vbr_slots::OpenError;
 use vbr_words::{Nodes, Shape};
 
 impl<N: Kind> Member<N> {
@@ -19,7 +18,7 @@ impl<N: Kind> Member<N> {
     ///
     /// It makes no call of the set, and tells what is in it as [`Member::report_all`] does. The fresh set is
     /// opened while the other is there, so it takes the memory of a report and that of
-    /// [`Member::open_with`]; then the memory of the other is freed.
+    /// [`Member::open_many`]; then the memory of the other is freed.
     ///
     /// # Errors
     ///
@@ -56,7 +55,7 @@ impl<N: Kind> Member<N> {
         if items.len() > shape.slots() as usize {
             return Err(RenewAllError::Room(members));
         }
-        match Member::<N>::open_with(alloc, shape, passes, items) {
+        match Member::<N>::open_many(alloc, shape, passes, items) {
             Ok(fresh) => Ok(fresh),
             Err(_) => Err(RenewAllError::Memory(members)),
         }

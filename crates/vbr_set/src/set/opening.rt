@@ -2,11 +2,12 @@
 ghost use Rattle.std.specs.Prelude.{◌≡◌, ◌<◌, ◌≤◌, ◌↔◌, ◌⊎◌, [], length, IfOk, IsErrOf};
 ghost use Rattle.std.specs.List.Sorted.{IsStrictlyIncreasing};
 ghost use Rattle.vbr_slots.specs.Views.{new_passes};
+ghost use Rattle.vbr_slots.specs.declared.opening.TheConstants.{MAX_MANY_PASSES};
 
 use crate::kind::Kind;
 use crate::set::VbrSet;
 use std::alloc::Global;
-use vbr_slots::{OpenError, Pass};
+use vbr_slots::{MAX_PASSES, OpenError, OpenManyError, Pass};
 use vbr_words::Shape;
 
 impl<N: Kind> VbrSet<N> {
@@ -61,8 +62,8 @@ impl<N: Kind> VbrSet<N> {
     ///
     /// # Example
     ///
-    /// ```rattle file=crates/vbr_set/src/set/renewing.rt
-    /// match VbrSet::<N>::open_with(alloc, shape, count, N::items(&report)) {
+    /// ```rattle file=crates/vbr_set_tests/src/renewals.rt
+    /// match VbrSet::open_with(alloc, shape, 2, keys) {
     /// ```
     pub fn open_with(
         alloc: Global,
@@ -76,6 +77,48 @@ impl<N: Kind> VbrSet<N> {
             (r.0.start ≡ N.kind.start shape items.now) × (r.0.passes ≡ passes)) }
         ensures passes { IfOk result (λ r. r.1.items ≡ new_passes r.0 0 passes) }
         ensures refused { IsErrOf result OpenError.Passes ↔ ((passes ≡ 0) ⊎ (64 < passes)) }
+    {
+        if passes == 0 || passes > MAX_PASSES {
+            return Err(OpenError::Passes);
+        }
+        match VbrSet::<N>::open_many(alloc, shape, passes, items) {
+            Ok(opened) => Ok(opened),
+            Err(OpenManyError::Memory) => Err(OpenError::Memory),
+            Err(OpenManyError::Passes) => unreachable!(),
+        }
+    }
+
+    /// Opens a set that has these keys, or a map that has these entries, as [`VbrSet::open_with`] does, with
+    /// more passes: from 1 to [`MAX_MANY_PASSES`]. Time and memory are as there, 320 bytes for each pass. No
+    /// call takes a step more for more passes; what closes, reports or renews the set goes over them.
+    ///
+    /// # Errors
+    ///
+    /// They are tested in this order, and nothing is kept then.
+    ///
+    /// - Passes: the number of passes is 0 or above [`MAX_MANY_PASSES`].
+    /// - Memory: there is no room for the words, the copies or the passes.
+    ///
+    /// # Example
+    ///
+    /// ```rattle file=crates/vbr_set/src/set/renewing.rt
+    /// match VbrSet::<N>::open_many(alloc, shape, count, N::items(&report)) {
+    /// ```
+    ///
+    /// [`MAX_MANY_PASSES`]: crate::MAX_MANY_PASSES
+    pub fn open_many(
+        alloc: Global,
+        shape: Shape,
+        passes: u32,
+        items: &[N::Item],
+    ) -> Result<(VbrSet<N>, Vec<Pass>), OpenManyError>
+        requires ascending { IsStrictlyIncreasing (N.kind.keys items.now) }
+        requires few { length items.now ≤ shape.slots }
+        ensures table { IfOk result (λ r.
+            (r.0.start ≡ N.kind.start shape items.now) × (r.0.passes ≡ passes)) }
+        ensures passes { IfOk result (λ r. r.1.items ≡ new_passes r.0 0 passes) }
+        ensures refused { IsErrOf result OpenManyError.Passes
+            ↔ ((passes ≡ 0) ⊎ (MAX_MANY_PASSES < passes)) }
     {
         let (slots, opened) = N::open_slots(alloc, shape, passes, items)?;
         let set = VbrSet {

@@ -8,7 +8,7 @@ use crate::kind::Kind;
 use crate::renew_error::RenewError;
 use crate::set::VbrSet;
 use std::alloc::Global;
-use vbr_slots::{CloseError, OpenError, Pass};
+use vbr_slots::{CloseError, OpenManyError, Pass};
 
 impl<N: Kind> VbrSet<N> {
     /// Ends the set or the map and opens a fresh one of the same shape, with the keys, or the entries, that
@@ -57,10 +57,10 @@ impl<N: Kind> VbrSet<N> {
                 return Err(RenewError::Memory(set, passes));
             }
         };
-        match VbrSet::<N>::open_with(alloc, shape, count, N::items(&report)) {
+        match VbrSet::<N>::open_many(alloc, shape, count, N::items(&report)) {
             Ok(opened) => Ok(opened),
-            Err(OpenError::Memory) => Err(RenewError::Closed(report)),
-            Err(OpenError::Passes) => unreachable!(),
+            Err(OpenManyError::Memory) => Err(RenewError::Closed(report)),
+            Err(OpenManyError::Passes) => unreachable!(),
         }
     }
 }

@@ -17,8 +17,8 @@ impl<N: Kind> VbrSet<N> {
     /// they were, whatever it answers: it makes no step.
     ///
     /// It has all passes, so no other call runs. It goes once over the words, once over the buckets and
-    /// once over the slots. It takes 9 bytes for each slot of a set and 17 of a map, and 8 for each word,
-    /// all of it before it looks at any. It refuses only where there is no room for these.
+    /// once over the slots, and twice over the passes. It takes 9 bytes for each slot of a set and 17 of a map,
+    /// 8 for each word and 320 for each pass, all of it before it looks at any. It refuses only where there is no room for these.
     ///
     /// # Example
     ///
@@ -26,11 +26,11 @@ impl<N: Kind> VbrSet<N> {
     /// match set.report(alloc, passes) {
     ///     Ok(report) => Some((report, false)),
     /// ```
-    pub fn report(&self, alloc: Global, passes: &mut [Pass]) -> Result<N::Report, AllocError>
-        requires of_set { AllOf self.now passes.old }
-        requires all { self.now.passes ≤ length passes.old }
-        ensures same { passes.new ≡ passes.old }
-        ensures report { IfOk result (ClosesBy N.kind self.now passes.old) }
+    pub fn report(&self, alloc: Global, passes: &mut Vec<Pass>) -> Result<N::Report, AllocError>
+        requires of_set { AllOf self.now passes.old.items }
+        requires all { self.now.passes ≤ length passes.old.items }
+        ensures same { passes.new.items ≡ passes.old.items }
+        ensures report { IfOk result (ClosesBy N.kind self.now passes.old.items) }
     {
         self.slots.kind();
         let told = self.look(alloc, passes)?;
@@ -38,11 +38,11 @@ impl<N: Kind> VbrSet<N> {
     }
 
     // Tells what its words tell, and it stays open, as [`VbrSet::report`].
-    fn look(&self, alloc: Global, passes: &mut [Pass]) -> Result<Contents<N::Item>, AllocError>
-        requires of_set { AllOf self.now passes.old }
-        requires all { self.now.passes ≤ length passes.old }
-        ensures same { passes.new ≡ passes.old }
-        ensures told { IfOk result (TellsEnd N.shown self.now passes.old) }
+    fn look(&self, alloc: Global, passes: &mut Vec<Pass>) -> Result<Contents<N::Item>, AllocError>
+        requires of_set { AllOf self.now passes.old.items }
+        requires all { self.now.passes ≤ length passes.old.items }
+        ensures same { passes.new.items ≡ passes.old.items }
+        ensures told { IfOk result (TellsEnd N.shown self.now passes.old.items) }
     {
         let shape = self.slots.shape();
         let listed = Vec::with_capacity(alloc, shape.slots() as usize)?;

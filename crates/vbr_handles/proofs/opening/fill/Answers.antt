@@ -14,5 +14,5 @@ loop-i-preserved g c =
     record {
       long = kept ∙ long;
       left = omega arith;
-      so_far = one_more g.H.HandleOf.member c.loop-i.handles c.loop-i.i c.swap.new.self c.in-Some.owner _ _ _ (omega arith) split c.swap.ensures.taken c.loop-i.invariant.so_far;
+      so_far = one_more g.H.HandleOf.member (λ o. o.member) c.loop-i.handles c.loop-i.i c.swap.new.self c.in-Some.owner _ _ _ (omega arith) split c.swap.ensures.taken c.loop-i.invariant.so_far;
     }

@@ -1,6 +1,6 @@
-use Rattle.std.proofs.Common.{◌≤◌, List, length, sym, subst, rules, arith}
+use Rattle.std.proofs.Common.{◌≤◌, length, sym, subst, rules, arith}
 use Rattle.vbr_slots.specs.Closing.{AllOf}
-use Rattle.vbr_slots.specs.Views.{PassView, TableView}
+use Rattle.vbr_slots.specs.Views.{TableView}
 use Rattle.std.specs.Prelude.{IfOk}
 use Rattle.vbr_set.specs.Closing.{ClosesBy}
 use Rattle.vbr_set.proofs.Apart.{all_of_first, all_parts_of, all_told, as_many_passes}
@@ -9,16 +9,16 @@ use Rattle.vbr_set.proofs.member.closing_all.report_apart.Goals as goal
 pub report-requires-clause-of_set : goal.report-requires-clause-of_set
 report-requires-clause-of_set g c =
     let all = all_of_first c.in-Some.first.now c.args.stakes.now c.args.passes.now.items c.requires.parts c.requires.one_set c.requires.enough (search rules) in
-    subst (λ (x : TableView × List PassView). AllOf x.0 x.1) (λ i. (sym c.set.ensures i, sym c.deref_mut.ensures.value i)) (all_parts_of _ c.args.stakes.now c.args.passes.now.items c.requires.parts all.0)
+    subst (λ (t : TableView). AllOf t c.args.passes.now.items) (sym c.set.ensures) (all_parts_of _ c.args.stakes.now c.args.passes.now.items c.requires.parts all.0)
 
 pub report-requires-clause-all : goal.report-requires-clause-all
 report-requires-clause-all g c =
     let all = all_of_first c.in-Some.first.now c.args.stakes.now c.args.passes.now.items c.requires.parts c.requires.one_set c.requires.enough (search rules) in
     let many = as_many_passes c.args.stakes.now c.args.passes.now.items c.requires.parts in
-    subst (λ (x : TableView × List PassView). x.0.passes ≤ length x.1) (λ i. (sym c.set.ensures i, sym c.deref_mut.ensures.value i)) (let some = all.1 in omega arith)
+    subst (λ (t : TableView). t.passes ≤ length c.args.passes.now.items) (sym c.set.ensures) (let some = all.1 in omega arith)
 
 pub returns-clause-report : goal.returns-clause-report
 returns-clause-report g c =
     let all = all_of_first c.in-Some.first.now c.args.stakes.now c.args.passes.now.items c.requires.parts c.requires.one_set c.requires.enough (search rules) in
-    let told = subst (λ (x : TableView × List PassView). IfOk c.report.result (ClosesBy g.N.Kind.kind x.0 x.1)) (λ i. (c.set.ensures i, c.deref_mut.ensures.value i)) c.report.ensures.report in
+    let told = subst (λ (t : TableView). IfOk c.report.result (ClosesBy g.N.Kind.kind t c.args.passes.now.items)) c.set.ensures c.report.ensures.report in
     all_told (ClosesBy g.N.Kind.kind) c.in-Some.first.now c.args.stakes.now c.args.passes.now.items c.requires.parts all c.report.result told

@@ -3,13 +3,13 @@ use Rattle.std.specs.List.Sorted.{IsStrictlyIncreasing}
 use Rattle.vbr_slots.specs.Views.{TableView}
 use Rattle.vbr_set.proofs.set.VbrSet.renew.Goals as goal
 
-pub open_with-requires-clause-ascending : goal.open_with-requires-clause-ascending
-open_with-requires-clause-ascending g c = subst (λ (keys : List ℕ). IsStrictlyIncreasing keys) (ap g.N.Kind.kind.keys (sym c.items.ensures)) (g.met.N.Kind.ascends _ _ _ c.in-Ok.ensures.ok.reports.listed)
+pub open_many-requires-clause-ascending : goal.open_many-requires-clause-ascending
+open_many-requires-clause-ascending g c = subst (λ (keys : List ℕ). IsStrictlyIncreasing keys) (ap g.N.Kind.kind.keys (sym c.items.ensures)) (g.met.N.Kind.ascends _ _ _ c.in-Ok.ensures.ok.reports.listed)
 
-pub returns-in-Ok-open_with-clause-renewed : goal.returns-in-Ok-open_with-clause-renewed
-returns-in-Ok-open_with-clause-renewed g c =
+pub returns-in-Ok-open_many-clause-renewed : goal.returns-in-Ok-open_many-clause-renewed
+returns-in-Ok-open_many-clause-renewed g c =
     let kind = g.N.Kind.kind in
-    let table = c.in-Ok-open_with.ensures.table in
+    let table = c.in-Ok-open_many.ensures.table in
     let items = (kind.contents c.in-Ok.report).listed.items in
     record {
       report = c.in-Ok.report;

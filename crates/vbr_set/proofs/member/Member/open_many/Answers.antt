@@ -1,6 +1,6 @@
 use Rattle.std.proofs.Common.{rules}
 use Rattle.vbr_set.proofs.Seats.{as_many, count_of_all}
-use Rattle.vbr_set.proofs.member.Member.open_with.Goals as goal
+use Rattle.vbr_set.proofs.member.Member.open_many.Goals as goal
 
 pub hand_out-requires-clause-new : goal.hand_out-requires-clause-new
 hand_out-requires-clause-new g c = search (rules, as_many)

@@ -1,6 +1,6 @@
 use Rattle.std.proofs.Common.{rules}
 use Rattle.vbr_handles.proofs.Opened.{as_many}
-use Rattle.vbr_handles.proofs.opening.open_with.Goals as goal
+use Rattle.vbr_handles.proofs.opening.open_up_to.Goals as goal
 
 pub fill-requires : goal.fill-requires
 fill-requires g c = search (rules, as_many)

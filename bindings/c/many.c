@@ -1,0 +1,166 @@
+/* Many callers of one set: a thousand threads with a handle each, all handles in turn, and all at once, on stacks of 64 KiB. As many
+   handles as there may be are opened, reported and closed. What opening and closing take is in proportion to the handles: a
+   thousand take at most 20 ms more than 64 with the same slots.
+
+       many [HANDLES] */
+#define _POSIX_C_SOURCE 200809L
+#include "vbr.h"
+
+#include <pthread.h>
+#include <stdio.h>
+#include <stdlib.h>
+#include <time.h>
+
+#define CHECK(x) do { if (!(x)) { fprintf(stderr, "many.c:%d: %s\n", __LINE__, #x); exit(1); } } while (0)
+
+enum { OPENING = 3, BUCKETS = 1024, STACK = 64 << 10, ROUNDS = 15 };
+enum { BUDGET = 1 << 20 };
+
+static const uint64_t opening[OPENING] = {1000000, 1000001, 1000002};
+static vbr_handle handle[VBR_MAX_MANY_HANDLES];
+static vbr_answer answer[VBR_MAX_MANY_HANDLES];
+static uint64_t keys[2 * VBR_MAX_MANY_HANDLES];
+static vbr_totals report;
+static size_t count = 1000;
+static uint32_t slots;
+static pthread_barrier_t together;
+
+/* Runs this in a thread with a small stack. */
+static void on_a_small_stack(void *(*body)(void *), void *of) {
+    pthread_attr_t small;
+    pthread_t thread;
+    CHECK(!pthread_attr_init(&small) && !pthread_attr_setstacksize(&small, STACK));
+    CHECK(!pthread_create(&thread, &small, body, of) && !pthread_join(thread, NULL));
+    pthread_attr_destroy(&small);
+}
+
+/* Each handle inserts the key of its number, and the next one finds it. */
+static void in_turn(uint64_t from) {
+    for (size_t i = 0; i < count; i++) CHECK(vbr_insert(&handle[i], from + i, BUDGET) == VBR_YES);
+    for (size_t i = 0; i < count; i++) CHECK(vbr_has(&handle[(i + 1) % count], from + i, BUDGET) == VBR_YES);
+    for (size_t i = 0; i < count; i++) CHECK(vbr_insert(&handle[(i + 1) % count], from + i, BUDGET) == VBR_NO);
+}
+
+/* What is in the set: the opening keys, and these. */
+static void holds(uint64_t from, uint64_t to) {
+    CHECK(report.live == to - from + OPENING);
+    for (uint64_t i = from; i < to; i++) CHECK(keys[i - from] == i);
+    for (uint64_t i = 0; i < OPENING; i++) CHECK(keys[to - from + i] == opening[i]);
+}
+
+/* All calls that take all handles, and a close of one after another. */
+static void *all_calls(void *of) {
+    int64_t balance = 0;
+    (void)of;
+    CHECK(vbr_open_many(handle, count, slots, BUCKETS, VBR_MAX_EPOCH, opening, OPENING) == VBR_NO);
+    in_turn(0);
+    CHECK(vbr_report_all(handle, count, keys, 2 * VBR_MAX_MANY_HANDLES, &report) == VBR_YES);
+    holds(0, count);
+    for (size_t i = 0; i < count; i++) balance += vbr_balance(&handle[i]);
+    CHECK(balance == (int64_t)(count + OPENING));
+    if (count > 1) CHECK(vbr_renew_all(handle, count - 1, slots, BUCKETS, VBR_MAX_EPOCH) == VBR_MISSING);
+    CHECK(vbr_renew_all(handle, count, slots, 2 * BUCKETS, VBR_MAX_EPOCH) == VBR_NO);
+    for (size_t i = 0; i < count; i++) CHECK(vbr_has(&handle[i], i, BUDGET) == VBR_YES && vbr_buckets(&handle[i]) == 2 * BUCKETS);
+    in_turn(count);
+    if (count > 1) CHECK(vbr_close_all(handle, count - 1, keys, 2 * VBR_MAX_MANY_HANDLES, &report) == VBR_MISSING);
+    CHECK(vbr_close_all(handle, count, keys, 2 * VBR_MAX_MANY_HANDLES, &report) == VBR_YES);
+    holds(0, 2 * count);
+    CHECK(vbr_insert(&handle[count - 1], 5, BUDGET) == VBR_EMPTY);
+
+    CHECK(vbr_open_many(handle, count, slots, BUCKETS, VBR_MAX_EPOCH, opening, OPENING) == VBR_NO);
+    in_turn(0);
+    for (size_t i = 0; i + 1 < count; i++) CHECK(vbr_close(&handle[i], keys, 2 * VBR_MAX_MANY_HANDLES, &report) == VBR_NO);
+    CHECK(vbr_close(&handle[count - 1], keys, 2 * VBR_MAX_MANY_HANDLES, &report) == VBR_YES);
+    holds(0, count);
+    return NULL;
+}
+
+/* A thread with the handle of its number: it adds its key, and another one that it takes out again. */
+static void *work(void *of) {
+    vbr_handle *mine = of;
+    uint64_t key = (uint64_t)(mine - handle);
+    pthread_barrier_wait(&together);
+    answer[key] = vbr_insert(mine, key, BUDGET);
+    if (answer[key] == VBR_YES) answer[key] = vbr_insert(mine, count + key, BUDGET);
+    if (answer[key] == VBR_YES) answer[key] = vbr_remove(mine, count + key, BUDGET);
+    return NULL;
+}
+
+static void in_threads(void) {
+    pthread_attr_t small;
+    pthread_t *threads = calloc(count, sizeof *threads);
+    CHECK(threads && !pthread_attr_init(&small) && !pthread_attr_setstacksize(&small, STACK));
+    CHECK(!pthread_barrier_init(&together, NULL, (unsigned)count));
+    CHECK(vbr_open_many(handle, count, slots, BUCKETS, VBR_MAX_EPOCH, opening, OPENING) == VBR_NO);
+    for (size_t i = 0; i < count; i++) CHECK(!pthread_create(&threads[i], &small, work, &handle[i]));
+    for (size_t i = 0; i < count; i++) CHECK(!pthread_join(threads[i], NULL));
+    for (size_t i = 0; i < count; i++) CHECK(answer[i] == VBR_YES);
+    CHECK(vbr_close_all(handle, count, keys, 2 * VBR_MAX_MANY_HANDLES, &report) == VBR_YES);
+    holds(0, count);
+    pthread_barrier_destroy(&together);
+    pthread_attr_destroy(&small);
+    free(threads);
+}
+
+/* The numbers of handles that are refused, and the most that there may be. */
+static void *ends(void *of) {
+    (void)of;
+    CHECK(vbr_open(handle, VBR_MAX_HANDLES + 1, slots, BUCKETS, VBR_MAX_EPOCH) == VBR_BAD_COUNT);
+    CHECK(vbr_open_with(handle, VBR_MAX_HANDLES + 1, slots, BUCKETS, VBR_MAX_EPOCH, opening, OPENING) == VBR_BAD_COUNT);
+    CHECK(vbr_open_many(handle, 0, slots, BUCKETS, VBR_MAX_EPOCH, opening, OPENING) == VBR_BAD_COUNT);
+    CHECK(vbr_open_many(handle, VBR_MAX_HANDLES + 1, slots, BUCKETS, VBR_MAX_EPOCH, keys + 1, 0) == VBR_NO);
+    CHECK(vbr_insert(&handle[VBR_MAX_HANDLES], 5, BUDGET) == VBR_YES && vbr_has(handle, 5, BUDGET) == VBR_YES);
+    CHECK(vbr_close_all(handle, VBR_MAX_HANDLES, keys, 8, &report) == VBR_MISSING);
+    CHECK(vbr_close_all(handle, VBR_MAX_HANDLES + 1, keys, 8, &report) == VBR_YES && report.live == 1 && keys[0] == 5);
+
+    CHECK(vbr_open_many(handle, VBR_MAX_MANY_HANDLES, slots, BUCKETS, VBR_MAX_EPOCH, opening, OPENING) == VBR_NO);
+    CHECK(vbr_insert(&handle[VBR_MAX_MANY_HANDLES - 1], 5, BUDGET) == VBR_YES);
+    CHECK(vbr_has(&handle[VBR_MAX_MANY_HANDLES / 2], 5, BUDGET) == VBR_YES);
+    CHECK(vbr_report_all(handle, VBR_MAX_MANY_HANDLES, keys, 8, &report) == VBR_YES && report.live == 1 + OPENING);
+    CHECK(vbr_renew_all(handle, VBR_MAX_MANY_HANDLES, slots, BUCKETS, VBR_MAX_EPOCH) == VBR_NO);
+    CHECK(vbr_remove(&handle[VBR_MAX_MANY_HANDLES - 1], 5, BUDGET) == VBR_YES);
+    CHECK(vbr_close_all(handle, VBR_MAX_MANY_HANDLES, keys, 8, &report) == VBR_YES && report.live == OPENING);
+    return NULL;
+}
+
+/* One handle more than there may be, which is refused before any is read. */
+static void too_many(void) {
+    vbr_handle *more = calloc(VBR_MAX_MANY_HANDLES + 1, sizeof *more);
+    CHECK(more);
+    CHECK(vbr_open_many(more, VBR_MAX_MANY_HANDLES + 1, slots, BUCKETS, VBR_MAX_EPOCH, opening, OPENING) == VBR_BAD_COUNT);
+    free(more);
+}
+
+/* The least time in ms that an opening and a close of so many handles took, at once and one by one. */
+static double took(size_t handles, int one_by_one) {
+    double least = 1e9;
+    for (int round = 0; round < ROUNDS; round++) {
+        struct timespec from, to;
+        clock_gettime(CLOCK_MONOTONIC, &from);
+        CHECK(vbr_open_many(handle, handles, slots, BUCKETS, VBR_MAX_EPOCH, opening, OPENING) == VBR_NO);
+        if (one_by_one) {
+            for (size_t i = 0; i < handles; i++) CHECK(vbr_close(&handle[i], keys, 8, &report) == (i + 1 == handles ? VBR_YES : VBR_NO));
+        } else {
+            CHECK(vbr_close_all(handle, handles, keys, 8, &report) == VBR_YES);
+        }
+        clock_gettime(CLOCK_MONOTONIC, &to);
+        double ms = 1e3 * (double)(to.tv_sec - from.tv_sec) + 1e-6 * (double)(to.tv_nsec - from.tv_nsec);
+        if (ms < least) least = ms;
+    }
+    return least;
+}
+
+int main(int words, char **word) {
+    if (words > 1) count = (size_t)atol(word[1]);
+    CHECK(0 < count && count <= VBR_MAX_MANY_HANDLES);
+    slots = (uint32_t)(2 * count + OPENING + 64 * count);
+    on_a_small_stack(all_calls, NULL);
+    in_threads();
+    on_a_small_stack(ends, NULL);
+    too_many();
+    double few = took(64, 0), many = took(1000, 0), few_in_turn = took(64, 1), many_in_turn = took(1000, 1);
+    CHECK(many - few <= 20 && many_in_turn - few_in_turn <= 20);
+    printf("%zu handles in threads and in turn, and all at once, in C: passed; opening and closing took %.1f ms of 64 handles and %.1f"
+           " of 1,000, one by one %.1f and %.1f\n", count, few, many, few_in_turn, many_in_turn);
+    return 0;
+}
