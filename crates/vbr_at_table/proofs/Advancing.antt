@@ -25,8 +25,8 @@ use Rattle.vbr_slots.specs.Rule.{one_if}
 use Rattle.vbr_slots.specs.Views.{Trace, PassView, Did, KeepsPool, knows, event_of}
 use Rattle.vbr_slots.proofs.Lemmas.{did_moment, moment_after}
 use Rattle.vbr_at_table.specs.Advances.{AdvancesOnce, AdvancesWhereNeeded}
-use Rattle.vbr_at_table.specs.Counts.{is_advance, is_raise, is_unlink, advances_or_gives, made_of, advances, flags_raised}
-use Rattle.vbr_at_table.specs.KeptSlots.{GoesInTurn, HasSlot, CouldTake, HasFree, StampsUnlinked, KeepsSlots, PoolGrows, SharesWhereFull, TakesNoSlot}
+use Rattle.vbr_at_table.specs.Counts.{is_advance, is_raise, is_try, is_unlink, advances_or_gives, made_of, advances, flags_raised, flags_tried}
+use Rattle.vbr_at_table.specs.KeptSlots.{GoesInTurn, HasSlot, CouldTake, HasFree, StampsUnlinked, KeepsSlots, PoolGrows, SharesWhereFull, TakesNoSlot, TriesNoFlag}
 use Rattle.vbr_at_table.proofs.InTurn.{did_turn}
 
 abbrev made_in : (Step → Bool) → ℕ → List Event → ℕ
@@ -78,6 +78,9 @@ same_advances d e = same_made is_advance d e
 
 pub same_flags : {step : Step} {p q : Trace} {r : ℕ} → Did step p q r → is_raise step ≡ false → flags_raised q ≡ flags_raised p
 same_flags d e = same_made is_raise d e
+
+pub same_tries : {step : Step} {p q : Trace} {r : ℕ} → Did step p q r → is_try step ≡ false → flags_tried q ≡ flags_tried p
+same_tries d e = same_made is_try d e
 
 -- ---- parts of a call
 
@@ -140,7 +143,7 @@ shared_taken p q r (inr full) low b = inr (omega arith)
 -- ---- what advances no epoch
 
 pub none_refl : (p : PassView) → TakesNoSlot p p
-none_refl p = record { count = refl; kept = keeps_refl p; grows = grows_same p p refl; shared = inl refl }
+none_refl p = record { count = refl; kept = keeps_refl p; grows = grows_same p p refl; shared = inl refl; tries = refl }
 
 pub none_on : {p q r : PassView} → TakesNoSlot p q → TakesNoSlot q r → TakesNoSlot p r
 none_on {p} {q} {r} a b = record {
@@ -148,17 +151,18 @@ none_on {p} {q} {r} a b = record {
   kept = slots_kept_on p q r a.kept b.kept;
   grows = grows_on p q r a.grows b.grows;
   shared = shared_on p q r 1 a.shared (longer q r b.grows) b.shared;
+  tries = b.tries ∙ a.tries;
 }
 
-pub none_kept : {p q : PassView} → advances q.trace ≡ advances p.trace → flags_raised q.trace ≡ flags_raised p.trace → KeepsPool p q → KeepsSlots p q → TakesNoSlot p q
-none_kept {p} {q} same flags pool kept = record { count = same; kept = kept; grows = grows_same p q pool.0; shared = inl flags }
+pub none_kept : {p q : PassView} → advances q.trace ≡ advances p.trace → flags_raised q.trace ≡ flags_raised p.trace → TriesNoFlag p q → KeepsPool p q → KeepsSlots p q → TakesNoSlot p q
+none_kept {p} {q} same flags tries pool kept = record { count = same; kept = kept; grows = grows_same p q pool.0; shared = inl flags; tries = tries }
 
-pub none_known : {p q : PassView} → advances q.trace ≡ advances p.trace → flags_raised q.trace ≡ flags_raised p.trace → KeepsPool p q → GoesInTurn p.trace q.trace → knows q.trace ≡ knows p.trace → TakesNoSlot p q
-none_known {p} {q} same flags pool turn known = none_kept same flags pool (keeps_known p q pool turn (λ s. ap (λ (k : Know). k.own s) known))
+pub none_known : {p q : PassView} → advances q.trace ≡ advances p.trace → flags_raised q.trace ≡ flags_raised p.trace → TriesNoFlag p q → KeepsPool p q → GoesInTurn p.trace q.trace → knows q.trace ≡ knows p.trace → TakesNoSlot p q
+none_known {p} {q} same flags tries pool turn known = none_kept same flags tries pool (keeps_known p q pool turn (λ s. ap (λ (k : Know). k.own s) known))
 
 -- a slot that is given back
 pub none_back : (p q : PassView) (slot : ℕ) → q.trace ≡ p.trace → q.pool ≡ p.pool ++ slot ∷ [] → KeepsSlots p q → TakesNoSlot p q
-none_back p q slot same pool kept = record { count = ap (λ (t : Trace). advances t) same; kept = kept; grows = (slot ∷ [], pool); shared = inl (ap (λ (t : Trace). flags_raised t) same) }
+none_back p q slot same pool kept = record { count = ap (λ (t : Trace). advances t) same; kept = kept; grows = (slot ∷ [], pool); shared = inl (ap (λ (t : Trace). flags_raised t) same); tries = ap (λ (t : Trace). flags_tried t) same }
 
 no_advance : (step : Step) → advances_or_gives step ≡ false → is_advance step ≡ false
 no_advance (Advance from) e = e
@@ -167,6 +171,10 @@ no_advance _ e = refl
 no_raise : (step : Step) → advances_or_gives step ≡ false → is_raise step ≡ false
 no_raise (Raise s) e = e
 no_raise _ e = refl
+
+no_try : (step : Step) → advances_or_gives step ≡ false → is_try step ≡ false
+no_try (TakeFlag s) e = e
+no_try _ e = refl
 
 -- ---- what is known of a slot once a step is made was known of it before
 
@@ -239,7 +247,7 @@ no_unlink _ e = refl
 -- one such step
 pub did_none : {step : Step} {p q : PassView} {r : ℕ} → Did step p.trace q.trace r → advances_or_gives step ≡ false → KeepsPool p q → TakesNoSlot p q
 did_none {step} {p} {q} {r} d e pool =
-    none_kept (same_advances d (no_advance step e)) (same_flags d (no_raise step e)) pool
+    none_kept (same_advances d (no_advance step e)) (same_flags d (no_raise step e)) (same_tries d (no_try step e)) pool
     (record { free = free_pool p q pool (λ s m. may_before step r _ (knows p.trace) s e (subst (λ (k : Know). MayBear (k.own s)) d.know m)); stamped = did_stamps d (no_unlink step e); turn = did_turn d })
 
 -- a step that gives the pass a slot, which is then kept in its pool
@@ -251,32 +259,40 @@ module _ {step : Step} {p q r : PassView} {slot n : ℕ} (d : Did step p.trace q
   stays_here s other (inl c) = inl (subst (λ (l : List ℕ). Contains l s) (sym now_pool) (Contains-append_left p.pool (slot ∷ []) s c))
   stays_here s other (inr h) = inr (hand ∙ ap (hand_without slot) (stays.1 ∙ h) ∙ ap (λ (b : Bool). cond b None (Some s)) (ne_eqb s slot other))
 
-  pub none_given : TakesNoSlot p r
-  none_given = record {
-    count = ap (λ (t : Trace). advances t) same ∙ same_advances d still;
-    kept = record {
-      free = λ s h.
-          ⊎_elim (λ (is : s ≡ slot). inl (subst (λ (l : List ℕ). Contains l s) (sym now_pool) (Contains-append_right p.pool (slot ∷ []) s (0, omega arith, sym is))))
-          (λ (other : s ≢ slot). stays_here s other (h.1 (others s other (subst (λ (t : Trace). MayBear ((knows t).own s)) same h.0)))) (cases_eq s slot);
-      stamped = λ s u. did_stamps d left s (subst (λ (t : Trace). IsUnlinked ((knows t).own s)) same u);
-      turn = subst (λ (t : Trace). GoesInTurn p.trace t) (sym same) (did_turn d);
-    };
-    grows = (slot ∷ [], now_pool);
-    shared = inl (ap (λ (t : Trace). flags_raised t) same ∙ same_flags d dark);
+  pub given_count : advances r.trace ≡ advances p.trace
+  given_count = ap (λ (t : Trace). advances t) same ∙ same_advances d still
+
+  pub given_kept : KeepsSlots p r
+  given_kept = record {
+    free = λ s h.
+        ⊎_elim (λ (is : s ≡ slot). inl (subst (λ (l : List ℕ). Contains l s) (sym now_pool) (Contains-append_right p.pool (slot ∷ []) s (0, omega arith, sym is))))
+        (λ (other : s ≢ slot). stays_here s other (h.1 (others s other (subst (λ (t : Trace). MayBear ((knows t).own s)) same h.0)))) (cases_eq s slot);
+    stamped = λ s u. did_stamps d left s (subst (λ (t : Trace). IsUnlinked ((knows t).own s)) same u);
+    turn = subst (λ (t : Trace). GoesInTurn p.trace t) (sym same) (did_turn d);
   }
 
+  pub given_grows : PoolGrows p r
+  given_grows = (slot ∷ [], now_pool)
+
+  pub given_shared : SharesWhereFull 1 p r
+  given_shared = inl (ap (λ (t : Trace). flags_raised t) same ∙ same_flags d dark)
+
+  -- where it took no flag
+  pub none_given : is_try step ≡ false → TakesNoSlot p r
+  none_given other = record { count = given_count; kept = given_kept; grows = given_grows; shared = given_shared; tries = ap (λ (t : Trace). flags_tried t) same ∙ same_tries d other }
+
 -- steps before the one that would advance the epoch
-pub once_after : {p q r : PassView} → Quiet p.trace q.trace → TakesNoSlot p q → AdvancesOnce q r → AdvancesOnce p r
-once_after {p} {q} {r} a none b =
+pub once_after : {p q r : PassView} → Quiet p.trace q.trace → advances q.trace ≡ advances p.trace → HasFree p q → AdvancesOnce q r → AdvancesOnce p r
+once_after {p} {q} {r} a still free b =
     let all = subst (λ (x : Start × ℕ). (s : ℕ) → CouldTake q (know_after x.0 b.moment x.1) s → b.epoch ≤ stamp_in ((know_after x.0 b.moment x.1).own s)) (λ i. (a.same.start i, a.same.who i)) b.stamps in
     record {
-      count = b.count ∙ ap (λ (n : ℕ). n + 1) none.count;
+      count = b.count ∙ ap (λ (n : ℕ). n + 1) still;
       moment = b.moment;
       is = moment_after a.seen b.is;
       epoch = b.epoch;
       last_read = (λ i. (know_after (sym a.same.start i) b.moment (sym a.same.who i)).epoch) ∙ b.last_read;
       advance = subst (λ (who : ℕ). Begins (b.moment ++ event_of who (Advance b.epoch) ∷ []) r.trace.seen) a.same.who b.advance;
-      stamps = λ s h. all s (h.0, λ m. none.kept.free s (m, h.1));
+      stamps = λ s h. all s (h.0, λ m. free s (m, h.1));
     }
 
 -- and after it
@@ -306,9 +322,12 @@ once {p} {q} {from} d last stamps =
     }
 
 -- steps before and after a part that advances the epoch where it has to
+pub needed_since : {p q r : PassView} → Quiet p.trace q.trace → advances q.trace ≡ advances p.trace → HasFree p q → AdvancesWhereNeeded q r → AdvancesWhereNeeded p r
+needed_since a still free (inl more) = inl (more ∙ still)
+needed_since {p} {q} {r} a still free (inr o) = inr (once_after {p = p} {q = q} {r = r} a still free o)
+
 pub needed_after : {p q r : PassView} → Quiet p.trace q.trace → TakesNoSlot p q → AdvancesWhereNeeded q r → AdvancesWhereNeeded p r
-needed_after a none (inl still) = inl (still ∙ none.count)
-needed_after {p} {q} {r} a none (inr o) = inr (once_after {p = p} {q = q} {r = r} a none o)
+needed_after {p} {q} {r} a none needed = needed_since {p = p} {q = q} {r = r} a none.count none.kept.free needed
 
 pub needed_before : {p q r : PassView} → AdvancesWhereNeeded p q → Begins q.trace.seen r.trace.seen → (IsRun q.trace.start q.trace.passes q.trace.seen → IsRun r.trace.start r.trace.passes r.trace.seen) → advances r.trace ≡ advances q.trace → AdvancesWhereNeeded p r
 needed_before (inl none) seen run same = inl (same ∙ none)

@@ -18,7 +18,7 @@ use Rattle.vbr_at_table.specs.KeptSlots.{HasSlot, HasFree}
 use Rattle.vbr_at_table.specs.declared.budget.TheConstants.{PIECE}
 use Rattle.vbr_at_table.specs.declared.refusal.Refusal.TheVariants.{OutOfSteps}
 use Rattle.vbr_at_table.proofs.InTurn.{did_turn}
-use Rattle.vbr_at_table.proofs.Advancing.{did_stamps, nobody, same_advances, same_flags}
+use Rattle.vbr_at_table.proofs.Advancing.{did_stamps, nobody, same_advances, same_flags, same_tries}
 use Rattle.vbr_at_table.proofs.Counting.{counts_none, counts_one}
 use Rattle.vbr_at_table.proofs.PoolLists.{stays_in, without_one, without_shorter}
 
@@ -71,6 +71,7 @@ module _ (p q : PassView) (slot : ℕ) (d : Did (StoreBirth slot (knows p.trace)
       kept = record { free = free_born empty pool in_hand; stamped = did_stamps d refl; turn = did_turn d };
       one = (let few = without_one slot p.pool apart in let e = ap length pool in omega arith);
       flags = same_flags d refl;
+      tries = same_tries d refl;
       advances = same_advances d refl;
     };
   })

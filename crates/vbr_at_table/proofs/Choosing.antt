@@ -21,7 +21,7 @@ use Rattle.vbr_at_table.specs.declared.budget.TheConstants.{PIECE}
 use Rattle.vbr_at_table.specs.declared.refusal.Refusal.{Refusal}
 use Rattle.vbr_at_table.specs.declared.refusal.Refusal.TheVariants.{OutOfSteps, EpochSpent}
 use Rattle.vbr_at_table.proofs.InTurn.{did_turn}
-use Rattle.vbr_at_table.proofs.Advancing.{same_advances, same_flags, nobody, slots_kept_on, keeps_refl, keeps_known, shared_on, none_on, did_none, once, once_after, once_before}
+use Rattle.vbr_at_table.proofs.Advancing.{same_advances, same_flags, same_tries, nobody, slots_kept_on, keeps_refl, keeps_known, shared_on, none_on, did_none, once, once_after, once_before}
 use Rattle.vbr_at_table.proofs.Counting.{counts_none, counts_one, counts_on, uses_on, uses_more}
 use Rattle.vbr_at_table.proofs.Shown.{epoch_told}
 use Rattle.vbr_at_table.proofs.EpochReads.{stamps_reread, stamps_low, read_above}
@@ -44,7 +44,7 @@ shared_raised p q r advance again = inl (same_flags again refl ∙ same_flags ad
 
 -- nothing was done yet
 pub chooses_refl : (p : PassView) → Chooses p p
-chooses_refl p = record { quiet = quiet_refl p.trace; pool = (refl, refl); kept = keeps_refl p; shared = inl refl; advances = inl refl }
+chooses_refl p = record { quiet = quiet_refl p.trace; pool = (refl, refl); kept = keeps_refl p; shared = inl refl; tries = refl; advances = inl refl }
 
 pub short_first : (p : PassView) (budget used : ℕ) → used ≤ budget → budget < used + PIECE → ChoosesNone p p budget used (OutOfSteps used, used)
 short_first p budget used within short = record {
@@ -67,7 +67,7 @@ module _ (p q r : PassView) (e budget used : ℕ) (read : Did ReadEpoch p.trace 
   keeps_then = (scans.pool.0 ∙ stayed.0, scans.pool.1 ∙ stayed.1)
 
   pub chooses_then : Chooses p r
-  chooses_then = record { quiet = quiet_then; pool = keeps_then; kept = none_then.kept; shared = none_then.shared; advances = inl none_then.count }
+  chooses_then = record { quiet = quiet_then; pool = keeps_then; kept = none_then.kept; shared = none_then.shared; tries = none_then.tries; advances = inl none_then.count }
 
   first : Uses p q budget used (used + 1) 1
   first = record { counts = counts_one used read; within = omega arith; at_most = omega arith }
@@ -132,7 +132,7 @@ module _ (p q r : PassView) (e budget used : ℕ) (read : Did ReadEpoch p.trace 
 
         raised_once : AdvancesOnce p t
         raised_once =
-            once_after {p = p} {q = r} {r = t} quiet_then none_then
+            once_after {p = p} {q = r} {r = t} quiet_then none_then.count none_then.kept.free
             (once_before {p = r} {q = s} {r = t} (once {p = r} {q = s} advance last_read (λ slot has. high slot (held slot has))) quiet_again.seen quiet_again.is_run (same_advances again refl))
           where
             held : (slot : ℕ) → HasSlot r slot → Contains r.pool slot
@@ -145,6 +145,7 @@ module _ (p q r : PassView) (e budget used : ℕ) (read : Did ReadEpoch p.trace 
           pool = (still.0 ∙ keeps.0 ∙ keeps_then.0, still.1 ∙ keeps.1 ∙ keeps_then.1);
           kept = slots_kept_on p r t none_then.kept (kept_raised r s t advance again keeps still);
           shared = shared_on p r t 1 none_then.shared (let e = ap length (still.0 ∙ keeps.0) in omega arith) (shared_raised r s t advance again);
+          tries = same_tries again refl ∙ same_tries advance refl ∙ none_then.tries;
           advances = inr raised_once;
         }
 

@@ -10,7 +10,7 @@ use Rattle.vbr_machine.specs.declared.event.Step.TheVariants.{Publish}
 use Rattle.vbr_machine.proofs.Lemmas.{put_here, put_other}
 use Rattle.vbr_slots.specs.Views.{PassView, Did, knows}
 use Rattle.vbr_at_table.specs.KeptSlots.{HasSlot, HasFree, TakesNoSlot}
-use Rattle.vbr_at_table.proofs.Advancing.{did_stamps, grows_same, same_advances, same_flags}
+use Rattle.vbr_at_table.proofs.Advancing.{did_stamps, grows_same, same_advances, same_flags, same_tries}
 use Rattle.vbr_at_table.proofs.InTurn.{did_turn}
 use Rattle.vbr_at_table.proofs.WonExchanges.{publish_learned}
 
@@ -27,4 +27,4 @@ spent_kept p q slot own hand pool s h =
 
 -- so it is of the slot that is published
 pub publish_none : (p q : PassView) {pred : At} {expected slot : ℕ} → Did (Publish pred expected slot) p.trace q.trace expected → p.hand ≡ Some slot → q.pool ≡ p.pool → TakesNoSlot p q
-publish_none p q {slot = slot} d hand pool = record { count = same_advances d refl; kept = record { free = spent_kept p q slot (λ s. ap (λ (k : Know). k.own s) (publish_learned d)) hand pool; stamped = did_stamps d refl; turn = did_turn d }; grows = grows_same p q pool; shared = inl (same_flags d refl) }
+publish_none p q {slot = slot} d hand pool = record { count = same_advances d refl; kept = record { free = spent_kept p q slot (λ s. ap (λ (k : Know). k.own s) (publish_learned d)) hand pool; stamped = did_stamps d refl; turn = did_turn d }; grows = grows_same p q pool; shared = inl (same_flags d refl); tries = same_tries d refl }

@@ -10,12 +10,12 @@ use Rattle.vbr_machine.proofs.Lemmas.{put_other}
 use Rattle.vbr_slots.specs.Views.{PassView, Did, KeepsPool, knows}
 use Rattle.vbr_at_table.specs.KeptSlots.{StaysInTurn, TakesNoSlot}
 use Rattle.vbr_at_table.proofs.InTurn.{did_turn}
-use Rattle.vbr_at_table.proofs.Advancing.{free_on, free_pool, grows_on, grows_same, longer, none_known, same_advances, same_flags, shared_on}
+use Rattle.vbr_at_table.proofs.Advancing.{free_on, free_pool, grows_on, grows_same, longer, none_known, same_advances, same_flags, same_tries, shared_on}
 use Rattle.vbr_at_table.specs.Keeping.{KeepsUnlinked}
 use Rattle.vbr_at_table.proofs.WonExchanges.{unlink_learned, unlink_lost_same, unlink_owns}
 
 pub lost_none : {p q : PassView} {pred : At} {expected slot found : ℕ} → Did (Unlink pred expected slot) p.trace q.trace found → found ≢ expected → KeepsPool p q → TakesNoSlot p q
-lost_none d other pool = none_known (same_advances d refl) (same_flags d refl) pool (did_turn d) (unlink_lost_same d other)
+lost_none {p} {q} d other pool = none_known (same_advances d refl) (same_flags d refl) (same_tries d refl) pool (did_turn d) (unlink_lost_same d other)
 
 pub won_unlinks : {p q : PassView} {pred : At} {expected slot : ℕ} → Did (Unlink pred expected slot) p.trace q.trace expected → KeepsPool p q → KeepsUnlinked slot p q
 won_unlinks {p} {q} {pred} {expected} {slot} d pool = record {
@@ -25,6 +25,7 @@ won_unlinks {p} {q} {pred} {expected} {slot} d pool = record {
   turn = did_turn d;
   grows = grows_same p q pool.0;
   shared = inl (same_flags d refl);
+  tries = same_tries d refl;
 }
   where
     stays : (s : ℕ) → s ≢ slot → (knows q.trace).own s ≡ (knows p.trace).own s
@@ -39,6 +40,7 @@ unlinks_on p q r a b = record {
   turn = λ all turn. b.turn (λ s u. all s (a.kept.stamped s u)) (a.kept.turn all turn);
   grows = grows_on p q r a.grows b.grows;
   shared = shared_on p q r 1 a.shared (longer q r b.grows) b.shared;
+  tries = b.tries ∙ a.tries;
 }
 
 -- once the slot is stamped, none is lost
@@ -52,4 +54,5 @@ unlinks_none {slot} p q r a b turn stamped = record {
   };
   grows = grows_on p q r a.grows b.grows;
   shared = shared_on p q r 1 a.shared (longer q r b.grows) b.shared;
+  tries = b.tries ∙ a.tries;
 }

@@ -44,7 +44,7 @@ use Rattle.vbr_at_table.specs.Values.{ValueAt, entry_call}
 use Rattle.vbr_at_table.specs.declared.held.Held.{Held}
 use Rattle.vbr_at_table.specs.declared.rollback.Rollback.TheVariants.{LostExchange}
 use Rattle.vbr_at_table.proofs.Accepted.{place_in}
-use Rattle.vbr_at_table.proofs.Advancing.{did_stamps, grows_same, same_advances, same_flags}
+use Rattle.vbr_at_table.proofs.Advancing.{did_stamps, grows_same, same_advances, same_flags, same_tries}
 use Rattle.vbr_at_table.proofs.InTurn.{did_turn}
 use Rattle.vbr_at_table.proofs.KeptSlots.{spent_kept}
 use Rattle.vbr_at_table.proofs.Keeping.{held_kept, keeps_on, keeps_refl}
@@ -192,7 +192,7 @@ module _ {p q : Trace} {s expected t : ℕ} (d : Did (Replace s expected t) p q 
 
 -- the slot that takes the place goes out of the hand, and the others stay
 pub replace_none : (p q : PassView) {s expected slot : ℕ} → Did (Replace s expected slot) p.trace q.trace expected → p.hand ≡ Some slot → q.pool ≡ p.pool → TakesNoSlot p q
-replace_none p q {slot = slot} d hand pool = record { count = same_advances d refl; kept = record { free = spent_kept p q slot (λ i. ap (λ (k : Know). k.own i) (replace_learned d)) hand pool; stamped = did_stamps d refl; turn = did_turn d }; grows = grows_same p q pool; shared = inl (same_flags d refl) }
+replace_none p q {slot = slot} d hand pool = record { count = same_advances d refl; kept = record { free = spent_kept p q slot (λ i. ap (λ (k : Know). k.own i) (replace_learned d)) hand pool; stamped = did_stamps d refl; turn = did_turn d }; grows = grows_same p q pool; shared = inl (same_flags d refl); tries = same_tries d refl }
 
 -- ---- a lost one
 

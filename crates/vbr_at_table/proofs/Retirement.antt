@@ -28,7 +28,7 @@ use Rattle.vbr_slots.proofs.Lemmas.{did_moment, did_quiet, did_took, moment_befo
 use Rattle.vbr_at_table.specs.KeptSlots.{TakesNoSlot}
 use Rattle.vbr_at_table.specs.Retiring.{Retires, StampsFreshly, is_kept, know_retired}
 use Rattle.vbr_at_table.proofs.InTurn.{did_stay_turn}
-use Rattle.vbr_at_table.proofs.Advancing.{same_advances, did_stamps, free_pool, grows_same, none_on, did_none, none_given}
+use Rattle.vbr_at_table.proofs.Advancing.{same_advances, same_tries, did_stamps, free_pool, grows_same, none_on, did_none, none_given}
 use Rattle.vbr_at_table.proofs.AloneRetirement.{retired_leaves, retired_fresh, raised_leaves, raised_fresh}
 use Rattle.vbr_at_table.proofs.Shown.{epoch_told, epoch_stood}
 
@@ -76,7 +76,7 @@ module _ {p q r : PassView} {slot e n : ℕ} (read : Did ReadEpoch p.trace q.tra
 
   -- a slot that is kept is in the pool
   kept_none : {t : PassView} → t.trace ≡ r.trace → t.pool ≡ r.pool ++ slot ∷ [] → t.hand ≡ hand_without slot r.hand → TakesNoSlot p t
-  kept_none same pool hand = none_on (did_none read refl stays) (none_given stamp refl refl refl others still same pool hand)
+  kept_none same pool hand = none_on (did_none read refl stays) (none_given stamp refl refl refl others still same pool hand refl)
 
   -- and one that isn't is no more the pass's own
   raised_none : {t : PassView} {m : ℕ} → Did (Raise slot) r.trace t.trace m → t.pool ≡ p.pool → t.hand ≡ r.hand → POOL - 1 ≤ length p.pool → TakesNoSlot p t
@@ -91,6 +91,7 @@ module _ {p q r : PassView} {slot e n : ℕ} (read : Did ReadEpoch p.trace q.tra
         };
         grows = grows_same q t (pool ∙ sym stays.0);
         shared = inr (let e = ap length pool in omega arith);
+        tries = same_tries raise refl ∙ same_tries stamp refl;
       })
     where
       gone : (s : ℕ) → s ≡ slot → MayBear ((knows t.trace).own s) → MayBear ((knows q.trace).own s)

@@ -12,14 +12,14 @@ use Rattle.vbr_at_table.specs.Advances.{AdvancesWhereNeeded}
 use Rattle.vbr_at_table.specs.Budgets.{NeedsMore, probes_lost, steps_to_take, steps_to_take_among, steps_to_win}
 use Rattle.vbr_at_table.specs.Gained.{gained}
 use Rattle.vbr_at_table.specs.Hands.{HandView}
-use Rattle.vbr_at_table.specs.KeptSlots.{KeepsSlots, SharesWhereFull}
+use Rattle.vbr_at_table.specs.KeptSlots.{KeepsSlots, SharesWhereFull, TriesNoFlag, TriesWhereEmpty}
 use Rattle.vbr_at_table.specs.Pieces.{BearsNone, Chooses, ChoosesNone, HasSlots, IsBorn, IsChosen, IsShortOrSpent, Probes, Uses, WinsNone, told_steps}
 use Rattle.vbr_at_table.specs.Refusals.{LeavesPool, RefusesTake, TakeIsRefused, TellsSpent}
 use Rattle.vbr_at_table.specs.SharedPool.{CameByFlag}
 use Rattle.vbr_at_table.specs.Taking.{IsOldest, IsTaken, Takes}
 use Rattle.vbr_at_table.specs.declared.refusal.Refusal.{Refusal}
 use Rattle.vbr_at_table.specs.declared.refusal.Refusal.TheVariants.{OutOfSteps, NoSlot, EpochSpent}
-use Rattle.vbr_at_table.proofs.Advancing.{slots_kept_on, longer, needed_after, needed_before, shared_on, shares_more}
+use Rattle.vbr_at_table.proofs.Advancing.{slots_kept_on, longer, needed_before, needed_since, shared_on, shares_more}
 use Rattle.vbr_at_table.proofs.Counting.{uses_on, took_all}
 use Rattle.vbr_at_table.proofs.Gained.{alone_gained, gained_on, more_lost, none_lost}
 use Rattle.vbr_at_table.proofs.Shown.{came_before}
@@ -45,10 +45,11 @@ module _ (p q : PassView) (budget : ℕ) (told : Refusal × ℕ) (first : Probes
   unwon_takes = record {
     steps = record { steps = told.1; within = none.uses.within; took = took_all none.uses.counts };
     quiet = first.quiet;
-    kept = first.takes_no_slot.kept;
-    one = (let low = longer p q first.takes_no_slot.grows in omega (arith, low));
-    shared = shares_more p q first.takes_no_slot.shared;
-    advances = inl first.takes_no_slot.count;
+    kept = first.kept;
+    one = (let low = longer p q first.grows in omega (arith, low));
+    shared = shares_more p q first.shared;
+    tries = first.tries;
+    advances = inl first.count;
   }
 
   pub unwon_took : Took p.trace q.trace told.1
@@ -83,16 +84,20 @@ module _ (p q r : PassView) (budget used : ℕ) (first : Probes p q) (begun : Ha
       (λ (x : (p.pool ≡ []) × (slot : ℕ) × (q.pool ≡ slot ∷ []) × CameByFlag p.trace q.trace slot). inr (x.0, x.1, then.pool.0 ∙ x.2, came_before x.3 then.quiet)) begun.won
 
   advances_all : AdvancesWhereNeeded p r
-  advances_all = needed_after {p = p} {q = q} {r = r} first.quiet first.takes_no_slot then.advances
+  advances_all = needed_since {p = p} {q = q} {r = r} first.quiet first.count first.kept.free then.advances
 
   kept_all : KeepsSlots p r
-  kept_all = slots_kept_on p q r first.takes_no_slot.kept then.kept
+  kept_all = slots_kept_on p q r first.kept then.kept
 
   shared_all : SharesWhereFull 1 p r
-  shared_all = shared_on p q r 1 first.takes_no_slot.shared (let e = same_length in omega arith) then.shared
+  shared_all = shared_on p q r 1 first.shared (let e = same_length in omega arith) then.shared
+
+  -- what comes after tries no flag
+  tries_on : (t : PassView) → TriesNoFlag q t → TriesWhereEmpty p t
+  tries_on t none = ⊎_elim (λ (same : TriesNoFlag p q). inl (none ∙ same)) (λ (where_empty : (p.pool ≡ []) × Unit {0}). inr where_empty) first.tries
 
   grown : length p.pool ≤ length r.pool
-  grown = let low = longer p q first.takes_no_slot.grows in let e = same_length in omega (arith, low, e)
+  grown = let low = longer p q first.grows in let e = same_length in omega (arith, low, e)
 
   all_uses : {since most : ℕ} → Uses q r budget used since most → Uses p r budget 0 since (budget + most)
   all_uses uses = uses_on begun.uses uses
@@ -104,6 +109,7 @@ module _ (p q r : PassView) (budget used : ℕ) (first : Probes p q) (begun : Ha
     kept = kept_all;
     one = (let low = grown in omega (arith, low));
     shared = shares_more p r shared_all;
+    tries = tries_on r then.tries;
     advances = advances_all;
   }
 
@@ -213,6 +219,7 @@ module _ (p q r : PassView) (budget used : ℕ) (first : Probes p q) (begun : Ha
         kept = slots_kept_on p r t kept_all born.leaves.kept;
         one = (let low = grown in let one = born.leaves.one in omega (arith, low, one));
         shared = shared_then shared_all;
+        tries = tries_on t (born.leaves.tries ∙ then.tries);
         advances = needed_before {p = p} {q = r} {r = t} advances_all born.leaves.quiet.seen born.leaves.quiet.is_run born.leaves.advances;
       }
         where

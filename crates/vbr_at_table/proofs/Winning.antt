@@ -1,5 +1,5 @@
 -- The shared pool, probed word by word.
-use Rattle.std.proofs.Common.{◌≡◌, ℕ, ◌+◌, ◌*◌, ◌/◌, ◌<◌, ◌≤◌, ◌==◌, Bool, true, false, cond, List, [], ◌∷◌, ◌++◌, length, None, refl, sym, ap, ◌∙◌, subst, ◌⊎◌, inl, inr, ⊎_elim, arith}
+use Rattle.std.proofs.Common.{◌≡◌, ℕ, ◌+◌, ◌*◌, ◌/◌, ◌<◌, ◌≤◌, ◌≢◌, ◌==◌, Bool, true, false, cond, List, [], ◌∷◌, ◌++◌, length, None, refl, sym, ap, ◌∙◌, subst, ◌⊎◌, inl, inr, ⊎_elim, arith}
 use Rattle.std.proofs.lemmas.Bool.{cases_lt, eqb-true}
 use Rattle.vbr_machine.specs.Start.{Start, IsStart}
 use Rattle.vbr_words.specs.Flags.{word_of_flag, flag_words, has_flag, IsNextFlag}
@@ -13,7 +13,8 @@ use Rattle.vbr_slots.specs.Tried.{last_tried}
 use Rattle.vbr_slots.specs.Views.{Trace, PassView, KeepsPool, Did, knows}
 use Rattle.vbr_slots.proofs.Lemmas.{did_quiet, did_seen, quiet_on}
 use Rattle.vbr_at_table.specs.Gained.{gained, gained_by_now}
-use Rattle.vbr_at_table.specs.KeptSlots.{TakesNoSlot}
+use Rattle.vbr_at_table.specs.Counts.{advances}
+use Rattle.vbr_at_table.specs.KeptSlots.{KeepsSlots, PoolGrows, SharesWhereFull}
 use Rattle.vbr_at_table.specs.Pieces.{HasSlots, Probes, WinsNone}
 use Rattle.vbr_at_table.specs.SharedPool.{WasOutside, ComesBefore, CameByFlag}
 use Rattle.vbr_at_table.specs.Steps.{CountsSteps}
@@ -22,15 +23,27 @@ use Rattle.vbr_at_table.specs.declared.refusal.Refusal.TheVariants.{OutOfSteps, 
 use Rattle.vbr_at_table.proofs.Gained.{gained_on, gained_same}
 use Rattle.vbr_at_table.proofs.Probing.{Probed, probed_lost, probed_next, probed_few}
 use Rattle.vbr_at_table.proofs.InTurn.{did_turn}
-use Rattle.vbr_at_table.proofs.Advancing.{same_advances, same_flags, none_given, none_known, none_on}
+use Rattle.vbr_at_table.proofs.Advancing.{given_count, given_grows, given_kept, given_shared, grows_on, grows_same, keeps_known, longer, same_advances, same_flags, shared_on, slots_kept_on}
 use Rattle.vbr_at_table.proofs.Counting.{counts_one, counts_on, took_all}
 use Rattle.vbr_at_table.proofs.Shown.{came, missed, missed_before, missed_after}
+
+-- probes after probes, where the own pool was empty
+probes_on : {p q r : PassView} → Probes p q → p.pool ≡ [] → Quiet q.trace r.trace → advances r.trace ≡ advances q.trace → KeepsSlots q r → PoolGrows q r → SharesWhereFull 1 q r → Probes p r
+probes_on {p} {q} {r} at empty quiet still kept grows shared = record {
+  quiet = quiet_on at.quiet quiet;
+  count = still ∙ at.count;
+  kept = slots_kept_on p q r at.kept kept;
+  grows = grows_on p q r at.grows grows;
+  shared = shared_on p q r 1 at.shared (longer q r grows) shared;
+  tries = inr (empty, tt);
+}
 
 -- so many probes were made, and none won, on a way that begins with the first slot of the word of the flag that was tried last
 pub record Tried (p q : PassView) (budget used start : ℕ) : Type 0 where
   pub quiet : Quiet p.trace q.trace
+  pub empty : p.pool ≡ []
   pub pool : KeepsPool p q
-  pub none : TakesNoSlot p q
+  pub probes : Probes p q
   pub counts : CountsSteps p.trace q.trace 0 used
   pub within : used ≤ budget
   pub begins : start ≡ 64 * word_of_flag (last_tried p.trace)
@@ -56,14 +69,18 @@ module _ {p q r : PassView} {budget used start slot n : ℕ} (at : Tried p q bud
   lost_flag : (a b : Know) → cond (has_flag n slot) a b ≡ b
   lost_flag a b = ap (λ (t : Bool). cond t a b) lost
 
-  none_lost : TakesNoSlot p r
-  none_lost = none_on at.none (none_known (same_advances d refl) (same_flags d refl) stays (did_turn d) (d.know ∙ lost_flag _ (knows q.trace)))
+  quiet_lost : Quiet q.trace r.trace
+  quiet_lost = did_quiet d (λ know. refl)
+
+  probes_lost : Probes p r
+  probes_lost = probes_on at.probes at.empty quiet_lost (same_advances d refl) (keeps_known q r stays (did_turn d) (λ s. ap (λ (k : Know). k.own s) (d.know ∙ lost_flag _ (knows q.trace)))) (grows_same q r stays.0) (inl (same_flags d refl))
 
   pub win_tried : Tried p r budget (used + 1) start
   win_tried = record {
-    quiet = quiet_on at.quiet (did_quiet d (λ know. refl));
+    quiet = quiet_on at.quiet quiet_lost;
+    empty = at.empty;
     pool = (stays.0 ∙ at.pool.0, stays.1 ∙ at.pool.1);
-    none = none_lost;
+    probes = probes_lost;
     counts = counts_on at.counts (counts_one used d);
     within = omega arith;
     begins = at.begins;
@@ -165,21 +182,20 @@ win_done {p} {q} {r} {t} {budget} {used} {start} {slot} {end} at below empty no_
         (λ (over : end ≡ start). at.round over s in_shape (⊎_elim (λ (from : 64 * word_of_flag (last_tried p.trace) ≤ s). (let b = at.tried.begins in inl (omega (arith, b, from)))) (λ (less : s < slot). inr less) past.1)) at.turn
 
 -- the slot is all that the pass could take
-win_none : {p q r t : PassView} {budget used start slot end n : ℕ} → Winning p q budget used start slot end → Did (TakeFlag slot) q.trace r.trace n → has_flag n slot ≡ true → KeepsPool q r → t.trace ≡ r.trace → t.pool ≡ r.pool ++ slot ∷ [] → t.hand ≡ hand_without slot r.hand → TakesNoSlot p t
-win_none {q = q} {slot = slot} {n = n} at d set stays same pool hand = none_on at.tried.none (none_given d refl refl refl (λ s other m. subst MayBear (ap (λ (k : Know). k.own s) (d.know ∙ won_flag _ (knows q.trace)) ∙ put_other (knows q.trace).own _ _ s other) m) stays same pool hand)
+pub win_probes : {p q r t : PassView} {budget used start slot end n : ℕ} → Winning p q budget used start slot end → Did (TakeFlag slot) q.trace r.trace n → has_flag n slot ≡ true → KeepsPool q r → t.trace ≡ r.trace → t.pool ≡ r.pool ++ slot ∷ [] → t.hand ≡ hand_without slot r.hand → Probes p t
+win_probes {p} {q} {r} {t} {slot = slot} {n = n} at d set stays same pool hand =
+    probes_on at.tried.probes at.tried.empty (subst (Quiet q.trace) (sym same) (did_quiet d (λ know. refl)))
+    (given_count d refl refl refl others stays same pool hand) (given_kept d refl refl refl others stays same pool hand) (given_grows d refl refl refl others stays same pool hand) (given_shared d refl refl refl others stays same pool hand)
   where
     won_flag : (a b : Know) → cond (has_flag n slot) a b ≡ a
     won_flag a b = ap (λ (t : Bool). cond t a b) set
 
-pub win_probes : {p q r t : PassView} {budget used start slot end n : ℕ} → Winning p q budget used start slot end → Did (TakeFlag slot) q.trace r.trace n → has_flag n slot ≡ true → KeepsPool q r → t.trace ≡ r.trace → t.pool ≡ r.pool ++ slot ∷ [] → t.hand ≡ hand_without slot r.hand → Probes p t
-win_probes {p} at d set stays same pool hand = record {
-  quiet = subst (Quiet p.trace) (sym same) (quiet_on at.tried.quiet (did_quiet d (λ know. refl)));
-  takes_no_slot = win_none at d set stays same pool hand;
-}
+    others : (s : ℕ) → s ≢ slot → MayBear ((knows r.trace).own s) → MayBear ((knows q.trace).own s)
+    others s other m = subst MayBear (ap (λ (k : Know). k.own s) (d.know ∙ won_flag _ (knows q.trace)) ∙ put_other (knows q.trace).own _ _ s other) m
 
 -- or none was won: for want of steps, or once round
 pub unwon_probes : {p q : PassView} {budget used start slot end : ℕ} → Winning p q budget used start slot end → Probes p q
-unwon_probes at = record { quiet = at.tried.quiet; takes_no_slot = at.tried.none }
+unwon_probes at = at.tried.probes
 
 pub win_short : {p q : PassView} {budget used start slot end : ℕ} → Winning p q budget used start slot end → slot < end → p.pool ≡ [] → budget < used + PIECE → WinsNone p q budget (OutOfSteps used, used)
 win_short at below empty short = record {

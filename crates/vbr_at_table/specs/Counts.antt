@@ -1,4 +1,4 @@
--- Kinds of steps, and how many of a kind a pass has made: those that would advance the epoch, and those that raise a flag.
+-- Kinds of steps, and how many of a kind a pass has made: those that would advance the epoch, those that raise a flag, and those that try to take one.
 use Rattle.std.specs.Prelude.{◌≡◌, ℕ, ◌==◌, ◌&&◌, Bool, true, false, count_by}
 use Rattle.vbr_machine.specs.Disturbances.{own_changes}
 use Rattle.vbr_machine.specs.declared.event.Event.{Event}
@@ -15,6 +15,11 @@ is_advance _ = false
 abbrev pub is_raise : Step → Bool
 is_raise (Raise slot) = true
 is_raise _ = false
+
+-- whether a step tries to take a flag
+abbrev pub is_try : Step → Bool
+is_try (TakeFlag slot) = true
+is_try _ = false
 
 -- whether a step may advance the epoch, give its pass a slot that it may give birth in or has to stamp, or raise a flag
 abbrev pub advances_or_gives : Step → Bool
@@ -42,6 +47,10 @@ advances p = made_of is_advance p
 -- how many flags the pass has raised: how often it put a slot into the shared pool
 abbrev pub flags_raised : Trace → ℕ
 flags_raised p = made_of is_raise p
+
+-- how many flags the pass has tried to take: how often it looked for a slot in the shared pool
+abbrev pub flags_tried : Trace → ℕ
+flags_tried p = made_of is_try p
 
 -- the pass changed no list itself, and moved no epoch
 pub record ChangesNone (p q : Trace) : Type 0 where

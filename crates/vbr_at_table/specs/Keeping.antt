@@ -6,7 +6,7 @@ use Rattle.vbr_machine.specs.Membership.{Knows}
 use Rattle.vbr_machine.specs.declared.knowledge.Read.{Read}
 use Rattle.vbr_slots.specs.Views.{PassView, knows}
 use Rattle.vbr_at_table.specs.Counts.{advances}
-use Rattle.vbr_at_table.specs.KeptSlots.{GoesInTurn, HasFree, PoolGrows, SharesWhereFull}
+use Rattle.vbr_at_table.specs.KeptSlots.{GoesInTurn, HasFree, PoolGrows, SharesWhereFull, TriesNoFlag}
 
 -- what was known is known, in the same epoch
 pub record Keeps (know later : Know) : Type 0 where
@@ -27,3 +27,4 @@ pub record KeepsUnlinked (slot : ℕ) (p q : PassView) : Type 0 where
   pub turn : GoesInTurn p.trace q.trace
   pub grows : PoolGrows p q
   pub shared : SharesWhereFull 1 p q
+  pub tries : TriesNoFlag p q

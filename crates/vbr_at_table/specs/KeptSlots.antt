@@ -1,11 +1,11 @@
 -- What a call keeps of the slots of its pass.
-use Rattle.std.specs.Prelude.{◌≡◌, ◌≢◌, ℕ, ◌+◌, ◌≤◌, Bool, true, List, ◌++◌, length, Result, Ok, Some, Contains, ◌⊎◌}
+use Rattle.std.specs.Prelude.{◌≡◌, ◌≢◌, ℕ, ◌+◌, ◌≤◌, Bool, true, List, ◌++◌, [], length, Result, Ok, Some, Contains, ◌⊎◌}
 use Rattle.vbr_machine.specs.Acceptance.{IsUnlinked, MayBear}
 use Rattle.vbr_machine.specs.Knowledge.{Know}
 use Rattle.vbr_machine.specs.Whereabouts.{UnlinksInTurn}
 use Rattle.vbr_slots.specs.declared.pass.TheConstants.{POOL}
 use Rattle.vbr_slots.specs.Views.{Trace, PassView, knows}
-use Rattle.vbr_at_table.specs.Counts.{advances, flags_raised}
+use Rattle.vbr_at_table.specs.Counts.{advances, flags_raised, flags_tried}
 
 -- a slot in the own pool of the pass, or in its hand
 abbrev pub HasSlot : PassView → ℕ → Type 0
@@ -66,9 +66,22 @@ PoolGrows p q = (more : List ℕ) × (q.pool ≡ p.pool ++ more)
 abbrev pub SharesWhereFull : ℕ → PassView → PassView → Type 0
 SharesWhereFull left p q = (flags_raised q.trace ≡ flags_raised p.trace) ⊎ (POOL ≤ length q.pool + left)
 
--- the pass made no step that would advance the epoch; no slot of it is lost; its own pool grew, if it changed; and it put none into the shared pool, unless its own pool has just the place left that is for a hand
+-- the pass tried to take no flag, so no slot of the shared pool
+abbrev pub TriesNoFlag : PassView → PassView → Type 0
+TriesNoFlag p q = flags_tried q.trace ≡ flags_tried p.trace
+
+-- it tried to take one only where its own pool was empty, and this holds
+abbrev pub TriesOnlyWhere : Type 0 → PassView → PassView → Type 0
+TriesOnlyWhere Holds p q = TriesNoFlag p q ⊎ ((p.pool ≡ []) × Holds)
+
+-- so it is where nothing more is asked
+abbrev pub TriesWhereEmpty : PassView → PassView → Type 0
+TriesWhereEmpty = TriesOnlyWhere (Unit {0})
+
+-- the pass made no step that would advance the epoch; no slot of it is lost; its own pool grew, if it changed; it put none into the shared pool, unless its own pool has just the place left that is for a hand; and it tried to take none out of the shared pool
 pub record TakesNoSlot (p q : PassView) : Type 0 where
   pub count : advances q.trace ≡ advances p.trace
   pub kept : KeepsSlots p q
   pub grows : PoolGrows p q
   pub shared : SharesWhereFull 1 p q
+  pub tries : TriesNoFlag p q

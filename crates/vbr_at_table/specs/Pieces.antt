@@ -8,7 +8,7 @@ use Rattle.vbr_at_table.specs.Advances.{AdvancesWhereNeeded}
 use Rattle.vbr_at_table.specs.Budgets.{NeedsMore, steps_to_win}
 use Rattle.vbr_at_table.specs.Counts.{advances, flags_raised}
 use Rattle.vbr_at_table.specs.Gained.{gained}
-use Rattle.vbr_at_table.specs.KeptSlots.{KeepsSlots, SharesWhereFull, TakesNoSlot}
+use Rattle.vbr_at_table.specs.KeptSlots.{KeepsSlots, PoolGrows, SharesWhereFull, TakesNoSlot, TriesNoFlag, TriesWhereEmpty}
 use Rattle.vbr_at_table.specs.Hands.{HandView}
 use Rattle.vbr_at_table.specs.Refusals.{IsSpent, TakeIsRefused}
 use Rattle.vbr_at_table.specs.SharedPool.{CameByFlag}
@@ -39,10 +39,14 @@ pub record FallsShort (p q : PassView) (budget before most : ℕ) (told : Refusa
 
 -- ---- a slot for the own pool
 
--- the pass looked for one: it made no call, and took no slot
+-- the pass looked for one: it made no call, and no step that would advance the epoch; no slot of it is lost; its own pool grew, if it changed; it put none into the shared pool, unless its own pool is full but for one place; and it tried to take one from there only where its own pool was empty
 pub record Probes (p q : PassView) : Type 0 where
   pub quiet : Quiet p.trace q.trace
-  pub takes_no_slot : TakesNoSlot p q
+  pub count : advances q.trace ≡ advances p.trace
+  pub kept : KeepsSlots p q
+  pub grows : PoolGrows p q
+  pub shared : SharesWhereFull 1 p q
+  pub tries : TriesWhereEmpty p q
 
 -- the own pool is as it was, which had slots, and no step was made; or it was empty, and has one slot, which came by its flag
 abbrev pub IsWon : PassView → PassView → ℕ → Type 0
@@ -91,12 +95,13 @@ pub record IsScanned (p q : PassView) (epoch budget before : ℕ) (told : Option
 abbrev pub ScansPart : PassView → PassView → ℕ → ℕ → Refusal × ℕ → Type 0
 ScansPart p q budget before told = FallsShort p q budget before (length p.pool) told
 
--- a slot was to be chosen: no call was made, the pool and the hand stay, no slot was lost or put into the shared pool, and the epoch was advanced only where it had to be
+-- a slot was to be chosen: no call was made, the pool and the hand stay, no slot was lost or put into the shared pool, none was looked for there, and the epoch was advanced only where it had to be
 pub record Chooses (p q : PassView) : Type 0 where
   pub quiet : Quiet p.trace q.trace
   pub pool : KeepsPool p q
   pub kept : KeepsSlots p q
   pub shared : SharesWhereFull 1 p q
+  pub tries : TriesNoFlag p q
   pub advances : AdvancesWhereNeeded p q
 
 -- the slot is the oldest one of the own pool that is stamped below the epoch that the pass read last
@@ -117,12 +122,13 @@ pub record ChoosesNone (p q : PassView) (budget before : ℕ) (told : Refusal ×
 
 -- ---- a birth
 
--- a slot goes from the own pool into the hand: no call was made, no slot is lost, at most one has left the pool, no flag was raised, and the epoch wasn't advanced
+-- a slot goes from the own pool into the hand: no call was made, no slot is lost, at most one has left the pool, no flag was raised or tried, and the epoch wasn't advanced
 pub record TakesOne (p q : PassView) : Type 0 where
   pub quiet : Quiet p.trace q.trace
   pub kept : KeepsSlots p q
   pub one : length p.pool ≤ length q.pool + 1
   pub flags : flags_raised q.trace ≡ flags_raised p.trace
+  pub tries : TriesNoFlag p q
   pub advances : advances q.trace ≡ advances p.trace
 
 -- in one step, an incarnation was born in the slot that was chosen, which is in hand

@@ -11,17 +11,18 @@ use Rattle.vbr_at_table.specs.Advances.{AdvancesWhereNeeded}
 use Rattle.vbr_at_table.specs.Budgets.{steps_to_take, steps_to_take_among}
 use Rattle.vbr_at_table.specs.Gained.{gained}
 use Rattle.vbr_at_table.specs.Hands.{HandView, IsHandOf}
-use Rattle.vbr_at_table.specs.KeptSlots.{KeepsSlots, SharesWhereFull}
+use Rattle.vbr_at_table.specs.KeptSlots.{KeepsSlots, SharesWhereFull, TriesWhereEmpty}
 use Rattle.vbr_at_table.specs.SharedPool.{CameByFlag}
 use Rattle.vbr_at_table.specs.Steps.{TookWithin}
 
--- whatever is answered, no call of the set was made, and no more steps than the budget; no slot is lost, at most one has left the own pool, and none went into the shared pool unless the own one has no more than two places left; and the epoch was advanced only where it had to be
+-- whatever is answered, no call of the set was made, and no more steps than the budget; no slot is lost, at most one has left the own pool, none went into the shared pool unless the own one has no more than two places left, and it was looked for one there only where the own one was empty; and the epoch was advanced only where it had to be
 pub record Takes (p q : PassView) (budget : ℕ) : Type 0 where
   pub steps : TookWithin p.trace q.trace budget
   pub quiet : Quiet p.trace q.trace
   pub kept : KeepsSlots p q
   pub one : length p.pool ≤ length q.pool + 1
   pub shared : SharesWhereFull 2 p q
+  pub tries : TriesWhereEmpty p q
   pub advances : AdvancesWhereNeeded p q
 
 -- the slot stands in the pool, and each slot before it there has a stamp of at least this epoch

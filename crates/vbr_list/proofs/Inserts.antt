@@ -3,7 +3,8 @@ use Rattle.vbr_list.proofs.Names.{◌≡◌, ◌+◌, ◌<◌, ◌≤◌, ℕ, B
 use Rattle.vbr_list.proofs.Names.{AtTable, Ghosts, HandView, HasUnpublished, had_then, IsAlone, IsSameTable, longer, Made, needed_before, NoSlot, PassLaw, Quiet, quiet_on, Refusal, same_on, shared_on, shares_more, slots_kept_on, steps_to_update, steps_to_value, TableView, TookWithin}
 use Rattle.vbr_list.specs.Budgets.{LacksSteps, enough_to_insert, listed_for}
 use Rattle.vbr_list.specs.Disturbed.{disturbed, enough_to_insert_among, insert_costs_among, steps_for_slot}
-use Rattle.vbr_list.specs.Inserting.{CountsWithin, InsertIsShort, Links, Prepares, SearchedFor, SearchesFor}
+use Rattle.vbr_list.specs.Inserting.{CountsWithin, InsertIsShort, Links, Prepares, SearchedFor, SearchesFor, TriesFor}
+use Rattle.vbr_list.specs.declared.wanted.Wanted.TheVariants.{Absent}
 use Rattle.vbr_list.specs.Pieces.{GoesOn, IsSameCall, Stores, pass_in, trace_in}
 use Rattle.vbr_list.specs.Refusals.{IsRefusedInsert}
 use Rattle.vbr_list.specs.Sparing.{CallsAs, SparesInsert}
@@ -16,7 +17,8 @@ use Rattle.vbr_list.proofs.Going.{bucket_is, ok_as}
 use Rattle.vbr_list.proofs.Linking.{IsLinking, begun, quiet_until}
 use Rattle.vbr_list.proofs.LonePasses.{each_alone}
 use Rattle.vbr_list.proofs.LostWalks.{search_ends}
-use Rattle.vbr_list.proofs.Preparing.{each_same, each_seen, each_since, refused_second, within_all, within_most, within_on}
+use Rattle.vbr_list.proofs.Moments.{so_later}
+use Rattle.vbr_list.proofs.Preparing.{each_same, each_seen, each_since, refused_second, tries_before, within_all, within_most, within_on}
 use Rattle.vbr_list.proofs.Sufficing.{answered_or_spent, each_error, lacks, lone_costs, lone_lacks, never_refused, slot_later}
 use Rattle.vbr_list.proofs.Told.{stored_same, told_since}
 use Rattle.vbr_list.proofs.Walking.{insert_lacks, twice_paid}
@@ -65,10 +67,10 @@ later d at used same start within = record {
 pub same_later : {N : Type 0} {kind : Ghosts N} (d : PendingCall N kind) (at : AtTable N kind) (used : ℕ) (same : IsSameTable d.at at) (start : at.stepper.now.trace.start ≡ (trace_in d).start) (within : used ≤ d.budget) → IsSameCall d (later d at used same start within)
 same_later d at used same start within = record { at = same; key = refl; bucket = refl; budget = refl }
 
-pub insert_linked : {N : Type 0} {kind : Ghosts N} {b d e : PendingCall N kind} (value : ℕ) (answer : Result Bool Refusal) → PassLaw (pass_in b) → b.used ≡ 0 → Prepares b d → Quiet (trace_in b) (trace_in d) → SearchedFor (trace_in b) (trace_in d) b.key b.used d.used (steps_for_slot (pass_in b) (trace_in d) + 3)
+pub insert_linked : {N : Type 0} {kind : Ghosts N} {b d e : PendingCall N kind} (value : ℕ) (answer : Result Bool Refusal) → PassLaw (pass_in b) → b.used ≡ 0 → Prepares b d → TriesFor Absent b d → Quiet (trace_in b) (trace_in d) → SearchedFor (trace_in b) (trace_in d) b.key b.used d.used (steps_for_slot (pass_in b) (trace_in d) + 3)
     → Links d e → HasUnpublished (pass_in d) (pass_in e) answer → IfOk answer (LinksHand value d e) → IfErr answer (LinksNone d e)
     → CallsAs (stored_in (trace_in b) b.key value) (SparesInsert (pass_in b) (pass_in e) b.key b.budget) (pass_in b) (pass_in e) b.budget answer
-insert_linked {b = b} {d = d} {e = e} value answer law begun prepares first searched links unpublished linked refused =
+insert_linked {b = b} {d = d} {e = e} value answer law begun prepares tries first searched links unpublished linked refused =
     let p = pass_in b in
     let q = pass_in d in
     let r = pass_in e in
@@ -121,6 +123,7 @@ insert_linked {b = b} {d = d} {e = e} value answer law begun prepares first sear
         kept = slots_kept_on p q r prepares.kept links.takes_no_slot.kept;
         had = had_then p q r answer prepares.had unpublished;
         shared = shared_on p q r 2 prepares.shared (longer q r links.takes_no_slot.grows) (shares_more q r links.takes_no_slot.shared);
+        tries = tries_before p q r tries links.takes_no_slot.tries (λ so. so_later so more.0 more.1);
         refused = each_error (λ refusal. InsertIsShort q r d.used budget refusal) (λ refusal. IsRefusedInsert p r key budget refusal) answer (refused_second p q r key prepared) short;
         disturbed_within = within;
         within = alone_within;

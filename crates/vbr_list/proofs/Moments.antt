@@ -1,6 +1,7 @@
 -- What was found was so at a moment.
-use Rattle.vbr_list.proofs.Names.{◌≡◌, ℕ, ◌<◌, Bool, true, false, Option, Some, None, sym, subst, arith, nat_tests}
-use Rattle.vbr_list.proofs.Names.{At, Held, IsSame, IsStart, Keeps, KeyAt, Know, knows, link_of, moment_before, Quiet, StandsBefore, Stood, stood_before, Trace, was_absent, was_present, WasSo}
+use Rattle.vbr_list.proofs.Names.{◌≡◌, ℕ, ◌<◌, Bool, true, false, List, Option, Some, None, sym, subst, arith, nat_tests}
+use Rattle.vbr_list.proofs.Names.{At, Begins, begins_trans, Event, Held, IsRun, IsSame, IsStart, Keeps, KeyAt, Know, knows, link_of, moment_before, Quiet, StandsBefore, Stood, stood_before, Trace, was_absent, was_present, WasSo}
+use Rattle.vbr_slots.specs.Calls.{Moment}
 use Rattle.vbr_list.specs.Found.{CurStood, IsFound}
 use Rattle.vbr_list.specs.Places.{IsCur, IsEnd}
 use Rattle.vbr_list.specs.Traversing.{HasComeTo}
@@ -56,8 +57,16 @@ was_so {p} {q} key found start same x =
     (λ before. was_absent found.pred start same (record { known = x.locates.pred.held; stood = x.stood }) x.locates.pred.unmarked key x.locates.pred.behind before)
     (λ cur y z. was_present cur start same (record { known = y.held; stood = z }) y.unmarked key (key_known (knows q) key found.pred cur y))
 
+-- a moment of what the pass did is one of what it has done since
+pub later_moment : {p q r : Trace} {moment : List Event} → Moment p q moment → Begins q.seen r.seen → (IsRun q.start q.passes q.seen → IsRun r.start r.passes r.seen) → Moment p r moment
+later_moment {q = q} {r = r} {moment = moment} x seen run = record { from = x.from; to = begins_trans moment q.seen r.seen x.to seen; is_run = run x.is_run }
+
 pub so_before : {p q r : Trace} {key : ℕ} {present : Bool} → WasSo p q key present → Quiet q r → WasSo p r key present
 so_before x b = record { moment = x.moment; within = moment_before x.within b; was = x.was }
+
+-- and so it is where the pass has made a call since
+pub so_later : {p q r : Trace} {key : ℕ} {present : Bool} → WasSo p q key present → Begins q.seen r.seen → (IsRun q.start q.passes q.seen → IsRun r.start r.passes r.seen) → WasSo p r key present
+so_later {q = q} {r = r} x seen run = record { moment = x.moment; within = later_moment x.within seen run; was = x.was }
 
 -- a key that was found present is known at the node
 pub key_found : (know : Know) (key : ℕ) (pred cur : Held) (o : Option Held) (present : Bool) → IsEnd know key pred o present → o ≡ Some cur → present ≡ true → KeyAt know cur.at key

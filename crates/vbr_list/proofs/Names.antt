@@ -68,7 +68,7 @@ pub use Rattle.vbr_at_table.specs.GivingBack.{PutsBack}
 pub use Rattle.vbr_at_table.specs.Hands.{HandView}
 pub use Rattle.vbr_at_table.specs.Held.{held_of, HoldsMarked, IsHeld, IsSlot, IsSucc, Names}
 pub use Rattle.vbr_at_table.specs.Keeping.{Keeps, KeepsOwn, KeepsUnlinked}
-pub use Rattle.vbr_at_table.specs.KeptSlots.{HasAllButOne, HasStill, HasUnpublished, KeepsSlots, SharesWhereFull, StaysInTurn, TakesNoSlot}
+pub use Rattle.vbr_at_table.specs.KeptSlots.{HasAllButOne, HasStill, HasUnpublished, KeepsSlots, SharesWhereFull, StaysInTurn, TakesNoSlot, TriesNoFlag, TriesOnlyWhere, TriesWhereEmpty}
 pub use Rattle.vbr_at_table.specs.LookUps.{DecidesKey}
 pub use Rattle.vbr_at_table.specs.Marks.{LeavesOthers}
 pub use Rattle.vbr_at_table.specs.Moments.{IsNext, IsRead, Stood, WasEntry, WasSo}

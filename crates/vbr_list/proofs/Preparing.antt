@@ -1,6 +1,6 @@
 -- The steps of an insert, and what its refusals say.
-use Rattle.vbr_list.proofs.Names.{◌≡◌, ◌≢◌, ℕ, ◌+◌, ◌-◌, ◌<◌, ◌≤◌, Bool, true, false, List, [], ◌∷◌, length, Result, Ok, Err, inl, refl, sym, ◌∙◌, subst, arith, IfOk, IfErr, is_err, is_ok}
-use Rattle.vbr_list.proofs.Names.{Begins, counts_on, CountsSteps, EpochSpent, Ghosts, had_grown, had_on, IsRun, IsSame, IsSpent, LeavesRoom, Made, made_on, missed_after, needed_after, none_on, NoSlot, Op, OutOfSteps, PassView, Quiet, Refusal, set_call, shared_taken, shares_more, slots_kept_on, Start, TakesNoSlot, Took, took_all, TookWithin, Trace}
+use Rattle.vbr_list.proofs.Names.{◌≡◌, ◌≢◌, ℕ, ◌+◌, ◌-◌, ◌<◌, ◌≤◌, Bool, true, false, List, [], ◌∷◌, length, Result, Ok, Err, inl, inr, refl, sym, ◌∙◌, subst, arith, IfOk, IfErr, is_err, is_ok}
+use Rattle.vbr_list.proofs.Names.{Begins, counts_on, CountsSteps, EpochSpent, Ghosts, had_grown, had_on, IsRun, IsSame, IsSpent, LeavesRoom, Made, made_on, missed_after, needed_after, none_on, NoSlot, Op, OutOfSteps, PassView, Quiet, Refusal, set_call, shared_taken, shares_more, slots_kept_on, some_grown, Start, TakesNoSlot, TriesNoFlag, TriesOnlyWhere, TriesWhereEmpty, Took, took_all, TookWithin, Trace}
 use Rattle.vbr_machine.specs.declared.history.Call.{Call as ListedCall}
 use Rattle.vbr_list.specs.Inserting.{CountsWithin, InsertIsShort, InsertShowsSpent, Prepares, TakesNone}
 use Rattle.vbr_list.specs.Wanted.{WasWantedFor}
@@ -66,6 +66,16 @@ prepares_on {c = c} {d = d} {e = e} went one x =
 was_empty : (before now : List ℕ) → (before ≢ [] → now ≢ []) → now ≡ [] → before ≡ []
 was_empty [] now some empty = refl
 was_empty (s ∷ before) now some empty = absurd (some (λ e. absurd (cc)) empty)
+
+-- the shared pool was looked at, after what took no slot
+pub tries_after : {Holds : Type 0} (p q r : PassView) → TakesNoSlot p q → TriesWhereEmpty q r → Holds → TriesOnlyWhere Holds p r
+tries_after p q r none (inl still) so = inl (still ∙ none.tries)
+tries_after p q r none (inr empty) so = inr (was_empty p.pool q.pool (some_grown p q none.grows) empty.0, so)
+
+-- and before what doesn't look at it
+pub tries_before : {Holds Later : Type 0} (p q r : PassView) → TriesOnlyWhere Holds p q → TriesNoFlag q r → (Holds → Later) → TriesOnlyWhere Later p r
+tries_before p q r (inl none) later so = inl (later ∙ none)
+tries_before p q r (inr x) later so = inr (x.0, so x.1)
 
 -- a refusal to take a slot, after what made no call
 pub takes_after : (p q r : PassView) {a b budget : ℕ} → Quiet p.trace q.trace → (p.pool ≢ [] → q.pool ≢ []) → CountsWithin p.trace q.trace a b budget → Quiet q.trace r.trace → (refusal : Refusal) → TakesNone q r b budget refusal → TakesNone p r a budget refusal

@@ -1,6 +1,6 @@
 -- A store once it has a slot in hand: what it tells, answered or refused.
 use Rattle.vbr_list.proofs.Names.{◌≡◌, ℕ, ◌+◌, ◌<◌, Bool, true, false, refl, inl, inr, ◌*◌, ◌≤◌, Option, Some, Result, Ok, Err, subst, arith, IfErr, IfOk, ◌⊎◌}
-use Rattle.vbr_list.proofs.Names.{AdvancesWhereNeeded, Begins, Ghosts, had_on, HasStill, IsAlone, IsRun, IsStart, KeepsSlots, longer, MadeTwo, needed_before, PassView, Quiet, quiet_on, Refusal, Remove, shared_on, shares_more, SharesWhereFull, slots_kept_on, TookWithin, Trace}
+use Rattle.vbr_list.proofs.Names.{AdvancesWhereNeeded, Begins, Ghosts, had_on, HasStill, IsAlone, IsRun, IsStart, KeepsSlots, longer, MadeTwo, needed_before, PassView, Quiet, quiet_on, Refusal, Remove, shared_on, shares_more, SharesWhereFull, slots_kept_on, TookWithin, Trace, TriesOnlyWhere}
 use Rattle.vbr_list.specs.Budgets.{enough_to_unlist, listed_for}
 use Rattle.vbr_list.specs.Disturbed.{disturbed, enough_to_store_among, searches_more, steps_to_prepare, store_costs_among}
 use Rattle.vbr_list.specs.Inserting.{CountsWithin, InsertIsShort, Links, SearchedFor}
@@ -9,19 +9,20 @@ use Rattle.vbr_list.specs.Pieces.{pass_in, trace_in}
 use Rattle.vbr_list.specs.Settling.{AnswersIn, AnswersLate, AnswersSoon, SearchesWith, StoreAnswers, StoresNone}
 use Rattle.vbr_list.specs.Storing.{CallsStore, HasUnstored, Makes, replaced, stored_calls}
 use Rattle.vbr_list.specs.Told.{given_call, stored_call}
-use Rattle.vbr_list.specs.Wanted.{steps_to_compare}
+use Rattle.vbr_list.specs.Wanted.{WasWanted, steps_to_compare}
 use Rattle.vbr_list.specs.declared.call.PendingCall.{PendingCall}
 use Rattle.vbr_list.specs.declared.wanted.Wanted.{Wanted}
 use Rattle.vbr_list.proofs.Disturbing.{alone_undisturbed, run_at}
 use Rattle.vbr_list.proofs.Going.{room_left}
 use Rattle.vbr_list.proofs.LateSearches.{late_disturbs, late_paid}
-use Rattle.vbr_list.proofs.Preparing.{within_all, within_most, within_on}
+use Rattle.vbr_list.proofs.Preparing.{tries_before, within_all, within_most, within_on}
 use Rattle.vbr_list.proofs.Stores.{are_alone, had_since, has_made, HasMade, makes_on, store_lone, store_lone_costs, store_ready, store_refused_second, two_made}
 use Rattle.vbr_list.proofs.Sufficing.{lacks, lone, never_refused, slot_later}
 use Rattle.vbr_list.proofs.Sweeping.{leaves_replaced_since}
 use Rattle.vbr_list.proofs.Walking.{both_lack, both_paid}
+use Rattle.vbr_list.proofs.Wants.{was_later}
 
-module _ {N : Type 0} {kind : Ghosts N} (p : PassView) (d e : PendingCall N kind) (key value : ℕ) (wanted : Wanted) (budget : ℕ) (start : IsStart p.trace.start) (low : p.trace.who < p.trace.passes) (ok : IsRun p.trace.start p.trace.passes p.trace.seen) (first : Quiet p.trace (trace_in d)) (advances : AdvancesWhereNeeded p (pass_in d)) (kept : KeepsSlots p (pass_in d)) (had : HasStill p (pass_in d)) (shared : SharesWhereFull 2 p (pass_in d)) (before : CountsWithin p.trace (trace_in d) 0 d.used budget) (same_key : d.key ≡ key) (same_budget : d.budget ≡ budget)
+module _ {N : Type 0} {kind : Ghosts N} (p : PassView) (d e : PendingCall N kind) (key value : ℕ) (wanted : Wanted) (budget : ℕ) (start : IsStart p.trace.start) (low : p.trace.who < p.trace.passes) (ok : IsRun p.trace.start p.trace.passes p.trace.seen) (first : Quiet p.trace (trace_in d)) (advances : AdvancesWhereNeeded p (pass_in d)) (kept : KeepsSlots p (pass_in d)) (had : HasStill p (pass_in d)) (shared : SharesWhereFull 2 p (pass_in d)) (tries : TriesOnlyWhere (WasWanted wanted p.trace (trace_in d) key) p (pass_in d)) (before : CountsWithin p.trace (trace_in d) 0 d.used budget) (same_key : d.key ≡ key) (same_budget : d.budget ≡ budget)
     (links : Links d e) (searched : SearchedFor p.trace (trace_in d) key 0 d.used (steps_to_prepare wanted p (trace_in d) + 3)) where
   counts : CountsWithin (trace_in d) (trace_in e) d.used e.used budget
   counts = let P : ℕ → Type 0 = λ b. CountsWithin (trace_in d) (trace_in e) d.used e.used b in subst P same_budget links.counts
@@ -34,6 +35,9 @@ module _ {N : Type 0} {kind : Ghosts N} (p : PassView) (d e : PendingCall N kind
 
   shared_all : SharesWhereFull 2 p (pass_in e)
   shared_all = shared_on p (pass_in d) (pass_in e) 2 shared (longer (pass_in d) (pass_in e) links.takes_no_slot.grows) (shares_more (pass_in d) (pass_in e) links.takes_no_slot.shared)
+
+  tries_all : Begins (trace_in d).seen (trace_in e).seen → (IsRun (trace_in d).start (trace_in d).passes (trace_in d).seen → IsRun (trace_in e).start (trace_in e).passes (trace_in e).seen) → TriesOnlyWhere (WasWanted wanted p.trace (trace_in e) key) p (pass_in e)
+  tries_all seen run = tries_before p (pass_in d) (pass_in e) tries links.takes_no_slot.tries (was_later p.trace (trace_in d) (trace_in e) key wanted seen run)
 
   -- as AnswersSoon, for the key of the call
   record AnswersSoonFor (stored : Bool) : Type 0 where
@@ -127,6 +131,7 @@ module _ {N : Type 0} {kind : Ghosts N} (p : PassView) (d e : PendingCall N kind
           advances = needed_before {p = p} {q = pass_in d} {r = pass_in e} advances none.quiet.seen none.quiet.is_run links.takes_no_slot.count;
           had = had_on p (pass_in d) (pass_in e) had had_then;
           shared = shared_all;
+          tries = tries_all none.quiet.seen none.quiet.is_run;
           refused = store_refused_second wanted p (pass_in d) (pass_in e) key before refusal says;
           within = alone;
           disturbed_within = within;
@@ -160,6 +165,7 @@ module _ {N : Type 0} {kind : Ghosts N} (p : PassView) (d e : PendingCall N kind
           advances = needed_before {p = p} {q = pass_in d} {r = pass_in e} advances last.seen (λ _. last.is_run) links.takes_no_slot.count;
           had = had_since {E = Refusal} wanted p (pass_in d) (pass_in e) (Ok there) had had_then;
           shared = shared_all;
+          tries = tries_all last.seen (λ _. last.is_run);
           refused = tt;
           within = tt;
           disturbed_within = tt;

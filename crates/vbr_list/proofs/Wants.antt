@@ -1,6 +1,6 @@
 -- A store finds the key as it is wanted, or otherwise.
 use Rattle.vbr_list.proofs.Names.{◌≡◌, ℕ, ◌+◌, ◌≤◌, Bool, true, false, not, Option, Some, None, arith, refl, sym, subst, nat_tests}
-use Rattle.vbr_list.proofs.Names.{At, EpochSpent, Ghosts, Held, held_kept, IsSame, IsStart, Keeps, KeyAt, Know, knows, moment_before, NoSlot, OutOfSteps, Quiet, Refusal, stood_before, Trace, ValueAt, was_entry, WasEntry, WasSo}
+use Rattle.vbr_list.proofs.Names.{At, Begins, EpochSpent, Ghosts, Held, held_kept, IsRun, IsSame, IsStart, Keeps, KeyAt, Know, knows, moment_before, NoSlot, OutOfSteps, Quiet, Refusal, stood_before, Trace, ValueAt, was_entry, WasEntry, WasSo}
 use Rattle.vbr_list.specs.Budgets.{LacksSteps, steps_where}
 use Rattle.vbr_list.specs.Found.{CurStood, IsFound}
 use Rattle.vbr_list.specs.Inserting.{SearchesFor, SearchesInVain}
@@ -17,7 +17,7 @@ use Rattle.vbr_list.specs.declared.storing.Met.TheVariants.{AsWanted, Told}
 use Rattle.vbr_list.specs.declared.wanted.Wanted.{Wanted}
 use Rattle.vbr_list.specs.declared.wanted.Wanted.TheVariants.{Absent, Present, Anything, Value}
 use Rattle.vbr_list.proofs.FoundValues.{few_where}
-use Rattle.vbr_list.proofs.Moments.{key_known, so_before}
+use Rattle.vbr_list.proofs.Moments.{key_known, later_moment, so_before, so_later}
 use Rattle.vbr_list.proofs.Reaching.{key_kept}
 
 -- ---- as it is wanted
@@ -79,6 +79,13 @@ was_before p q r key Absent was then = so_before was then
 was_before p q r key Present was then = so_before was then
 was_before p q r key Anything was then = tt
 was_before p q r key (Value value) was then = record { moment = was.moment; within = moment_before was.within then; was = was.was; stored = was.stored }
+
+-- and was where the pass has made a call since
+pub was_later : (p q r : Trace) (key : ℕ) (wanted : Wanted) → Begins q.seen r.seen → (IsRun q.start q.passes q.seen → IsRun r.start r.passes r.seen) → WasWanted wanted p q key → WasWanted wanted p r key
+was_later p q r key Absent seen run was = so_later was seen run
+was_later p q r key Present seen run was = so_later was seen run
+was_later p q r key Anything seen run was = tt
+was_later p q r key (Value value) seen run was = record { moment = was.moment; within = later_moment was.within seen run; was = was.was; stored = was.stored }
 
 -- a refusal that isn't for want of steps comes then
 pub wanted_for : (p q : Trace) (key : ℕ) (wanted : Wanted) → WasWanted wanted p q key → (refusal : Refusal) → WasWantedFor wanted p q key refusal

@@ -12,14 +12,15 @@ use Rattle.vbr_at_table.specs.Advances.{AdvancesWhereNeeded}
 use Rattle.vbr_at_table.specs.Budgets.{steps_to_take_among}
 use Rattle.vbr_at_table.specs.Gained.{gained}
 use Rattle.vbr_at_table.specs.Hands.{HandView, IsHandOf}
-use Rattle.vbr_at_table.specs.KeptSlots.{HasStill, KeepsSlots, SharesWhereFull, TakesNoSlot}
+use Rattle.vbr_at_table.specs.KeptSlots.{HasStill, KeepsSlots, SharesWhereFull, TakesNoSlot, TriesOnlyWhere}
 use Rattle.vbr_at_table.specs.Refusals.{HasNoSlot, IsSpent}
 use Rattle.vbr_at_table.specs.Steps.{CountsSteps}
 use Rattle.vbr_at_table.specs.declared.budget.TheConstants.{PIECE}
 use Rattle.vbr_list.specs.Budgets.{LacksSteps}
 use Rattle.vbr_list.specs.Disturbed.{steps_for_slot}
 use Rattle.vbr_list.specs.Walking.{LosesFound, SearchesIn}
-use Rattle.vbr_list.specs.Wanted.{WasWantedFor}
+use Rattle.vbr_list.specs.Wanted.{WasWanted, WasWantedFor}
+use Rattle.vbr_list.specs.declared.wanted.Wanted.{Wanted}
 use Rattle.vbr_list.specs.declared.wanted.Wanted.TheVariants.{Absent}
 use Rattle.vbr_list.specs.Pieces.{IsSameCall, Replies, pass_in, trace_in}
 use Rattle.vbr_list.specs.declared.call.PendingCall.{PendingCall}
@@ -122,6 +123,10 @@ abbrev pub SearchesInVain : Trace → Trace → ℕ → ℕ → ℕ → ℕ → 
 SearchesInVain p q key before budget more (OutOfSteps used) = SearchesFor p q key before (budget + 1) more
 SearchesInVain p q key before budget more NoSlot = Unit {0}
 SearchesInVain p q key before budget more (EpochSpent epoch) = Unit {0}
+
+-- it looked for a slot in the shared pool only where its own pool was empty, and the key had been there as it is wanted
+abbrev pub TriesFor : {N : Type 0} {kind : Ghosts N} → Wanted → PendingCall N kind → PendingCall N kind → Type 0
+TriesFor wanted c d = TriesOnlyWhere (WasWanted wanted (trace_in c) (trace_in d) c.key) (pass_in c) (pass_in d)
 
 -- the pass has answered no, as the key was found present; or it has made no call, and has a slot in hand
 abbrev pub IsPrepared : {N : Type 0} {kind : Ghosts N} → PendingCall N kind → PendingCall N kind → Option HandView → Type 0

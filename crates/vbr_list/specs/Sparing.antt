@@ -1,5 +1,5 @@
 -- What an insert, a remove and a look-up tell.
-use Rattle.std.specs.Prelude.{◌≡◌, ◌≢◌, ℕ, ◌+◌, ◌<◌, ◌≤◌, Bool, [], None, Option, Result, IfOk, IfErr, is_some}
+use Rattle.std.specs.Prelude.{◌≡◌, ◌≢◌, ℕ, ◌+◌, ◌<◌, ◌≤◌, Bool, false, [], None, Option, Result, IfOk, IfErr, is_some}
 use Rattle.vbr_machine.specs.History.{GivesValue, set_call, values_after}
 use Rattle.vbr_machine.specs.Opened.{opening_payloads}
 use Rattle.vbr_machine.specs.declared.history.Call.{Call}
@@ -9,7 +9,8 @@ use Rattle.vbr_slots.specs.Alone.{IsAlone}
 use Rattle.vbr_slots.specs.Calls.{AddsAnswer, AddsNone, IsSame, Made, OnlyLoads, Quiet, made_by}
 use Rattle.vbr_slots.specs.Views.{PassView, Trace}
 use Rattle.vbr_at_table.specs.Advances.{AdvancesWhereNeeded}
-use Rattle.vbr_at_table.specs.KeptSlots.{HasUnpublished, KeepsSlots, SharesWhereFull, TakesNoSlot}
+use Rattle.vbr_at_table.specs.KeptSlots.{HasUnpublished, KeepsSlots, SharesWhereFull, TakesNoSlot, TriesOnlyWhere}
+use Rattle.vbr_at_table.specs.Moments.{WasSo}
 use Rattle.vbr_at_table.specs.Steps.{TookWithin}
 use Rattle.vbr_at_table.specs.Values.{steps_to_value}
 use Rattle.vbr_list.specs.Alone.{AnswersAlone}
@@ -20,12 +21,13 @@ use Rattle.vbr_list.specs.Refusals.{IsRefusedInsert, IsTired}
 use Rattle.vbr_list.specs.Told.{given_call, stored_call}
 use Rattle.vbr_at_table.specs.declared.refusal.Refusal.{Refusal}
 
--- what an insert promises besides: it advances the epoch only where that is needed, loses no slot, has each that it had but for the one that it published, puts one into the shared pool only where its own has no more than two places left, and is refused where it must be; alone it has steps enough with a budget that is known before, and with a slot in the own pool it is answered, unless the epoch is spent; and alone its answer costs no more than is known before; and so it is of a pass that was disturbed so often, where with an empty own pool one step more is counted for each slot that others took out of the shared pool
+-- what an insert promises besides: it advances the epoch only where that is needed, loses no slot, has each that it had but for the one that it published, puts one into the shared pool only where its own has no more than two places left, looks for one there only where its own is empty and the key was absent at a moment, and is refused where it must be; alone it has steps enough with a budget that is known before, and with a slot in the own pool it is answered, unless the epoch is spent; and alone its answer costs no more than is known before; and so it is of a pass that was disturbed so often, where with an empty own pool one step more is counted for each slot that others took out of the shared pool
 pub record SparesInsert (p q : PassView) (key budget : ℕ) (answer : Result Bool Refusal) : Type 0 where
   pub advances : AdvancesWhereNeeded p q
   pub kept : KeepsSlots p q
   pub had : HasUnpublished p q answer
   pub shared : SharesWhereFull 2 p q
+  pub tries : TriesOnlyWhere (WasSo p.trace q.trace key false) p q
   pub refused : IfErr answer (IsRefusedInsert p q key budget)
   pub within : IfErr answer (λ refusal. IsAlone p.trace q.trace → LacksSteps (enough_to_insert p key) budget refusal)
   pub disturbed_within : IfErr answer (λ refusal. LacksSteps (enough_to_insert_among (listed_for p.trace key) (disturbed p.trace q.trace key) (steps_for_slot p q.trace)) budget refusal)

@@ -6,7 +6,7 @@ use Rattle.vbr_slots.specs.Alone.{IsAlone}
 use Rattle.vbr_slots.specs.Calls.{IsSame, Made, Quiet}
 use Rattle.vbr_slots.specs.Views.{PassView, Trace}
 use Rattle.vbr_at_table.specs.Advances.{AdvancesWhereNeeded}
-use Rattle.vbr_at_table.specs.KeptSlots.{HasAllButOne, HasStill, KeepsSlots, SharesWhereFull}
+use Rattle.vbr_at_table.specs.KeptSlots.{HasAllButOne, HasStill, KeepsSlots, SharesWhereFull, TriesOnlyWhere}
 use Rattle.vbr_at_table.specs.Refusals.{HasNoSlot, IsOutOfSteps, IsSpent, LeavesRoom}
 use Rattle.vbr_at_table.specs.Replacing.{MadeTwo}
 use Rattle.vbr_at_table.specs.Steps.{TookWithin}
@@ -75,11 +75,12 @@ IsRefusedStore wanted p q key budget (EpochSpent epoch) = WantedAndSpent wanted 
 
 -- ---- the call
 
--- what a store promises besides: it advances the epoch only where that is needed, has each slot that it had but for the one that it published, puts one into the shared pool only where its own has no more than two places left, and is refused where it must be; alone it has steps enough with a budget that is known before, and with a slot in the own pool it is answered, unless the epoch is spent; where it replaced a node, that has left its list, unless its steps leave no room in the budget for one more piece, and alone it has with a budget that is known before; and alone its answer costs no more than is known before; and so it is of a pass that was disturbed so often, where with an empty own pool one step more is counted for each slot that others took out of the shared pool
+-- what a store promises besides: it advances the epoch only where that is needed, has each slot that it had but for the one that it published, puts one into the shared pool only where its own has no more than two places left, looks for one there only where its own is empty and the key was as it is wanted at a moment, and is refused where it must be; alone it has steps enough with a budget that is known before, and with a slot in the own pool it is answered, unless the epoch is spent; where it replaced a node, that has left its list, unless its steps leave no room in the budget for one more piece, and alone it has with a budget that is known before; and alone its answer costs no more than is known before; and so it is of a pass that was disturbed so often, where with an empty own pool one step more is counted for each slot that others took out of the shared pool
 pub record SparesStore (wanted : Wanted) (p q : PassView) (key budget : ℕ) (answer : Result (Option ℕ) Refusal) : Type 0 where
   pub advances : AdvancesWhereNeeded p q
   pub had : HasUnstored wanted p q answer
   pub shared : SharesWhereFull 2 p q
+  pub tries : TriesOnlyWhere (WasWanted wanted p.trace q.trace key) p q
   pub refused : IfErr answer (IsRefusedStore wanted p q key budget)
   pub within : IfErr answer (λ refusal. IsAlone p.trace q.trace → LacksSteps (enough_to_store wanted p key) budget refusal)
   pub disturbed_within : IfErr answer (λ refusal. LacksSteps (enough_to_store_among (listed_for p.trace key) (disturbed p.trace q.trace key) (steps_to_prepare wanted p q.trace)) budget refusal)

@@ -2,7 +2,7 @@
 ghost use Rattle.std.specs.Prelude.{◌≡◌, ◌+◌, ◌≤◌, false, true, None, IfOk, IfErr, IfNone, IfSome};
 ghost use Rattle.vbr_slots.specs.Calls.{Took};
 ghost use Rattle.vbr_slots.specs.Views.{IsOf};
-ghost use Rattle.vbr_list.specs.Inserting.{HasHandAndRoom, Links, Prepares};
+ghost use Rattle.vbr_list.specs.Inserting.{HasHandAndRoom, Links, Prepares, TriesFor};
 ghost use Rattle.vbr_list.specs.Pieces.{HasRoom, pass_in, trace_in};
 ghost use Rattle.vbr_list.specs.Replacing.{HasUnused};
 ghost use Rattle.vbr_list.specs.Settling.{AnswersPaid, AskLoses, Asks, AsksMet, ChangePaid, HasHandForValue, IsMet, IsPreparedStore, MaySettle, Meeting, MeetTires, PreparesNoStore, SettlesNone, SettlesPaid, StoreAnswers, StoresAndLeaves, StoresNone, has_wanted};
@@ -106,6 +106,7 @@ impl<N: Nodes> PendingCall<'_, N> {
         requires values { (trace_in self.old).start.shape.values ≡ true }
         requires empty_hand { (pass_in self.old).hand ≡ None }
         ensures prepares { Prepares self.old self.new }
+        ensures tries { TriesFor wanted self.old self.new }
         ensures prepared { IfOk result (IsPreparedStore wanted self.old self.new) }
         ensures refused { IfErr result (PreparesNoStore wanted self.old self.new) }
     {

@@ -3,9 +3,11 @@
 ghost use Rattle.std.specs.Prelude.{◌≡◌, ◌+◌, ◌≤◌, false, length, None, IfOk, IfErr};
 ghost use Rattle.vbr_slots.specs.Calls.{Quiet};
 ghost use Rattle.vbr_at_table.specs.Answering.{KeepsIn};
-ghost use Rattle.vbr_list.specs.Inserting.{AnswersNone, Prepares, PreparesHand, PreparesNone, Provides, ProvidesNone, denied};
+ghost use Rattle.vbr_at_table.specs.KeptSlots.{TriesWhereEmpty};
+ghost use Rattle.vbr_list.specs.Inserting.{AnswersNone, Prepares, PreparesHand, PreparesNone, Provides, ProvidesNone, TriesFor, denied};
 ghost use Rattle.vbr_list.specs.Pieces.{HasRoom, IsSameCall, Replies, pass_in, trace_in};
 ghost use Rattle.vbr_list.specs.Traversing.{LocatesFor};
+ghost use Rattle.vbr_list.specs.declared.wanted.Wanted.TheVariants.{Absent};
 
 use crate::call::PendingCall;
 use crate::found::Found;
@@ -46,6 +48,7 @@ impl<N: Nodes> PendingCall<'_, N> {
         ensures prepares { Prepares self.old self.new }
         ensures quiet { Quiet (trace_in self.old) (trace_in self.new) }
         ensures one { length (pass_in self.old).pool ≤ length (pass_in self.new).pool + 1 }
+        ensures tries { TriesWhereEmpty (pass_in self.old) (pass_in self.new) }
         ensures hand { IfOk result (Provides self.old self.new) }
         ensures refused { IfErr result (ProvidesNone self.old self.new) }
     {
@@ -70,6 +73,7 @@ impl<N: Nodes> PendingCall<'_, N> {
     pub(crate) fn prepare(&mut self) -> Result<Option<Hand>, Refusal>
         requires empty_hand { (pass_in self.old).hand ≡ None }
         ensures prepares { Prepares self.old self.new }
+        ensures tries { TriesFor Absent self.old self.new }
         ensures prepared { IfOk result (PreparesHand self.old self.new) }
         ensures refused { IfErr result (PreparesNone self.old self.new) }
     {

@@ -7,10 +7,11 @@ use std::fmt;
 #[derive(Drop)]
 pub enum EndError<M = Member> {
     /// A pass never came back. The set is gone. A member that is dropped gives its pass back, so no
-    /// program is known to get this.
+    /// program is known to get this. A contract says that it doesn't come to the member of a set that
+    /// was opened for one; of several, tests do.
     Lost,
-    /// There is no memory for the report. The member is as it was: it can make calls, and be closed
-    /// again.
+    /// There is no memory for the report. The member is as it was, with what it had of its set: it can make
+    /// calls, and be closed again.
     Memory(M),
 }
 

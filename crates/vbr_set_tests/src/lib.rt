@@ -10,6 +10,8 @@ mod iterating;
 #[cfg(test)]
 mod listing_threads;
 #[cfg(test)]
+mod map_rows;
+#[cfg(test)]
 mod maps;
 #[cfg(test)]
 mod members;

@@ -1,6 +1,7 @@
 //! Rounds over the calls that take memory, as tests. A call that finds no memory must leave all as it
 //! was, and give what it should when it is made again. `tests/calls` runs each of them with each
 //! allocation refused in turn.
+mod maps;
 mod members_of_maps;
 mod plain_set;
 mod renewal;

@@ -27,6 +27,8 @@ mod standing_still;
 #[cfg(test)]
 mod stores;
 #[cfg(test)]
+mod stores_between;
+#[cfg(test)]
 mod values;
 #[cfg(test)]
 mod words;

@@ -39,6 +39,7 @@ returns-in-Err-clause-calls g c =
         kept = search rules;
         had = c.prepare.ensures.prepares.had;
         shared = search rules;
+        tries = c.prepare.ensures.tries;
         refused = refused_first p q c.args.key c.args.budget c.in-Err.refusal refused.says refused.so;
         disturbed_within = within;
         within = alone;
@@ -69,6 +70,7 @@ returns-in-Ok-None-clause-calls g c =
         kept = search rules;
         had = c.prepare.ensures.prepares.had;
         shared = search rules;
+        tries = c.prepare.ensures.tries;
         refused = tt;
         disturbed_within = tt;
         within = tt;
@@ -176,7 +178,7 @@ returns-in-Ok-clause-calls g c =
     let links = links_then so went {e = e} (takes_on (steps_to_update q.trace.start) once (ap (λ (n : ℕ). d.used + n) steps) stores.took stores.takes_no_slot) inserted.spent in
     let had = had_then {E = Refusal} c.prepare.new.self.at.stepper.now q r (Ok true) (had_until so went) (had_spent q r c.loop-found.hand.slot (has_until so went).is.slot stores.pool) in
     let linked = links_hand {b = c.prepare.new.self} {e = e} c.law-2.ensures so went c.in-Some.found c.in-Some.ensures.found c.args.value true (omega (arith, steps)) inserted.made in
-    rw same (insert_linked c.args.value (Ok true) c.law.ensures refl c.prepare.ensures.prepares (rw c.in-Ok-Some.field-0-is at c.in-Ok-Some.ensures.prepared.is).0 c.in-Ok-Some.ensures.prepared.searched links had linked tt)
+    rw same (insert_linked c.args.value (Ok true) c.law.ensures refl c.prepare.ensures.prepares c.prepare.ensures.tries (rw c.in-Ok-Some.field-0-is at c.in-Ok-Some.ensures.prepared.is).0 c.in-Ok-Some.ensures.prepared.searched links had linked tt)
 
 pub returns-then-found-clause-calls : goal.returns-then-found-clause-calls
 returns-then-found-clause-calls g c =
@@ -196,7 +198,7 @@ returns-then-found-clause-calls g c =
     let some = (few_to_update p.start).0 in
     let used = no.used in
     let linked = links_hand {b = c.prepare.new.self} {e = e} c.law-2.ensures so went c.in-Some.found c.in-Some.ensures.found c.args.value false (omega (arith, some, used)) (told_as (told_bare p.start p.who Insert d.key false) made) in
-    rw same (insert_linked c.args.value (Ok false) c.law.ensures refl c.prepare.ensures.prepares (rw c.in-Ok-Some.field-0-is at c.in-Ok-Some.ensures.prepared.is).0 c.in-Ok-Some.ensures.prepared.searched links (had_denied so went no.keeps back) linked tt)
+    rw same (insert_linked c.args.value (Ok false) c.law.ensures refl c.prepare.ensures.prepares c.prepare.ensures.tries (rw c.in-Ok-Some.field-0-is at c.in-Ok-Some.ensures.prepared.is).0 c.in-Ok-Some.ensures.prepared.searched links (had_denied so went no.keeps back) linked tt)
 
 pub returns-in_default-clause-calls : goal.returns-in_default-clause-calls
 returns-in_default-clause-calls g c =
@@ -220,4 +222,4 @@ returns-in_default-clause-calls g c =
       says = record { counts = within_same back.trace (counts_until so went); short = short };
       searches = subst S (sym back.trace) (search_ends c.law-2.ensures so.0 so.1 went so.6 tired.walks (b.budget + 1) 8 11 (omega (arith, short)) (omega arith));
     } in
-    rw same (insert_linked c.args.value (Err (OutOfSteps d.used)) c.law.ensures refl c.prepare.ensures.prepares (rw c.in-Ok-Some.field-0-is at c.in-Ok-Some.ensures.prepared.is).0 c.in-Ok-Some.ensures.prepared.searched links (had_tired so went back) tt refused)
+    rw same (insert_linked c.args.value (Err (OutOfSteps d.used)) c.law.ensures refl c.prepare.ensures.prepares c.prepare.ensures.tries (rw c.in-Ok-Some.field-0-is at c.in-Ok-Some.ensures.prepared.is).0 c.in-Ok-Some.ensures.prepared.searched links (had_tired so went back) tt refused)

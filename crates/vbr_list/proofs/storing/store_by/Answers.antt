@@ -41,6 +41,7 @@ returns-in-Err-clause-calls c =
         advances = prepares.advances;
         had = prepares.had;
         shared = prepares.shared;
+        tries = c.prepare_store.ensures.tries;
         refused = store_refused_first wanted p q c.args.key c.args.budget refusal none.says none.so;
         within = alone;
         disturbed_within = within;
@@ -79,6 +80,7 @@ returns-in-Ok-Told-clause-calls c =
         advances = prepares.advances;
         had = told_had wanted there p q x.tells.is_not prepares.had;
         shared = prepares.shared;
+        tries = c.prepare_store.ensures.tries;
         refused = tt;
         within = tt;
         disturbed_within = tt;
@@ -95,5 +97,5 @@ returns-in-Ok-Ready-clause-calls c =
     let same : c.stepper-in-Ok-Ready-1.given.0 ≡ c.store_with.new.self.at.stepper.now = search rules in
     let prepares = c.prepare_store.ensures.prepares in
     let x : HasPrepared c.args.wanted _ c.prepare_store.new.self c.in-Ok-Ready.hand = rw c.in-Ok-Ready.field-0-is at c.in-Ok-Ready.ensures.prepared in
-    rw same (calls_with c.args.stepper.now c.prepare_store.new.self c.store_with.new.self c.args.key c.args.value c.args.wanted c.args.budget c.law.ensures.start c.law.ensures.low c.law.ensures.is_run x.quiet prepares.advances prepares.kept prepares.had prepares.shared prepares.counts prepares.call.key prepares.call.budget
+    rw same (calls_with c.args.stepper.now c.prepare_store.new.self c.store_with.new.self c.args.key c.args.value c.args.wanted c.args.budget c.law.ensures.start c.law.ensures.low c.law.ensures.is_run x.quiet prepares.advances prepares.kept prepares.had prepares.shared c.prepare_store.ensures.tries prepares.counts prepares.call.key prepares.call.budget
     c.store_with.ensures.links x.searched c.store_with.result c.store_with.ensures.had c.store_with.ensures.answers c.store_with.ensures.refused c.store_with.ensures.paid)

@@ -1,4 +1,4 @@
-use Rattle.vbr_list.proofs.Names.{◌+◌, Bool, false, sym, ◌∙◌, subst, arith, err_from_is_err_and}
+use Rattle.vbr_list.proofs.Names.{◌+◌, Bool, false, inl, sym, ◌∙◌, subst, arith, err_from_is_err_and}
 use Rattle.vbr_list.proofs.Names.{gained, Made, no_room, quiet_on, set_call, some_grown, steps_to_take_among, WasSo}
 use Rattle.vbr_list.specs.Disturbed.{steps_for_slot}
 use Rattle.vbr_list.specs.Inserting.{denied}
@@ -7,7 +7,7 @@ use Rattle.vbr_list.proofs.Disturbing.{run_at}
 use Rattle.vbr_list.proofs.Walking.{in_vain, search_round_on, searches_later}
 use Rattle.vbr_list.proofs.LostWalks.{search_ends}
 use Rattle.vbr_list.proofs.Moments.{found_since, so_before, was_so}
-use Rattle.vbr_list.proofs.Preparing.{if_err, if_ok, made_since, prepares_answered, prepares_on, prepares_still, steps_gone, takes_after}
+use Rattle.vbr_list.proofs.Preparing.{if_err, if_ok, made_since, prepares_answered, prepares_on, prepares_still, steps_gone, takes_after, tries_after}
 use Rattle.vbr_list.proofs.Sufficing.{take_after, take_least}
 use Rattle.vbr_list.specs.declared.wanted.Wanted.TheVariants.{Absent}
 use Rattle.vbr_list.proofs.Wants.{wanted_for}
@@ -49,6 +49,31 @@ pub returns-then-is_ok-clause-prepares : goal.returns-then-is_ok-clause-prepares
 returns-then-is_ok-clause-prepares g c =
     let d = c.answer_no.ensures in
     prepares_answered (goes_further c.loop-found.invariant.0 c.loop-found.invariant.1 c.search.ensures.goes) d.call d.used (c.affords.ensures.0 c.if-not-affords.false) d.keeps.took d.keeps.takes_no_slot d.keeps.own.hand
+
+-- ---- the shared pool
+
+pub returns-in_default-clause-tries : goal.returns-in_default-clause-tries
+returns-in_default-clause-tries g c = inl (goes_further c.loop-found.invariant.0 c.loop-found.invariant.1 c.search.ensures.goes).goes.hand.takes_no_slot.tries
+
+pub returns-then-not-affords-clause-tries : goal.returns-then-not-affords-clause-tries
+returns-then-not-affords-clause-tries g c = inl (goes_further c.loop-found.invariant.0 c.loop-found.invariant.1 c.search.ensures.goes).goes.hand.takes_no_slot.tries
+
+pub returns-in_err-hand-clause-tries : goal.returns-in_err-hand-clause-tries
+returns-in_err-hand-clause-tries g c =
+    let gone = goes_further c.loop-found.invariant.0 c.loop-found.invariant.1 c.search.ensures.goes in
+    let so = was_so c.args.self.now.key c.in-Some.found c.law.ensures.start gone.goes.quiet.same (found_since c.args.self.now.key c.in-Some.found c.loop-found.invariant.1.goes.quiet (rw c.loop-found.invariant.0.key at c.in-Some.ensures.found.found)) in
+    let P : Bool → Type 0 = WasSo c.args.self.now.at.stepper.now.trace c.search.new.self.at.stepper.now.trace c.args.self.now.key in
+    tries_after c.args.self.now.at.stepper.now c.search.new.self.at.stepper.now c.provide.new.self.at.stepper.now gone.goes.hand.takes_no_slot c.provide.ensures.tries (so_before (subst P c.if-not-found.true so) c.provide.ensures.quiet)
+
+pub returns-then-not-found-clause-tries : goal.returns-then-not-found-clause-tries
+returns-then-not-found-clause-tries g c =
+    let gone = goes_further c.loop-found.invariant.0 c.loop-found.invariant.1 c.search.ensures.goes in
+    let so = was_so c.args.self.now.key c.in-Some.found c.law.ensures.start gone.goes.quiet.same (found_since c.args.self.now.key c.in-Some.found c.loop-found.invariant.1.goes.quiet (rw c.loop-found.invariant.0.key at c.in-Some.ensures.found.found)) in
+    let P : Bool → Type 0 = WasSo c.args.self.now.at.stepper.now.trace c.search.new.self.at.stepper.now.trace c.args.self.now.key in
+    tries_after c.args.self.now.at.stepper.now c.search.new.self.at.stepper.now c.provide.new.self.at.stepper.now gone.goes.hand.takes_no_slot c.provide.ensures.tries (so_before (subst P c.if-not-found.true so) c.provide.ensures.quiet)
+
+pub returns-then-is_ok-clause-tries : goal.returns-then-is_ok-clause-tries
+returns-then-is_ok-clause-tries g c = inl (c.answer_no.ensures.keeps.takes_no_slot.tries ∙ (goes_further c.loop-found.invariant.0 c.loop-found.invariant.1 c.search.ensures.goes).goes.hand.takes_no_slot.tries)
 
 pub returns-in_default-clause-refused : goal.returns-in_default-clause-refused
 returns-in_default-clause-refused g c =

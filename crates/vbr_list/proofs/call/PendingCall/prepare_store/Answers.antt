@@ -1,10 +1,10 @@
-use Rattle.vbr_list.proofs.Names.{◌+◌, ◌∙◌, arith, err_from_is_err_and}
+use Rattle.vbr_list.proofs.Names.{◌+◌, ◌∙◌, inl, arith, err_from_is_err_and}
 use Rattle.vbr_list.proofs.Names.{gained, quiet_on, some_grown, steps_to_take_among}
 use Rattle.vbr_list.specs.Disturbed.{steps_to_prepare}
 use Rattle.vbr_list.specs.Settling.{MeetsOther, MeetsWanted}
 use Rattle.vbr_list.specs.Wanted.{steps_to_compare}
 use Rattle.vbr_list.proofs.Disturbing.{run_at}
-use Rattle.vbr_list.proofs.Preparing.{prepares_none, prepares_on, steps_gone, takes_after}
+use Rattle.vbr_list.proofs.Preparing.{prepares_none, prepares_on, steps_gone, takes_after, tries_after}
 use Rattle.vbr_list.proofs.Sufficing.{take_after, take_least}
 use Rattle.vbr_list.proofs.Walking.{searches_later}
 use Rattle.vbr_list.proofs.Wants.{met_goes, searches_more_steps, store_in_vain, wanted_for, was_before}
@@ -25,6 +25,30 @@ pub returns-in_ok-hand-in-AsWanted-clause-prepares : goal.returns-in_ok-hand-in-
 returns-in_ok-hand-in-AsWanted-clause-prepares g c =
     let met : MeetsWanted c.args.wanted c.args.self.now c.meet.new.self = rw c.in-AsWanted.is at c.in-Some.ensures.met in
     prepares_on (met_goes c.meet.ensures.meets met.quiet) c.provide.ensures.one c.provide.ensures.prepares
+
+-- ---- the shared pool
+
+pub returns-in_default-clause-tries : goal.returns-in_default-clause-tries
+returns-in_default-clause-tries g c = inl c.meet.ensures.meets.hand.takes_no_slot.tries
+
+pub returns-in-Told-clause-tries : goal.returns-in-Told-clause-tries
+returns-in-Told-clause-tries g c = inl c.meet.ensures.meets.hand.takes_no_slot.tries
+
+pub returns-in_err-hand-in-AsWanted-clause-tries : goal.returns-in_err-hand-in-AsWanted-clause-tries
+returns-in_err-hand-in-AsWanted-clause-tries g c =
+    let met : MeetsWanted c.args.wanted c.args.self.now c.meet.new.self = rw c.in-AsWanted.is at c.in-Some.ensures.met in
+    let p = c.args.self.now.at.stepper.now in
+    let m = c.meet.new.self.at.stepper.now in
+    let r = c.provide.new.self.at.stepper.now in
+    tries_after p m r c.meet.ensures.meets.hand.takes_no_slot c.provide.ensures.tries (was_before p.trace m.trace r.trace c.args.self.now.key c.args.wanted met.was c.provide.ensures.quiet)
+
+pub returns-in_ok-hand-in-AsWanted-clause-tries : goal.returns-in_ok-hand-in-AsWanted-clause-tries
+returns-in_ok-hand-in-AsWanted-clause-tries g c =
+    let met : MeetsWanted c.args.wanted c.args.self.now c.meet.new.self = rw c.in-AsWanted.is at c.in-Some.ensures.met in
+    let p = c.args.self.now.at.stepper.now in
+    let m = c.meet.new.self.at.stepper.now in
+    let r = c.provide.new.self.at.stepper.now in
+    tries_after p m r c.meet.ensures.meets.hand.takes_no_slot c.provide.ensures.tries (was_before p.trace m.trace r.trace c.args.self.now.key c.args.wanted met.was c.provide.ensures.quiet)
 
 pub returns-in_default-clause-refused : goal.returns-in_default-clause-refused
 returns-in_default-clause-refused g c =

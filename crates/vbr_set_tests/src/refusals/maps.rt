@@ -1,0 +1,278 @@
+//! Maps: the plain one, the world of the core, the running table, the map itself, and its script.
+ghost use Rattle.std.specs.Prelude.{◌≡◌, ◌≤◌, length, IfSome};
+ghost use Rattle.vbr_slots.specs.Closing.{AllOf};
+ghost use Rattle.vbr_slots.specs.Views.{new_passes};
+
+use crate::refusals::round::is_right;
+use std::alloc::Global;
+use vbr_core::{CoreRefusal, World, WorldRefusal, replay_with_entries};
+use vbr_machine::{Op, PlainMap};
+use vbr_script::{ScriptError, parse_map_script};
+use vbr_set::{CloseError, MapReport, OpenError, Pass, RenewError, Shape, VbrMap};
+use vbr_slots::Slots;
+use vbr_words::Entries;
+
+// What each opening has.
+const ENTRIES: [(u64, u64); 3] = [(2, 70), (5, 71), (9, 70)];
+
+// How often a call is made: two refusals that follow one another are got over.
+const ATTEMPTS: u32 = 3;
+
+// ---- the plain map
+
+// Inserts a key with ten times its number, and says whether memory was refused, which leaves it absent.
+fn insert(map: &mut PlainMap, key: u64) -> Option<bool> {
+    let value = key.saturating_mul(10);
+    for refusals in 0..ATTEMPTS {
+        match map.apply(Op::Insert, key, value) {
+            Ok(told) => return (told == (true, Some(value))).then_some(refusals > 0),
+            Err(_) if map.apply(Op::Get, key, 0) == Ok((false, None)) => {}
+            Err(_) => return None,
+        }
+    }
+    None
+}
+
+// Inserts so many keys that the map grows several times, and asks for each.
+fn inserts(alloc: Global) -> Option<bool> {
+    let mut map = PlainMap::new(alloc);
+    let mut refused = false;
+    for key in 0..40 {
+        refused |= insert(&mut map, key)?;
+    }
+    let mut is_whole = true;
+    for key in 0..40_u64 {
+        let there = Some(key.saturating_mul(10));
+        is_whole = is_whole && map.apply(Op::Get, key, 0) == Ok((true, there));
+    }
+    is_whole.then_some(refused)
+}
+
+#[test]
+fn plain_map_inserts(rt: HostRuntime) {
+    is_right(&rt, inserts(rt.alloc()));
+}
+
+// The entries of a map, and whether memory was refused.
+fn entries_of(map: &PlainMap) -> Option<(Vec<(u64, u64)>, bool)> {
+    for refusals in 0..ATTEMPTS {
+        if let Ok(entries) = map.entries() {
+            return Some((entries, refusals > 0));
+        }
+    }
+    None
+}
+
+// Lists a few entries.
+fn lists(alloc: Global) -> Option<bool> {
+    let mut map = PlainMap::new(alloc);
+    let mut refused = false;
+    for key in 0..5 {
+        refused |= insert(&mut map, key)?;
+    }
+    let (entries, refused_entries) = entries_of(&map)?;
+    let wanted = [(0, 0), (1, 10), (2, 20), (3, 30), (4, 40)];
+    (entries.as_slice() == wanted.as_slice()).then_some(refused | refused_entries)
+}
+
+#[test]
+fn plain_map_keys(rt: HostRuntime) {
+    is_right(&rt, lists(rt.alloc()));
+}
+
+// ---- the world of the core
+
+// Opens a world with three entries.
+fn world_opens(alloc: Global) -> Option<bool> {
+    let shape = Shape::new(4, 2, 10).ok()?;
+    for refusals in 0..ATTEMPTS {
+        match World::open_with_entries(alloc, shape, 2, &ENTRIES) {
+            Ok(world) => return (world.incarnations() == 3).then_some(refusals > 0),
+            Err(WorldRefusal::NoMemory) => {}
+            Err(WorldRefusal::Passes) => return None,
+        }
+    }
+    None
+}
+
+#[test]
+fn world_opens_with_three_entries_of_keys(rt: HostRuntime) {
+    is_right(&rt, world_opens(rt.alloc()));
+}
+
+// Replays a list without events from three entries.
+fn world_replays(alloc: Global) -> Option<bool> {
+    let shape = Shape::new(4, 2, 10).ok()?;
+    for refusals in 0..ATTEMPTS {
+        match replay_with_entries(alloc, shape, 2, &ENTRIES, &[]) {
+            Ok(world) => return (world.incarnations() == 3).then_some(refusals > 0),
+            Err((0, CoreRefusal::NoMemory)) => {}
+            Err(_) => return None,
+        }
+    }
+    None
+}
+
+#[test]
+fn world_replays_from_entries_of_keys(rt: HostRuntime) {
+    is_right(&rt, world_replays(rt.alloc()));
+}
+
+// ---- the running table
+
+// A table with three entries and its pass, and whether memory was refused.
+fn open_table(alloc: Global, shape: Shape) -> Option<(Slots<Entries>, Vec<Pass>, bool)>
+    requires { 3 ≤ shape.slots }
+    ensures { IfSome result (λ r. AllOf r.0 r.1.items) }
+{
+    for refusals in 0..ATTEMPTS {
+        match Slots::open_with_entries(alloc, shape, 1, &ENTRIES) {
+            Ok((slots, passes)) => return Some((slots, passes, refusals > 0)),
+            Err(OpenError::Memory) => {}
+            Err(OpenError::Passes) => return None,
+        }
+    }
+    None
+}
+
+// Opens a table with three entries, and closes it at once.
+fn table_opens(alloc: Global) -> Option<bool> {
+    let shape = Shape::new(3, 1, 10).ok()?;
+    let (slots, passes, refused) = open_table(alloc, shape)?;
+    let (words, refused_close) = match slots.close(alloc, passes) {
+        Ok(words) => (words, false),
+        Err(CloseError::Memory(slots, passes)) => (slots.close(alloc, passes).ok()?, true),
+        Err(CloseError::Missing(..)) => return None,
+    };
+    (words.len() == 19).then_some(refused | refused_close)
+}
+
+#[test]
+fn table_opens_with_entries_of_keys(rt: HostRuntime) {
+    is_right(&rt, table_opens(rt.alloc()));
+}
+
+// ---- the map
+
+// A map with three entries and its two passes, and whether memory was refused.
+fn open_map(alloc: Global, shape: Shape) -> Option<(VbrMap, Vec<Pass>, bool)>
+    requires { 3 ≤ shape.slots }
+    ensures count { IfSome result (λ r. r.0.passes ≡ 2) }
+    ensures passes { IfSome result (λ r. r.1.items ≡ new_passes r.0 0 2) }
+{
+    for refusals in 0..ATTEMPTS {
+        match VbrMap::open_with(alloc, shape, 2, &ENTRIES) {
+            Ok((map, passes)) => return Some((map, passes, refusals > 0)),
+            Err(OpenError::Memory) => {}
+            Err(OpenError::Passes) => return None,
+        }
+    }
+    None
+}
+
+// The report of a map that is closed, and whether memory was refused.
+fn close_map(map: VbrMap, alloc: Global, passes: Vec<Pass>) -> Option<(MapReport, bool)>
+    requires { AllOf map passes.items }
+{
+    match map.close(alloc, passes) {
+        Ok(report) => Some((report, false)),
+        Err(CloseError::Memory(map, passes)) => match map.close(alloc, passes) {
+            Ok(report) => Some((report, true)),
+            Err(CloseError::Memory(map, passes)) => Some((map.close(alloc, passes).ok()?, true)),
+            Err(CloseError::Missing(..)) => None,
+        },
+        Err(CloseError::Missing(..)) => None,
+    }
+}
+
+// What is in a map that stays open, and whether memory was refused.
+fn tell(map: &VbrMap, alloc: Global, passes: &mut [Pass]) -> Option<(MapReport, bool)>
+    requires of_map { AllOf map.now passes.old }
+    requires all { map.now.passes ≤ length passes.old }
+    ensures { passes.new ≡ passes.old }
+{
+    for refusals in 0..ATTEMPTS {
+        if let Ok(report) = map.report(alloc, passes) {
+            return Some((report, refusals > 0));
+        }
+    }
+    None
+}
+
+// Whether a report is that of the three entries in four slots.
+fn has_three(report: &MapReport) -> bool {
+    report.entries.as_slice() == ENTRIES.as_slice()
+        && (report.epoch, report.live, report.marked, report.free) == (1, 3, 0, 1)
+}
+
+// Opens a map with three entries, tells what is in it, and closes it.
+fn map_tells_and_closes(alloc: Global) -> Option<bool> {
+    let (map, mut passes, refused) = open_map(alloc, Shape::new(4, 2, 10).ok()?)?;
+    let (told, refused_report) = tell(&map, alloc, &mut passes)?;
+    let (report, refused_close) = close_map(map, alloc, passes)?;
+    (has_three(&told) && has_three(&report)).then_some(refused | refused_report | refused_close)
+}
+
+#[test]
+fn map_tells_and_closes_with_keys(rt: HostRuntime) {
+    is_right(&rt, map_tells_and_closes(rt.alloc()));
+}
+
+// A fresh map with the entries of this one, and whether memory was refused. Where nothing is left of the map,
+// the entries of its report go on.
+fn renew(alloc: Global, map: VbrMap, passes: Vec<Pass>) -> Option<(VbrMap, Vec<Pass>, bool)>
+    requires own { AllOf map passes.items }
+    requires two { map.passes ≡ 2 }
+    ensures { IfSome result (λ r. r.1.items ≡ new_passes r.0 0 2) }
+{
+    let shape = map.shape();
+    match map.renew(alloc, passes) {
+        Ok((map, passes)) => Some((map, passes, false)),
+        Err(RenewError::Missing(..)) => None,
+        Err(RenewError::Memory(map, passes)) => {
+            let (map, passes) = map.renew(alloc, passes).ok()?;
+            Some((map, passes, true))
+        }
+        Err(RenewError::Closed(report)) => {
+            let (map, passes) = VbrMap::open_with(alloc, shape, 2, &report.entries).ok()?;
+            has_three(&report).then_some((map, passes, true))
+        }
+    }
+}
+
+// Opens a map with three entries, renews it, and closes it.
+fn map_renews_and_closes(alloc: Global) -> Option<bool> {
+    let (map, passes, refused) = open_map(alloc, Shape::new(4, 2, 10).ok()?)?;
+    let (map, passes, refused_renewal) = renew(alloc, map, passes)?;
+    let (report, refused_close) = close_map(map, alloc, passes)?;
+    has_three(&report).then_some(refused | refused_renewal | refused_close)
+}
+
+#[test]
+fn map_is_renewed_with_keys(rt: HostRuntime) {
+    is_right(&rt, map_renews_and_closes(rt.alloc()));
+}
+
+// ---- a script
+
+// Reads a script of a map.
+fn reads(alloc: Global) -> Option<bool> {
+    let text = b"0 insert 5 70\n0 get 5\nsync\n0 insert 6\n0 remove 5\n0 has 5\n0 get 6\n0 get 7\n0 get 8\n";
+    for refusals in 0..ATTEMPTS {
+        match parse_map_script(alloc, text, 1) {
+            Ok(script) => {
+                let keys = script.lines.iter().map(|line| line.key);
+                let is_whole = script.phases == 2 && keys.eq([5, 5, 6, 5, 5, 6, 7, 8]);
+                return is_whole.then_some(refusals > 0);
+            }
+            Err(ScriptError::Memory) => {}
+            Err(ScriptError::Fault { .. }) => return None,
+        }
+    }
+    None
+}
+
+#[test]
+fn map_script_reads(rt: HostRuntime) {
+    is_right(&rt, reads(rt.alloc()));
+}
