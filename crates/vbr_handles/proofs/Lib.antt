@@ -6,3 +6,4 @@ mod Opened
 mod AllHandles
 mod AskingAll
 mod EntryKeys
+mod InTurn

@@ -14,6 +14,7 @@ pub mod OpeningCodes
 pub mod Calls
 pub mod ValueCalls
 pub mod Iterating
+pub mod Batches
 pub mod Shown
 pub mod Reports
 pub mod Renewals

@@ -13,6 +13,7 @@ ghost use Rattle.vbr_handles.specs.OpeningCodes.{TellsOpeningBy};
 ghost use Rattle.vbr_handles.specs.Renewals.{TellsRenewalBy};
 ghost use Rattle.vbr_handles.specs.Reports.{TellsCloseAllBy, TellsCloseBy, TellsReportBy, WritesAll};
 
+pub mod batches;
 pub mod entries;
 pub mod iterating;
 

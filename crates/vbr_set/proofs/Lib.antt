@@ -23,3 +23,4 @@ mod TakenUp
 mod Listing
 mod Progress
 mod StretchedRuns
+mod InTurn

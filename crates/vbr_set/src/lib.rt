@@ -36,6 +36,7 @@
 //! the set with no slot in hand.
 #![tactic(auto)]
 
+pub mod batches;
 pub mod close_all_error;
 pub mod contents;
 pub mod end_error;

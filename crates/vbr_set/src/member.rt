@@ -1,4 +1,5 @@
 //! A member of a set, or of a map.
+pub mod batches;
 pub mod calls;
 pub mod closing;
 pub mod closing_all;

@@ -43,4 +43,10 @@ impl<N: Nodes> VbrSet<N> {
     {
         self.slots.shape()
     }
+
+    // Brings into the cache what look-ups of these keys begin with, as [`Slots::warm`].
+    #[inline]
+    pub(crate) fn warm(&self, keys: &[u64]) {
+        self.slots.warm(keys);
+    }
 }

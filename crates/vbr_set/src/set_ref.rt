@@ -1,4 +1,5 @@
 //! A pass with a reference to its set.
+pub mod batches;
 pub mod calls;
 pub mod iterating;
 pub mod map_calls;

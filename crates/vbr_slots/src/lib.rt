@@ -29,6 +29,7 @@ pub mod slots;
 pub mod snapshot;
 pub mod stepper;
 mod stepping;
+pub mod warming;
 
 pub use at_table::AtTable;
 pub use close_error::CloseError;
@@ -37,3 +38,4 @@ pub use pass::Pass;
 pub use seen::Seen;
 pub use slots::Slots;
 pub use stepper::Stepper;
+pub use warming::BATCH;
