@@ -4,7 +4,6 @@ use Rattle.std.specs.Prelude.{◌⊎◌, ◌&&◌, IfSome, unwrap_or}
 use Rattle.std.specs.List.{AllByRecursion}
 use Rattle.std.proofs.lemmas.List.{get_or-set_same, get_or-set_other}
 use Rattle.std.proofs.lemmas.Bool.{cases_eq, eq-eqb, ne_eqb}
-use Rattle.vbr_machine.specs.Start.{Start}
 use Rattle.vbr_words.specs.Words.{IsLink}
 use Rattle.vbr_words.specs.declared.link.Link.{Link}
 use Rattle.vbr_words.specs.declared.link.TheConstants.{MAX_SLOTS}
@@ -13,8 +12,8 @@ use Rattle.vbr_words.specs.declared.place.At.TheVariants.{Head, Slot}
 use Rattle.vbr_words.specs.declared.shape.TheConstants.{MAX_EPOCH}
 use Rattle.vbr_machine.specs.Put.{put}
 use Rattle.vbr_machine.specs.Knowledge.{Know, birth_in, birth_at, birth_of, marked_in, same_at}
-use Rattle.vbr_machine.specs.Acceptance.{MayPublish, MayReplace, next_of_marked}
-use Rattle.vbr_machine.specs.Learning.{link_in_hand, reread, read_epoch, with_own}
+use Rattle.vbr_machine.specs.Acceptance.{next_of_marked}
+use Rattle.vbr_machine.specs.Learning.{reread, read_epoch, with_own}
 use Rattle.vbr_core.specs.WorldInLists.{KeptPass, know_of, FitsRead, FitsHolding}
 use Rattle.vbr_machine.specs.declared.knowledge.Read.{Read}
 use Rattle.vbr_machine.specs.declared.knowledge.Read.TheVariants.{LinkAt, BirthOf, KeyOf, ValueOf}
@@ -90,16 +89,6 @@ next-fits (BirthOf slot birth ∷ reads) s fits = next-fits reads s fits.1
 next-fits (KeyOf slot key ∷ reads) s fits = next-fits reads s fits.1
 next-fits (ValueOf slot key ∷ reads) s fits = next-fits reads s fits.1
 next-fits (LinkAt at link ∷ reads) s fits = next_of-if (same_at at (Slot s) && link.mark) link (marked_in reads s) fits.0 (next-fits reads s fits.1)
-
--- a link in hand that is ready has room
-pub ready-fits : (start : Start) (reads : List Read) (pred : At) (expected : Link) (holding : Option Holding) → AllByRecursion FitsRead reads → FitsHolding holding → IsLink expected → MayPublish start reads pred expected holding → IsLink (link_in_hand holding)
-ready-fits start reads pred expected (Some (InHand known)) all fits is ready = let named = birth_of-fits reads expected.slot all in rw ready.link_is (record { slot = is.slot; version = omega (arith, named, fits) })
-ready-fits start reads pred expected holding all fits is ready = absurd ready
-
--- and so has one that is ready to take the place of a node
-pub in_place-fits : (start : Start) (reads : List Read) (s : ℕ) (expected : Link) (holding : Option Holding) → AllByRecursion FitsRead reads → FitsHolding holding → IsLink expected → MayReplace start reads s expected holding → IsLink (link_in_hand holding)
-in_place-fits start reads s expected (Some (InHand known)) all fits is ready = let named = birth_of-fits reads expected.slot all in rw ready.link_is (record { slot = is.slot; version = omega (arith, named, fits) })
-in_place-fits start reads s expected holding all fits is ready = absurd ready
 
 -- ---- the epoch is read
 

@@ -60,18 +60,7 @@ lost start w p (Unlink (Slot t) expected s) gone = rw gone (idle w p (w.know p) 
 lost start w p (ConfirmPresent op s expected) gone = rw gone (idle w p (w.know p) refl)
 lost start w p (ConfirmAbsent op key (Head b) expected) gone = rw gone (idle w p (w.know p) refl)
 lost start w p (ConfirmAbsent op key (Slot t) expected) gone = rw gone (idle w p (w.know p) refl)
-lost start w p ReadEpoch gone = cc
-lost start w p (LoadStamp s) gone = cc
-lost start w p (StoreStamp s stamp) gone = cc
-lost start w p (Raise s) gone = cc
-lost start w p (StoreBirth s birth) gone = cc
-lost start w p (StoreKey s key) gone = cc
-lost start w p (StoreValue s value) gone = cc
-lost start w p (StoreLink s next) gone = cc
-lost start w p (LoadLink at) gone = cc
-lost start w p (LoadBirth s) gone = cc
-lost start w p (LoadKey s) gone = cc
-lost start w p (LoadValue s) gone = cc
+lost start w p _ gone = cc
 
 module _ (start : Start) (w : World) (p : ℕ) (step : Step) (word : ℕ) (learned : World) (is : word ≡ found start w step) (learned_is : learned ≡ with_answer start w p step) where
   -- a step that succeeds: its pass has learned, and then the words are written

@@ -1,16 +1,17 @@
 -- What a pass that is kept in lists learns.
-use Rattle.std.specs.Prelude.{◌≡◌, ◌≤◌, ℕ, List, [], ◌∷◌, ◌++◌, None, length, slice_index_or}
+use Rattle.std.specs.Prelude.{◌≡◌, ◌≤◌, ℕ, false, List, [], ◌∷◌, ◌++◌, Some, None, length, slice_index_or}
 use Rattle.std.specs.List.{AllByRecursion}
 use Rattle.vbr_words.specs.declared.link.Link.{Link}
 use Rattle.vbr_words.specs.declared.place.At.{At}
 use Rattle.vbr_words.specs.declared.place.At.TheVariants.{Slot}
 use Rattle.vbr_words.specs.declared.shape.TheConstants.{MAX_EPOCH}
 use Rattle.vbr_machine.specs.Knowledge.{Know}
-use Rattle.vbr_machine.specs.Learning.{birth_in_hand, key_in_hand, link_in_hand, reread, value_in_hand, value_read, with_checked, with_own}
+use Rattle.vbr_machine.specs.Learning.{birth_in_hand, key_in_hand, link_in_hand, link_written, reads_won, reread, value_in_hand, value_read, with_checked, with_own}
 use Rattle.vbr_machine.specs.Put.{put}
 use Rattle.vbr_machine.specs.declared.knowledge.Read.TheVariants.{LinkAt, BirthOf, KeyOf}
+use Rattle.vbr_machine.specs.declared.knowledge.Holding.TheVariants.{Unlinked}
 use Rattle.vbr_machine.specs.declared.event.Step.{Step}
-use Rattle.vbr_machine.specs.declared.event.Step.TheVariants.{ReadEpoch, LoadBirth}
+use Rattle.vbr_machine.specs.declared.event.Step.TheVariants.{ReadEpoch, LoadBirth, Publish, Mark, Replace, Unlink}
 use Rattle.vbr_core.specs.WorldInLists.{KeptPass, know_of, opening_pass}
 
 -- what a pass knows is changed so, and it has as many slots in its list
@@ -34,6 +35,14 @@ with_all_reread know = record know { own = λ s. reread (know.own s) }
 abbrev pub with_linked : At → Link → ℕ → Know → Know
 with_linked at link s know =
     with_own (with_checked know (LinkAt at link ∷ BirthOf s (birth_in_hand (know.own s)) ∷ KeyOf s (key_in_hand (know.own s)) ∷ LinkAt (Slot s) (link_in_hand (know.own s)) ∷ value_read s (value_in_hand (know.own s)))) s None
+
+-- an exchange of a link has succeeded: what the pass has checked by it, and the slot that it no longer has, or has now
+abbrev pub with_won : Step → Know → Know
+with_won (Publish pred expected s) know = with_linked pred (link_written know (Publish pred expected s)) s know
+with_won (Mark s expected) know = with_checked know (reads_won know (Mark s expected))
+with_won (Replace s expected t) know = with_linked (Slot s) (link_written know (Replace s expected t)) t know
+with_won (Unlink pred expected s) know = with_own (with_checked know (reads_won know (Unlink pred expected s))) s (Some (Unlinked false))
+with_won _ know = know
 
 -- each pass has so many slots in its list
 abbrev pub HaveSlots : ℕ → List KeptPass → Type 0

@@ -30,6 +30,8 @@ pub use Rattle.vbr_machine.specs.Messages
 pub mod OpeningMessages
 pub mod Answering
 pub mod WorldInLists
+pub mod PassView
+pub mod WorldView
 pub mod Reached
 pub mod KeptOpenings
 pub mod Growth

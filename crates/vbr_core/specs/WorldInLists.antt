@@ -1,5 +1,5 @@
 -- The world as a program keeps it, in lists and words, and the world that it stands for.
-use Rattle.std.specs.Prelude.{◌≡◌, ℕ, ◌≤◌, List, [], length, Option, Some, None, slice_index_or}
+use Rattle.std.specs.Prelude.{◌≡◌, ℕ, ◌≤◌, List, [], length, Option, Some, None, IfSome, slice_index_or}
 use Rattle.std.specs.List.{AllByRecursion}
 use Rattle.vbr_machine.specs.Start.{Start, IsStart}
 use Rattle.vbr_words.specs.Words.{IsLink, link_of}
@@ -39,7 +39,7 @@ FitsRead (ValueOf s value) = Unit {0}
 
 -- what is known of an own slot has room in words
 abbrev pub FitsHolding : Option Holding → Type 0
-FitsHolding (Some (InHand known)) = known.birth ≤ MAX_EPOCH
+FitsHolding (Some (InHand known)) = (known.birth ≤ MAX_EPOCH) × IfSome known.link IsLink
 FitsHolding _ = Unit {0}
 
 -- all that a pass knows has room in words

@@ -7,10 +7,10 @@ mod progress;
 use crate::progress::Progress;
 use std::alloc::{AllocError, Global};
 use std::fs::File;
-use std::io::{ErrorKind, IsTerminal};
+use std::io::{ErrorKind, IsTerminal, Write};
 use std::process::ExitCode;
 use std::{env, io};
-use vbr_run::NoGate;
+use vbr_run::{Gate, NoGate};
 
 fn main(rt: HostRuntime) -> ExitCode {
     let alloc = rt.alloc();
@@ -22,36 +22,37 @@ fn main(rt: HostRuntime) -> ExitCode {
         Ok(texts) => texts,
         Err(error) => return refused(&rt, &io::Error::from(error)),
     };
-    let files = |name: &str| File::open(&rt, name);
-    let mut reader = rt.stdin();
     let (mut output, mut errors) = (rt.stdout(), rt.stderr());
     if !errors.is_terminal() {
-        let status = vbr_run::run(
-            &rt,
-            alloc,
-            &texts,
-            &mut reader,
-            &files,
-            &mut output,
-            &mut errors,
-            &NoGate,
-        );
-        return ExitCode::from(status);
+        return run(&rt, &texts, &mut output, &mut errors, &NoGate);
     }
     let line = Progress::new(errors);
-    let mut output = line.ahead_of(output);
-    let mut errors = line.ahead_of(errors);
+    let (mut output, mut errors) = (line.ahead_of(output), line.ahead_of(errors));
+    let status = run(&rt, &texts, &mut output, &mut errors, &line);
+    line.erase();
+    status
+}
+
+// Does what the arguments ask for, on standard input or a file, and with these writers.
+fn run<W: Write, E: Write, G: Gate + Sync>(
+    rt: &HostRuntime,
+    texts: &[&str],
+    writer: &mut W,
+    errors: &mut E,
+    gate: &G,
+) -> ExitCode {
+    let files = |name: &str| File::open(rt, name);
+    let mut reader = rt.stdin();
     let status = vbr_run::run(
-        &rt,
-        alloc,
-        &texts,
+        rt,
+        rt.alloc(),
+        texts,
         &mut reader,
         &files,
-        &mut output,
-        &mut errors,
-        &line,
+        writer,
+        errors,
+        gate,
     );
-    line.erase();
     ExitCode::from(status)
 }
 

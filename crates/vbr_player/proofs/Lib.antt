@@ -13,3 +13,4 @@ mod Finishing
 mod Printing
 mod Spans
 mod Zips
+mod Ends

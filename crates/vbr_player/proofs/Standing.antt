@@ -13,7 +13,7 @@ use Rattle.vbr_machine.specs.History.{calls_by}
 use Rattle.vbr_machine.specs.Runs.{Begins, world_after}
 use Rattle.vbr_machine.specs.declared.event.Event.{Event}
 use Rattle.vbr_machine.specs.declared.history.Call.{Call}
-use Rattle.vbr_machine.proofs.Lemmas.{begins_trans, calls_by-append}
+use Rattle.vbr_machine.proofs.Lemmas.{begins_trans, calls_by-append, calls_since}
 use Rattle.vbr_slots.specs.Calls.{made_by}
 use Rattle.vbr_slots.specs.Views.{TableView, new_pass, steps_of}
 use Rattle.vbr_set.specs.Members.{as_member}
@@ -27,7 +27,7 @@ use Rattle.vbr_script.specs.declared.script.Kind.{Kind}
 use Rattle.vbr_script.specs.declared.script.Line.{Line}
 use Rattle.vbr_transcript.specs.declared.reply.Reply.{Reply}
 use Rattle.vbr_player.specs.declared.worker.Worker.{Worker}
-use Rattle.vbr_transcript.proofs.Lemmas.{calls_begin, zip-append, zip_longer}
+use Rattle.vbr_transcript.proofs.Lemmas.{zip-append, zip_longer}
 use Rattle.vbr_player.proofs.Calling.{turns_met, turns_on}
 use Rattle.vbr_player.proofs.Slices.{lines_by-append, called_more, replied_more}
 use Rattle.vbr_player.proofs.Working.{all_tell_on}
@@ -180,8 +180,8 @@ none_between xs (call ∷ more) others ys front back =
 -- the calls of a pass at a moment between two at which it has made the same calls
 calls_between : (start : Start) (who : ℕ) (before moment after : List Event) → Begins before moment → Begins moment after → own_calls start after who ≡ own_calls start before who → own_calls start moment who ≡ own_calls start before who
 calls_between start who before moment after from to same =
-    let first = calls_begin start before moment from in
-    let then = calls_begin start moment after to in
+    let first = calls_since start before moment from in
+    let then = calls_since start moment after to in
     let front : own_calls start moment who ≡ own_calls start before who ++ calls_by who first.0 = ap (calls_by who) first.1 ∙ calls_by-append who (world_after start before).calls first.0 in
     let back : own_calls start after who ≡ own_calls start moment who ++ calls_by who then.0 = ap (calls_by who) then.1 ∙ calls_by-append who (world_after start moment).calls then.0 in
     none_between (own_calls start before who) (calls_by who first.0) (calls_by who then.0) (own_calls start moment who) front (sym same ∙ back)

@@ -1,16 +1,11 @@
 // What a script is played on, a set or a map: how its text is laid out, and which totals there are.
 ghost use Rattle.std.specs.Prelude.{◌≡◌, ℕ, List, [], IfOk};
 ghost use Rattle.vbr_words.specs.Dimensions.{Dimensions};
-ghost use Rattle.vbr_slots.specs.Views.{PassView, TableView};
-ghost use Rattle.vbr_set.specs.Closing.{ClosesBy};
-ghost use Rattle.vbr_set.specs.Renewing.{RenewsBy};
-ghost use Rattle.vbr_script.specs.Grammar.{is_map};
 ghost use Rattle.vbr_script.specs.declared.script.Kind.{Kind as ScriptKind};
 ghost use Rattle.vbr_transcript.specs.Contents.{Item as Listed};
 ghost use Rattle.vbr_transcript.specs.Layout.{listed_text, text_of};
 ghost use Rattle.vbr_transcript.specs.Totals.{TotalsOf, epoch_in, listed_in, tally_in};
-ghost use Rattle.vbr_player.specs.Closing.{ClosesAs, RenewsAs};
-ghost use Rattle.vbr_player.specs.EndLaws.{OpensAsListed};
+ghost use Rattle.vbr_player.specs.EndLaws.{IsPlayedAs};
 ghost use Rattle.vbr_player.specs.Playing.{start_of};
 
 mod map;
@@ -59,11 +54,5 @@ pub trait Playable: Asked + Kind {
 
     ghost opens: { (shape : Dimensions) → Self.Kind.kind.start shape [] ≡ start_of script shape };
 
-    ghost closes: { (set : TableView) (passes : List PassView) (report : Self.Report) →
-        ClosesBy Self.Kind.kind set passes report →
-        ClosesAs script set passes (listed report) (epoch report) };
-
-    ghost renews: { (set : TableView) (passes : List PassView) (next : TableView) →
-        OpensAsListed → set.start.shape.values ≡ is_map script →
-        RenewsBy Self.Kind.kind set passes next → RenewsAs script set passes next };
+    ghost played: { IsPlayedAs Self.Kind.kind script listed epoch };
 }

@@ -55,19 +55,17 @@ const UNKNOWN: &[u8] = b"'; --help has the names\n";
 /// # Example
 ///
 /// ```rattle file=crates/vbr_main/src/main.rt
-/// let files = |name: &str| File::open(&rt, name);
+/// let files = |name: &str| File::open(rt, name);
 /// let mut reader = rt.stdin();
-/// let (mut output, mut errors) = (rt.stdout(), rt.stderr());
-/// // ...
 /// let status = vbr_run::run(
-///     &rt,
-///     alloc,
-///     &texts,
+///     rt,
+///     rt.alloc(),
+///     texts,
 ///     &mut reader,
 ///     &files,
-///     &mut output,
-///     &mut errors,
-///     &line,
+///     writer,
+///     errors,
+///     gate,
 /// );
 /// ```
 pub fn run<

@@ -1,8 +1,8 @@
 //! The balances of members, and members that are renewed.
-ghost use Rattle.std.specs.Prelude.{◌≡◌, [], ◌∷◌, IfSome};
+ghost use Rattle.std.specs.Prelude.{◌≡◌, IfSome};
 ghost use Rattle.vbr_set.specs.AllMembers.{AreOfOneSet};
 
-use crate::members::{expect_insert, expect_remove, open_two};
+use crate::members::{both, expect_insert, expect_remove, open_two};
 use std::alloc::Global;
 use std::process::Abort;
 use std::test::Fail;
@@ -16,9 +16,7 @@ fn add_up(one: &Member, other: &Member) -> i64 {
 /// A call that is answered yes counts, and no other; the sum is the number of keys.
 #[test]
 fn balances_add_up(rt: HostRuntime) -> Result<(), Fail> {
-    let Some((mut one, mut other)) = open_two(rt.alloc()) else {
-        panic!(rt; "no memory")
-    };
+    let (mut one, mut other) = open_two(rt.alloc()).expect(&rt, "there is memory");
     expect_insert(&rt, &mut one, 7, true);
     expect_insert(&rt, &mut other, 7, false);
     expect_insert(&rt, &mut one, 5, true);
@@ -29,14 +27,6 @@ fn balances_add_up(rt: HostRuntime) -> Result<(), Fail> {
     assert_eq!(rt; other.balance(), -1);
     assert_eq!(rt; add_up(&one, &other), 1);
     Ok(())
-}
-
-// The members of one set in a vector.
-fn both(alloc: Global, one: Member, other: Member) -> Option<Vec<Member>>
-    requires { other.set ≡ one.set }
-    ensures { IfSome result (λ members. members.items ≡ one ∷ other ∷ []) }
-{
-    Vec::from_array(alloc, [one, other]).ok()
 }
 
 // Lets members go on over a set of another shape. What found no memory left them, so it is tried again.
@@ -77,12 +67,8 @@ fn fill_two(rt: &impl Abort, alloc: Global) -> Option<(Member, Member)>
 /// Members that are renewed have the keys, in a set of another shape, and the first one counts them.
 #[test]
 fn members_are_renewed(rt: HostRuntime) -> Result<(), Fail> {
-    let Some((one, other)) = fill_two(&rt, rt.alloc()) else {
-        panic!(rt; "no memory")
-    };
-    let Some((mut one, mut other)) = renew_both(rt.alloc(), one, other, 8) else {
-        panic!(rt; "not renewed")
-    };
+    let (one, other) = fill_two(&rt, rt.alloc()).expect(&rt, "there is memory");
+    let (mut one, mut other) = renew_both(rt.alloc(), one, other, 8).expect(&rt, "it is renewed");
     assert_eq!(rt; one.shape().slots(), 8);
     assert_eq!(rt; one.pass().epoch(), 1);
     assert_eq!(rt; one.balance(), 2);
@@ -96,12 +82,8 @@ fn members_are_renewed(rt: HostRuntime) -> Result<(), Fail> {
 /// Where there are more keys than slots the members go on as they were.
 #[test]
 fn renewal_has_no_room(rt: HostRuntime) -> Result<(), Fail> {
-    let Some((one, other)) = fill_two(&rt, rt.alloc()) else {
-        panic!(rt; "no memory")
-    };
-    let Some((mut one, other)) = renew_both(rt.alloc(), one, other, 1) else {
-        panic!(rt; "not given back")
-    };
+    let (one, other) = fill_two(&rt, rt.alloc()).expect(&rt, "there is memory");
+    let (mut one, other) = renew_both(rt.alloc(), one, other, 1).expect(&rt, "it is given back");
     assert_eq!(rt; one.shape().slots(), 2);
     assert_eq!(rt; other.balance(), 1);
     expect_insert(&rt, &mut one, 5, false);

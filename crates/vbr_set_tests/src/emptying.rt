@@ -71,9 +71,7 @@ fn four_threads_empty_a_list(rt: HostRuntime) -> Result<(), Fail> {
             &|_, emptier| emptier.empty(),
         );
         assert!(rt; emptiers.iter().all(|emptier| emptier.removed == SHARE));
-        let Some(report) = end(rt.alloc(), emptiers)? else {
-            panic!(rt; "not closed")
-        };
+        let report = end(rt.alloc(), emptiers)?.expect(&rt, "it is closed");
         assert_eq!(rt; (report.live, report.marked, report.free), (0, 0, 64));
     }
     Ok(())

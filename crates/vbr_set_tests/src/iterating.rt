@@ -1,9 +1,11 @@
 //! Going over the keys of a set, and the entries of a map, bucket by bucket, with exact steps.
 ghost use Rattle.std.specs.Prelude.{◌≡◌};
 
+use crate::alone::open_alone;
 use std::process::Abort;
 use std::test::Fail;
-use vbr_set::{Cursor, ListError, Refusal, Shape, VbrMap, VbrMapRef, VbrSet, VbrSetRef};
+use vbr_set::{Cursor, ListError, Refusal, Shape, VbrMapRef, VbrSetRef};
+use vbr_words::{Entries, Keys};
 
 // The next key is this one, and then so many steps were made.
 fn gives(
@@ -24,10 +26,7 @@ fn gives(
 /// enters it again.
 #[test]
 fn keys_come_bucket_by_bucket(rt: HostRuntime) -> Result<(), Fail> {
-    let (set, mut passes) = VbrSet::open_with(rt.alloc(), Shape::new(8, 4, 10)?, 1, &[1, 5, 6])?;
-    let Some(pass) = passes.pop() else {
-        panic!(rt; "no pass")
-    };
+    let (set, pass) = open_alone::<Keys>(rt.alloc(), Shape::new(8, 4, 10)?, &[1, 5, 6])?;
     let mut caller = set.with_pass(pass);
     let mut cursor = Cursor::first();
     gives(&rt, &mut caller, &mut cursor, Some(1), 11);
@@ -46,10 +45,7 @@ fn keys_come_bucket_by_bucket(rt: HostRuntime) -> Result<(), Fail> {
 #[test]
 fn the_greatest_key_is_given(rt: HostRuntime) -> Result<(), Fail> {
     let keys = [0, u64::MAX];
-    let (set, mut passes) = VbrSet::open_with(rt.alloc(), Shape::new(8, 1, 10)?, 1, &keys)?;
-    let Some(pass) = passes.pop() else {
-        panic!(rt; "no pass")
-    };
+    let (set, pass) = open_alone::<Keys>(rt.alloc(), Shape::new(8, 1, 10)?, &keys)?;
     let mut caller = set.with_pass(pass);
     let mut cursor = Cursor::first();
     gives(&rt, &mut caller, &mut cursor, Some(0), 8);
@@ -63,10 +59,7 @@ fn the_greatest_key_is_given(rt: HostRuntime) -> Result<(), Fail> {
 /// in three steps: a remove with 16 steps marks the node and leaves it.
 #[test]
 fn a_marked_node_is_passed(rt: HostRuntime) -> Result<(), Fail> {
-    let (set, mut passes) = VbrSet::open_with(rt.alloc(), Shape::new(8, 4, 10)?, 1, &[1, 5])?;
-    let Some(pass) = passes.pop() else {
-        panic!(rt; "no pass")
-    };
+    let (set, pass) = open_alone::<Keys>(rt.alloc(), Shape::new(8, 4, 10)?, &[1, 5])?;
     let mut caller = set.with_pass(pass);
     assert_eq!(rt; caller.remove(1, 16), Ok(true));
     let before = caller.pass().steps();
@@ -85,10 +78,7 @@ fn a_marked_node_is_passed(rt: HostRuntime) -> Result<(), Fail> {
 /// next call enters the bucket once more, and passes the key in five steps and the node in three.
 #[test]
 fn a_marked_node_after_the_last_key_is_passed(rt: HostRuntime) -> Result<(), Fail> {
-    let (set, mut passes) = VbrSet::open_with(rt.alloc(), Shape::new(8, 4, 10)?, 1, &[1, 5])?;
-    let Some(pass) = passes.pop() else {
-        panic!(rt; "no pass")
-    };
+    let (set, pass) = open_alone::<Keys>(rt.alloc(), Shape::new(8, 4, 10)?, &[1, 5])?;
     let mut caller = set.with_pass(pass);
     assert_eq!(rt; caller.remove(5, 21), Ok(true));
     let before = caller.pass().steps();
@@ -105,10 +95,7 @@ fn a_marked_node_after_the_last_key_is_passed(rt: HostRuntime) -> Result<(), Fai
 /// steps give the other key, and the end takes none.
 #[test]
 fn a_list_goes_on_behind_a_refusal(rt: HostRuntime) -> Result<(), Fail> {
-    let (set, mut passes) = VbrSet::open_with(rt.alloc(), Shape::new(8, 64, 10)?, 1, &[1, 63])?;
-    let Some(pass) = passes.pop() else {
-        panic!(rt; "no pass")
-    };
+    let (set, pass) = open_alone::<Keys>(rt.alloc(), Shape::new(8, 64, 10)?, &[1, 63])?;
     let mut caller = set.with_pass(pass);
     let keys = caller.keys_now(rt.alloc(), 20)?;
     assert_eq!(rt; keys.as_slice(), [1, 63].as_slice());
@@ -121,10 +108,7 @@ fn a_list_goes_on_behind_a_refusal(rt: HostRuntime) -> Result<(), Fail> {
 /// are refused there, after three steps.
 #[test]
 fn a_list_stops_where_no_call_comes_further(rt: HostRuntime) -> Result<(), Fail> {
-    let (set, mut passes) = VbrSet::open_with(rt.alloc(), Shape::new(8, 64, 10)?, 1, &[1, 63])?;
-    let Some(pass) = passes.pop() else {
-        panic!(rt; "no pass")
-    };
+    let (set, pass) = open_alone::<Keys>(rt.alloc(), Shape::new(8, 64, 10)?, &[1, 63])?;
     let mut caller = set.with_pass(pass);
     let refusal = Refusal::OutOfSteps { used: 3 };
     assert_eq!(rt;
@@ -152,10 +136,7 @@ fn gives_entry(
 #[test]
 fn entries_come_with_their_values(rt: HostRuntime) -> Result<(), Fail> {
     let entries = [(2, 70), (5, 71), (9, 70)];
-    let (map, mut passes) = VbrMap::open_with(rt.alloc(), Shape::new(4, 2, 10)?, 1, &entries)?;
-    let Some(pass) = passes.pop() else {
-        panic!(rt; "no pass")
-    };
+    let (map, pass) = open_alone::<Entries>(rt.alloc(), Shape::new(4, 2, 10)?, &entries)?;
     let mut caller = map.with_pass(pass);
     let mut cursor = Cursor::first();
     gives_entry(&rt, &mut caller, &mut cursor, Some((2, 70)));

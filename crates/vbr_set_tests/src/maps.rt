@@ -2,10 +2,12 @@
 ghost use Rattle.std.specs.Prelude.{◌≡◌, IfOk};
 ghost use Rattle.vbr_slots.specs.Views.{new_passes};
 
+use crate::alone::{expect_left, open_alone};
 use std::alloc::Global;
 use std::process::Abort;
 use std::test::Fail;
 use vbr_set::{MapReport, Pass, Shape, VbrMap, VbrMapRef};
+use vbr_words::Entries;
 
 const ENTRIES: [(u64, u64); 3] = [(2, 70), (5, 71), (9, 70)];
 
@@ -55,9 +57,7 @@ fn a_map_is_renewed(rt: HostRuntime) -> Result<(), Fail> {
 #[test]
 fn a_map_waits_for_its_passes(rt: HostRuntime) -> Result<(), Fail> {
     let (map, mut passes) = open_three(rt.alloc())?;
-    let Some(last) = passes.pop() else {
-        panic!(rt; "no pass")
-    };
+    let last = passes.pop().expect(&rt, "a pass");
     let Err(vbr_set::CloseError::Missing(map, mut passes)) = map.close(rt.alloc(), passes) else {
         panic!(rt; "closed without a pass")
     };
@@ -90,16 +90,10 @@ fn store_again(rt: &impl Abort, caller: &mut VbrMapRef)
 /// A key has the value that was stored with it when it came, until it is removed.
 #[test]
 fn a_key_keeps_its_value(rt: HostRuntime) -> Result<(), Fail> {
-    let (map, mut passes) = VbrMap::open(rt.alloc(), Shape::new(4, 2, 10)?, 1)?;
-    let Some(pass) = passes.pop() else {
-        panic!(rt; "no pass")
-    };
+    let (map, pass) = open_alone::<Entries>(rt.alloc(), Shape::new(4, 2, 10)?, &[])?;
     let mut caller = map.with_pass(pass);
     store_and_take(&rt, &mut caller);
     store_again(&rt, &mut caller);
-    passes.push(caller.into_pass())?;
-    let report = map.close(rt.alloc(), passes)?;
-    assert_eq!(rt; report.entries.as_slice(), [(5, 71), (6, 0)].as_slice());
-    assert_eq!(rt; (report.live, report.marked, report.free), (2, 0, 2));
-    Ok(())
+    let pass = caller.into_pass();
+    expect_left(&rt, rt.alloc(), map, pass, &[(5, 71), (6, 0)], (2, 0, 2))
 }

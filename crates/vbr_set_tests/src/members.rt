@@ -1,11 +1,11 @@
 //! Two members of a set, one of which meets the other.
-ghost use Rattle.std.specs.Prelude.{◌≡◌, IfSome};
+ghost use Rattle.std.specs.Prelude.{◌≡◌, [], ◌∷◌, IfSome};
 ghost use Rattle.vbr_set.specs.Meetings.{Shares};
 
 use std::alloc::Global;
 use std::process::Abort;
 use std::test::Fail;
-use vbr_set::{Member, Refusal, Shape};
+use vbr_set::{Kind, Member, Refusal, Shape, member};
 
 // The two members of a set.
 pub(crate) fn open_two(alloc: Global) -> Option<(Member, Member)>
@@ -15,6 +15,18 @@ pub(crate) fn open_two(alloc: Global) -> Option<(Member, Member)>
     let members = Member::open(alloc, shape, 2).ok()?;
     let [first, second] = <[Member; 2]>::try_from(members).ok()?;
     Some((first, second))
+}
+
+// Two members of one set or map in a vector.
+pub(crate) fn both<N: Kind>(
+    alloc: Global,
+    first: member::Member<N>,
+    second: member::Member<N>,
+) -> Option<Vec<member::Member<N>>>
+    requires { second.set ≡ first.set }
+    ensures { IfSome result (λ members. members.items ≡ first ∷ second ∷ []) }
+{
+    Vec::from_array(alloc, [first, second]).ok()
 }
 
 // A member adds a key, which is new or not.
@@ -44,9 +56,7 @@ fn add_and_show(one: &mut Member, other: &mut Member, key: u64) -> Result<bool, 
 /// What a member did before another meets it, the other has then seen. The meeting is one step.
 #[test]
 fn a_member_sees_what_another_did(rt: HostRuntime) -> Result<(), Fail> {
-    let Some((mut one, mut other)) = open_two(rt.alloc()) else {
-        panic!(rt; "no memory")
-    };
+    let (mut one, mut other) = open_two(rt.alloc()).expect(&rt, "there is memory");
     assert!(rt; add_and_show(&mut one, &mut other, 7)?);
     assert_eq!(rt; other.pass().steps(), 1);
     expect_insert(&rt, &mut other, 7, false);

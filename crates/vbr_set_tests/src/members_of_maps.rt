@@ -3,6 +3,7 @@ ghost use Rattle.std.specs.Prelude.{◌≡◌, ◌≤◌, [], ◌∷◌, IfOk, I
 ghost use Rattle.vbr_machine.specs.Maps.{map_start};
 ghost use Rattle.vbr_set.specs.Members.{AreNew};
 
+use crate::members::both;
 use std::alloc::Global;
 use std::process::Abort;
 use std::test::Fail;
@@ -24,14 +25,6 @@ fn open_two(alloc: Global) -> Option<(MapMember, MapMember)>
     let members = open_with_one(alloc, shape)?;
     let [first, second] = <[MapMember; 2]>::try_from(members).ok()?;
     Some((first, second))
-}
-
-// The members of one map in a vector, the second before the first.
-fn both(alloc: Global, one: MapMember, other: MapMember) -> Option<Vec<MapMember>>
-    requires { other.set ≡ one.set }
-    ensures { IfSome result (λ members. members.items ≡ other ∷ one ∷ []) }
-{
-    Vec::from_array(alloc, [other, one]).ok()
 }
 
 // A member stores an entry, which is new or not.
@@ -95,18 +88,14 @@ fn expect_entries(rt: &impl Abort, report: &MapReport) {
 /// The last member that is closed is told the entries, ascending by key.
 #[test]
 fn members_of_a_map_close_in_turn(rt: HostRuntime) -> Result<(), Fail> {
-    let Some((mut one, mut other)) = open_two(rt.alloc()) else {
-        panic!(rt; "no memory")
-    };
+    let (mut one, mut other) = open_two(rt.alloc()).expect(&rt, "there is memory");
     store_and_take(&rt, &mut one, &mut other);
     assert!(rt; one.close(rt.alloc())?.is_none());
-    let Some((report, last)) = other.report_last(rt.alloc())? else {
-        panic!(rt; "not the last member")
-    };
+    let (report, last) = other
+        .report_last(rt.alloc())?
+        .expect(&rt, "the last member");
     expect_entries(&rt, &report);
-    let Some(report) = last.close(rt.alloc())? else {
-        panic!(rt; "not the last member")
-    };
+    let report = last.close(rt.alloc())?.expect(&rt, "the last member");
     expect_entries(&rt, &report);
     Ok(())
 }
@@ -119,7 +108,7 @@ fn tell_and_close(
 ) -> Result<(MapReport, MapReport), CloseAllError<MapMember>>
     requires { other.set ≡ one.set }
 {
-    let Some(members) = both(alloc, one, other) else {
+    let Some(members) = both(alloc, other, one) else {
         return Err(CloseAllError::Memory(Vec::new(alloc)));
     };
     let (told, members) = MapMember::report_all(alloc, members)?;
@@ -130,9 +119,7 @@ fn tell_and_close(
 /// All members are told the entries that the calls of all of them leave.
 #[test]
 fn all_members_of_a_map_are_closed(rt: HostRuntime) -> Result<(), Fail> {
-    let Some((mut one, mut other)) = open_two(rt.alloc()) else {
-        panic!(rt; "no memory")
-    };
+    let (mut one, mut other) = open_two(rt.alloc()).expect(&rt, "there is memory");
     store_and_take(&rt, &mut one, &mut other);
     let Ok((told, report)) = tell_and_close(rt.alloc(), one, other) else {
         panic!(rt; "not closed")
@@ -145,21 +132,15 @@ fn all_members_of_a_map_are_closed(rt: HostRuntime) -> Result<(), Fail> {
 /// One of two members closes no map, and comes back.
 #[test]
 fn a_map_lacks_a_member(rt: HostRuntime) -> Result<(), Fail> {
-    let Some((one, other)) = open_two(rt.alloc()) else {
-        panic!(rt; "no memory")
-    };
+    let (one, other) = open_two(rt.alloc()).expect(&rt, "there is memory");
     drop(one);
     let mut members = Vec::with_capacity(rt.alloc(), 1)?;
     members.push(other)?;
     let Err(CloseAllError::Missing(mut members)) = MapMember::close_all(rt.alloc(), members) else {
         panic!(rt; "closed without a member")
     };
-    let Some(last) = members.pop() else {
-        panic!(rt; "no member came back")
-    };
-    let Some(report) = last.close(rt.alloc())? else {
-        panic!(rt; "not the last member")
-    };
+    let last = members.pop().expect(&rt, "a member came back");
+    let report = last.close(rt.alloc())?.expect(&rt, "the last member");
     assert_eq!(rt; report.entries.as_slice(), [(2, 70)].as_slice());
     Ok(())
 }
@@ -168,16 +149,12 @@ fn a_map_lacks_a_member(rt: HostRuntime) -> Result<(), Fail> {
 #[test]
 fn a_lone_member_of_a_map(rt: HostRuntime) -> Result<(), Fail> {
     let mut members = MapMember::open(rt.alloc(), Shape::new(4, 2, 10)?, 1)?;
-    let Some(mut member) = members.pop() else {
-        panic!(rt; "no member")
-    };
+    let mut member = members.pop().expect(&rt, "a member");
     expect_get(&rt, &mut member, 5, None);
     expect_remove(&rt, &mut member, 5, None);
     expect_insert(&rt, &mut member, (5, u64::MAX), true);
     expect_get(&rt, &mut member, 5, Some(u64::MAX));
-    let Some(report) = member.close(rt.alloc())? else {
-        panic!(rt; "not the last member")
-    };
+    let report = member.close(rt.alloc())?.expect(&rt, "the last member");
     assert_eq!(rt; report.entries.as_slice(), [(5, u64::MAX)].as_slice());
     Ok(())
 }

@@ -96,13 +96,15 @@ fn renew_late(
 /// Fewer passes than were opened don't renew a set; all of them do, and it opens with its keys.
 #[test]
 fn a_set_is_renewed(rt: HostRuntime) -> Result<(), Fail> {
-    let Some((set, mut first, second)) = open_two(rt.alloc(), Shape::new(4, 2, 10)?) else {
-        panic!(rt; "no memory")
-    };
+    let (set, mut first, second) = open_two(rt.alloc(), Shape::new(4, 2, 10)?).expect(
+        &rt,
+        "there is memory",
+    );
     insert_three(&rt, &set, &mut first);
-    let Some((set, passes)) = renew_late(&rt, rt.alloc(), set, first, second) else {
-        panic!(rt; "not renewed")
-    };
+    let (set, passes) = renew_late(&rt, rt.alloc(), set, first, second).expect(
+        &rt,
+        "it is renewed",
+    );
     assert_eq!(rt;
         (passes.len(), passes[0].steps(), passes[1].steps()),
         (2, 0, 0)
@@ -133,12 +135,8 @@ fn members_open_with_keys(rt: HostRuntime) -> Result<(), Fail> {
     };
     assert_eq!(rt; second.remove(5, 100), Ok(true));
     assert!(rt; second.close(rt.alloc())?.is_none());
-    let Some(mut fresh) = reopen(rt.alloc(), first)? else {
-        panic!(rt; "not the last member")
-    };
-    let Some(mut second) = fresh.pop() else {
-        panic!(rt; "no members")
-    };
+    let mut fresh = reopen(rt.alloc(), first)?.expect(&rt, "the last member");
+    let mut second = fresh.pop().expect(&rt, "members");
     assert_eq!(rt; (second.pass().epoch(), second.pass().steps()), (1, 0));
     assert_eq!(rt; second.has(2, 100), Ok(true));
     assert_eq!(rt; second.has(5, 100), Ok(false));

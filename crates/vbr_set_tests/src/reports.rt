@@ -1,19 +1,11 @@
 //! Members that are closed all at once, or dropped, and reports of those that go on.
-ghost use Rattle.std.specs.Prelude.{◌≡◌, [], ◌∷◌, IfSome};
+ghost use Rattle.std.specs.Prelude.{◌≡◌};
 
-use crate::members::{expect_insert, expect_remove, open_two};
+use crate::members::{both, expect_insert, expect_remove, open_two};
 use std::alloc::Global;
 use std::process::Abort;
 use std::test::Fail;
 use vbr_set::{CloseAllError, Member, Report};
-
-// The members of one set in a vector.
-fn both(alloc: Global, one: Member, other: Member) -> Option<Vec<Member>>
-    requires { other.set ≡ one.set }
-    ensures { IfSome result (λ members. members.items ≡ one ∷ other ∷ []) }
-{
-    Vec::from_array(alloc, [one, other]).ok()
-}
 
 // Closes both members of a set at once.
 fn close_both(alloc: Global, one: Member, other: Member) -> Result<Report, CloseAllError>
@@ -29,9 +21,7 @@ fn close_both(alloc: Global, one: Member, other: Member) -> Result<Report, Close
 /// All members are told what all of them did.
 #[test]
 fn all_members_are_closed(rt: HostRuntime) -> Result<(), Fail> {
-    let Some((mut one, mut other)) = open_two(rt.alloc()) else {
-        panic!(rt; "no memory")
-    };
+    let (mut one, mut other) = open_two(rt.alloc()).expect(&rt, "there is memory");
     expect_insert(&rt, &mut one, 7, true);
     expect_insert(&rt, &mut other, 5, true);
     expect_remove(&rt, &mut other, 7, true);
@@ -54,14 +44,10 @@ fn close_one(alloc: Global, one: Member) -> Option<Vec<Member>> {
 
 // The last member of a set of two keys is told them, takes one out, and is closed.
 fn tell_and_close(rt: &impl Abort, alloc: Global, last: Member) -> Result<(), Fail> {
-    let Some((report, mut last)) = last.report_last(alloc)? else {
-        panic!(rt; "not the last member")
-    };
+    let (report, mut last) = last.report_last(alloc)?.expect(rt, "the last member");
     assert_eq!(rt; report.keys.as_slice(), [5, 7].as_slice());
     expect_remove(rt, &mut last, 5, true);
-    let Some(report) = last.close(alloc)? else {
-        panic!(rt; "not the last member")
-    };
+    let report = last.close(alloc)?.expect(rt, "the last member");
     assert_eq!(rt; report.keys.as_slice(), [7].as_slice());
     Ok(())
 }
@@ -69,18 +55,14 @@ fn tell_and_close(rt: &impl Abort, alloc: Global, last: Member) -> Result<(), Fa
 /// Fewer members than were opened come back, and go on; the set of one that was dropped has its keys.
 #[test]
 fn one_of_two_members(rt: HostRuntime) -> Result<(), Fail> {
-    let Some((mut one, mut other)) = open_two(rt.alloc()) else {
-        panic!(rt; "no memory")
-    };
+    let (mut one, mut other) = open_two(rt.alloc()).expect(&rt, "there is memory");
     expect_insert(&rt, &mut one, 7, true);
     drop(one);
     expect_insert(&rt, &mut other, 5, true);
     let Some(mut back) = close_one(rt.alloc(), other) else {
         panic!(rt; "closed without a member")
     };
-    let Some(last) = back.pop() else {
-        panic!(rt; "no member came back")
-    };
+    let last = back.pop().expect(&rt, "a member came back");
     tell_and_close(&rt, rt.alloc(), last)
 }
 

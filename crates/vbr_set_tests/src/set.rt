@@ -145,15 +145,11 @@ fn expect(
 ) -> Result<(), Fail> {
     let (slots, buckets, last_epoch) = shape;
     let shape = Shape::new(slots, buckets, last_epoch)?;
-    let Some((set, a, b)) = open_two(alloc, shape) else {
-        panic!(rt; "no memory")
-    };
+    let (set, a, b) = open_two(alloc, shape).expect(rt, "there is memory");
     let (mut a, mut b) = (set.with_pass(a), set.with_pass(b));
     play(rt, &mut a, &mut b, rows);
     let (a, b) = (a.into_pass(), b.into_pass());
-    let Some(report) = close_both(alloc, set, a, b) else {
-        panic!(rt; "not closed")
-    };
+    let report = close_both(alloc, set, a, b).expect(rt, "it is closed");
     compare(rt, &report, left);
     Ok(())
 }
@@ -268,12 +264,8 @@ fn close_late(
 
 #[test]
 fn a_pass_is_missing(rt: HostRuntime) -> Result<(), Fail> {
-    let Some((set, a, b)) = open_two(rt.alloc(), Shape::new(1, 1, 10)?) else {
-        panic!(rt; "no memory")
-    };
-    let Some(report) = close_late(&rt, rt.alloc(), set, a, b) else {
-        panic!(rt; "not closed")
-    };
+    let (set, a, b) = open_two(rt.alloc(), Shape::new(1, 1, 10)?).expect(&rt, "there is memory");
+    let report = close_late(&rt, rt.alloc(), set, a, b).expect(&rt, "it is closed");
     compare(&rt, &report, (&[], 1, (0, 0, 1)));
     Ok(())
 }

@@ -53,9 +53,10 @@ fn turn_over(set: &VbrSet, pass: Pass, bucket: u64) -> (Pass, bool)
 
 #[test]
 fn two_threads_fill_seventy_slots_twice(rt: HostRuntime) -> Result<(), Fail> {
-    let Some((set, first, second)) = open_two(rt.alloc(), Shape::new(70, 2, 1_000_000)?) else {
-        panic!(rt; "no memory")
-    };
+    let (set, first, second) = open_two(rt.alloc(), Shape::new(70, 2, 1_000_000)?).expect(
+        &rt,
+        "there is memory",
+    );
     let shared = &set;
     let ((first, first_done), (second, second_done)) = join(
         &rt,
@@ -69,9 +70,7 @@ fn two_threads_fill_seventy_slots_twice(rt: HostRuntime) -> Result<(), Fail> {
         { turn_over(shared, second, 1) },
     );
     assert!(rt; first_done && second_done);
-    let Some(report) = close_both(rt.alloc(), set, first, second) else {
-        panic!(rt; "not closed")
-    };
+    let report = close_both(rt.alloc(), set, first, second).expect(&rt, "it is closed");
     assert_eq!(rt; (report.live, report.marked, report.free), (70, 0, 0));
     for i in 0..70 {
         assert_eq!(rt; report.keys.get(i).copied(), Some(i as u64));

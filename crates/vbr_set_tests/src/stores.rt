@@ -1,9 +1,11 @@
 //! Stores in a map, and removes by a value: each call with each outcome.
 ghost use Rattle.std.specs.Prelude.{◌≡◌};
 
+use crate::alone::{expect_left, open_alone};
 use std::process::Abort;
 use std::test::Fail;
 use vbr_set::{Refusal, Shape, VbrMap, VbrMapRef};
+use vbr_words::Entries;
 
 // A key that is absent stays so for who replaces, exchanges or removes; a put stores.
 fn store_where_absent(rt: &impl Abort, caller: &mut VbrMapRef)
@@ -50,20 +52,14 @@ fn remove_by_value(rt: &impl Abort, caller: &mut VbrMapRef)
 /// One caller makes each call with each outcome, and the close tells the entry that is left.
 #[test]
 fn a_value_is_changed(rt: HostRuntime) -> Result<(), Fail> {
-    let (map, mut passes) = VbrMap::open(rt.alloc(), Shape::new(4, 2, 20)?, 1)?;
-    let Some(pass) = passes.pop() else {
-        panic!(rt; "no pass")
-    };
+    let (map, pass) = open_alone::<Entries>(rt.alloc(), Shape::new(4, 2, 20)?, &[])?;
     let mut caller = map.with_pass(pass);
     store_where_absent(&rt, &mut caller);
     store_where_present(&rt, &mut caller);
     change_by_value(&rt, &mut caller);
     remove_by_value(&rt, &mut caller);
-    passes.push(caller.into_pass())?;
-    let report = map.close(rt.alloc(), passes)?;
-    assert_eq!(rt; report.entries.as_slice(), [(5, 75)].as_slice());
-    assert_eq!(rt; (report.live, report.marked, report.free), (1, 0, 3));
-    Ok(())
+    let pass = caller.into_pass();
+    expect_left(&rt, rt.alloc(), map, pass, &[(5, 75)], (1, 0, 3))
 }
 
 // In a map whose slots are all taken up nothing can be stored, and what changes nothing is answered.
@@ -84,16 +80,11 @@ fn store_without_a_slot(rt: &impl Abort, caller: &mut VbrMapRef)
 /// A map with one slot keeps its one value.
 #[test]
 fn a_full_map_keeps_its_value(rt: HostRuntime) -> Result<(), Fail> {
-    let (map, mut passes) = VbrMap::open(rt.alloc(), Shape::new(1, 1, 20)?, 1)?;
-    let Some(pass) = passes.pop() else {
-        panic!(rt; "no pass")
-    };
+    let (map, pass) = open_alone::<Entries>(rt.alloc(), Shape::new(1, 1, 20)?, &[])?;
     let mut caller = map.with_pass(pass);
     store_without_a_slot(&rt, &mut caller);
-    passes.push(caller.into_pass())?;
-    let report = map.close(rt.alloc(), passes)?;
-    assert_eq!(rt; report.entries.as_slice(), [(5, 70)].as_slice());
-    Ok(())
+    let pass = caller.into_pass();
+    expect_left(&rt, rt.alloc(), map, pass, &[(5, 70)], (1, 0, 0))
 }
 
 // One slot more than there are keys is enough for one replacement after another.
@@ -109,17 +100,11 @@ fn replace_thrice(rt: &impl Abort, caller: &mut VbrMapRef)
 /// The slot of a node that was replaced is back when the call returns.
 #[test]
 fn replaced_slots_come_back(rt: HostRuntime) -> Result<(), Fail> {
-    let (map, mut passes) = VbrMap::open(rt.alloc(), Shape::new(2, 1, 20)?, 1)?;
-    let Some(pass) = passes.pop() else {
-        panic!(rt; "no pass")
-    };
+    let (map, pass) = open_alone::<Entries>(rt.alloc(), Shape::new(2, 1, 20)?, &[])?;
     let mut caller = map.with_pass(pass);
     replace_thrice(&rt, &mut caller);
-    passes.push(caller.into_pass())?;
-    let report = map.close(rt.alloc(), passes)?;
-    assert_eq!(rt; report.entries.as_slice(), [(5, 73)].as_slice());
-    assert_eq!(rt; (report.live, report.marked, report.free), (1, 0, 1));
-    Ok(())
+    let pass = caller.into_pass();
+    expect_left(&rt, rt.alloc(), map, pass, &[(5, 73)], (1, 0, 1))
 }
 
 // Two callers change one key in turn, and each finds what the other stored.

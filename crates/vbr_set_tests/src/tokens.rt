@@ -32,9 +32,7 @@ fn add_tell_and_leave(one: Member, key: u64) -> (Result<bool, Refusal>, Seen)
 /// gave it is gone. To catch up is no step.
 #[test]
 fn a_token_tells_what_a_member_did(rt: HostRuntime) -> Result<(), Fail> {
-    let Some((one, mut other)) = open_two(rt.alloc()) else {
-        panic!(rt; "no memory")
-    };
+    let (one, mut other) = open_two(rt.alloc()).expect(&rt, "there is memory");
     let ((answer, token), ()) = thread::join(
         &rt,
         move || -> (Result<bool, Refusal>, Seen)
@@ -53,9 +51,7 @@ fn a_token_tells_what_a_member_did(rt: HostRuntime) -> Result<(), Fail> {
 /// the set is closed with its report.
 #[test]
 fn a_token_is_taken_twice_or_never(rt: HostRuntime) -> Result<(), Fail> {
-    let Some((mut one, mut other)) = open_two(rt.alloc()) else {
-        panic!(rt; "no memory")
-    };
+    let (mut one, mut other) = open_two(rt.alloc()).expect(&rt, "there is memory");
     let (answer, mut token) = add_and_tell(&mut one, 7);
     assert!(rt; answer?);
     let again = other.seen_again(&mut token);

@@ -91,9 +91,7 @@ fn mark_one_entry(rt: &impl Abort, slots: &Slots<Entries>, pass: &mut Pass) -> M
 #[test]
 fn an_entry_is_read_and_marked(rt: HostRuntime) -> Result<(), Fail> {
     let (slots, mut passes) = open_with_one_entry(rt.alloc(), Shape::new(1, 1, 10)?)?;
-    let Some(mut pass) = passes.pop() else {
-        panic!(rt; "no pass")
-    };
+    let mut pass = passes.pop().expect(&rt, "a pass");
     let marked = mark_one_entry(&rt, &slots, &mut pass);
     let wanted = Marked {
         slot: 0,

@@ -2,17 +2,17 @@
 ghost use Rattle.std.specs.Prelude.{◌≡◌, None};
 ghost use Rattle.vbr_slots.specs.Views.{IsOf};
 
-use crate::running_table::{close_two, open_two_with_values};
+use crate::rows::{Call, Row, expect, expect_answer, words_after};
 use std::alloc::Global;
 use std::process::Abort;
 use std::test::Fail;
 use vbr_list::{Refusal, Wanted, get, has, insert_entry, remove_entry, store};
 use vbr_slots::{Pass, Slots};
-use vbr_words::{Entries, Shape};
+use vbr_words::Entries;
 
 /// A call of a map, with its key, and what it is answered.
 #[derive(Clone, Copy)]
-pub(crate) enum Made {
+pub enum Made {
     Insert(u64, u64, Result<bool, Refusal>),
     Remove(u64, Result<Option<u64>, Refusal>),
     Get(u64, Result<Option<u64>, Refusal>),
@@ -20,30 +20,6 @@ pub(crate) enum Made {
     Store(u64, u64, Wanted, Result<Option<u64>, Refusal>),
     // A store that is refused for want of steps, after however many.
     Tired(u64, u64, Wanted),
-}
-
-/// What is made on a table with two passes, 0 and 1, or looked at there.
-#[derive(Clone, Copy)]
-pub(crate) enum Row<'a> {
-    // A call of a pass, with its budget.
-    Call(u32, u32, Made),
-    // How many steps the last call made.
-    Steps(u64),
-    // The epoch that a pass knows.
-    Epoch(u32, u64),
-    // The slots in a pass's own pool. It has none in hand.
-    Pool(u32, &'a [u32]),
-}
-
-// Compares the yes or no that a call for a key is answered.
-fn expect_answer(
-    rt: &impl Abort,
-    told: Result<bool, Refusal>,
-    answer: Result<bool, Refusal>,
-    made: &str,
-    key: u64,
-) {
-    assert_eq!(rt; told, answer, "{made} {key}");
 }
 
 // Compares the value that a call for a key is answered.
@@ -62,94 +38,37 @@ fn expect_tired(rt: &impl Abort, told: Result<Option<u64>, Refusal>) {
     assert!(rt; matches!(told, Err(Refusal::OutOfSteps { .. })));
 }
 
-// Makes a call, compares what it is answered, and tells how many steps it made.
-fn call(rt: &impl Abort, slots: &Slots<Entries>, pass: &mut Pass, budget: u32, made: Made) -> u64
-    requires own { IsOf pass.old.trace slots.now }
-    requires empty_hand { pass.old.hand ≡ None }
-    ensures own { IsOf pass.new.trace slots.now }
-    ensures hand { pass.new.hand ≡ None }
-{
-    let before = pass.steps();
-    match made {
-        Made::Insert(key, value, answer) => {
-            let told = insert_entry(slots, pass, key, value, budget);
-            expect_answer(rt, told, answer, "insert", key);
-        }
-        Made::Remove(key, answer) => {
-            let told = remove_entry(slots, pass, key, budget);
-            expect_value(rt, told, answer, "remove", key);
-        }
-        Made::Get(key, answer) => {
-            let told = get(slots, pass, key, budget);
-            expect_value(rt, told, answer, "get", key);
-        }
-        Made::Has(key, answer) => {
-            let told = has(slots, pass, key, budget);
-            expect_answer(rt, told, answer, "has", key);
-        }
-        Made::Store(key, value, wanted, answer) => {
-            let told = store(slots, pass, key, value, wanted, budget);
-            expect_value(rt, told, answer, "store", key);
-        }
-        Made::Tired(key, value, wanted) => {
-            let told = store(slots, pass, key, value, wanted, budget);
-            expect_tired(rt, told);
-        }
-    }
-    pass.steps().saturating_sub(before)
-}
+impl Call for Made {
+    type Nodes = Entries;
 
-// Makes rows one after another.
-fn play(rt: &impl Abort, slots: &Slots<Entries>, a: &mut Pass, b: &mut Pass, rows: &[Row])
-    requires first { IsOf a.old.trace slots.now × (a.old.hand ≡ None) }
-    requires second { IsOf b.old.trace slots.now × (b.old.hand ≡ None) }
-    ensures first { IsOf a.new.trace slots.now × (a.new.hand ≡ None) }
-    ensures second { IsOf b.new.trace slots.now × (b.new.hand ≡ None) }
-{
-    let mut steps = 0;
-    for row in rows {
-        match *row {
-            Row::Call(0, budget, made) => steps = call(rt, slots, a, budget, made),
-            Row::Call(_, budget, made) => steps = call(rt, slots, b, budget, made),
-            Row::Steps(made) => assert_eq!(rt; steps, made),
-            Row::Epoch(who, epoch) => {
-                let pass = if who == 0 { &*a } else { &*b };
-                assert_eq!(rt; pass.epoch(), epoch);
+    fn make<R: Abort>(self, rt: &R, slots: &Slots<Entries>, pass: &mut Pass, budget: u32) {
+        match self {
+            Made::Insert(key, value, answer) => {
+                let told = insert_entry(slots, pass, key, value, budget);
+                expect_answer(rt, told, answer, "insert", key);
             }
-            Row::Pool(who, pool) => {
-                let pass = if who == 0 { &*a } else { &*b };
-                assert_eq!(rt; pass.pool(), pool);
-                assert!(rt; pass.in_hand().is_none());
+            Made::Remove(key, answer) => {
+                let told = remove_entry(slots, pass, key, budget);
+                expect_value(rt, told, answer, "remove", key);
+            }
+            Made::Get(key, answer) => {
+                let told = get(slots, pass, key, budget);
+                expect_value(rt, told, answer, "get", key);
+            }
+            Made::Has(key, answer) => {
+                let told = has(slots, pass, key, budget);
+                expect_answer(rt, told, answer, "has", key);
+            }
+            Made::Store(key, value, wanted, answer) => {
+                let told = store(slots, pass, key, value, wanted, budget);
+                expect_value(rt, told, answer, "store", key);
+            }
+            Made::Tired(key, value, wanted) => {
+                let told = store(slots, pass, key, value, wanted, budget);
+                expect_tired(rt, told);
             }
         }
     }
-}
-
-// Makes rows on a fresh table with two passes, closes it, and gives its words.
-fn words_after(
-    rt: &impl Abort,
-    alloc: Global,
-    shape: (u32, u32, u64),
-    rows: &[Row],
-) -> Result<Vec<u64>, Fail> {
-    let (slots, buckets, last_epoch) = shape;
-    let shape = Shape::new(slots, buckets, last_epoch)?.with_values();
-    let Some((slots, mut a, mut b)) = open_two_with_values(alloc, shape) else {
-        panic!(rt; "no memory")
-    };
-    play(rt, &slots, &mut a, &mut b, rows);
-    Ok(close_two(alloc, slots, a, b).ok_or("not closed")?)
-}
-
-/// Makes rows on a fresh table with two passes.
-pub(crate) fn expect(
-    rt: &impl Abort,
-    alloc: Global,
-    shape: (u32, u32, u64),
-    rows: &[Row],
-) -> Result<(), Fail> {
-    words_after(rt, alloc, shape, rows)?;
-    Ok(())
 }
 
 /// A value stays that of its insert: an insert of a present key is answered no, and changes nothing.

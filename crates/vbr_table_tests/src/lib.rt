@@ -21,6 +21,8 @@ mod pools;
 #[cfg(test)]
 mod retiring;
 #[cfg(test)]
+mod rows;
+#[cfg(test)]
 mod running_table;
 #[cfg(test)]
 mod standing_still;

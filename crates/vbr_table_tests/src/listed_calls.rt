@@ -1,6 +1,6 @@
 //! The worked lists of events, call by call on a running table with two passes. Each list is shown to
 //! be accepted, so each call may be made; its effect is compared when it was made.
-ghost use Rattle.std.specs.Prelude.{◌≡◌, ◌≢◌, ◌<◌, ◌==◌, MatchResult, true, false};
+ghost use Rattle.std.specs.Prelude.{◌≡◌, ◌≢◌, ◌<◌, ◌==◌, MatchResult, IfSome, true, false};
 ghost use Rattle.vbr_machine.specs.Learning.{present_reply};
 ghost use Rattle.vbr_machine.specs.Start.{empty_start};
 ghost use Rattle.vbr_machine.specs.Machine.{opening};
@@ -8,7 +8,7 @@ ghost use Rattle.vbr_slots.specs.Views.{IsOf};
 ghost use Rattle.vbr_event_lists.specs.Worked.{AreWorked, first_of, names_link, others_of};
 ghost use Rattle.vbr_table_tests.specs.Following.{Learned, May, BothFollow};
 
-use crate::running_table::{close_two, open_two, open_two_with_values};
+use crate::running_table::{Opened, close_two, open_two};
 use std::alloc::Global;
 use std::process::Abort;
 use std::test::Fail;
@@ -19,7 +19,7 @@ use vbr_event_lists::{
 };
 use vbr_machine::{Effect, Op, Step};
 use vbr_slots::{Pass, Slots};
-use vbr_words::{Nodes, Shape, decode};
+use vbr_words::{Entries, Keys, Nodes, Shape, decode};
 
 // The effect of an exchange.
 fn exchanged(answer: Result<(), u64>) -> Effect
@@ -207,7 +207,7 @@ fn first_and_others(words: &[u64]) -> (u64, &[u64])
 }
 
 // Makes the steps of a list, with the link words that its callers name.
-pub(crate) fn follow<N: Nodes>(
+fn follow<N: Nodes>(
     rt: &impl Abort,
     slots: &Slots<N>,
     a: &mut Pass,
@@ -228,37 +228,38 @@ pub(crate) fn follow<N: Nodes>(
     }
 }
 
-// The words of a table of this shape once a list was made on it.
-fn words_after(
-    rt: &impl Abort,
+// A table of this shape on which two passes made the steps of a list.
+pub(crate) fn table_after<R: Abort, N: Opened>(
+    rt: &R,
     alloc: Global,
     shape: Shape,
     rows: &[Row],
     words: &[u64],
-) -> Option<Vec<u64>>
-    requires bare { shape.values ≡ false }
+) -> Option<(Slots<N>, Pass, Pass)>
+    requires kind { shape.values ≡ N.VALUES }
     requires worked { let start = empty_start shape in
         AreWorked start (opening start) rows.now words.now }
+    ensures shape { IfSome result (λ r. r.0.start ≡ empty_start shape) }
+    ensures own { IfSome result (λ r. IsOf r.1.trace r.0 × IsOf r.2.trace r.0) }
 {
-    let (slots, mut a, mut b) = open_two(alloc, shape)?;
+    let (slots, mut a, mut b) = open_two::<N>(alloc, shape)?;
     follow(rt, &slots, &mut a, &mut b, rows, words);
-    close_two(alloc, slots, a, b)
+    Some((slots, a, b))
 }
 
-// The words of a table of this shape, whose nodes have values, once a list was made on it.
-fn words_with_values_after(
-    rt: &impl Abort,
+// The words of a table of this shape once a list was made on it.
+fn words_after<R: Abort, N: Opened>(
+    rt: &R,
     alloc: Global,
     shape: Shape,
     rows: &[Row],
     words: &[u64],
 ) -> Option<Vec<u64>>
-    requires values { shape.values ≡ true }
+    requires kind { shape.values ≡ N.VALUES }
     requires worked { let start = empty_start shape in
         AreWorked start (opening start) rows.now words.now }
 {
-    let (slots, mut a, mut b) = open_two_with_values(alloc, shape)?;
-    follow(rt, &slots, &mut a, &mut b, rows, words);
+    let (slots, a, b) = table_after::<R, N>(rt, alloc, shape, rows, words)?;
     close_two(alloc, slots, a, b)
 }
 
@@ -270,9 +271,7 @@ fn expect_words(
     parts: &[&[u64]],
     flags: u64,
 ) -> Result<(), Fail> {
-    let Some(words) = words else {
-        panic!(rt; "no words")
-    };
+    let words = words.expect(rt, "there are words");
     let mut wanted = Vec::new(alloc);
     for part in parts {
         wanted.extend_from_slice(part)?;
@@ -285,7 +284,13 @@ fn expect_words(
 #[test]
 fn two_passes_unlink_one_node(rt: HostRuntime) -> Result<(), Fail> {
     let shape = Shape::new(1, 1, 10)?;
-    let words = words_after(&rt, rt.alloc(), shape, &TWO_HELPERS, &TWO_HELPERS_WORDS);
+    let words = words_after::<HostRuntime, Keys>(
+        &rt,
+        rt.alloc(),
+        shape,
+        &TWO_HELPERS,
+        &TWO_HELPERS_WORDS,
+    );
     let wanted: [&[u64]; 2] = [&[1, 167_772_161, 0], &[50_331_648, 1, 0, 7]];
     expect_words(&rt, rt.alloc(), words, &wanted, 0)
 }
@@ -293,7 +298,13 @@ fn two_passes_unlink_one_node(rt: HostRuntime) -> Result<(), Fail> {
 #[test]
 fn a_slot_is_reborn(rt: HostRuntime) -> Result<(), Fail> {
     let shape = Shape::new(3, 1, 10)?;
-    let words = words_after(&rt, rt.alloc(), shape, &REBORN_SLOT, &REBORN_SLOT_WORDS);
+    let words = words_after::<HostRuntime, Keys>(
+        &rt,
+        rt.alloc(),
+        shape,
+        &REBORN_SLOT,
+        &REBORN_SLOT_WORDS,
+    );
     let wanted: [&[u64]; 4] = [
         &[2, 167_772_163, 67_108_866],
         &[33_554_432, 1, 0, 30],
@@ -306,7 +317,13 @@ fn a_slot_is_reborn(rt: HostRuntime) -> Result<(), Fail> {
 #[test]
 fn a_word_comes_back(rt: HostRuntime) -> Result<(), Fail> {
     let shape = Shape::new(3, 1, 10)?;
-    let words = words_after(&rt, rt.alloc(), shape, &SAME_WORD, &SAME_WORD_WORDS);
+    let words = words_after::<HostRuntime, Keys>(
+        &rt,
+        rt.alloc(),
+        shape,
+        &SAME_WORD,
+        &SAME_WORD_WORDS,
+    );
     let wanted: [&[u64]; 4] = [
         &[5, 167_772_163, 67_108_866],
         &[67_108_864, 2, 0, 30],
@@ -320,7 +337,13 @@ fn a_word_comes_back(rt: HostRuntime) -> Result<(), Fail> {
 fn two_passes_unlink_one_node_with_a_value(rt: HostRuntime) -> Result<(), Fail> {
     let shape = Shape::new(1, 1, 10)?.with_values();
     let rows = with_values(rt.alloc(), &TWO_HELPERS)?;
-    let words = words_with_values_after(&rt, rt.alloc(), shape, &rows, &TWO_HELPERS_WORDS);
+    let words = words_after::<HostRuntime, Entries>(
+        &rt,
+        rt.alloc(),
+        shape,
+        &rows,
+        &TWO_HELPERS_WORDS,
+    );
     let wanted: [&[u64]; 2] = [&[1, 167_772_161, 0], &[50_331_648, 1, 0, 7, 107]];
     expect_words(&rt, rt.alloc(), words, &wanted, 0)
 }
@@ -329,7 +352,13 @@ fn two_passes_unlink_one_node_with_a_value(rt: HostRuntime) -> Result<(), Fail> 
 fn a_slot_is_reborn_with_values(rt: HostRuntime) -> Result<(), Fail> {
     let shape = Shape::new(3, 1, 10)?.with_values();
     let rows = with_values(rt.alloc(), &REBORN_SLOT)?;
-    let words = words_with_values_after(&rt, rt.alloc(), shape, &rows, &REBORN_SLOT_WORDS);
+    let words = words_after::<HostRuntime, Entries>(
+        &rt,
+        rt.alloc(),
+        shape,
+        &rows,
+        &REBORN_SLOT_WORDS,
+    );
     let wanted: [&[u64]; 4] = [
         &[2, 167_772_163, 67_108_866],
         &[33_554_432, 1, 0, 30, 130],
@@ -343,7 +372,13 @@ fn a_slot_is_reborn_with_values(rt: HostRuntime) -> Result<(), Fail> {
 fn a_word_comes_back_with_values(rt: HostRuntime) -> Result<(), Fail> {
     let shape = Shape::new(3, 1, 10)?.with_values();
     let rows = with_values(rt.alloc(), &SAME_WORD)?;
-    let words = words_with_values_after(&rt, rt.alloc(), shape, &rows, &SAME_WORD_WORDS);
+    let words = words_after::<HostRuntime, Entries>(
+        &rt,
+        rt.alloc(),
+        shape,
+        &rows,
+        &SAME_WORD_WORDS,
+    );
     let wanted: [&[u64]; 4] = [
         &[5, 167_772_163, 67_108_866],
         &[67_108_864, 2, 0, 30, 130],
@@ -356,7 +391,13 @@ fn a_word_comes_back_with_values(rt: HostRuntime) -> Result<(), Fail> {
 #[test]
 fn a_stored_value_is_read_back(rt: HostRuntime) -> Result<(), Fail> {
     let shape = Shape::new(1, 1, 10)?.with_values();
-    let words = words_with_values_after(&rt, rt.alloc(), shape, &STORED_VALUE, &STORED_VALUE_WORDS);
+    let words = words_after::<HostRuntime, Entries>(
+        &rt,
+        rt.alloc(),
+        shape,
+        &STORED_VALUE,
+        &STORED_VALUE_WORDS,
+    );
     let wanted: [&[u64]; 2] = [&[1, 167_772_161, 33_554_433], &[50_331_648, 1, 0, 7, 107]];
     expect_words(&rt, rt.alloc(), words, &wanted, 0)
 }
@@ -364,7 +405,7 @@ fn a_stored_value_is_read_back(rt: HostRuntime) -> Result<(), Fail> {
 #[test]
 fn a_value_is_replaced_twice(rt: HostRuntime) -> Result<(), Fail> {
     let shape = Shape::new(3, 1, 10_000)?.with_values();
-    let words = words_with_values_after(
+    let words = words_after::<HostRuntime, Entries>(
         &rt,
         rt.alloc(),
         shape,
@@ -383,7 +424,7 @@ fn a_value_is_replaced_twice(rt: HostRuntime) -> Result<(), Fail> {
 #[test]
 fn a_step_of_each_kind_with_values(rt: HostRuntime) -> Result<(), Fail> {
     let shape = Shape::new(3, 1, 10_000)?.with_values();
-    let words = words_with_values_after(
+    let words = words_after::<HostRuntime, Entries>(
         &rt,
         rt.alloc(),
         shape,

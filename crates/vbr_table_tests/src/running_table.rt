@@ -17,16 +17,101 @@ use std::process::Abort;
 use std::test::Fail;
 use std::thread::{Threads, join};
 use vbr_slots::{CloseError, OpenError, Pass, Slots};
-use vbr_words::{Entries, Nodes, Shape};
+use vbr_words::{Entries, Keys, Nodes, Shape, ShapeError};
+
+/// Nodes of a kind whose tables are opened here, without a key or with three.
+pub trait Opened: Nodes + Sized {
+    /// Opens a table without a key.
+    fn open_once(
+        alloc: Global,
+        shape: Shape,
+        passes: u32,
+    ) -> Result<(Slots<Self>, Vec<Pass>), OpenError>
+        requires kind { shape.values ≡ Self.VALUES }
+        ensures table { IfOk result (λ r. (r.0.start ≡ empty_start shape) × (r.0.passes ≡ passes)) }
+        ensures passes { IfOk result (λ r. r.1.items ≡ new_passes r.0 0 passes) };
+
+    /// Opens a table with the keys 2, 5 and 9, and two passes. A value is its key and a hundred.
+    fn open_once_with_three(
+        alloc: Global,
+        shape: Shape,
+    ) -> Result<(Slots<Self>, Vec<Pass>), OpenError>
+        requires few { 3 ≤ shape.slots }
+        ensures { IfOk result (λ r. r.1.items ≡ new_passes r.0 0 2) };
+
+    /// Stores an item and a link to none in slot 0, which was born in epoch 1.
+    fn store(slots: &Slots<Self>, pass: &mut Pass)
+        requires own { IsOf pass.old.trace slots.now }
+        requires hand { pass.old.hand ≡ Some 0 }
+        requires birth { birth_in_hand (holding_of pass.old 0) ≡ 1 }
+        ensures own { IsOf pass.new.trace slots.now };
+}
+
+impl Opened for Keys {
+    fn open_once(
+        alloc: Global,
+        shape: Shape,
+        passes: u32,
+    ) -> Result<(Slots, Vec<Pass>), OpenError> {
+        Slots::open(alloc, shape, passes)
+    }
+
+    fn open_once_with_three(alloc: Global, shape: Shape) -> Result<(Slots, Vec<Pass>), OpenError> {
+        Slots::open_with(alloc, shape, 2, &[2, 5, 9])
+    }
+
+    fn store(slots: &Slots, pass: &mut Pass) {
+        store_node(slots, pass);
+    }
+}
+
+impl Opened for Entries {
+    fn open_once(
+        alloc: Global,
+        shape: Shape,
+        passes: u32,
+    ) -> Result<(Slots<Entries>, Vec<Pass>), OpenError> {
+        Slots::open_with_entries(alloc, shape, passes, &[])
+    }
+
+    fn open_once_with_three(
+        alloc: Global,
+        shape: Shape,
+    ) -> Result<(Slots<Entries>, Vec<Pass>), OpenError> {
+        Slots::open_with_entries(alloc, shape, 2, &[(2, 102), (5, 105), (9, 109)])
+    }
+
+    fn store(slots: &Slots<Entries>, pass: &mut Pass) {
+        slots.kind();
+        store_entry(slots, pass);
+    }
+}
+
+/// A shape of so many slots and buckets and with this last epoch, for nodes of a kind.
+pub fn shape_of<N: Nodes>(numbers: (u32, u32, u64)) -> Result<Shape, ShapeError>
+    ensures { IfOk result (λ shape. (shape.slots ≡ numbers.0) × (shape.values ≡ N.VALUES)) }
+{
+    let (slots, buckets, last_epoch) = numbers;
+    let shape = Shape::new(slots, buckets, last_epoch)?;
+    if N::VALUES {
+        Ok(shape.with_values())
+    } else {
+        Ok(shape)
+    }
+}
 
 // Opens a table. What found no memory left nothing, so it is tried again.
-pub fn open(alloc: Global, shape: Shape, passes: u32) -> Result<(Slots, Vec<Pass>), OpenError>
-    requires bare { shape.values ≡ false }
+pub fn open<N: Opened>(
+    alloc: Global,
+    shape: Shape,
+    passes: u32,
+) -> Result<(Slots<N>, Vec<Pass>), OpenError>
+    requires kind { shape.values ≡ N.VALUES }
     ensures table { IfOk result (λ r. (r.0.start ≡ empty_start shape) × (r.0.passes ≡ passes)) }
     ensures passes { IfOk result (λ r. r.1.items ≡ new_passes r.0 0 passes) }
 {
-    match Slots::open(alloc, shape, passes) {
-        Err(OpenError::Memory) => Slots::open(alloc, shape, passes),
+    match N::open_once(alloc, shape, passes) {
+        Err(OpenError::Memory) => N::open_once(alloc, shape, passes),
         opened => opened,
     }
 }
@@ -44,41 +129,13 @@ fn both_of<N: Nodes>(slots: Slots<N>, mut passes: Vec<Pass>) -> Option<(Slots<N>
 }
 
 // A table with two passes.
-pub fn open_two(alloc: Global, shape: Shape) -> Option<(Slots, Pass, Pass)>
-    requires bare { shape.values ≡ false }
+pub fn open_two<N: Opened>(alloc: Global, shape: Shape) -> Option<(Slots<N>, Pass, Pass)>
+    requires kind { shape.values ≡ N.VALUES }
     ensures table { IfSome result (λ r. (r.0.start ≡ empty_start shape) × (r.0.passes ≡ 2)) }
     ensures first { IfSome result (λ r. r.1 ≡ new_pass r.0 0) }
     ensures second { IfSome result (λ r. r.2 ≡ new_pass r.0 1) }
 {
-    let (slots, passes) = open(alloc, shape, 2).ok()?;
-    both_of(slots, passes)
-}
-
-// Opens a table whose nodes have values, without an entry. What found no memory left nothing, so it is
-// tried again.
-fn open_with_values(
-    alloc: Global,
-    shape: Shape,
-    passes: u32,
-) -> Result<(Slots<Entries>, Vec<Pass>), OpenError>
-    requires values { shape.values ≡ true }
-    ensures table { IfOk result (λ r. (r.0.start ≡ empty_start shape) × (r.0.passes ≡ passes)) }
-    ensures passes { IfOk result (λ r. r.1.items ≡ new_passes r.0 0 passes) }
-{
-    match Slots::open_with_entries(alloc, shape, passes, &[]) {
-        Err(OpenError::Memory) => Slots::open_with_entries(alloc, shape, passes, &[]),
-        opened => opened,
-    }
-}
-
-// A table with two passes, whose nodes have values, without an entry.
-pub fn open_two_with_values(alloc: Global, shape: Shape) -> Option<(Slots<Entries>, Pass, Pass)>
-    requires values { shape.values ≡ true }
-    ensures table { IfSome result (λ r. (r.0.start ≡ empty_start shape) × (r.0.passes ≡ 2)) }
-    ensures first { IfSome result (λ r. r.1 ≡ new_pass r.0 0) }
-    ensures second { IfSome result (λ r. r.2 ≡ new_pass r.0 1) }
-{
-    let (slots, passes) = open_with_values(alloc, shape, 2).ok()?;
+    let (slots, passes) = open::<N>(alloc, shape, 2).ok()?;
     both_of(slots, passes)
 }
 
@@ -97,7 +154,7 @@ pub fn two_passes(
     ensures second { result.2 ≡ new_pass result.0 1 }
 {
     let shape = Shape::new(slots, 1, last_epoch).expect(rt, "a shape");
-    open_two(alloc, shape).expect(rt, "there is memory")
+    open_two::<Keys>(alloc, shape).expect(rt, "there is memory")
 }
 
 // An empty vector with room for two passes. What found no memory left nothing, so it is tried again.
@@ -213,7 +270,7 @@ fn take_both<R: Threads + Sync>(rt: &R, alloc: Global, shape: Shape) -> Option<V
     requires bare { shape.values ≡ false }
     ensures { IfSome result (λ words. BothTook (empty_start shape) words.items) }
 {
-    let (slots, first, second) = open_two(alloc, shape)?;
+    let (slots, first, second) = open_two::<Keys>(alloc, shape)?;
     let table = &slots;
     let (first, second) = join(
         rt,
@@ -234,9 +291,7 @@ fn take_both<R: Threads + Sync>(rt: &R, alloc: Global, shape: Shape) -> Option<V
 #[test]
 fn two_threads_take_a_slot_each(rt: HostRuntime) -> Result<(), Fail> {
     let shape = Shape::new(2, 1, 10)?;
-    let Some(words) = take_both(&rt, rt.alloc(), shape) else {
-        panic!(rt; "no words")
-    };
+    let words = take_both(&rt, rt.alloc(), shape).expect(&rt, "there are words");
     assert_eq!(rt;
         words.as_slice(),
         [
@@ -258,49 +313,56 @@ fn two_threads_take_a_slot_each(rt: HostRuntime) -> Result<(), Fail> {
     Ok(())
 }
 
-#[test]
-fn opens_and_closes(rt: HostRuntime) -> Result<(), Fail> {
-    let shape = Shape::new(1, 1, 10)?;
+// Opens a table of one slot, and closes it at once: compares its words. Numbers of passes that are too
+// few or too many are refused.
+fn expect_opened<R: Abort, N: Opened>(rt: &R, alloc: Global, words: &[u64]) -> Result<(), Fail> {
+    let shape = shape_of::<N>((1, 1, 10))?;
     for passes in [0, 65] {
-        assert!(rt; matches!(open(rt.alloc(), shape, passes), Err(OpenError::Passes)));
+        assert!(rt; matches!(open::<N>(alloc, shape, passes), Err(OpenError::Passes)));
     }
-    let (slots, passes) = open(rt.alloc(), shape, 2)?;
+    let (slots, passes) = open::<N>(alloc, shape, 2)?;
     assert!(rt; slots.shape() == shape);
-    let wanted = [1, 167_772_161, 0, 16_777_216, 0, 0, 0, 1];
-    expect_closed(&rt, rt.alloc(), slots, passes, &wanted);
+    expect_closed(rt, alloc, slots, passes, words);
     Ok(())
 }
 
 #[test]
-fn opens_and_closes_with_values(rt: HostRuntime) -> Result<(), Fail> {
-    let shape = Shape::new(1, 1, 10)?.with_values();
-    for passes in [0, 65] {
-        let opened = open_with_values(rt.alloc(), shape, passes);
-        assert!(rt; matches!(opened, Err(OpenError::Passes)));
-    }
-    let (slots, passes) = open_with_values(rt.alloc(), shape, 2)?;
-    assert!(rt; slots.shape() == shape);
+fn opens_and_closes(rt: HostRuntime) -> Result<(), Fail> {
+    let wanted = [1, 167_772_161, 0, 16_777_216, 0, 0, 0, 1];
+    expect_opened::<HostRuntime, Keys>(&rt, rt.alloc(), &wanted)?;
     let wanted = [1, 167_772_161, 0, 16_777_216, 0, 0, 0, 0, 1];
-    expect_closed(&rt, rt.alloc(), slots, passes, &wanted);
-    Ok(())
+    expect_opened::<HostRuntime, Entries>(&rt, rt.alloc(), &wanted)
 }
 
 // Opens a table with three keys. What found no memory left nothing, so it is tried again.
-fn open_with_three(alloc: Global, shape: Shape) -> Result<(Slots, Vec<Pass>), OpenError>
-    requires bare { shape.values ≡ false }
+fn open_with_three<N: Opened>(
+    alloc: Global,
+    shape: Shape,
+) -> Result<(Slots<N>, Vec<Pass>), OpenError>
     requires few { 3 ≤ shape.slots }
     ensures { IfOk result (λ r. r.1.items ≡ new_passes r.0 0 2) }
 {
-    match Slots::open_with(alloc, shape, 2, &[2, 5, 9]) {
-        Err(OpenError::Memory) => Slots::open_with(alloc, shape, 2, &[2, 5, 9]),
+    match N::open_once_with_three(alloc, shape) {
+        Err(OpenError::Memory) => N::open_once_with_three(alloc, shape),
         opened => opened,
     }
+}
+
+// Opens a table of four slots and two buckets with three keys, and closes it at once: compares its
+// words.
+fn expect_opened_with_three<R: Abort, N: Opened>(
+    rt: &R,
+    alloc: Global,
+    words: &[u64],
+) -> Result<(), Fail> {
+    let (slots, passes) = open_with_three::<N>(alloc, shape_of::<N>((4, 2, 10))?)?;
+    expect_closed(rt, alloc, slots, passes, words);
+    Ok(())
 }
 
 /// Key number i stands in slot i, linked in its bucket's list. The other slots are in the shared pool.
 #[test]
 fn opens_with_keys(rt: HostRuntime) -> Result<(), Fail> {
-    let (slots, passes) = open_with_three(rt.alloc(), Shape::new(4, 2, 10)?)?;
     let wanted = [
         1,
         167_772_164,
@@ -324,30 +386,12 @@ fn opens_with_keys(rt: HostRuntime) -> Result<(), Fail> {
         0,
         8,
     ];
-    expect_closed(&rt, rt.alloc(), slots, passes, &wanted);
-    Ok(())
-}
-
-// Opens a table with three entries. What found no memory left nothing, so it is tried again.
-fn open_with_three_entries(
-    alloc: Global,
-    shape: Shape,
-) -> Result<(Slots<Entries>, Vec<Pass>), OpenError>
-    requires few { 3 ≤ shape.slots }
-    ensures { IfOk result (λ r. r.1.items ≡ new_passes r.0 0 2) }
-{
-    let entries = [(2, 102), (5, 105), (9, 109)];
-    match Slots::open_with_entries(alloc, shape, 2, &entries) {
-        Err(OpenError::Memory) => Slots::open_with_entries(alloc, shape, 2, &entries),
-        opened => opened,
-    }
+    expect_opened_with_three::<HostRuntime, Keys>(&rt, rt.alloc(), &wanted)
 }
 
 /// Where nodes have values, the value stands behind the key; the rest is as with keys alone.
 #[test]
 fn opens_with_entries(rt: HostRuntime) -> Result<(), Fail> {
-    let shape = Shape::new(4, 2, 10)?.with_values();
-    let (slots, passes) = open_with_three_entries(rt.alloc(), shape)?;
     let wanted = [
         1,
         167_772_164,
@@ -375,8 +419,7 @@ fn opens_with_entries(rt: HostRuntime) -> Result<(), Fail> {
         0,
         8,
     ];
-    expect_closed(&rt, rt.alloc(), slots, passes, &wanted);
-    Ok(())
+    expect_opened_with_three::<HostRuntime, Entries>(&rt, rt.alloc(), &wanted)
 }
 
 // Reads the epoch, which is 1, and takes slot 0 out of the shared pool. The stamp is that of the
@@ -495,10 +538,8 @@ fn two_passes_share_a_slot(rt: HostRuntime) {
 
 #[test]
 fn two_passes_share_a_slot_with_a_value(rt: HostRuntime) -> Result<(), Fail> {
-    let shape = Shape::new(2, 1, 10)?.with_values();
-    let Some((slots, a, b)) = open_two_with_values(rt.alloc(), shape) else {
-        panic!(rt; "no memory")
-    };
+    let shape = shape_of::<Entries>((2, 1, 10))?;
+    let (slots, a, b) = open_two::<Entries>(rt.alloc(), shape).expect(&rt, "there is memory");
     let wanted = [
         2,
         167_772_162,
@@ -570,58 +611,45 @@ fn store_entry(slots: &Slots<Entries>, pass: &mut Pass)
     slots.store_link(pass, 0, 33_554_432);
 }
 
+// A node is born and stored by one of two passes. Compares the words of the closing.
+fn expect_born<R: Abort, N: Opened>(rt: &R, alloc: Global, words: &[u64]) -> Result<(), Fail> {
+    let (slots, mut a, b) = open_two::<N>(alloc, shape_of::<N>((1, 1, 10))?).expect(
+        rt,
+        "there is memory",
+    );
+    bear(rt, &slots, &mut a);
+    N::store(&slots, &mut a);
+    expect_words(rt, alloc, slots, a, b, words);
+    Ok(())
+}
+
+// The same by the only pass of a table.
+fn expect_born_alone<R: Abort, N: Opened>(
+    rt: &R,
+    alloc: Global,
+    words: &[u64],
+) -> Result<(), Fail> {
+    let (slots, mut passes) = open::<N>(alloc, shape_of::<N>((1, 1, 10))?, 1)?;
+    let mut a = passes.pop().expect(rt, "a pass");
+    bear_alone(rt, &slots, &mut a);
+    N::store(&slots, &mut a);
+    passes.push(a).ok().ok_or("no room")?;
+    expect_closed(rt, alloc, slots, passes, words);
+    Ok(())
+}
+
 #[test]
 fn a_slot_is_born_in(rt: HostRuntime) -> Result<(), Fail> {
-    let Some((slots, mut a, b)) = open_two(rt.alloc(), Shape::new(1, 1, 10)?) else {
-        panic!(rt; "no memory")
-    };
-    bear(&rt, &slots, &mut a);
-    store_node(&slots, &mut a);
-    let wanted = [1, 167_772_161, 0, 33_554_432, 1, 0, 7, 0];
-    expect_words(&rt, rt.alloc(), slots, a, b, &wanted);
-    Ok(())
+    let words = [1, 167_772_161, 0, 33_554_432, 1, 0, 7, 0];
+    expect_born::<HostRuntime, Keys>(&rt, rt.alloc(), &words)?;
+    expect_born_alone::<HostRuntime, Keys>(&rt, rt.alloc(), &words)
 }
 
 #[test]
 fn a_slot_is_born_in_with_a_value(rt: HostRuntime) -> Result<(), Fail> {
-    let shape = Shape::new(1, 1, 10)?.with_values();
-    let Some((slots, mut a, b)) = open_two_with_values(rt.alloc(), shape) else {
-        panic!(rt; "no memory")
-    };
-    bear(&rt, &slots, &mut a);
-    store_entry(&slots, &mut a);
-    let wanted = [1, 167_772_161, 0, 33_554_432, 1, 0, 7, 107, 0];
-    expect_words(&rt, rt.alloc(), slots, a, b, &wanted);
-    Ok(())
-}
-
-#[test]
-fn one_pass_bears_a_slot(rt: HostRuntime) -> Result<(), Fail> {
-    let (slots, mut passes) = open(rt.alloc(), Shape::new(1, 1, 10)?, 1)?;
-    let Some(mut a) = passes.pop() else {
-        panic!(rt; "no pass")
-    };
-    bear_alone(&rt, &slots, &mut a);
-    store_node(&slots, &mut a);
-    passes.push(a).ok().ok_or("no room")?;
-    let wanted = [1, 167_772_161, 0, 33_554_432, 1, 0, 7, 0];
-    expect_closed(&rt, rt.alloc(), slots, passes, &wanted);
-    Ok(())
-}
-
-#[test]
-fn one_pass_bears_a_slot_with_a_value(rt: HostRuntime) -> Result<(), Fail> {
-    let shape = Shape::new(1, 1, 10)?.with_values();
-    let (slots, mut passes) = open_with_values(rt.alloc(), shape, 1)?;
-    let Some(mut a) = passes.pop() else {
-        panic!(rt; "no pass")
-    };
-    bear_alone(&rt, &slots, &mut a);
-    store_entry(&slots, &mut a);
-    passes.push(a).ok().ok_or("no room")?;
-    let wanted = [1, 167_772_161, 0, 33_554_432, 1, 0, 7, 107, 0];
-    expect_closed(&rt, rt.alloc(), slots, passes, &wanted);
-    Ok(())
+    let words = [1, 167_772_161, 0, 33_554_432, 1, 0, 7, 107, 0];
+    expect_born::<HostRuntime, Entries>(&rt, rt.alloc(), &words)?;
+    expect_born_alone::<HostRuntime, Entries>(&rt, rt.alloc(), &words)
 }
 
 // Advances the epoch, takes slot 0 and keeps it.

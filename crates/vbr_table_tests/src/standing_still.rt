@@ -1,13 +1,10 @@
 //! A pass that stands still, wherever it is in a call, holds up no other.
-ghost use Rattle.std.specs.Prelude.{◌≡◌, ◌<◌, ◌≤◌, true, false, None, IfSome};
-ghost use Rattle.vbr_machine.specs.Start.{empty_start};
-ghost use Rattle.vbr_machine.specs.Machine.{opening};
+ghost use Rattle.std.specs.Prelude.{◌≡◌, ◌<◌, ◌≤◌, None, IfSome};
 ghost use Rattle.vbr_slots.specs.Views.{IsOf};
-ghost use Rattle.vbr_event_lists.specs.Worked.{AreWorked};
 
-use crate::listed_calls::follow;
+use crate::listed_calls::table_after;
 use crate::pools::expect_taken;
-use crate::running_table::{open, open_two, open_two_with_values};
+use crate::running_table::{Opened, open};
 use std::alloc::Global;
 use std::process::Abort;
 use std::test::Fail;
@@ -17,67 +14,40 @@ use vbr_event_lists::{
 };
 use vbr_list::{insert, insert_entry, remove, remove_entry};
 use vbr_slots::{Pass, Slots};
-use vbr_words::{Entries, Nodes, Shape};
+use vbr_words::{Entries, Keys, Nodes, Shape};
 
-// A table of this shape on which two passes made the steps of a list.
-fn table_after(
-    rt: &impl Abort,
-    alloc: Global,
-    shape: Shape,
-    rows: &[Row],
-    words: &[u64],
-) -> Option<(Slots, Pass, Pass)>
-    requires bare { shape.values ≡ false }
-    requires worked { let start = empty_start shape in
-        AreWorked start (opening start) rows.now words.now }
-    ensures shape { IfSome result (λ r. r.0.start ≡ empty_start shape) }
-    ensures own { IfSome result (λ r. IsOf r.1.trace r.0 × IsOf r.2.trace r.0) }
-{
-    let (slots, mut a, mut b) = open_two(alloc, shape)?;
-    follow(rt, &slots, &mut a, &mut b, rows, words);
-    Some((slots, a, b))
+// Nodes of a kind of which items are inserted and removed.
+trait Inserted: Opened {
+    // Inserts key 9, with this value where there are any, and removes it.
+    fn make_round<R: Abort>(rt: &R, slots: &Slots<Self>, pass: &mut Pass, value: u64)
+        requires own { IsOf pass.old.trace slots.now }
+        requires empty_hand { pass.old.hand ≡ None }
+        ensures own { IsOf pass.new.trace slots.now }
+        ensures hand { pass.new.hand ≡ None };
 }
 
-// The same, where nodes have values.
-fn map_after(
-    rt: &impl Abort,
-    alloc: Global,
-    shape: Shape,
-    rows: &[Row],
-    words: &[u64],
-) -> Option<(Slots<Entries>, Pass, Pass)>
-    requires values { shape.values ≡ true }
-    requires worked { let start = empty_start shape in
-        AreWorked start (opening start) rows.now words.now }
-    ensures shape { IfSome result (λ r. r.0.start ≡ empty_start shape) }
-    ensures own { IfSome result (λ r. IsOf r.1.trace r.0 × IsOf r.2.trace r.0) }
-{
-    let (slots, mut a, mut b) = open_two_with_values(alloc, shape)?;
-    follow(rt, &slots, &mut a, &mut b, rows, words);
-    Some((slots, a, b))
-}
-
-// A thousand rounds of an insert and a remove.
-fn make_rounds(rt: &impl Abort, slots: &Slots, pass: &mut Pass)
-    requires own { IsOf pass.old.trace slots.now }
-    requires empty_hand { pass.old.hand ≡ None }
-    ensures own { IsOf pass.new.trace slots.now }
-{
-    for _ in 0..1000 {
+impl Inserted for Keys {
+    fn make_round<R: Abort>(rt: &R, slots: &Slots, pass: &mut Pass, _value: u64) {
         assert!(rt; insert(slots, pass, 9, 1000) == Ok(true));
         assert!(rt; remove(slots, pass, 9, 1000) == Ok(true));
     }
 }
 
+impl Inserted for Entries {
+    fn make_round<R: Abort>(rt: &R, slots: &Slots<Entries>, pass: &mut Pass, value: u64) {
+        assert!(rt; insert_entry(slots, pass, 9, value, 1000) == Ok(true));
+        assert!(rt; remove_entry(slots, pass, 9, 1000) == Ok(Some(value)));
+    }
+}
+
 // A thousand rounds of an insert and a remove, each with a value of its own.
-fn make_rounds_with_values(rt: &impl Abort, slots: &Slots<Entries>, pass: &mut Pass)
+fn make_rounds<R: Abort, N: Inserted>(rt: &R, slots: &Slots<N>, pass: &mut Pass)
     requires own { IsOf pass.old.trace slots.now }
     requires empty_hand { pass.old.hand ≡ None }
     ensures own { IsOf pass.new.trace slots.now }
 {
     for value in 0..1000 {
-        assert!(rt; insert_entry(slots, pass, 9, value, 1000) == Ok(true));
-        assert!(rt; remove_entry(slots, pass, 9, 1000) == Ok(Some(value)));
+        N::make_round(rt, slots, pass, value);
     }
 }
 
@@ -93,53 +63,54 @@ fn expect_moved<N: Nodes>(rt: &impl Abort, slots: &Slots<N>, a: &Pass, b: &mut P
     assert!(rt; matches!(first(slots, b, &point, 0), Err(Rollback::EpochMoved { .. })));
 }
 
-// Pass 1 stands still behind the first steps of the list, pass 0 makes its rounds, and then pass 1 goes
-// on.
-fn stand_behind(rt: &impl Abort, alloc: Global, steps: usize) -> Result<(), Fail>
+// Pass 1 stands still where it is, pass 0 makes its rounds, and then pass 1 goes on.
+fn go_on<R: Abort, N: Inserted>(rt: &R, table: Option<(Slots<N>, Pass, Pass)>)
+    requires own { IfSome table (λ r. IsOf r.1.trace r.0 × IsOf r.2.trace r.0) }
+    requires bucket { IfSome table (λ r. 0 < r.0.start.shape.buckets) }
+{
+    let (slots, mut a, mut b) = table.expect(rt, "there is memory");
+    assert!(rt; a.in_hand() == None);
+    make_rounds(rt, &slots, &mut a);
+    expect_moved(rt, &slots, &a, &mut b);
+}
+
+// Pass 1 stands still behind the first steps of the list.
+fn stand_behind<R: Abort>(rt: &R, alloc: Global, steps: usize) -> Result<(), Fail>
     requires { steps ≤ 29 }
 {
     let shape = Shape::new(3, 1, 10_000)?;
     let rows = &STANDING[..steps];
-    let Some((slots, mut a, mut b)) = table_after(rt, alloc, shape, rows, &STANDING_WORDS) else {
-        panic!(rt; "no memory")
-    };
-    assert!(rt; a.in_hand() == None);
-    make_rounds(rt, &slots, &mut a);
-    expect_moved(rt, &slots, &a, &mut b);
+    go_on(
+        rt,
+        table_after::<R, Keys>(rt, alloc, shape, rows, &STANDING_WORDS),
+    );
     Ok(())
 }
 
-// Pass 1 of a map stands still where it is, pass 0 makes its rounds, and then pass 1 goes on.
-fn go_on_in_a_map(rt: &impl Abort, table: Option<(Slots<Entries>, Pass, Pass)>)
-    requires own { IfSome table (λ r. IsOf r.1.trace r.0 × IsOf r.2.trace r.0) }
-    requires bucket { IfSome table (λ r. 0 < r.0.start.shape.buckets) }
-{
-    let Some((slots, mut a, mut b)) = table else {
-        panic!(rt; "no memory")
-    };
-    assert!(rt; a.in_hand() == None);
-    make_rounds_with_values(rt, &slots, &mut a);
-    expect_moved(rt, &slots, &a, &mut b);
-}
-
-// Pass 1 stands still behind the first steps of the same list in a map.
-fn stand_behind_in_a_map(rt: &impl Abort, alloc: Global, steps: usize) -> Result<(), Fail>
+// It stands still behind the first steps of the same list in a map.
+fn stand_behind_in_a_map<R: Abort>(rt: &R, alloc: Global, steps: usize) -> Result<(), Fail>
     requires { steps ≤ 32 }
 {
     let shape = Shape::new(3, 1, 10_000)?.with_values();
     let rows = &STANDING_WITH_VALUES[..steps];
-    go_on_in_a_map(rt, map_after(rt, alloc, shape, rows, &STANDING_WORDS));
+    go_on(
+        rt,
+        table_after::<R, Entries>(rt, alloc, shape, rows, &STANDING_WORDS),
+    );
     Ok(())
 }
 
 // It stands still behind the first steps of the list in which it has a node in hand, or has put it in
 // the place of another.
-fn stand_behind_replacing(rt: &impl Abort, alloc: Global, steps: usize) -> Result<(), Fail>
+fn stand_behind_replacing<R: Abort>(rt: &R, alloc: Global, steps: usize) -> Result<(), Fail>
     requires { steps ≤ 43 }
 {
     let shape = Shape::new(3, 1, 10_000)?.with_values();
     let rows = &REPLACED_VALUE[..steps];
-    go_on_in_a_map(rt, map_after(rt, alloc, shape, rows, &REPLACED_VALUE_WORDS));
+    go_on(
+        rt,
+        table_after::<R, Entries>(rt, alloc, shape, rows, &REPLACED_VALUE_WORDS),
+    );
     Ok(())
 }
 
@@ -292,10 +263,8 @@ fn expect_full_pool(rt: &impl Abort, pass: &Pass) {
 /// that it takes again is the oldest, in an epoch to which it advances.
 #[test]
 fn sixty_four_slots_filled_and_emptied(rt: HostRuntime) -> Result<(), Fail> {
-    let (slots, mut passes) = open(rt.alloc(), Shape::new(64, 1, 10)?, 1)?;
-    let Some(mut pass) = passes.pop() else {
-        panic!(rt; "no pass")
-    };
+    let (slots, mut passes) = open::<Keys>(rt.alloc(), Shape::new(64, 1, 10)?, 1)?;
+    let mut pass = passes.pop().expect(&rt, "a pass");
     fill_and_empty(&rt, &slots, &mut pass);
     expect_full_pool(&rt, &pass);
     assert_eq!(rt; pass.epoch(), 1);

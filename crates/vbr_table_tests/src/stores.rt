@@ -1,5 +1,6 @@
 //! Stores by what is there: worked calls of the list, with their steps and the budgets that are enough.
-use crate::entries::{Made, Row, expect};
+use crate::entries::Made;
+use crate::rows::{Row, expect};
 use std::alloc::Global;
 use std::process::Abort;
 use std::test::Fail;
@@ -10,7 +11,7 @@ use vbr_list::{Refusal, Wanted};
 fn expect_from(
     rt: &impl Abort,
     alloc: Global,
-    first: Row,
+    first: Row<Made>,
     there: Option<u64>,
     wanted: Wanted,
     least: u32,

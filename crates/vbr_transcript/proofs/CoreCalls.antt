@@ -1,32 +1,16 @@
--- The calls and the epoch of a run of the core: how they grow, and whose they are.
-use Rattle.std.proofs.Common.{◌≡◌, ℕ, ◌+◌, ◌≤◌, Bool, true, false, cond, ◌==◌, List, [], ◌∷◌, ◌++◌, refl, sym, ap, ◌∙◌, append_assoc, append-nil, arith}
+-- A pass beyond the number of passes has no calls in a run of the core; and how the epoch of a run grows.
+use Rattle.std.proofs.Common.{◌≡◌, ℕ, ◌+◌, ◌≤◌, Bool, true, false, cond, ◌==◌, List, [], ◌∷◌, refl, ap, ◌∙◌, arith}
 use Rattle.vbr_words.specs.Flags.{has_flag}
 use Rattle.vbr_machine.specs.Start.{Start}
 use Rattle.vbr_words.specs.Words.{word_of}
 use Rattle.vbr_words.specs.declared.place.At.TheVariants.{Head, Slot}
 use Rattle.vbr_machine.specs.Machine.{World, opening, found, after}
 use Rattle.vbr_machine.specs.Runs.{IsRun, AreAccepted, world_from, world_after, NoneOf, Begins}
-use Rattle.vbr_machine.specs.Calls.{own_calls, calls_added}
+use Rattle.vbr_machine.specs.Calls.{own_calls}
 use Rattle.vbr_machine.specs.declared.event.Event.{Event}
 use Rattle.vbr_machine.specs.declared.event.Step.{Step}
 use Rattle.vbr_machine.specs.declared.event.Step.TheVariants.{ReadEpoch, Advance, LoadStamp, StoreStamp, Raise, TakeFlag, StoreBirth, StoreKey, StoreValue, StoreLink, LoadLink, LoadBirth, LoadKey, LoadValue, Publish, Mark, Replace, Unlink, ConfirmPresent, ConfirmAbsent}
-use Rattle.vbr_machine.specs.declared.history.Call.{Call}
-use Rattle.vbr_machine.proofs.Lemmas.{calls_after, others_leave_calls, world_after-append}
-
--- events add their calls at the end
-calls_from : (start : Start) (w : World) (events : List Event) → (more : List Call) × ((world_from start w events).calls ≡ w.calls ++ more)
-calls_from start w [] = ([], sym (append-nil w.calls))
-calls_from start w (event ∷ events) =
-    let next = after start w event.pass event.step in
-    let rest = calls_from start next events in
-    let added = calls_added start w event.pass event.step in
-    (added ++ rest.0, rest.1 ∙ ap (λ calls. calls ++ rest.0) (calls_after start w event.pass event.step) ∙ append_assoc w.calls added rest.0)
-
--- the calls of what begins a run begin its calls
-pub calls_begin : (start : Start) (seen run : List Event) → Begins seen run → (more : List Call) × ((world_after start run).calls ≡ (world_after start seen).calls ++ more)
-calls_begin start seen run begins =
-    let more = calls_from start (world_after start seen) begins.0 in
-    (more.0, ap (λ (events : List Event). (world_after start events).calls) begins.1 ∙ ap (λ (w : World). w.calls) (world_after-append start seen begins.0) ∙ more.1)
+use Rattle.vbr_machine.proofs.Lemmas.{others_leave_calls, world_after-append}
 
 -- no pass beyond the number of passes has an event
 none_beyond : (start : Start) (passes who : ℕ) (w : World) (events : List Event) → passes ≤ who → AreAccepted start passes w events → NoneOf who events

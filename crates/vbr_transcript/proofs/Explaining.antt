@@ -19,8 +19,8 @@ use Rattle.vbr_transcript.specs.Phases.{HaveCalled, HavePlayed}
 use Rattle.vbr_transcript.specs.Runs.{EndsIn, Manner, MayBeAnswered, IsSetRun}
 use Rattle.vbr_script.specs.declared.script.Line.{Line}
 use Rattle.vbr_transcript.specs.declared.reply.Reply.{Reply}
-use Rattle.vbr_machine.proofs.Lemmas.{begins_run}
-use Rattle.vbr_transcript.proofs.CoreCalls.{calls_begin, no_calls_beyond}
+use Rattle.vbr_machine.proofs.Lemmas.{begins_run, calls_since}
+use Rattle.vbr_transcript.proofs.CoreCalls.{no_calls_beyond}
 use Rattle.vbr_transcript.proofs.Filters.{filter_all, filter_none}
 use Rattle.vbr_transcript.proofs.Outcomes.{calls_by-answered, outcomes_by-own, all_outcomes, lines_by-ascend, outcomes_up_to-zip, lines_by-up_to, outcomes_by-up_to}
 
@@ -68,7 +68,7 @@ ends : (kind : Kind) (start : Start) (workers phases phase : ℕ) (lines : List 
 ends kind start workers phases phase lines own replies run phased merged is_run played all = elim (cases_lt phase phases) [
   | inl before ↦
       let end = played.ends phase before in
-      let calls = calls_begin start end.seen run end.begins in
+      let calls = calls_since start end.seen run end.begins in
       record {
         before = (world_after start end.seen).calls;
         after = calls.0;

@@ -101,7 +101,8 @@ pub fn opening_link() -> Link
 
 // The link of a slot in hand, once it is stored; otherwise that of a slot at opening.
 pub fn link_in_hand(holding: Option<Holding>) -> Link
-    ensures { result ≡ link_in_hand holding }
+    ensures link { result ≡ link_in_hand holding }
+    ensures fits { FitsHolding holding → IsLink result }
 {
     match holding {
         Some(Holding::InHand(known)) => known.link.unwrap_or(opening_link()),
@@ -152,6 +153,7 @@ pub fn with_value(holding: Option<Holding>, value: u64) -> Option<Holding>
 
 // A slot in hand once its link is stored.
 pub fn with_link(holding: Option<Holding>, link: Link) -> Option<Holding>
+    requires { IsLink link }
     ensures holding { result ≡ with_link holding link }
     ensures fits { FitsHolding holding → FitsHolding result }
 {

@@ -34,38 +34,13 @@ pub struct Lists {
 
 impl Model for Lists {
     ghost use Rattle.vbr_core.specs.WorldInLists.{KeptWorld, IsWhole};
+    ghost use Rattle.vbr_core.specs.WorldView.{kept_in};
 
     ghost Value = { KeptWorld };
 
-    ghost view = { λ w. record {
-      start = w.start;
-      epoch = w.epoch;
-      heads = w.heads.items;
-      links = w.links.items;
-      birth = w.birth.items;
-      stamps = w.stamps.items;
-      keys = w.keys.items;
-      values = w.values.items;
-      places = w.places.items;
-      passes = w.passes.items;
-      births = w.births;
-      calls = w.calls.items;
-    } };
+    ghost view = { kept_in };
 
-    ghost invariant = { λ w. IsWhole (record {
-      start = w.start;
-      epoch = w.epoch;
-      heads = w.heads.items;
-      links = w.links.items;
-      birth = w.birth.items;
-      stamps = w.stamps.items;
-      keys = w.keys.items;
-      values = w.values.items;
-      places = w.places.items;
-      passes = w.passes.items;
-      births = w.births;
-      calls = w.calls.items;
-    }) };
+    ghost invariant = { λ lists. IsWhole (kept_in lists) };
 }
 
 impl Lists {

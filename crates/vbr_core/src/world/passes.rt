@@ -33,22 +33,13 @@ pub struct PassState {
 
 impl Model for PassState {
     ghost use Rattle.vbr_core.specs.WorldInLists.{KeptPass, FitsPass};
+    ghost use Rattle.vbr_core.specs.PassView.{pass_in};
 
     ghost Value = { KeptPass };
 
-    ghost view = { λ p. record {
-      epoch = p.epoch;
-      pending = p.pending.items;
-      checked = p.checked.items;
-      own = p.own.items;
-    } };
+    ghost view = { pass_in };
 
-    ghost invariant = { λ p. FitsPass (record {
-      epoch = p.epoch;
-      pending = p.pending.items;
-      checked = p.checked.items;
-      own = p.own.items;
-    }) };
+    ghost invariant = { λ pass. FitsPass (pass_in pass) };
 }
 
 // The unmarked link to a slot or to none.
@@ -271,6 +262,23 @@ impl PassState {
         }
     }
 
+    // Whether what is in hand has the link to what a link names, and a value where nodes have values.
+    fn is_linked_to(&self, start: &Start, known: Unpublished, next: Option<u32>) -> bool
+        ensures { IsTrue result
+            ↔ ((known.link ≡ Some
+            (link_to next known.birth (unwrap_or (birth_of self.now.checked next) 0)))
+            × HasValue start.now.shape.values known.value) }
+    {
+        let Some(link) = known.link else {
+            return false;
+        };
+        let named_birth = reads::birth_of(&self.checked, next).unwrap_or(0);
+        link.slot == next
+            && !link.mark
+            && link.version == version_of(known.birth, named_birth)
+            && (known.value.is_some() || !start.has_values())
+    }
+
     // Whether a slot is in hand and ready to stand behind a place, before what the link there
     // names.
     fn is_ready(&self, start: &Start, pred: At, expected: Link, slot: u32) -> bool
@@ -279,27 +287,14 @@ impl PassState {
             ↔ MayPublish start.now self.now.checked pred expected
             (slice_index_or self.now.own slot None) }
     {
-        match self.own[slot as usize] {
-            Some(
-                Holding::InHand(
-                    Unpublished {
-                        birth,
-                        key: Some(key),
-                        value,
-                        link: Some(link),
-                        ..
-                    },
-                ),
-            ) => {
-                let named_birth = reads::birth_of(&self.checked, expected.slot).unwrap_or(0);
-                link.slot == expected.slot
-                    && !link.mark
-                    && link.version == version_of(birth, named_birth)
-                    && self.is_between(start, pred, key, expected.slot)
-                    && (!start.has_values() || value.is_some())
-            }
-            _ => false,
-        }
+        let Some(Holding::InHand(known)) = self.own[slot as usize] else {
+            return false;
+        };
+        let Some(key) = known.key else {
+            return false;
+        };
+        self.is_between(start, pred, key, expected.slot)
+            && self.is_linked_to(start, known, expected.slot)
     }
 
     // Whether a slot is in hand and ready to take the place of a node, before what its link names.
@@ -309,27 +304,10 @@ impl PassState {
             ↔ MayReplace start.now self.now.checked slot expected
             (slice_index_or self.now.own new None) }
     {
-        match self.own[new as usize] {
-            Some(
-                Holding::InHand(
-                    Unpublished {
-                        birth,
-                        key: Some(key),
-                        value,
-                        link: Some(link),
-                        ..
-                    },
-                ),
-            ) => {
-                let named_birth = reads::birth_of(&self.checked, expected.slot).unwrap_or(0);
-                key == self.key_in(slot)
-                    && link.slot == expected.slot
-                    && !link.mark
-                    && link.version == version_of(birth, named_birth)
-                    && (value.is_some() || !start.has_values())
-            }
-            _ => false,
-        }
+        let Some(Holding::InHand(known)) = self.own[new as usize] else {
+            return false;
+        };
+        known.key == Some(self.key_in(slot)) && self.is_linked_to(start, known, expected.slot)
     }
 
     // Whether a key stands behind a place and before what a link names.

@@ -2,7 +2,7 @@
 ghost use Rattle.std.specs.Prelude.{◌≡◌, refl};
 ghost use Rattle.vbr_script.specs.declared.script.Kind.TheVariants.{Map};
 ghost use Rattle.vbr_transcript.specs.Totals.{epoch_in, listed_in, tally_in};
-ghost use Rattle.vbr_player.specs.EndLaws.{map_closes, map_renews};
+ghost use Rattle.vbr_player.specs.EndLaws.{map_is_played};
 
 use crate::playable::Playable;
 use std::alloc::{AllocError, Global};
@@ -48,7 +48,5 @@ impl Playable for Entries {
 
     ghost opens = { λ shape. refl };
 
-    ghost closes = { map_closes };
-
-    ghost renews = { map_renews };
+    ghost played = { map_is_played };
 }

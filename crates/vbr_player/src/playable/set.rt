@@ -2,7 +2,7 @@
 ghost use Rattle.std.specs.Prelude.{◌≡◌, refl};
 ghost use Rattle.vbr_script.specs.declared.script.Kind.TheVariants.{Set};
 ghost use Rattle.vbr_transcript.specs.Totals.{epoch_in, listed_in, tally_in};
-ghost use Rattle.vbr_player.specs.EndLaws.{set_closes, set_renews};
+ghost use Rattle.vbr_player.specs.EndLaws.{set_is_played};
 
 use crate::playable::Playable;
 use std::alloc::{AllocError, Global};
@@ -48,7 +48,5 @@ impl Playable for Keys {
 
     ghost opens = { λ shape. refl };
 
-    ghost closes = { set_closes };
-
-    ghost renews = { set_renews };
+    ghost played = { set_is_played };
 }

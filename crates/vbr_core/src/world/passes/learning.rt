@@ -1,13 +1,13 @@
 // What a pass learns from its steps.
-ghost use Rattle.std.specs.Prelude.{◌≡◌, ◌<◌, ◌≤◌, length, slice_index_or, Some, None, OnOk, OnErr};
+ghost use Rattle.std.specs.Prelude.{◌≡◌, ◌<◌, ◌≤◌, length, Some, None, OnOk, OnErr};
 ghost use Rattle.std.specs.List.{AllByRecursion};
-ghost use Rattle.vbr_words.specs.Words.{IsLink, link_of};
+ghost use Rattle.vbr_words.specs.Words.{IsLink};
 ghost use Rattle.vbr_words.specs.declared.shape.TheConstants.{MAX_EPOCH};
-ghost use Rattle.vbr_machine.specs.Acceptance.{Accepts, stamp_in, MayPublish, MayReplace};
-ghost use Rattle.vbr_machine.specs.Learning.{newborn, link_in_hand, learn, with_own, with_checked, with_pending, read_epoch};
+ghost use Rattle.vbr_machine.specs.Acceptance.{Accepts, stamp_in};
+ghost use Rattle.vbr_machine.specs.Learning.{newborn, learn, with_own, with_checked, with_pending, read_epoch};
 ghost use Rattle.vbr_core.specs.Growth.{ReadsMore};
 ghost use Rattle.vbr_core.specs.WorldInLists.{know_of, FitsRead, FitsHolding};
-ghost use Rattle.vbr_core.specs.KeptLearning.{HasRoom, Learns, with_all_checked, with_all_reread, with_epoch, with_linked};
+ghost use Rattle.vbr_core.specs.KeptLearning.{HasRoom, Learns, with_all_checked, with_all_reread, with_epoch, with_linked, with_won};
 
 use crate::world::holdings;
 use crate::world::passes::PassState;
@@ -102,35 +102,18 @@ impl PassState {
         self.put(slot, Some(Holding::InHand(holdings::newborn(stamp, birth))));
     }
 
-    // The link of a slot in hand that is ready to be published.
-    fn link_in_hand(&self, start: &Start, pred: At, expected: u64, slot: u32) -> Link
-        requires slot { slot < length self.now.own }
-        requires ready { MayPublish start.now self.now.checked pred (link_of expected)
-            (slice_index_or self.now.own slot None) }
-        ensures link { result ≡ link_in_hand (slice_index_or self.now.own slot None) }
-        ensures fits { IsLink result }
-    {
-        holdings::link_in_hand(self.own[slot as usize])
-    }
-
-    // A slot in hand was linked at a place, by this link, and has this one itself: both are checked
-    // then, with what was stored in it, and the slot is no longer the pass's.
-    fn learn_linked(
-        &mut self,
-        at: At,
-        link: Link,
-        slot: u32,
-        own_link: Link,
-    ) -> Result<(), AllocError>
+    // A slot in hand was linked at a place, by this link: both links are checked then, with what was
+    // stored in the slot, and it is no longer the pass's.
+    fn learn_linked(&mut self, at: At, link: Link, slot: u32) -> Result<(), AllocError>
         requires slot { slot < length self.old.own }
-        requires own { own_link ≡ link_in_hand (slice_index_or self.old.own slot None) }
-        requires fits { IsLink link × IsLink own_link }
+        requires fits { IsLink link }
         ensures learned { OnOk result (Learns self.old self.new (with_linked at link slot)) }
         ensures refused { OnErr result (self.new ≡ self.old) }
     {
         let holding = self.holding(slot);
         let birth = holdings::birth_in_hand(holding);
         let key = holdings::key_in_hand(holding);
+        let own_link = holdings::link_in_hand(holding);
         match holdings::value_in_hand(holding) {
             None => self.add_checked(&[
                 Read::LinkAt(at, link),
@@ -150,105 +133,25 @@ impl PassState {
         Ok(())
     }
 
-    // The publication of a slot in hand has succeeded.
-    fn learn_publish(
-        &mut self,
-        start: &Start,
-        pred: At,
-        expected: u64,
-        slot: u32,
-    ) -> Result<(), AllocError>
+    // An exchange of a link has succeeded: the link that it wrote is checked. What was published is
+    // no longer the pass's, and what was unlinked is.
+    fn learn_won(&mut self, start: &Start, step: Step) -> Result<(), AllocError>
         requires slots { length self.old.own ≡ start.now.shape.slots }
-        requires accepted { Accepts start.now (know_of self.old) (Step.Publish pred expected slot) }
-        ensures learned { OnOk result
-            (Learns self.old self.new (learn (Step.Publish pred expected slot) expected 0)) }
+        requires accepted { Accepts start.now (know_of self.old) step }
+        ensures learned { OnOk result (Learns self.old self.new (with_won step)) }
         ensures refused { OnErr result (self.new ≡ self.old) }
     {
-        let link = self.new_link(
-            start,
-            Step::Publish {
-                pred,
-                expected,
-                slot,
-            },
-        );
-        let own_link = self.link_in_hand(start, pred, expected, slot);
-        self.learn_linked(pred, link, slot, own_link)
-    }
-
-    // The link of a slot in hand that is ready to take the place of a node.
-    fn link_in_place(&self, start: &Start, slot: u32, expected: u64, new: u32) -> Link
-        requires new { new < length self.now.own }
-        requires ready { MayReplace start.now self.now.checked slot (link_of expected)
-            (slice_index_or self.now.own new None) }
-        ensures link { result ≡ link_in_hand (slice_index_or self.now.own new None) }
-        ensures fits { IsLink result }
-    {
-        holdings::link_in_hand(self.own[new as usize])
-    }
-
-    // The replacement of a node by a slot in hand has succeeded.
-    fn learn_replace(
-        &mut self,
-        start: &Start,
-        slot: u32,
-        expected: u64,
-        new: u32,
-    ) -> Result<(), AllocError>
-        requires slots { length self.old.own ≡ start.now.shape.slots }
-        requires accepted { Accepts start.now (know_of self.old) (Step.Replace slot expected new) }
-        ensures learned { OnOk result
-            (Learns self.old self.new (learn (Step.Replace slot expected new) expected 0)) }
-        ensures refused { OnErr result (self.new ≡ self.old) }
-    {
-        let link = self.new_link(
-            start,
-            Step::Replace {
-                slot,
-                expected,
-                new,
-            },
-        );
-        let own_link = self.link_in_place(start, slot, expected, new);
-        self.learn_linked(At::Slot(slot), link, new, own_link)
-    }
-
-    // The removal of a node has succeeded.
-    fn learn_mark(&mut self, start: &Start, slot: u32, expected: u64) -> Result<(), AllocError>
-        requires slots { length self.old.own ≡ start.now.shape.slots }
-        requires accepted { Accepts start.now (know_of self.old) (Step.Mark slot expected) }
-        ensures learned { OnOk result
-            (Learns self.old self.new (learn (Step.Mark slot expected) expected 0)) }
-        ensures refused { OnErr result (self.new ≡ self.old) }
-    {
-        let link = self.new_link(start, Step::Mark { slot, expected });
-        self.add_checked(&[Read::LinkAt(At::Slot(slot), link)])
-    }
-
-    // The unlinking of a node has succeeded.
-    fn learn_unlink(
-        &mut self,
-        start: &Start,
-        pred: At,
-        expected: u64,
-        slot: u32,
-    ) -> Result<(), AllocError>
-        requires slots { length self.old.own ≡ start.now.shape.slots }
-        requires accepted { Accepts start.now (know_of self.old) (Step.Unlink pred expected slot) }
-        ensures learned { OnOk result
-            (Learns self.old self.new (learn (Step.Unlink pred expected slot) expected 0)) }
-        ensures refused { OnErr result (self.new ≡ self.old) }
-    {
-        let link = self.new_link(
-            start,
-            Step::Unlink {
-                pred,
-                expected,
-                slot,
-            },
-        );
-        self.add_checked(&[Read::LinkAt(pred, link)])?;
-        self.put(slot, Some(Holding::Unlinked(false)));
+        let link = self.new_link(start, step);
+        match step {
+            Step::Publish { pred, slot, .. } => self.learn_linked(pred, link, slot)?,
+            Step::Mark { slot, .. } => self.add_checked(&[Read::LinkAt(At::Slot(slot), link)])?,
+            Step::Replace { slot, new, .. } => self.learn_linked(At::Slot(slot), link, new)?,
+            Step::Unlink { pred, slot, .. } => {
+                self.add_checked(&[Read::LinkAt(pred, link)])?;
+                self.put(slot, Some(Holding::Unlinked(false)));
+            }
+            _ => {}
+        }
         Ok(())
     }
 
@@ -293,30 +196,10 @@ impl PassState {
                 let (holding, link) = (self.holding(slot), self.new_link(start, step));
                 self.put(slot, holdings::with_link(holding, link));
             }
-            Step::Publish {
-                pred,
-                expected,
-                slot,
-            } if found == expected => {
-                self.learn_publish(start, pred, expected, slot)?;
-            }
-            Step::Mark { slot, expected } if found == expected => {
-                self.learn_mark(start, slot, expected)?;
-            }
-            Step::Replace {
-                slot,
-                expected,
-                new,
-            } if found == expected => {
-                self.learn_replace(start, slot, expected, new)?;
-            }
-            Step::Unlink {
-                pred,
-                expected,
-                slot,
-            } if found == expected => {
-                self.learn_unlink(start, pred, expected, slot)?;
-            }
+            Step::Publish { expected, .. } if found == expected => self.learn_won(start, step)?,
+            Step::Mark { expected, .. } if found == expected => self.learn_won(start, step)?,
+            Step::Replace { expected, .. } if found == expected => self.learn_won(start, step)?,
+            Step::Unlink { expected, .. } if found == expected => self.learn_won(start, step)?,
             _ => {}
         }
         Ok(())

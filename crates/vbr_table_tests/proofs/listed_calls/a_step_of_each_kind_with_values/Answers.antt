@@ -8,7 +8,7 @@ use Rattle.vbr_event_lists.specs.declared.standing.TheConstants.{STANDING_WITH_V
 use Rattle.vbr_event_lists.proofs.Lemmas.{standing_with_values}
 use Rattle.vbr_table_tests.proofs.listed_calls.a_step_of_each_kind_with_values.Goals as goal
 
-pub words_with_values_after-words-requires-clause-worked : goal.words_with_values_after-words-requires-clause-worked
-words_with_values_after-words-requires-clause-worked g c =
+pub words_after-words-requires-clause-worked : goal.words_after-words-requires-clause-worked
+words_after-words-requires-clause-worked g c =
     let shape : c.with_values-shape.result ≡ (valued many_epochs).shape = search rules in
     subst (λ (d : Start). AreWorked d (opening d) STANDING_WITH_VALUES STANDING_WORDS) (sym (ap empty_start shape)) standing_with_values

@@ -8,7 +8,7 @@ use Rattle.vbr_event_lists.specs.declared.replaced.TheConstants.{REPLACED_VALUE,
 use Rattle.vbr_event_lists.proofs.Lemmas.{replaced_value}
 use Rattle.vbr_table_tests.proofs.listed_calls.a_value_is_replaced_twice.Goals as goal
 
-pub words_with_values_after-words-requires-clause-worked : goal.words_with_values_after-words-requires-clause-worked
-words_with_values_after-words-requires-clause-worked g c =
+pub words_after-words-requires-clause-worked : goal.words_after-words-requires-clause-worked
+words_after-words-requires-clause-worked g c =
     let shape : c.with_values-shape.result ≡ (valued many_epochs).shape = search rules in
     subst (λ (d : Start). AreWorked d (opening d) REPLACED_VALUE REPLACED_VALUE_WORDS) (sym (ap empty_start shape)) replaced_value

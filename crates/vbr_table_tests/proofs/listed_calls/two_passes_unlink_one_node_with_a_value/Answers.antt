@@ -10,8 +10,8 @@ use Rattle.vbr_event_lists.specs.declared.lists.TheConstants.{TWO_HELPERS, TWO_H
 use Rattle.vbr_event_lists.proofs.Lemmas.{two_helpers_with_values}
 use Rattle.vbr_table_tests.proofs.listed_calls.two_passes_unlink_one_node_with_a_value.Goals as goal
 
-pub words_with_values_after-words-requires-clause-worked : goal.words_with_values_after-words-requires-clause-worked
-words_with_values_after-words-requires-clause-worked g c =
+pub words_after-words-requires-clause-worked : goal.words_after-words-requires-clause-worked
+words_after-words-requires-clause-worked g c =
     let shape : c.with_values-shape.result ≡ (valued one_slot).shape = search rules in
     let rows : c.deref.result.now ≡ with_values TWO_HELPERS = search rules in
     subst (λ (x : Start × List (ℕ × Step × Effect)). AreWorked x.0 (opening x.0) x.1 TWO_HELPERS_WORDS) (λ i. (empty_start (sym shape i), sym rows i)) two_helpers_with_values

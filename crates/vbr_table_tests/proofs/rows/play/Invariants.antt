@@ -1,6 +1,6 @@
 use Rattle.std.proofs.Common.{◌≡◌, None}
 use Rattle.vbr_slots.specs.Views.{IsOf}
-use Rattle.vbr_table_tests.proofs.list.play.Given as goal
+use Rattle.vbr_table_tests.proofs.rows.play.Given as goal
 
 abbrev pub invariant-loop-row : goal.invariant-loop-row
 invariant-loop-row g l = (IsOf l.a.trace l.slots × (l.a.hand ≡ None)) × (IsOf l.b.trace l.slots × (l.b.hand ≡ None))
