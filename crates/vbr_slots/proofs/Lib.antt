@@ -15,6 +15,7 @@ mod Closings
 mod Snapshots
 mod Pools
 mod Passes
+mod GivenBack
 mod Running
 mod Calls
 mod Counting
