@@ -58,7 +58,7 @@ module _ (is : Step → Bool) where
   none_of_others who (x ∷ xs) none = both who (x ∷ []) xs ∙ (λ i. other_one who x none.0 i + none_of_others who xs none.1 i)
 
   -- one step more
-  did_made : {step : Step} {p q : Trace} {r : ℕ} → Did step p q r → made_of is q ≡ made_of is p + one_if (is step)
+  pub did_made : {step : Step} {p q : Trace} {r : ℕ} → Did step p q r → made_of is q ≡ made_of is p + one_if (is step)
   did_made {step} {p} {q} d =
       let who : ℕ = p.who in
       (λ i. made_in is (d.same.3 i) (d.seen i))

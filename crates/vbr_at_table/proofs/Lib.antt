@@ -41,3 +41,4 @@ mod ExchangeCalls
 mod OfKeys
 mod Replacements
 pub mod Lemmas
+mod GivingSlotsBack

@@ -11,6 +11,7 @@ pub mod Budgets
 pub mod Taking
 pub mod Refusals
 pub mod GivingBack
+pub mod GivingSlotsBack
 pub mod Retiring
 pub mod Pieces
 pub mod Soundness

@@ -19,6 +19,7 @@
 pub mod budget;
 pub mod confirming;
 pub mod giving_back;
+pub mod giving_slots_back;
 pub mod hand;
 pub mod held;
 mod links;
@@ -35,6 +36,7 @@ pub mod updating;
 
 pub use confirming::{confirm_absent, confirm_look_up, confirm_present};
 pub use giving_back::give_back;
+pub use giving_slots_back::give_slots_back;
 pub use hand::Hand;
 pub use held::{Checkpoint, Held, Marked};
 pub use marking::mark;

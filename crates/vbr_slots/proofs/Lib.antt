@@ -16,6 +16,7 @@ mod Snapshots
 mod Halting
 mod Pools
 mod Passes
+mod GivenBack
 mod Running
 mod Calls
 mod Counting

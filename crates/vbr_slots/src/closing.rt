@@ -45,6 +45,7 @@ impl<N: Nodes> Slots<N> {
             let Stepper {
                 runner,
                 pool: _,
+                given_back: _,
                 hand: _,
                 tried: _,
             } = stepper;
