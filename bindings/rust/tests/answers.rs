@@ -35,7 +35,8 @@ fn shapes() {
     assert_eq!(vbr::version(), 2_000);
     assert_eq!(OpenError::Shape(ShapeError::Slots(0)).to_string(), "0 slots are not from 1 to 16777215");
     assert_eq!(Shape::for_keys(0, 1), Shape::new(64, 1, MAX_EPOCH));
-    assert_eq!(Shape::for_keys(1_025, 1_000), Shape::new(1_025 + 64 * 64, 2_048, MAX_EPOCH));
+    assert_eq!(Shape::for_keys(1_025, 1_000), Shape::new(1_025 + 1_000 * 64, 2_048, MAX_EPOCH));
+    assert_eq!(Shape::for_keys(0, 65_537), Shape::new(65_536 * 64, 1, MAX_EPOCH)); // no more than there may be
     assert_eq!(Shape::for_keys(u32::MAX, 64).check(), Err(ShapeError::Slots(u32::MAX)));
     assert_eq!(ample_budget(6_400), 100_100);
 }
