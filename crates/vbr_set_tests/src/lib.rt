@@ -4,6 +4,8 @@
 #[cfg(test)]
 mod balances;
 #[cfg(test)]
+mod batches;
+#[cfg(test)]
 mod emptying;
 #[cfg(test)]
 mod iterating;
