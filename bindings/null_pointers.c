@@ -1,7 +1,9 @@
 /* Null pointers. Where a program gives a handle up: vbr_close answers as of an empty handle, and vbr_drop does nothing, as free
    does; vbr_map_close and vbr_map_drop are the same for the handle of a map. And where a call on a map would tell what was there,
-   and nobody asks. The proved exports are of a pointer that is there; in the archive they have the names close_handle,
-   drop_handle, map_close_handle, map_drop_handle, and map_replace_found and so on, and these stand before them.
+   and nobody asks. And where no key is looked up, keys and answers may be null. The proved exports are of a pointer that is there;
+   in the archive they have the names close_handle, drop_handle, map_close_handle, map_drop_handle, map_replace_found and so on,
+   and these stand before them. So do those of look-ups of several keys, has_all_keys, map_has_all_keys and map_get_all_keys,
+   which are told how many the answers are: they are as many as the keys.
 
    It includes nothing, so that the kit's compiler makes the same bytes of it on every machine. */
 enum { VBR_EMPTY = -4 }; /* of vbr.h */
@@ -26,6 +28,12 @@ int map_compare_exchange_found(void *handle, word key, word expected, word value
 int vbr_map_compare_exchange(void *handle, word key, word expected, word value, word *found, unsigned budget);
 int map_remove_if_found(void *handle, word key, word expected, word *found, unsigned budget);
 int vbr_map_remove_if(void *handle, word key, word expected, word *found, unsigned budget);
+void has_all_keys(void *handle, const word *keys, word count, int *answers, word answer_count, unsigned budget);
+void vbr_has_all(void *handle, const word *keys, word count, int *answers, unsigned budget);
+void map_has_all_keys(void *handle, const word *keys, word count, int *answers, word answer_count, unsigned budget);
+void vbr_map_has_all(void *handle, const word *keys, word count, int *answers, unsigned budget);
+void map_get_all_keys(void *handle, const word *keys, word count, void *found, word found_count, unsigned budget);
+void vbr_map_get_all(void *handle, const word *keys, word count, void *found, unsigned budget);
 
 int vbr_close(void *handle, void *keys, word room, void *report)
 {
@@ -70,4 +78,19 @@ int vbr_map_compare_exchange(void *handle, word key, word expected, word value, 
 int vbr_map_remove_if(void *handle, word key, word expected, word *found, unsigned budget)
 {
     return map_remove_if_found(handle, key, expected, found ? found : &(word){0}, budget);
+}
+
+void vbr_has_all(void *handle, const word *keys, word count, int *answers, unsigned budget)
+{
+    if (count) has_all_keys(handle, keys, count, answers, count, budget);
+}
+
+void vbr_map_has_all(void *handle, const word *keys, word count, int *answers, unsigned budget)
+{
+    if (count) map_has_all_keys(handle, keys, count, answers, count, budget);
+}
+
+void vbr_map_get_all(void *handle, const word *keys, word count, void *found, unsigned budget)
+{
+    if (count) map_get_all_keys(handle, keys, count, found, count, budget);
 }

@@ -53,6 +53,19 @@ static int many_handles(void) {
     return 0;
 }
 
+static int looked_up_in_turn(void) {
+    int there = 0;
+    vbr_handle handle[2] = {{0}};
+    vbr_answer answers[3];
+    static const uint64_t some[3] = {2, 5, 9}, wanted[3] = {5, 7, 2};
+    if (vbr_open_with(handle, 2, 1024 + 2 * 64, 1024, VBR_MAX_EPOCH, some, 3) != VBR_NO) return 1;
+    vbr_has_all(&handle[0], wanted, 3, answers, 100000);
+    for (int i = 0; i < 3; i++) there += answers[i] == VBR_YES; // wanted[i] was there during its call
+    CHECK(there == 2 && answers[1] == VBR_NO);
+    for (int i = 0; i < 2; i++) vbr_drop(&handle[i]);
+    return 0;
+}
+
 static int walked(void) {
     vbr_handle handle[2] = {{0}};
     vbr_totals report = {0};
@@ -119,7 +132,7 @@ static int lent(void) {
 }
 
 int main(void) {
-    if (one_by_one() || all_at_once() || many_handles() || walked() || refused() || the_most() || given_up() || lent()) return 1;
+    if (one_by_one() || all_at_once() || many_handles() || looked_up_in_turn() || walked() || refused() || the_most() || given_up() || lent()) return 1;
     puts("examples of each call in C: passed");
     return 0;
 }

@@ -78,6 +78,23 @@ static int many_handles(void) {
     return 0;
 }
 
+static int looked_up_in_turn(void) {
+    uint64_t sum = 0;
+    vbr_map_handle map[2] = {{0}};
+    vbr_answer answers[3];
+    vbr_found given[3];
+    static const vbr_entry some[3] = {{2, 20}, {5, 50}, {9, 90}};
+    static const uint64_t wanted[3] = {5, 7, 2};
+    if (vbr_map_open_with(map, 2, 1024 + 2 * 64, 1024, VBR_MAX_EPOCH, some, 3) != VBR_NO) return 1;
+    vbr_map_has_all(&map[0], wanted, 3, answers, 100000); // answers[i] is that of wanted[i]
+    CHECK(answers[0] == VBR_YES && answers[1] == VBR_NO && answers[2] == VBR_YES);
+    vbr_map_get_all(&map[0], wanted, 3, given, 100000);
+    for (int i = 0; i < 3; i++) sum += given[i].value; // 0 where wanted[i] isn't there
+    CHECK(sum == 50 + 20 && given[0].answer == VBR_YES && given[1].answer == VBR_NO);
+    for (int i = 0; i < 2; i++) vbr_map_drop(&map[i]);
+    return 0;
+}
+
 static int walked(void) {
     vbr_map_handle map[2] = {{0}};
     vbr_totals report = {0};
@@ -121,7 +138,7 @@ static int lent(void) {
 }
 
 int main(void) {
-    if (one_by_one() || changed_by_what_is_there() || all_at_once() || many_handles() || walked() || given_up() || lent()) return 1;
+    if (one_by_one() || changed_by_what_is_there() || all_at_once() || many_handles() || looked_up_in_turn() || walked() || given_up() || lent()) return 1;
     puts("examples of each call on maps in C: passed");
     return 0;
 }

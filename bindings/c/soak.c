@@ -120,9 +120,18 @@ static void stand_still(int signal_number) {
 
 static int adds(enum kind kind) { return kind == INSERT || kind == PUT; }
 
+/* A look-up: one of four in a batch, between two of other keys. */
+static int32_t look_up(struct worker *w, uint64_t key, uint32_t budget) {
+    vbr_answer answers[3];
+    uint64_t keys[3] = {key + w->round->spread, key, key - w->round->spread};
+    if (w->made % 4) return vbr_has(&w->handle, key, budget);
+    vbr_has_all(&w->handle, keys, 3, answers, budget);
+    return answers[1];
+}
+
 static int32_t call(struct worker *w, enum kind kind, uint32_t number, uint32_t budget) {
     uint64_t key = key_of(w->round, number);
-    int32_t answer = kind == LOOK_UP  ? vbr_has(&w->handle, key, budget)
+    int32_t answer = kind == LOOK_UP  ? look_up(w, key, budget)
                      : kind == INSERT ? vbr_insert(&w->handle, key, budget)
                      : kind == REMOVE ? vbr_remove(&w->handle, key, budget)
                      : kind == CHANGE ? value_change(&w->handle, key, budget)

@@ -197,6 +197,21 @@ VBR_NODISCARD static inline vbr_answer value_look_up(vbr_map_handle *handle, uin
     return value_get(handle, key, budget, &(uint64_t){0});
 }
 
+/* Look-ups of several keys, which find their values too. */
+static inline void value_look_up_all(vbr_map_handle *handle, const uint64_t *keys, size_t count, vbr_answer *answers, uint32_t budget) {
+    vbr_found found[64];
+    for (size_t from = 0; from < count; from += 64) {
+        size_t some = count - from < 64 ? count - from : 64;
+        uint64_t began = value_read(&value_time);
+        vbr_map_get_all(handle, keys + from, some, found, budget);
+        for (size_t i = 0; i < some; i++) {
+            if (found[i].answer == VBR_YES) value_is_found(keys[from + i], found[i].value, began);
+            else if (found[i].value) value_is_wrong("a get that isn't answered yes has a value", keys[from + i], found[i].value);
+            answers[from + i] = found[i].answer;
+        }
+    }
+}
+
 /* Another value in place of the one that a key was found to have; first of one that it doesn't have. */
 static inline vbr_answer value_exchange(vbr_map_handle *handle, uint64_t key, uint32_t budget) {
     uint64_t expected = VALUE_MIXER;
@@ -339,6 +354,7 @@ VBR_NODISCARD static inline vbr_answer value_report_all(vbr_map_handle *handles,
 #undef vbr_insert
 #undef vbr_remove
 #undef vbr_has
+#undef vbr_has_all
 #undef vbr_next
 #undef vbr_close
 #undef vbr_close_all
@@ -363,6 +379,7 @@ VBR_NODISCARD static inline vbr_answer value_report_all(vbr_map_handle *handles,
 #define vbr_insert value_insert
 #define vbr_remove value_remove
 #define vbr_has value_look_up
+#define vbr_has_all value_look_up_all
 #define vbr_next value_next
 #define vbr_close value_close
 #define vbr_close_all value_close_all

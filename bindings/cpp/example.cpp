@@ -64,6 +64,10 @@ static int calls() {
     if (mine.remove(6, budget) == vbr::answer::yes) taken++; // this call took 6 out
     if (vbr::is_refusal(mine.insert(7, budget))) return 1;
     if (mine.has(7, budget) == vbr::answer::yes) there++; // 7 was there during the call
+    const std::vector<std::uint64_t> wanted{5, 8, 7};
+    std::vector<vbr::answer> answers(3);
+    mine.has_all(wanted.data(), wanted.size(), answers.data(), budget); // answers[i] is that of wanted[i]
+    CHECK((answers == std::vector{vbr::answer::yes, vbr::answer::no, vbr::answer::yes}));
     const char *text = vbr::to_string(mine.has(8, 1)); // "out of steps": one is too few
     bool is_near = mine.epoch() + 1000 >= mine.last_epoch(); // then renew the set
     CHECK(added == 1 && taken == 1 && there == 1 && !is_near && std::string(text) == "out of steps");
@@ -72,6 +76,27 @@ static int calls() {
     std::uint64_t sum = 0;
     for (std::uint64_t key : told.report->keys) sum += key;
     CHECK(told.answer == vbr::close_answer::last && sum == 2 + 5 + 7);
+    return 0;
+}
+
+// Look-ups of many keys: more than a batch, none, and with a budget that is too small for all.
+static int many_keys() {
+    vbr::opened all = vbr::open(vbr::shape::for_keys(200, 1), 1);
+    CHECK(all.answer == vbr::open_answer::done);
+    vbr::handle &mine = all.handles[0];
+    std::vector<std::uint64_t> keys;
+    for (std::uint64_t key = 0; key < 200; key++) keys.push_back(key);
+    for (std::uint64_t key = 1; key < 200; key += 2) CHECK(mine.insert(key, 100000) == vbr::answer::yes);
+    std::vector<vbr::answer> answers(200, vbr::answer::other);
+    mine.has_all(nullptr, 0, nullptr, 100000);
+    mine.has_all(keys.data(), 199, answers.data(), 100000);
+    for (std::size_t i = 0; i < 199; i++) CHECK(answers[i] == (i % 2 ? vbr::answer::yes : vbr::answer::no));
+    CHECK(answers[199] == vbr::answer::other);
+    mine.has_all(keys.data(), 200, answers.data(), 10);
+    for (vbr::answer told : answers) CHECK(told == vbr::answer::out_of_steps);
+    vbr::handle none;
+    none.has_all(keys.data(), 200, answers.data(), 100000);
+    for (vbr::answer told : answers) CHECK(told == vbr::answer::empty);
     return 0;
 }
 
@@ -410,7 +435,7 @@ static int all_handles() {
 }
 
 int main() {
-    if (example() || all_handles() || calls() || the_most() || crowds() || refusals() || ranges() || walks() || walked_by_iterators() || refused_walks() || ends() || exceptions() || closes_at_once() || loans() || seeds()) return 1;
+    if (example() || all_handles() || calls() || many_keys() || the_most() || crowds() || refusals() || ranges() || walks() || walked_by_iterators() || refused_walks() || ends() || exceptions() || closes_at_once() || loans() || seeds()) return 1;
     std::puts("example in C++: passed");
     return 0;
 }

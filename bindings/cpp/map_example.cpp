@@ -41,6 +41,27 @@ static int example() {
     return 0;
 }
 
+// Look-ups of many keys: more than a batch, and with a budget that is too small for all.
+static int many_keys() {
+    vbr::map_opened all = vbr::open_map(vbr::shape::for_keys(200, 1), 1);
+    CHECK(all.answer == vbr::open_answer::done);
+    vbr::map_handle &mine = all.handles[0];
+    std::vector<std::uint64_t> keys;
+    for (std::uint64_t key = 0; key < 200; key++) keys.push_back(key);
+    for (std::uint64_t key = 1; key < 200; key += 2) CHECK(mine.insert(key, 10 * key, 100000) == vbr::answer::yes);
+    std::vector<vbr::answer> answers(200);
+    std::vector<vbr::found> values(200);
+    mine.has_all(keys.data(), 200, answers.data(), 100000);
+    mine.get_all(keys.data(), 200, values.data(), 100000);
+    for (std::size_t i = 0; i < 200; i++) {
+        CHECK(answers[i] == (i % 2 ? vbr::answer::yes : vbr::answer::no) && values[i].answer == answers[i]);
+        CHECK(i % 2 ? values[i].value == 10 * i : !values[i].value);
+    }
+    mine.get_all(keys.data(), 200, values.data(), 10);
+    for (const vbr::found &told : values) CHECK(told.answer == vbr::answer::out_of_steps && !told.value);
+    return 0;
+}
+
 // A call of each kind, as the comments of vbr.hpp have them.
 static int calls() {
     constexpr vbr::shape shape{1024 + 2 * 64, 1024, vbr::max_epoch};
@@ -57,6 +78,10 @@ static int calls() {
     CHECK(mine.insert(6, 61, budget) == vbr::answer::no);
     vbr::found got = mine.get(6, budget);
     if (got.value) sum += *got.value; // got.answer is yes
+    const std::vector<std::uint64_t> wanted{6, 7, 2};
+    std::vector<vbr::found> values(3);
+    mine.get_all(wanted.data(), wanted.size(), values.data(), budget); // values[i] is that of wanted[i]
+    CHECK(values[0].value == 60u && values[1].answer == vbr::answer::no && !values[1].value && values[2].value == 20u);
     vbr::found taken = mine.remove(6, budget); // taken.value is what 6 had
     CHECK(added == 1 && sum == 60 && taken.value == 60u && mine.has(6, budget) == vbr::answer::no);
     CHECK(mine.remove(6, budget).answer == vbr::answer::no && !mine.get(6, budget).value);
@@ -320,7 +345,7 @@ static int all_handles() {
 }
 
 int main() {
-    if (example() || all_handles() || calls() || changes() || updates() || refusals() || ranges() || walks() || crowds() || renewals() || ends() || exceptions() || loans()) return 1;
+    if (example() || all_handles() || calls() || many_keys() || changes() || updates() || refusals() || ranges() || walks() || crowds() || renewals() || ends() || exceptions() || loans()) return 1;
     std::puts("example of maps in C++: passed");
     return 0;
 }

@@ -359,6 +359,17 @@ VBR_NODISCARD vbr_answer vbr_remove(vbr_handle *handle, uint64_t key, uint32_t b
        if (vbr_has(&handle[1], 5, 100000) == VBR_YES) there++; // 5 was there during the call */
 VBR_NODISCARD vbr_answer vbr_has(vbr_handle *handle, uint64_t key, uint32_t budget) VBR_NOEXCEPT VBR_NONNULL;
 
+/* Looks `count` keys up, and writes what vbr_has answers to keys[i], with this budget, to answers[i]: VBR_YES, VBR_NO,
+   VBR_OUT_OF_STEPS or VBR_EMPTY. Each is a call of its own, and they are made in the order of the keys, so a refusal of one says
+   nothing of the others. It is for many keys of a set that is larger than the cache: it loads what the look-ups of sixteen keys
+   begin with before it makes them, so that they wait for memory together. These loads are no steps. With a count of 0 the other
+   pointers may be null. It takes no memory and never waits.
+
+       vbr_has_all(&handle[0], wanted, 3, answers, 100000);
+       for (int i = 0; i < 3; i++) there += answers[i] == VBR_YES; // wanted[i] was there during its call */
+void vbr_has_all(vbr_handle *handle, const uint64_t *keys, size_t count, vbr_answer *answers,
+                 uint32_t budget) VBR_NOEXCEPT VBR_NONNULL_FIRST;
+
 /* Where a walk stands: before the first key, or after the one that was given last. Its 16 bytes may be copied and kept, and
    the walk goes on from a copy as well. What they say is of the shape of a set. With another handle, or a set of another
    shape, or any other bytes in it, the walk from there is another one, and does no harm.
@@ -618,6 +629,28 @@ VBR_NODISCARD vbr_answer vbr_map_remove_if(vbr_map_handle *handle, uint64_t key,
 
        if (vbr_map_has(&map[0], 5, 100000) == VBR_YES) there++; // 5 was there during the call */
 VBR_NODISCARD vbr_answer vbr_map_has(vbr_map_handle *handle, uint64_t key, uint32_t budget) VBR_NOEXCEPT VBR_NONNULL;
+
+/* Looks `count` keys up without their values, as vbr_has_all does: answers[i] is what vbr_map_has answers to keys[i].
+
+       vbr_map_has_all(&map[0], wanted, 3, answers, 100000); // answers[i] is that of wanted[i] */
+void vbr_map_has_all(vbr_map_handle *handle, const uint64_t *keys, size_t count, vbr_answer *answers,
+                     uint32_t budget) VBR_NOEXCEPT VBR_NONNULL_FIRST;
+
+/* What vbr_map_get_all tells of a key.
+
+       vbr_found given[3]; */
+typedef struct vbr_found {
+    uint64_t value;    /* the value of the key where the answer is VBR_YES, else 0 */
+    vbr_answer answer; /* VBR_YES, VBR_NO, VBR_OUT_OF_STEPS or VBR_EMPTY */
+} vbr_found;
+
+/* Looks `count` keys up and gives their values, as vbr_has_all looks keys up: found[i] has what vbr_map_get answers to keys[i],
+   and the value.
+
+       vbr_map_get_all(&map[0], wanted, 3, given, 100000);
+       for (int i = 0; i < 3; i++) sum += given[i].value; // 0 where wanted[i] isn't there */
+void vbr_map_get_all(vbr_map_handle *handle, const uint64_t *keys, size_t count, vbr_found *found,
+                     uint32_t budget) VBR_NOEXCEPT VBR_NONNULL_FIRST;
 
 /* Gives the next key of a walk with its value, as vbr_next gives a key: VBR_YES, and the two are then in `*key` and `*value`,
    and were in the map together at a moment of the call; VBR_NO at the end, where no key is left. Else VBR_OUT_OF_STEPS or

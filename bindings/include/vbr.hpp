@@ -266,6 +266,9 @@ struct set_calls {
     using closed = vbr::closed;
     using told = vbr::told;
     static vbr_answer has(raw *handle, std::uint64_t key, std::uint32_t budget) noexcept { return vbr_has(handle, key, budget); }
+    static void has_all(raw *handle, const std::uint64_t *keys, std::size_t count, vbr_answer *answers, std::uint32_t budget) noexcept {
+        vbr_has_all(handle, keys, count, answers, budget);
+    }
     static vbr_answer next(raw *handle, vbr_cursor *at, std::uint32_t budget, item *key) noexcept { return vbr_next(handle, at, budget, key); }
     static std::uint64_t epoch(raw *handle) noexcept { return vbr_epoch(handle); }
     static std::uint64_t last_epoch(raw *handle) noexcept { return vbr_last_epoch(handle); }
@@ -292,6 +295,9 @@ struct map_calls {
     using closed = map_closed;
     using told = map_told;
     static vbr_answer has(raw *handle, std::uint64_t key, std::uint32_t budget) noexcept { return vbr_map_has(handle, key, budget); }
+    static void has_all(raw *handle, const std::uint64_t *keys, std::size_t count, vbr_answer *answers, std::uint32_t budget) noexcept {
+        vbr_map_has_all(handle, keys, count, answers, budget);
+    }
     static vbr_answer next(raw *handle, vbr_cursor *at, std::uint32_t budget, item *next) noexcept {
         return vbr_map_next(handle, at, budget, &next->key, &next->value);
     }
@@ -422,6 +428,20 @@ public:
            if (mine.has(7, budget) == vbr::answer::yes) there++; // 7 was there during the call */
     answer has(std::uint64_t key, std::uint32_t budget) noexcept { return answer{static_cast<std::int32_t>(Calls::has(&raw, key, budget))}; }
 
+    /* Whether each of some keys is there: answers[i] is what `has` tells of keys[i], with this budget. Each is a call of its own,
+       and they are made in the order of the keys. It is for many keys of a set that is larger than the cache: their look-ups wait
+       for memory together.
+
+           mine.has_all(wanted.data(), wanted.size(), answers.data(), budget); // answers[i] is that of wanted[i] */
+    void has_all(const std::uint64_t *keys, std::size_t count, answer *answers, std::uint32_t budget) noexcept {
+        vbr_answer told[64];
+        for (std::size_t from = 0, some; from < count; from += some) {
+            some = count - from < 64 ? count - from : 64;
+            Calls::has_all(&raw, keys + from, some, told, budget);
+            for (std::size_t i = 0; i < some; i++) answers[from + i] = answer{static_cast<std::int32_t>(told[i])};
+        }
+    }
+
     /* The next key of a walk, and of a map the next entry: yes with the item, or no at the end. The cursor is then after it; at
        out_of_steps it keeps how far it has come.
 
@@ -520,6 +540,18 @@ public:
         std::uint64_t value = 0;
         vbr_answer told = vbr_map_get(&raw, key, budget, &value);
         return found_by(told, value);
+    }
+
+    /* The value of each of some keys: values[i] is what `get` tells of keys[i], as `has_all` asks for keys alone.
+
+           mine.get_all(wanted.data(), wanted.size(), values.data(), budget); // values[i] is that of wanted[i] */
+    void get_all(const std::uint64_t *keys, std::size_t count, found *values, std::uint32_t budget) noexcept {
+        vbr_found told[64];
+        for (std::size_t from = 0, some; from < count; from += some) {
+            some = count - from < 64 ? count - from : 64;
+            vbr_map_get_all(&raw, keys + from, some, told, budget);
+            for (std::size_t i = 0; i < some; i++) values[from + i] = found_by(told[i].answer, told[i].value);
+        }
     }
 
     /* Gives a key that is there another value: yes with the one that it had; no if it was absent, and then nothing was changed.

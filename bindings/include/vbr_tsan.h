@@ -25,6 +25,7 @@ extern "C" {
 void __tsan_acquire(void *address);
 void __tsan_release(void *address);
 void __tsan_write8(void *address);
+void __tsan_write4(void *address);
 
 /* For each group of keys whom inserts come before, and whom removes; then whom closes come before. */
 #define VBR_TSAN_GROUPS (1u << 14)
@@ -84,6 +85,12 @@ static inline void vbr_tsan_changes(uint64_t key) {
     __tsan_release(vbr_tsan_gone(key));
 }
 
+/* What comes before an answer of a look-up of several keys, which was written. */
+static inline void vbr_tsan_told(uint64_t key, vbr_answer *answer) {
+    __tsan_write4(answer);
+    (void)vbr_tsan_found(key, *answer);
+}
+
 /* What a call of a walk writes, and what comes before the key that it gives. */
 static inline vbr_answer vbr_tsan_walked(vbr_cursor *cursor, uint64_t *key, vbr_answer answer) {
     __tsan_write8(&cursor->bucket);
@@ -106,6 +113,12 @@ VBR_NODISCARD static inline vbr_answer vbr_tsan_remove(vbr_handle *handle, uint6
 VBR_NODISCARD static inline vbr_answer vbr_tsan_has(vbr_handle *handle, uint64_t key, uint32_t budget) VBR_NOEXCEPT {
     vbr_tsan_uses(handle);
     return vbr_tsan_found(key, vbr_has(handle, key, budget));
+}
+
+static inline void vbr_tsan_has_all(vbr_handle *handle, const uint64_t *keys, size_t count, vbr_answer *answers, uint32_t budget) VBR_NOEXCEPT {
+    vbr_tsan_uses(handle);
+    vbr_has_all(handle, keys, count, answers, budget);
+    for (size_t i = 0; i < count; i++) vbr_tsan_told(keys[i], &answers[i]);
 }
 
 VBR_NODISCARD static inline vbr_answer vbr_tsan_next(vbr_handle *handle, vbr_cursor *cursor, uint32_t budget, uint64_t *key) VBR_NOEXCEPT {
@@ -163,6 +176,21 @@ VBR_NODISCARD static inline vbr_answer vbr_tsan_map_remove_if(vbr_map_handle *ha
 VBR_NODISCARD static inline vbr_answer vbr_tsan_map_has(vbr_map_handle *handle, uint64_t key, uint32_t budget) VBR_NOEXCEPT {
     vbr_tsan_map_uses(handle);
     return vbr_tsan_found(key, vbr_map_has(handle, key, budget));
+}
+
+static inline void vbr_tsan_map_has_all(vbr_map_handle *handle, const uint64_t *keys, size_t count, vbr_answer *answers, uint32_t budget) VBR_NOEXCEPT {
+    vbr_tsan_map_uses(handle);
+    vbr_map_has_all(handle, keys, count, answers, budget);
+    for (size_t i = 0; i < count; i++) vbr_tsan_told(keys[i], &answers[i]);
+}
+
+static inline void vbr_tsan_map_get_all(vbr_map_handle *handle, const uint64_t *keys, size_t count, vbr_found *found, uint32_t budget) VBR_NOEXCEPT {
+    vbr_tsan_map_uses(handle);
+    vbr_map_get_all(handle, keys, count, found, budget);
+    for (size_t i = 0; i < count; i++) {
+        __tsan_write8(&found[i].value);
+        vbr_tsan_told(keys[i], &found[i].answer);
+    }
 }
 
 VBR_NODISCARD static inline vbr_answer vbr_tsan_map_next(vbr_map_handle *handle, vbr_cursor *cursor, uint32_t budget, uint64_t *key, uint64_t *value) VBR_NOEXCEPT {
@@ -237,6 +265,7 @@ VBR_TSAN_CALLS(map_, vbr_entry)
 #define vbr_insert(handle, key, budget) vbr_tsan_insert(handle, key, budget)
 #define vbr_remove(handle, key, budget) vbr_tsan_remove(handle, key, budget)
 #define vbr_has(handle, key, budget) vbr_tsan_has(handle, key, budget)
+#define vbr_has_all(handle, keys, count, answers, budget) vbr_tsan_has_all(handle, keys, count, answers, budget)
 #define vbr_next(handle, cursor, budget, key) vbr_tsan_next(handle, cursor, budget, key)
 #define vbr_close(handle, keys, room, report) vbr_tsan_close(handle, keys, room, report)
 #define vbr_close_all(handles, count, keys, room, report) vbr_tsan_close_all(handles, count, keys, room, report)
@@ -259,6 +288,8 @@ VBR_TSAN_CALLS(map_, vbr_entry)
 #define vbr_map_compare_exchange(handle, key, expected, value, found, budget) vbr_tsan_map_compare_exchange(handle, key, expected, value, found, budget)
 #define vbr_map_remove_if(handle, key, expected, found, budget) vbr_tsan_map_remove_if(handle, key, expected, found, budget)
 #define vbr_map_has(handle, key, budget) vbr_tsan_map_has(handle, key, budget)
+#define vbr_map_has_all(handle, keys, count, answers, budget) vbr_tsan_map_has_all(handle, keys, count, answers, budget)
+#define vbr_map_get_all(handle, keys, count, found, budget) vbr_tsan_map_get_all(handle, keys, count, found, budget)
 #define vbr_map_next(handle, cursor, budget, key, value) vbr_tsan_map_next(handle, cursor, budget, key, value)
 #define vbr_map_close(handle, entries, room, report) vbr_tsan_map_close(handle, entries, room, report)
 #define vbr_map_close_all(handles, count, entries, room, report) vbr_tsan_map_close_all(handles, count, entries, room, report)

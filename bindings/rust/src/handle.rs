@@ -1,5 +1,5 @@
 //! Handles: opened together, and closed one by one or all at once; and their passes, which make the calls.
-use crate::library::{answer, answer_with, Raw, ReportNumbers};
+use crate::library::{answer, answer_all, answer_with, Raw, ReportNumbers};
 use crate::{random_seed, CloseError, Cursor, Iter, Kind, OpenError, Refusal, Shape, Unclosed, MAX_HANDLES, MAX_MANY_HANDLES};
 use alloc::boxed::Box;
 use alloc::vec::Vec;
@@ -162,6 +162,32 @@ impl<K: Kind> PassOf<K> {
     pub fn has(&self, key: u64, budget: u32) -> Result<bool, Refusal> {
         // SAFETY: one thread at a time has the pass, which is not `Sync`, and the call lends it to nobody.
         answer(unsafe { K::HAS(self.raw(), key, budget) })
+    }
+
+    /// Looks keys up in their order, each in at most `budget` steps, and writes what [`PassOf::has`] answers to each at its place.
+    /// Each is a call of its own, so a refusal says nothing of the keys after it.
+    ///
+    /// It is for many keys of a set that is larger than the cache: their look-ups wait for memory together.
+    ///
+    /// ```
+    /// # use vbr::{Set, Shape};
+    /// let handle = Set::open_with(Shape::for_keys(8, 1), 1, &[5, 7])?.remove(0);
+    /// let mut answers = [Ok(false); 3];
+    /// handle.has_all(&[5, 6, 7], &mut answers, 1_000);
+    /// assert_eq!(answers, [Ok(true), Ok(false), Ok(true)]);
+    /// # Ok::<(), Box<dyn std::error::Error>>(())
+    /// ```
+    ///
+    /// # Panics
+    ///
+    /// Where there aren't as many answers as keys. No call was made then.
+    #[inline]
+    pub fn has_all(&self, keys: &[u64], answers: &mut [Result<bool, Refusal>], budget: u32) {
+        // SAFETY: as for `has`; there is room for as many answers as keys.
+        let call = |keys: &[u64], told: &mut [i32]| unsafe {
+            K::HAS_ALL(self.raw(), keys.as_ptr(), keys.len(), told.as_mut_ptr(), budget);
+        };
+        answer_all(keys, answers, call, answer);
     }
 
     /// Goes over all keys while other threads make calls: a walk, which makes each of its calls in at most `budget` steps, all of

@@ -16,6 +16,14 @@ pub(crate) struct ReportNumbers {
     pub(crate) free: u32,
 }
 
+/// What a get of several keys tells of one.
+#[repr(C)]
+#[derive(Clone, Copy, Default)]
+pub(crate) struct Found {
+    value: u64,
+    answer: i32,
+}
+
 extern "C" {
     pub(crate) fn vbr_version() -> u32;
 
@@ -43,6 +51,7 @@ extern "C" {
     pub(crate) fn vbr_insert(handle: *mut Raw, key: u64, budget: u32) -> i32;
     pub(crate) fn vbr_remove(handle: *mut Raw, key: u64, budget: u32) -> i32;
     fn vbr_has(handle: *mut Raw, key: u64, budget: u32) -> i32;
+    fn vbr_has_all(handle: *mut Raw, keys: *const u64, count: usize, answers: *mut i32, budget: u32);
     fn vbr_next(handle: *mut Raw, cursor: *mut Cursor, budget: u32, key: *mut u64) -> i32;
     fn vbr_epoch(handle: *mut Raw) -> u64;
     fn vbr_last_epoch(handle: *mut Raw) -> u64;
@@ -91,6 +100,8 @@ extern "C" {
     ) -> i32;
     pub(crate) fn vbr_map_remove_if(handle: *mut Raw, key: u64, expected: u64, found: *mut u64, budget: u32) -> i32;
     fn vbr_map_has(handle: *mut Raw, key: u64, budget: u32) -> i32;
+    fn vbr_map_has_all(handle: *mut Raw, keys: *const u64, count: usize, answers: *mut i32, budget: u32);
+    pub(crate) fn vbr_map_get_all(handle: *mut Raw, keys: *const u64, count: usize, found: *mut Found, budget: u32);
     fn vbr_map_next(handle: *mut Raw, cursor: *mut Cursor, budget: u32, key: *mut u64, value: *mut u64) -> i32;
     fn vbr_map_epoch(handle: *mut Raw) -> u64;
     fn vbr_map_last_epoch(handle: *mut Raw) -> u64;
@@ -116,6 +127,7 @@ pub(crate) trait Calls<Item, Given, Told> {
     const RENEW_ALL: unsafe extern "C" fn(*mut Raw, usize, u32, u32, u64, u64) -> i32;
     const DROP: unsafe extern "C" fn(*mut Raw);
     const HAS: unsafe extern "C" fn(*mut Raw, u64, u32) -> i32;
+    const HAS_ALL: unsafe extern "C" fn(*mut Raw, *const u64, usize, *mut i32, u32);
     const EPOCH: unsafe extern "C" fn(*mut Raw) -> u64;
     const LAST_EPOCH: unsafe extern "C" fn(*mut Raw) -> u64;
     const SLOTS: unsafe extern "C" fn(*mut Raw) -> u32;
@@ -144,6 +156,7 @@ impl Calls<u64, u64, Report> for Keys {
     const RENEW_ALL: unsafe extern "C" fn(*mut Raw, usize, u32, u32, u64, u64) -> i32 = vbr_renew_all_seeded;
     const DROP: unsafe extern "C" fn(*mut Raw) = vbr_drop;
     const HAS: unsafe extern "C" fn(*mut Raw, u64, u32) -> i32 = vbr_has;
+    const HAS_ALL: unsafe extern "C" fn(*mut Raw, *const u64, usize, *mut i32, u32) = vbr_has_all;
     const EPOCH: unsafe extern "C" fn(*mut Raw) -> u64 = vbr_epoch;
     const LAST_EPOCH: unsafe extern "C" fn(*mut Raw) -> u64 = vbr_last_epoch;
     const SLOTS: unsafe extern "C" fn(*mut Raw) -> u32 = vbr_slots;
@@ -171,6 +184,7 @@ impl Calls<Entry, (u64, u64), MapReport> for Entries {
     const RENEW_ALL: unsafe extern "C" fn(*mut Raw, usize, u32, u32, u64, u64) -> i32 = vbr_map_renew_all_seeded;
     const DROP: unsafe extern "C" fn(*mut Raw) = vbr_map_drop;
     const HAS: unsafe extern "C" fn(*mut Raw, u64, u32) -> i32 = vbr_map_has;
+    const HAS_ALL: unsafe extern "C" fn(*mut Raw, *const u64, usize, *mut i32, u32) = vbr_map_has_all;
     const EPOCH: unsafe extern "C" fn(*mut Raw) -> u64 = vbr_map_epoch;
     const LAST_EPOCH: unsafe extern "C" fn(*mut Raw) -> u64 = vbr_map_last_epoch;
     const SLOTS: unsafe extern "C" fn(*mut Raw) -> u32 = vbr_map_slots;
@@ -206,6 +220,37 @@ pub(crate) fn answer_with<T: Default>(call: impl FnOnce(&mut T) -> i32) -> Resul
     let mut given = T::default();
     let there = answer(call(&mut given))?;
     Ok(there.then_some(given))
+}
+
+/// The answers of look-ups of several keys, each of which `told` makes of what the library wrote for its key. It asks for as many
+/// answers as keys.
+///
+/// `call` is given some of the keys, and room for what is told of each.
+#[inline]
+pub(crate) fn answer_all<T: Copy + Default, A>(
+    keys: &[u64],
+    answers: &mut [A],
+    call: impl Fn(&[u64], &mut [T]),
+    told: impl Fn(T) -> A,
+) {
+    assert_eq!(keys.len(), answers.len(), "there have to be as many answers as keys");
+    let mut room = [T::default(); TOGETHER];
+    for (keys, answers) in keys.chunks(TOGETHER).zip(answers.chunks_mut(TOGETHER)) {
+        let room = &mut room[..keys.len()];
+        call(keys, room);
+        for (answer, &given) in answers.iter_mut().zip(&*room) {
+            *answer = told(given);
+        }
+    }
+}
+
+/// How many keys a call of the library is given at once: some of its batches.
+const TOGETHER: usize = 64;
+
+/// The answer that a get of several keys tells of one.
+#[inline]
+pub(crate) fn found(Found { value, answer: code }: Found) -> Result<Option<u64>, Refusal> {
+    Ok(answer(code)?.then_some(value))
 }
 
 /// The answer of a call that compares the value of a key, and writes it where the key is there.

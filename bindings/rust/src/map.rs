@@ -1,5 +1,6 @@
 //! Maps: what is of them alone.
-use crate::library::{answer, answer_with, vbr_map_get, vbr_map_insert, vbr_map_remove};
+use crate::library::{answer, answer_all, answer_with, found, Found};
+use crate::library::{vbr_map_get, vbr_map_get_all, vbr_map_insert, vbr_map_remove};
 use crate::{Entries, HandleOf, Kind, PassOf, Refusal, Table};
 use alloc::vec::Vec;
 
@@ -127,6 +128,30 @@ impl PassOf<Entries> {
         // SAFETY: one thread at a time has the pass, which is not `Sync`, and the call lends it to nobody; nothing else
         // has the value.
         answer_with(|value| unsafe { vbr_map_get(self.raw(), key, budget, value) })
+    }
+
+    /// Looks keys up in their order, each in at most `budget` steps, and writes what [`MapPass::get`] answers to each at its place,
+    /// as [`MapPass::has_all`] does for keys alone.
+    ///
+    /// ```
+    /// # use vbr::{Entry, Map, Shape};
+    /// let handle = Map::open_with(Shape::for_keys(8, 1), 1, &[Entry { key: 5, value: 70 }])?.remove(0);
+    /// let mut values = [Ok(None); 2];
+    /// handle.get_all(&[5, 6], &mut values, 1_000);
+    /// assert_eq!(values, [Ok(Some(70)), Ok(None)]);
+    /// # Ok::<(), Box<dyn std::error::Error>>(())
+    /// ```
+    ///
+    /// # Panics
+    ///
+    /// Where there aren't as many values as keys. No call was made then.
+    #[inline]
+    pub fn get_all(&self, keys: &[u64], values: &mut [Result<Option<u64>, Refusal>], budget: u32) {
+        // SAFETY: as for `get`; there is room for as many values as keys.
+        let call = |keys: &[u64], told: &mut [Found]| unsafe {
+            vbr_map_get_all(self.raw(), keys.as_ptr(), keys.len(), told.as_mut_ptr(), budget);
+        };
+        answer_all(keys, values, call, found);
     }
 }
 

@@ -4,7 +4,7 @@
 //!
 //! No call asks anything of its caller but what the types say: a handle is moved and never copied,
 //! and one call at a time has it. Only those of all handles at once, as `vbr_close_all`, ask besides that
-//! the handles are of one set or map. `bindings/include/vbr.h` is what a C programmer reads.
+//! the handles are of one set or map, and those of several keys that there is room for each answer. `bindings/include/vbr.h` is what a C programmer reads.
 //!
 //! ```c file=bindings/c/example.c
 //! /* handles, count, slots (keys, and 64 for each handle), buckets (as many as keys), last_epoch */
@@ -24,7 +24,7 @@ ghost use Rattle.std.specs.Prelude.{◌≡◌, ◌+◌, ◌*◌};
 pub mod map;
 pub mod set;
 
-pub use vbr_handles::{Entry, ReportNumbers};
+pub use vbr_handles::{Entry, Found, ReportNumbers};
 
 // 0.2.0
 const VERSION: u32 = 2_000;

@@ -1,8 +1,9 @@
 //! The calls of a map: those of a set ([`crate::set`]), with an entry in place of a key where a value is
 //! stored, and a value that goes out where one is given. A refusal has the number that it has there, and
 //! means the same.
-ghost use Rattle.std.specs.Prelude.{◌≡◌, None};
+ghost use Rattle.std.specs.Prelude.{◌≡◌, None, length};
 ghost use Rattle.vbr_machine.specs.declared.history.Op.TheVariants.{Has};
+ghost use Rattle.vbr_handles.specs.Batches.{TellsGetAll, TellsHasAll};
 ghost use Rattle.vbr_handles.specs.Calls.{TellsCall, TellsInsertEntry};
 ghost use Rattle.vbr_handles.specs.Iterating.{TellsNextEntry};
 ghost use Rattle.vbr_handles.specs.ValueCalls.{TellsExchange, TellsGetEntry, TellsGetOrInsert, TellsPut, TellsRemoveEntry, TellsRemoveIf, TellsReplace};
@@ -15,8 +16,8 @@ ghost use Rattle.vbr_set.specs.AllMembers.{AreOfOneSet};
 ghost use Rattle.vbr_handles.specs.Shown.{IsSeedOf, balance_shown, buckets_of, epoch_of, last_epoch_of, slots_of};
 
 use std::alloc::Global;
-use vbr_handles::numbers::{entries, iterating};
-use vbr_handles::{Entry, MapHandle, ReportNumbers, ShapeNumbers, numbers, shown};
+use vbr_handles::numbers::{batches, entries, iterating};
+use vbr_handles::{Entry, Found, MapHandle, ReportNumbers, ShapeNumbers, numbers, shown};
 use vbr_set::Cursor;
 use vbr_words::Entries;
 
@@ -248,6 +249,43 @@ pub extern "C" fn vbr_map_has(handle: &mut MapHandle, key: u64, budget: u32) -> 
     ensures { TellsCall Has handle.old.member handle.new.member key budget result }
 {
     numbers::has(handle.owner_mut(), key, budget)
+}
+
+/// Looks keys up in their order, as [`crate::set::vbr_has_all`] does.
+///
+/// ```c file=bindings/c/map_calls.c
+/// vbr_map_has_all(&map[0], wanted, 3, answers, 100000); // answers[i] is that of wanted[i]
+/// ```
+#[unsafe(no_mangle)]
+pub extern "C" fn vbr_map_has_all(
+    handle: &mut MapHandle,
+    keys: &[u64],
+    answers: &mut [i32],
+    budget: u32,
+)
+    requires { length answers.old ≡ length keys.now }
+    ensures { TellsHasAll handle.old.member handle.new.member keys.now budget answers.new }
+{
+    batches::has_all(handle.owner_mut(), keys, answers, budget);
+}
+
+/// The same with values: at the place of each key it writes what [`vbr_map_get`] answers to it, and the value
+/// that is stored with it, or 0 where the answer isn't 1.
+///
+/// ```c file=bindings/c/map_calls.c
+/// vbr_map_get_all(&map[0], wanted, 3, given, 100000);
+/// ```
+#[unsafe(no_mangle)]
+pub extern "C" fn vbr_map_get_all(
+    handle: &mut MapHandle,
+    keys: &[u64],
+    found: &mut [Found],
+    budget: u32,
+)
+    requires { length found.old ≡ length keys.now }
+    ensures { TellsGetAll handle.old.member handle.new.member keys.now budget found.new }
+{
+    batches::get_all(handle.owner_mut(), keys, found, budget);
 }
 
 /// The last epoch that the pass of the handle read in a call, as [`crate::set::vbr_epoch`] tells it.

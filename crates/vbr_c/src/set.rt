@@ -1,6 +1,7 @@
 //! The calls of a set.
-ghost use Rattle.std.specs.Prelude.{◌≡◌, None};
+ghost use Rattle.std.specs.Prelude.{◌≡◌, None, length};
 ghost use Rattle.vbr_machine.specs.declared.history.Op.TheVariants.{Insert, Remove, Has};
+ghost use Rattle.vbr_handles.specs.Batches.{TellsHasAll};
 ghost use Rattle.vbr_handles.specs.Calls.{TellsCall};
 ghost use Rattle.vbr_handles.specs.Iterating.{TellsNext};
 ghost use Rattle.vbr_handles.specs.Opening.{spread_start};
@@ -12,7 +13,7 @@ ghost use Rattle.vbr_set.specs.AllMembers.{AreOfOneSet};
 ghost use Rattle.vbr_handles.specs.Shown.{IsSeedOf, balance_shown, buckets_of, epoch_of, last_epoch_of, slots_of};
 
 use std::alloc::Global;
-use vbr_handles::numbers::iterating;
+use vbr_handles::numbers::{batches, iterating};
 use vbr_handles::{Handle, ReportNumbers, ShapeNumbers, numbers, shown};
 use vbr_set::Cursor;
 use vbr_words::Keys;
@@ -132,6 +133,25 @@ pub extern "C" fn vbr_has(handle: &mut Handle, key: u64, budget: u32) -> i32
     ensures { TellsCall Has handle.old.member handle.new.member key budget result }
 {
     numbers::has(handle.owner_mut(), key, budget)
+}
+
+/// Looks keys up in their order, each in at most `budget` steps, and writes at the place of each what [`vbr_has`]
+/// answers to it: 1, 0, or a refusal, which says nothing of the keys behind it. There are as many answers as
+/// keys. It is for many keys of a large set: what the look-ups begin with is loaded before, for several keys at
+/// once, by loads that are no steps.
+///
+/// In C the number of keys is given once, and the answers stand behind it: `bindings/null_pointers.c` has the
+/// export of that form.
+///
+/// ```c file=bindings/c/calls.c
+/// vbr_has_all(&handle[0], wanted, 3, answers, 100000);
+/// ```
+#[unsafe(no_mangle)]
+pub extern "C" fn vbr_has_all(handle: &mut Handle, keys: &[u64], answers: &mut [i32], budget: u32)
+    requires { length answers.old ≡ length keys.now }
+    ensures { TellsHasAll handle.old.member handle.new.member keys.now budget answers.new }
+{
+    batches::has_all(handle.owner_mut(), keys, answers, budget);
 }
 
 /// The last epoch that the pass of the handle read in a call: 1 before its first, and 0 where the handle

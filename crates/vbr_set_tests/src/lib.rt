@@ -6,6 +6,8 @@ mod alone;
 #[cfg(test)]
 mod balances;
 #[cfg(test)]
+mod batches;
+#[cfg(test)]
 mod emptying;
 #[cfg(test)]
 mod iterating;

@@ -1,0 +1,125 @@
+//! Look-ups in batches, of sets and of maps: the answers stand at the places of their keys, for any number of
+//! keys, and each key is refused by itself.
+use std::alloc::Global;
+use std::process::Abort;
+use std::test::Fail;
+use vbr_set::{MapMember, Member, Refusal, Shape};
+
+const BUDGET: u32 = 1_000;
+
+// How many keys: two whole batches, and one key more.
+const MANY: usize = 33;
+
+// Two members of a set with the keys 1, 3 and so on, below as many as are looked up.
+fn open_odd(alloc: Global) -> Option<(Member, Member)> {
+    let members = Member::open(alloc, Shape::new(64, 16, 100).ok()?, 2).ok()?;
+    let [mut one, other] = <[Member; 2]>::try_from(members).ok()?;
+    for i in 0..MANY / 2 {
+        one.insert(2 * i as u64 + 1, BUDGET).ok()?;
+    }
+    Some((one, other))
+}
+
+// A member of a map with the same keys, each with ten times itself as its value.
+fn open_map(alloc: Global) -> Option<MapMember> {
+    let mut member = MapMember::open(alloc, Shape::new(64, 16, 100).ok()?, 1)
+        .ok()?
+        .pop()?;
+    for i in 0..MANY / 2 {
+        let key = 2 * i as u64 + 1;
+        member.insert(key, 10 * key, BUDGET).ok()?;
+    }
+    Some(member)
+}
+
+// The keys from 0 on.
+fn first_keys() -> [u64; MANY] {
+    let mut keys = [0; MANY];
+    for i in 0..MANY {
+        keys[i] = i as u64;
+    }
+    keys
+}
+
+/// Each answer stands at the place of its key, and the steps are those of the single calls.
+#[test]
+fn keys_of_a_set(rt: HostRuntime) -> Result<(), Fail> {
+    let Some((mut one, mut other)) = open_odd(rt.alloc()) else {
+        panic!(rt; "no memory")
+    };
+    let keys = first_keys();
+    let mut answers = [Err(Refusal::NoSlot); MANY];
+    other.has_all(&keys, &mut answers, BUDGET);
+    let before = one.pass().steps();
+    for i in 0..MANY {
+        assert_eq!(rt; answers[i], Ok(i % 2 == 1));
+        assert_eq!(rt; one.has(keys[i], BUDGET), answers[i]);
+    }
+    assert_eq!(rt; one.pass().steps() - before, other.pass().steps());
+    Ok(())
+}
+
+/// The same of a map, by look-ups and by gets.
+#[test]
+fn keys_of_a_map(rt: HostRuntime) -> Result<(), Fail> {
+    let Some(mut member) = open_map(rt.alloc()) else {
+        panic!(rt; "no memory")
+    };
+    let keys = first_keys();
+    let mut answers = [Err(Refusal::NoSlot); MANY];
+    member.has_all(&keys, &mut answers, BUDGET);
+    let mut values = [Err(Refusal::NoSlot); MANY];
+    member.get_all(&keys, &mut values, BUDGET);
+    for i in 0..MANY {
+        let is_odd = i % 2 == 1;
+        assert_eq!(rt; answers[i], Ok(is_odd));
+        assert_eq!(rt;
+            values[i],
+            Ok(if is_odd { Some(10 * keys[i]) } else { None })
+        );
+    }
+    Ok(())
+}
+
+/// No key, one key, and one that stands twice.
+#[test]
+fn few_keys(rt: HostRuntime) -> Result<(), Fail> {
+    let Some((mut one, mut other)) = open_odd(rt.alloc()) else {
+        panic!(rt; "no memory")
+    };
+    other.has_all(&[], &mut [], BUDGET);
+    assert_eq!(rt; other.pass().steps(), 0);
+    let mut single = [Ok(false)];
+    one.has_all(&[7], &mut single, BUDGET);
+    assert_eq!(rt; single[0], Ok(true));
+    let mut twice = [Ok(false); 3];
+    one.has_all(&[7, 8, 7], &mut twice, BUDGET);
+    assert_eq!(rt; twice[0], Ok(true));
+    assert_eq!(rt; twice[1], Ok(false));
+    assert_eq!(rt; twice[2], Ok(true));
+    Ok(())
+}
+
+/// A key whose bucket is too long for the budget is refused, and those behind it are answered. With twenty
+/// steps a walk comes to the first node and leaves eight steps, but not to the second.
+#[test]
+fn keys_are_refused_by_themselves(rt: HostRuntime) -> Result<(), Fail> {
+    let Ok(mut members) = Member::open(rt.alloc(), Shape::new(8, 8, 100)?, 1) else {
+        panic!(rt; "no memory")
+    };
+    let Some(mut member) = members.pop() else {
+        panic!(rt; "no member")
+    };
+    for i in 0..3u64 {
+        assert_eq!(rt; member.insert(8 * i, BUDGET), Ok(true));
+    }
+    let refused = Err(Refusal::OutOfSteps { used: 13 });
+    let mut answers = [Ok(false); 5];
+    member.has_all(&[0, 8, 1, 16, 0], &mut answers, 20);
+    assert_eq!(rt; answers[0], Ok(true));
+    assert_eq!(rt; answers[1], refused);
+    assert_eq!(rt; answers[2], Ok(false));
+    assert_eq!(rt; answers[3], refused);
+    assert_eq!(rt; answers[4], Ok(true));
+    Ok(())
+}
