@@ -347,3 +347,5 @@ VBR_NODISCARD static inline vbr_answer value_report_all(vbr_map_handle *handles,
 #define vbr_lender_init vbr_map_lender_init
 #define vbr_lend vbr_map_lend
 #define vbr_give_back vbr_map_give_back
+#define vbr_lender_renew vbr_map_lender_renew
+#define vbr_lender_lend_on vbr_map_lender_lend_on
