@@ -654,7 +654,7 @@ private:
 
     /* The handles of a vector, each by its number. */
     static auto in_order(std::vector<basic_handle> &handles) noexcept {
-        return [&handles](std::size_t number) -> basic_handle & { return handles[number]; };
+        return [&handles](std::size_t i) -> basic_handle & { return handles[i]; };
     }
 
     /* Whether these are all handles of one set; `at` gives each by its number. */
