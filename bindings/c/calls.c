@@ -3,6 +3,7 @@
 #include "vbr.h"
 #include "vbr_lend.h"
 
+#include <sched.h>
 #include <stdio.h>
 
 #define CHECK(x) do { if (!(x)) { fprintf(stderr, "calls.c:%d: %s\n", __LINE__, #x); return 1; } } while (0)
@@ -123,9 +124,12 @@ static int lent(void) {
     vbr_lender_init(&lender, handle, 2);
     vbr_handle *mine = vbr_lend(&lender); // NULL: both are lent
     if (mine) {
-        vbr_answer added = vbr_insert(mine, 5, 100000);
+        vbr_answer added = vbr_insert(mine, 5, 100000), renewed;
+        if (vbr_lender_renew(&lender, 1024 + 2 * 64, 1024, VBR_MAX_EPOCH) == VBR_IN_USE) vbr_lender_lend_on(&lender); // not now
+        CHECK(vbr_slots(mine) == 1024 + 2 * 64);
         vbr_give_back(&lender, mine); // and mine isn't used any more
-        CHECK(added == VBR_YES);
+        while ((renewed = vbr_lender_renew(&lender, 2048 + 2 * 64, 2048, VBR_MAX_EPOCH)) == VBR_IN_USE) sched_yield(); // until all are back
+        CHECK(added == VBR_YES && renewed == VBR_NO && vbr_slots(&handle[1]) == 2048 + 2 * 64);
     }
     CHECK(vbr_close_all(handle, 2, keys, 8, &report) == VBR_YES && report.live == 1);
     return 0;

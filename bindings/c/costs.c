@@ -1,7 +1,7 @@
 /* What it costs to open, close and renew a set, in seconds: costs [largest]
-   A set of a million keys; with `largest` also the greatest one there can be, empty and with sixteen million keys. A renewal is
-   a close of all handles and an opening with the keys of the report; it takes no longer than these two do, but for a margin
-   for what else the machine does. */
+   A set of a million keys; with `largest` also the greatest one there can be, empty and with sixteen million keys. A renewal by
+   hand is a close of all handles and an opening with the keys of the report, and takes no longer than these two do; one by
+   vbr_renew_all takes no more processor time than one by hand. Both but for a margin for what else the machine does. */
 #include "vbr.h"
 
 #include <stdio.h>
@@ -22,7 +22,7 @@ static double now(void) {
 static double least(double a, double b) { return a < b ? a : b; }
 
 static void measure(const char *what, uint32_t slots, uint32_t buckets, uint32_t count) {
-    double opening = 1e9, closing = 1e9, renewal = 1e9;
+    double opening = 1e9, closing = 1e9, renewal = 1e9, by_hand = 1e9, at_once = 1e9;
     uint64_t *keys = calloc(slots, sizeof *keys), step = UINT64_MAX / (count + 1);
     CHECK(keys);
     for (int round = 0; round < ROUNDS; round++) {
@@ -33,16 +33,22 @@ static void measure(const char *what, uint32_t slots, uint32_t buckets, uint32_t
         if (count) CHECK(vbr_open_with(handle, HANDLES, slots, buckets, VBR_MAX_EPOCH, keys, count) == VBR_NO);
         else CHECK(vbr_open(handle, HANDLES, slots, buckets, VBR_MAX_EPOCH) == VBR_NO);
         double opened = now();
+        clock_t hand_begun = clock();
         CHECK(vbr_close_all(handle, HANDLES, keys, slots, &report) == VBR_YES && report.live == count);
         double closed = now();
         CHECK(vbr_open_with(handle, HANDLES, slots, buckets, VBR_MAX_EPOCH, keys, report.live) == VBR_NO);
         double renewed = now();
+        clock_t once_begun = clock();
+        CHECK(vbr_renew_all(handle, HANDLES, slots, buckets, VBR_MAX_EPOCH) == VBR_NO && vbr_balance(&handle[0]) == count);
+        at_once = least(at_once, (double)(clock() - once_begun) / CLOCKS_PER_SEC);
+        by_hand = least(by_hand, (double)(once_begun - hand_begun) / CLOCKS_PER_SEC);
         for (int i = 0; i < HANDLES; i++) vbr_drop(&handle[i]);
         opening = least(opening, opened - begun), closing = least(closing, closed - opened), renewal = least(renewal, renewed - opened);
     }
     free(keys);
-    CHECK(renewal < 3 * (opening + closing));
-    printf("%-44s opening %6.3f, closing %6.3f, renewal %6.3f s\n", what, opening, closing, renewal);
+    CHECK(renewal < 3 * (opening + closing) && at_once < 1.5 * by_hand);
+    printf("%-44s opening %6.3f, closing %6.3f, renewal %6.3f s; processor time of one by hand %6.3f, at once %6.3f s\n", what, opening, closing, renewal,
+           by_hand, at_once);
 }
 
 int main(int argc, char **argv) {

@@ -24,6 +24,9 @@
    21 an insert now and then begins anew twice, though nothing moved
    22 a `has` now and then answers as the last one of its thread did, if that was of the same key and the thread has neither
       inserted nor removed it since
+   23 a report by all handles is short of a key
+   24 a renewal loses a key
+   25 a balance now and then is one too great
 
    One thread alone can't see the seventh and the twelfth, and four threads don't look for the eighth, ninth and tenth. The
    twelfth leaves each thread's own answers right: it shows only where the program orders calls of several. So does the
@@ -65,6 +68,9 @@ vbr_answer REAL(remove)(a_handle *handle, uint64_t key, uint32_t budget WITH(uin
 vbr_answer REAL(has)(a_handle *handle, uint64_t key, uint32_t budget);
 vbr_answer REAL(next)(a_handle *handle, vbr_cursor *cursor, uint32_t budget, uint64_t *key WITH(uint64_t *value));
 vbr_answer REAL(close)(a_handle *handle, an_item *items, size_t room, vbr_totals *report);
+vbr_answer REAL(report_all)(a_handle *handles, size_t count, an_item *items, size_t room, vbr_totals *report);
+vbr_answer REAL(renew_all)(a_handle *handles, size_t count, uint32_t slots, uint32_t buckets, uint64_t last_epoch);
+int64_t REAL(balance)(a_handle *handle);
 
 /* The insert that this thread has still to make, for the twelfth fault. */
 static _Thread_local struct an_insert {
@@ -224,4 +230,26 @@ vbr_answer WRAP(close)(a_handle *handle, an_item *items, size_t room, vbr_totals
     if (answer == VBR_YES && fault() == 5 && report->live > 0) report->live--, report->free++;
     if (answer == VBR_YES && fault() == 6) report->epoch = 0;
     return answer;
+}
+
+vbr_answer WRAP(report_all)(a_handle *handles, size_t count, an_item *items, size_t room, vbr_totals *report) {
+    make_late();
+    vbr_answer answer = REAL(report_all)(handles, count, items, room, report);
+    if (answer == VBR_YES && fault() == 23 && report->live > 0) report->live--, report->free++;
+    return answer;
+}
+
+vbr_answer WRAP(renew_all)(a_handle *handles, size_t count, uint32_t slots, uint32_t buckets, uint64_t last_epoch) {
+    vbr_cursor cursor = VBR_CURSOR_BEGIN;
+    uint64_t key = 0;
+    make_late();
+    vbr_answer answer = REAL(renew_all)(handles, count, slots, buckets, last_epoch);
+    if (answer == VBR_NO && fault() == 24 && REAL(next)(&handles[0], &cursor, UINT32_MAX, &key WITH(&(uint64_t){0})) == VBR_YES)
+        (void)!REAL(remove)(&handles[0], key, UINT32_MAX WITH(&(uint64_t){0}));
+    return answer;
+}
+
+int64_t WRAP(balance)(a_handle *handle) {
+    make_late();
+    return REAL(balance)(handle) + now(25);
 }

@@ -1,5 +1,5 @@
 /* Eight threads that borrow three handles: each handle is one thread's at a time, answers are those of one set, and a lender
-   whose handles are all lent says so at once.
+   whose handles are all lent says so at once. Meanwhile the set is renewed again and again, in two shapes in turn.
 
        lend [ROUNDS [FAULT]]
 
@@ -13,7 +13,7 @@
 
 #define CHECK(x) do { if (!(x)) { fprintf(stderr, "lend.c:%d: %s\n", __LINE__, #x); exit(1); } } while (0)
 
-enum { THREADS = 8, HANDLES = 3, KEYS = 64, SLOTS = KEYS + 64 * HANDLES };
+enum { THREADS = 8, HANDLES = 3, KEYS = 64, SLOTS = KEYS + 64 * HANDLES, RENEWALS = 40 };
 
 struct worker {
     int id, balance[KEYS];
@@ -26,12 +26,12 @@ static long used[HANDLES]; /* of each handle's calls: plain memory, written by i
 static vbr_lender lender;
 static struct worker workers[THREADS];
 static long rounds = 50000;
-static int fault;
+static int fault, is_renewed;
 
 static void *work(void *of) {
     struct worker *w = of;
     const uint32_t budget = VBR_AMPLE_BUDGET(SLOTS);
-    while (w->lent < rounds) {
+    while (w->lent < rounds || !__atomic_load_n(&is_renewed, __ATOMIC_RELAXED)) {
         vbr_handle *mine = vbr_lend(&lender);
         if (!mine) {
             w->refused++;
@@ -54,6 +54,44 @@ static void *work(void *of) {
         }
     }
     return NULL;
+}
+
+/* Renews the set while others borrow its handles. */
+static void renew_meanwhile(void) {
+    for (uint32_t made = 0; made < RENEWALS; made++) {
+        vbr_answer renewed;
+        while ((renewed = vbr_lender_renew(&lender, SLOTS + made % 2, KEYS, VBR_MAX_EPOCH)) == VBR_IN_USE) {
+            CHECK(!vbr_lend(&lender));
+            sched_yield();
+        }
+        CHECK(renewed == VBR_NO);
+        sched_yield();
+    }
+}
+
+/* A renewal that isn't made leaves all handles as they were, and all are lent again but where it answers VBR_IN_USE. */
+static void renewals(void) {
+    static vbr_lender none;
+    CHECK(vbr_lender_renew(&none, SLOTS, KEYS, 1) == VBR_MISSING);
+    CHECK(vbr_lender_renew(&lender, 0, KEYS, 1) == VBR_BAD_SHAPE);
+    vbr_handle *mine = vbr_lend(&lender);
+    CHECK(mine && vbr_insert(mine, 1, VBR_AMPLE_BUDGET(SLOTS)) == VBR_YES && vbr_insert(mine, 2, VBR_AMPLE_BUDGET(SLOTS)) == VBR_YES);
+    CHECK(vbr_lender_renew(&lender, SLOTS, KEYS, 9) == VBR_IN_USE && !vbr_lend(&lender) && vbr_slots(mine) == SLOTS);
+    CHECK(vbr_lender_renew(&lender, SLOTS, KEYS, 9) == VBR_IN_USE && !vbr_lend(&lender));
+    vbr_lender_lend_on(&lender);
+    vbr_handle *other = vbr_lend(&lender);
+    CHECK(other && other != mine && vbr_last_epoch(other) == VBR_MAX_EPOCH);
+    vbr_give_back(&lender, other);
+    CHECK(vbr_lender_renew(&lender, SLOTS, KEYS, 9) == VBR_IN_USE);
+    vbr_give_back(&lender, mine);
+    CHECK(!vbr_lend(&lender) && vbr_lender_renew(&lender, 1, KEYS, 9) == VBR_NO_ROOM);
+    CHECK((mine = vbr_lend(&lender)) && vbr_remove(mine, 2, VBR_AMPLE_BUDGET(SLOTS)) == VBR_YES);
+    vbr_give_back(&lender, mine);
+    CHECK(vbr_lender_renew(&lender, SLOTS, 1, 9) == VBR_NO);
+    CHECK((mine = vbr_lend(&lender)) && vbr_buckets(mine) == 1 && vbr_last_epoch(mine) == 9 && vbr_epoch(mine) == 1);
+    CHECK(vbr_remove(mine, 1, VBR_AMPLE_BUDGET(SLOTS)) == VBR_YES);
+    vbr_give_back(&lender, mine);
+    CHECK(vbr_lender_renew(&lender, SLOTS, KEYS, VBR_MAX_EPOCH) == VBR_NO);
 }
 
 static int none_is_left(void) {
@@ -87,7 +125,7 @@ int main(int count, char **words) {
     pthread_t threads[THREADS];
     uint64_t keys[KEYS] = {0};
     vbr_totals report = {0};
-    long calls = 0, refused = 0;
+    long calls = 0, lent = 0, refused = 0;
     uint32_t want = 0;
     if (count > 1) rounds = atol(words[1]);
     if (count > 2) fault = atoi(words[2]);
@@ -95,15 +133,19 @@ int main(int count, char **words) {
     CHECK(vbr_open(handles, HANDLES, SLOTS, KEYS, VBR_MAX_EPOCH) == VBR_NO);
     vbr_lender_init(&lender, handles, HANDLES);
     CHECK(none_is_left());
+    renewals();
+    CHECK(none_is_left());
     for (int i = 0; i < THREADS; i++) {
         workers[i].id = i;
         workers[i].random = 88172645463325252u + (uint64_t)i;
         CHECK(!pthread_create(&threads[i], NULL, work, &workers[i]));
     }
+    if (!fault) renew_meanwhile();
+    __atomic_store_n(&is_renewed, 1, __ATOMIC_RELAXED);
     for (int i = 0; i < THREADS; i++) CHECK(!pthread_join(threads[i], NULL));
-    for (int i = 0; i < THREADS; i++) refused += workers[i].refused;
+    for (int i = 0; i < THREADS; i++) lent += workers[i].lent, refused += workers[i].refused;
     for (int i = 0; i < HANDLES; i++) calls += used[i];
-    CHECK(calls == THREADS * rounds && none_is_left());
+    CHECK(calls == lent && lent >= THREADS * rounds && none_is_left());
     for (int key = 0; key < KEYS; key++) {
         int sum = 0;
         for (int i = 0; i < THREADS; i++) sum += workers[i].balance[key];
@@ -113,6 +155,6 @@ int main(int count, char **words) {
     }
     for (int i = 0; i < HANDLES; i++) CHECK(vbr_close(&handles[i], keys, KEYS, &report) == (i == HANDLES - 1 ? VBR_YES : VBR_NO));
     CHECK(report.live == want);
-    printf("lent handles in C: passed, %ld loans, %ld times none was free\n", calls, refused);
+    printf("lent handles in C: passed, %ld loans, %ld times none was free, %d renewals\n", calls, refused, RENEWALS);
     return 0;
 }

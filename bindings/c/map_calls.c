@@ -130,8 +130,11 @@ static int lent(void) {
     vbr_map_handle *mine = vbr_map_lend(&lender); // NULL: both are lent
     if (mine) {
         vbr_answer added = vbr_map_insert(mine, 5, 70, 100000);
+        vbr_answer renewed = vbr_map_lender_renew(&lender, 2048 + 2 * 64, 2048, VBR_MAX_EPOCH); // VBR_IN_USE: a handle is on loan
+        CHECK(renewed == VBR_IN_USE && !vbr_map_lend(&lender));
+        vbr_map_lender_lend_on(&lender); // and the renewal isn't made
         vbr_map_give_back(&lender, mine); // and mine isn't used any more
-        CHECK(added == VBR_YES);
+        CHECK(added == VBR_YES && vbr_map_lender_renew(&lender, 2048 + 2 * 64, 2048, VBR_MAX_EPOCH) == VBR_NO);
     }
     CHECK(vbr_map_close_all(map, 2, entries, 8, &report) == VBR_YES && report.live == 1 && entries[0].value == 70);
     return 0;

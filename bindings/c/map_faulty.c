@@ -21,7 +21,10 @@
    18 a put now and then leaves the old value
    19 a call that finds its key absent writes a value
    20 a put of a key that is there now and then is a remove and an insert, with a step between
-   21 a replace now and then inserts a key that is absent */
+   21 a replace now and then inserts a key that is absent
+   22 a replace now and then leaves the old node in the list
+
+   The twenty-second leaves all answers right while there are slots. */
 #include "faulty.h"
 #include "vbr.h"
 
@@ -124,8 +127,18 @@ static vbr_answer told(vbr_answer answer, uint64_t *found) {
     return answer;
 }
 
+/* The least budget that is answered leaves no step to unlink the old node. */
+static vbr_answer replace_by_the_least(vbr_map_handle *handle, uint64_t key, uint64_t value, uint64_t *found, uint32_t budget) {
+    for (uint32_t least = 0; least < budget; least++) {
+        vbr_answer answer = __real_vbr_map_replace(handle, key, value, found, least);
+        if (answer != VBR_OUT_OF_STEPS) return answer;
+    }
+    return __real_vbr_map_replace(handle, key, value, found, budget);
+}
+
 vbr_answer __wrap_vbr_map_replace(vbr_map_handle *handle, uint64_t key, uint64_t value, uint64_t *found, uint32_t budget) {
     if (now(13)) return replace_in_two(handle, key, value, found, budget);
+    if (now(22)) return replace_by_the_least(handle, key, value, found, budget);
     vbr_answer answer = now(21) ? __real_vbr_map_put(handle, key, value, found, budget) : __real_vbr_map_replace(handle, key, value, found, budget);
     if (answer == VBR_YES && fault() == 14) *found = value;
     return told(answer, found);

@@ -384,16 +384,18 @@ VBR_NODISCARD static inline vbr_answer value_report_all(vbr_map_handle *handles,
 #define vbr_close value_close
 #define vbr_close_all value_close_all
 #define vbr_report_all value_report_all
-#define vbr_renew_all(handles, count, slots, buckets, last_epoch) vbr_map_renew_all(handles, count, slots, buckets, last_epoch)
-#define vbr_balance(handle) vbr_map_balance(handle)
-#define vbr_drop(handle) vbr_map_drop(handle)
-#define vbr_epoch(handle) vbr_map_epoch(handle)
-#define vbr_last_epoch(handle) vbr_map_last_epoch(handle)
-#define vbr_slots(handle) vbr_map_slots(handle)
-#define vbr_buckets(handle) vbr_map_buckets(handle)
-#define vbr_seed(handle) vbr_map_seed(handle)
-#define vbr_renew_all_seeded(handles, count, slots, buckets, last_epoch, seed) vbr_map_renew_all_seeded(handles, count, slots, buckets, last_epoch, seed)
+#define vbr_renew_all vbr_map_renew_all
+#define vbr_balance vbr_map_balance
+#define vbr_drop vbr_map_drop
+#define vbr_epoch vbr_map_epoch
+#define vbr_last_epoch vbr_map_last_epoch
+#define vbr_slots vbr_map_slots
+#define vbr_buckets vbr_map_buckets
+#define vbr_seed vbr_map_seed
+#define vbr_renew_all_seeded vbr_map_renew_all_seeded
 #define vbr_lender vbr_map_lender
 #define vbr_lender_init vbr_map_lender_init
 #define vbr_lend vbr_map_lend
 #define vbr_give_back vbr_map_give_back
+#define vbr_lender_renew vbr_map_lender_renew
+#define vbr_lender_lend_on vbr_map_lender_lend_on

@@ -1,5 +1,5 @@
 // Handles on loan in C++, of sets and of maps: at once or not at all, or as soon as one is free; loans that own their share; lenders
-// and loans that are moved; and closes of all handles or none.
+// and loans that are moved; closes of all handles or none; and renewals, which wait for all loans while others wait for one.
 #include "vbr.hpp"
 
 #include <cstdio>
@@ -78,7 +78,11 @@ static int example() {
         beside[mine.number()]++; // nobody else writes it meanwhile
         mine = vbr::loan(); // given back
         CHECK(!mine && lender.lend());
+        vbr::all_answer in_vain = lender.renew_for(shape, 10ms); // on_loan: a loan is still out
+        CHECK(in_vain == vbr::all_answer::on_loan && lender.lend());
     }
+    vbr::all_answer renewed = lender.renew(shape);
+    CHECK(renewed == vbr::all_answer::done && later.renew(shape) == vbr::all_answer::empty && later.renew_for(shape, 0s) == vbr::all_answer::empty);
     vbr::closed closed = lender.close();
     CHECK(closed.answer == vbr::close_answer::last && closed.report->keys == keys{5});
     return 0;
@@ -270,8 +274,93 @@ static int tasks() {
     return 0;
 }
 
+// The set goes on with its keys, in another shape if wanted; unless it is done it is as it was, and all handles are lent again.
+template <class Of>
+static int renewals() {
+    auto opened = Of::open(3);
+    auto kept = std::move(opened.handles[2]);
+    typename Of::lender lender(std::move(opened.handles)), of_all = lending<Of>(2);
+    const vbr::shape small{2, 1, 100}, large = vbr::shape::for_keys(4000, 2);
+    for (std::uint64_t key = 1; key < 4; key++) CHECK(Of::adds(*of_all.lend(), key) && Of::adds(*lender.lend(), key));
+    CHECK(lender.renew(large) == vbr::all_answer::missing && of_all.renew(small) == vbr::all_answer::no_room);
+    for (vbr::shape bad : {vbr::shape{0, 1, 1}, vbr::shape{1, vbr::max_buckets + 1, 1}, vbr::shape{1, 1, 0}}) CHECK(of_all.renew(bad) == vbr::all_answer::bad_shape);
+    for (auto *each : {&lender, &of_all}) {
+        auto one = each->lend(), other = each->lend();
+        CHECK(one && other && !each->lend() && each->slots() == one->slots() && one->has(3, budget) == vbr::answer::yes);
+    }
+    CHECK(of_all.renew(large) == vbr::all_answer::done && of_all.handles() == 2 && of_all.slots() == large.slots && of_all.buckets() == large.buckets);
+    {
+        auto one = of_all.lend(), other = of_all.lend();
+        CHECK(one->slots() == large.slots && other->epoch() == 1 && one->balance() + other->balance() == 3 && Of::takes(*other, 2));
+    }
+    CHECK(of_all.renew(small) == vbr::all_answer::done && of_all.last_epoch() == 100 && of_all.buckets() == 1);
+    CHECK(Of::keys(of_all.close()) == (keys{1, 3}) && of_all.renew(small) == vbr::all_answer::empty);
+    return 0;
+}
+
+// While a renewal waits for a loan none is lent, though one is free, and it isn't closed; then it is made, and who waited is lent one.
+template <class Of>
+static int lends_none_meanwhile() {
+    auto lender = lending<Of>(2);
+    const vbr::shape wanted{300, 16, 1000};
+    auto kept = lender.lend();
+    CHECK(Of::adds(*kept, 7) && lender.renew_for(wanted, 20ms) == vbr::all_answer::on_loan && lender.lend());
+    std::atomic<int> wrong{0};
+    std::thread renews([&] { wrong += lender.renew(wanted) != vbr::all_answer::done; });
+    while (lender.lend()) std::this_thread::yield(); // until it has begun
+    CHECK(!lender.lend() && !lender.lend_for(20ms) && lender.close().answer == vbr::close_answer::on_loan && lender.slots() != wanted.slots);
+    std::thread waits([&] {
+        auto mine = lender.lend_wait();
+        wrong += !mine || mine->slots() != wanted.slots || mine->has(7, budget) != vbr::answer::yes;
+    });
+    CHECK(lender.renew_for(wanted, 5ms) == vbr::all_answer::on_loan && Of::adds(*kept, 8)); // another one is waiting
+    std::thread([back = std::move(kept)] {}).join(); // given back by another thread
+    renews.join();
+    waits.join();
+    CHECK(wrong == 0 && lender.slots() == wanted.slots && Of::keys(lender.close()) == (keys{7, 8}));
+    return 0;
+}
+
+// Eight threads borrow three handles, in each way there is, and have loans of each other; two threads renew the set all the while.
+template <class Of>
+static int renewals_and_loans() {
+    auto lender = lending<Of>(3);
+    std::atomic<int> wrong{0}, lent{0}, renewed{0};
+    std::atomic<bool> ends{false};
+    std::vector<long> beside(lender.handles());
+    std::vector<std::thread> threads;
+    for (std::uint64_t i = 0; i < 8; i++)
+        threads.emplace_back([&, i] {
+            for (int round = 0; round < 600; round++) {
+                lender.lend_owned() = {};
+                auto mine = round % 3 == 0 ? lender.lend_wait() : round % 3 == 1 ? lender.lend_for(std::chrono::hours(1)) : lender.lend();
+                if (!mine) continue;
+                beside[mine.number()]++, lent++;
+                if (!Of::adds(*mine, i) || !Of::takes(*mine, i) || Of::takes(*mine, 50)) wrong++;
+                if (round % 100 == 0) std::thread([back = std::move(mine)] {}).join();
+                if (round % 10 == 0) std::this_thread::yield();
+            }
+        });
+    std::vector<std::thread> renew;
+    for (std::uint32_t i = 0; i < 2; i++)
+        renew.emplace_back([&, i] {
+            while (!ends) {
+                auto told = i ? lender.renew(vbr::shape::for_keys(100 + static_cast<std::uint32_t>(lent.load()) % 7, 3)) : lender.renew_for(vbr::shape::for_keys(200, 3), 1ms);
+                if (told == vbr::all_answer::done) renewed++;
+                else if (told != vbr::all_answer::on_loan || i) wrong++;
+                if (renewed % 4 == 0) std::this_thread::sleep_for(100us);
+            }
+        });
+    for (std::thread &thread : threads) thread.join();
+    ends = true;
+    for (std::thread &thread : renew) thread.join();
+    CHECK(wrong == 0 && lent >= 8 * 400 && renewed > 0 && beside[0] + beside[1] + beside[2] == lent && Of::keys(lender.close()).empty());
+    return 0;
+}
+
 template <class Of>
 static int all() {
+    if (renewals<Of>() || lends_none_meanwhile<Of>() || renewals_and_loans<Of>()) return 1;
     return each_handle_once<Of>() || closes_all_or_none<Of>() || moved<Of>() || waits<Of>() || ends_of_waits<Of>() || tasks<Of>();
 }
 

@@ -1,25 +1,48 @@
 // Memory that vbr.hpp is refused: it throws std::bad_alloc, and all stays as it was; and the closes that need none ask for none.
-// Memory that the library is refused while it closes a set: all handles stay as they were, those of a lender too, which lends on. A
-// set is closed by vbr_close_all.
-// Link with -Wl,--wrap=malloc,--wrap=vbr_close,--wrap=vbr_map_close.
+// Memory that the library is refused while it closes a set, or renews it: all handles stay as they were, those of a lender too, which
+// lends on. A set is closed by vbr_close_all. Threads that ask for the same renewal share one.
+// Link with -Wl,--wrap=malloc,--wrap=realloc,--wrap=vbr_close,--wrap=vbr_map_close,--wrap=vbr_renew_all,--wrap=vbr_map_renew_all.
 #include "vbr.hpp"
 
 #include <cstdio>
 #include <cstdlib>
 #include <new>
+#include <thread>
 
 #define CHECK(x) do { if (!(x)) { std::fprintf(stderr, "memory.cpp:%d: %s\n", __LINE__, #x); return 1; } } while (0)
 
 static bool refuses = false;         // what this program asks for
 static long granted = -1;            // how many blocks it still gets, where that isn't below 0
 static bool library_refuses = false; // what the library asks for
+static long library_granted = -1;    // how many blocks it still gets, where that isn't below 0
 static long asked = 0;
-static int closed_alone = 0; // calls of vbr_close and vbr_map_close
+static int closed_alone = 0;             // calls of vbr_close and vbr_map_close
+static std::atomic<int> renewals_made{0}; // calls of vbr_renew_all and vbr_map_renew_all
 
 extern "C" {
 void *__real_malloc(std::size_t size);
 void *__wrap_malloc(std::size_t size);
-void *__wrap_malloc(std::size_t size) { return library_refuses ? nullptr : __real_malloc(size); }
+void *__real_realloc(void *block, std::size_t size);
+void *__wrap_realloc(void *block, std::size_t size);
+static bool is_refused() {
+    if (library_granted <= 0) return library_refuses || library_granted == 0;
+    library_granted--;
+    return false;
+}
+void *__wrap_malloc(std::size_t size) { return is_refused() ? nullptr : __real_malloc(size); }
+void *__wrap_realloc(void *block, std::size_t size) { return is_refused() ? nullptr : __real_realloc(block, size); }
+vbr_answer __real_vbr_renew_all(vbr_handle *handles, std::size_t count, std::uint32_t slots, std::uint32_t buckets, std::uint64_t last_epoch);
+vbr_answer __wrap_vbr_renew_all(vbr_handle *handles, std::size_t count, std::uint32_t slots, std::uint32_t buckets, std::uint64_t last_epoch);
+vbr_answer __wrap_vbr_renew_all(vbr_handle *handles, std::size_t count, std::uint32_t slots, std::uint32_t buckets, std::uint64_t last_epoch) {
+    renewals_made++;
+    return __real_vbr_renew_all(handles, count, slots, buckets, last_epoch);
+}
+vbr_answer __real_vbr_map_renew_all(vbr_map_handle *handles, std::size_t count, std::uint32_t slots, std::uint32_t buckets, std::uint64_t last_epoch);
+vbr_answer __wrap_vbr_map_renew_all(vbr_map_handle *handles, std::size_t count, std::uint32_t slots, std::uint32_t buckets, std::uint64_t last_epoch);
+vbr_answer __wrap_vbr_map_renew_all(vbr_map_handle *handles, std::size_t count, std::uint32_t slots, std::uint32_t buckets, std::uint64_t last_epoch) {
+    renewals_made++;
+    return __real_vbr_map_renew_all(handles, count, slots, buckets, last_epoch);
+}
 vbr_answer __wrap_vbr_close(vbr_handle *handle, std::uint64_t *keys, std::size_t room, vbr_totals *report);
 vbr_answer __wrap_vbr_close(vbr_handle *, std::uint64_t *, std::size_t, vbr_totals *) {
     closed_alone++;
@@ -155,8 +178,65 @@ static int lent(Opened opened, const Adds &adds) {
     return 0;
 }
 
+// A lender that is refused each allocation of a renewal in turn lends on, over the set that it had; and once none is refused, over a
+// fresh one. No renewal asks this program for memory.
+template <class Lender, class Adds>
+static int renewed(Lender lender, const Adds &adds) {
+    const vbr::shape before{lender.slots(), lender.buckets(), lender.last_epoch()}, wanted = vbr::shape::for_keys(2000, 3);
+    CHECK(adds(*lender.lend(), 5));
+    long of_program = asked;
+    for (long blocks = 0;; blocks++) {
+        library_granted = blocks;
+        vbr::all_answer told = blocks % 2 ? lender.renew(wanted) : lender.renew_for(wanted, std::chrono::hours(1));
+        library_granted = -1;
+        auto first = lender.lend(), second = lender.lend(), third = lender.lend();
+        CHECK(first && second && third && !lender.lend() && first->has(5, 100000) == vbr::answer::yes);
+        CHECK(lender.slots() == first->slots() && lender.buckets() == second->buckets() && lender.last_epoch() == third->last_epoch());
+        if (told == vbr::all_answer::done) {
+            CHECK(blocks >= 4 && lender.slots() == wanted.slots && lender.buckets() == wanted.buckets && third->epoch() == 1);
+            break;
+        }
+        CHECK(told == vbr::all_answer::no_memory && blocks < 1000 && lender.slots() == before.slots && lender.buckets() == before.buckets);
+    }
+    CHECK(asked == of_program);
+    auto last = lender.close();
+    CHECK(last.answer == vbr::close_answer::last && last.report->free == wanted.slots - 1);
+    return 0;
+}
+
+// Three threads ask for the same shape while a loan is out: where all of them wait one renewal is made. A thread that comes late makes
+// its own, so there are some turns.
+template <class Lender>
+static int shared_renewals(Lender lender) {
+    const vbr::shape wanted = vbr::shape::for_keys(50, 3), other = vbr::shape::for_keys(60, 3);
+    bool are_shared = false;
+    for (int turn = 0; turn < 20 && !are_shared; turn++) {
+        std::vector<std::thread> threads;
+        std::atomic<int> begun{0}, done{0};
+        auto kept = lender.lend();
+        renewals_made = 0;
+        for (int i = 0; i < 3; i++)
+            threads.emplace_back([&] {
+                begun++;
+                done += lender.renew(wanted) == vbr::all_answer::done;
+            });
+        while (begun < 3 || lender.lend()) std::this_thread::yield();
+        std::this_thread::sleep_for(std::chrono::milliseconds(20)); // so that all wait
+        kept = {};
+        for (std::thread &each : threads) each.join();
+        CHECK(done == 3 && renewals_made > 0 && lender.slots() == wanted.slots);
+        are_shared = renewals_made == 1;
+    }
+    CHECK(are_shared && lender.renew(other) == vbr::all_answer::done && lender.slots() == other.slots);
+    return 0;
+}
+
 int main() {
     if (sets() || maps()) return 1;
+    const vbr::shape shape = vbr::shape::for_keys(1000, 3);
+    if (renewed(vbr::lender(vbr::open(shape, 3).handles), [](vbr::pass &mine, std::uint64_t key) { return mine.insert(key, 100000) == vbr::answer::yes; })) return 1;
+    if (renewed(vbr::map_lender(vbr::open_map(shape, 3).handles), [](vbr::map_pass &mine, std::uint64_t key) { return mine.insert(key, ~key, 100000) == vbr::answer::yes; })) return 1;
+    if (shared_renewals(vbr::lender(vbr::open(shape, 3).handles)) || shared_renewals(vbr::map_lender(vbr::open_map(shape, 3).handles))) return 1;
     if (lent<vbr::lender>(vbr::open(vbr::shape::for_keys(1000, 3), 3), [](vbr::pass &mine, std::uint64_t key) {
             return mine.insert(key, 100000) == vbr::answer::yes;
         }))

@@ -237,7 +237,8 @@ enum class [[nodiscard]] all_answer {
     missing,   /* they are fewer than were opened with the set, or none */
     bad_shape, /* renew_all: a number of the shape is out of range */
     no_room,   /* renew_all: there are more keys than slots of the shape */
-    no_memory
+    no_memory,
+    on_loan    /* renew_for of a lender: a handle was on loan until the time was over */
 };
 
 /* What a report by all handles of a set answers, and the report where it is done.
@@ -679,11 +680,12 @@ public:
 
            vbr::told now = vbr::handle::report_all(both.handles); // now.report->keys is {5, 7} */
     static told_type report_all(std::vector<basic_handle> &handles) {
-        all_answer are = are_all(handles);
+        auto at = in_order(handles);
+        all_answer are = are_all(handles.size(), at);
         if (are != all_answer::done) return {are, std::nullopt};
         items room(handles.front().shared->slots);
         vbr_totals totals = {};
-        vbr_answer code = with_all(handles, [&](auto *all) { return calls::report_all(all, handles.size(), room.data(), room.size(), &totals); });
+        vbr_answer code = with_all(handles.size(), at, [&](auto *all) { return calls::report_all(all, handles.size(), room.data(), room.size(), &totals); });
         if (code != VBR_YES) return {all_answer::no_memory, std::nullopt};
         room.resize(totals.live);
         return {all_answer::done, typename calls::report{std::move(room), totals.epoch, totals.marked, totals.free}};
@@ -695,14 +697,7 @@ public:
 
            vbr::all_answer renewed = vbr::handle::renew_all(both.handles, vbr::shape::for_keys(4096, 2)); */
     static all_answer renew_all(std::vector<basic_handle> &handles, const shape &wanted) noexcept {
-        all_answer are = are_all(handles);
-        if (are != all_answer::done) return are;
-        vbr_answer code = with_all(handles, [&](auto *all) { return calls::renew_all(all, handles.size(), wanted); });
-        if (code == VBR_BAD_SHAPE) return all_answer::bad_shape;
-        if (code == VBR_NO_ROOM) return all_answer::no_room;
-        if (code != VBR_NO) return all_answer::no_memory;
-        handles.front().shared->slots = wanted.slots;
-        return all_answer::done;
+        return renew_all(handles.size(), in_order(handles), wanted);
     }
 
 private:
@@ -711,24 +706,42 @@ private:
     template <class Handle>
     friend class detail::lending;
 
-    /* Whether these are all handles of one set. */
-    static all_answer are_all(const std::vector<basic_handle> &handles) noexcept {
-        if (handles.empty()) return all_answer::missing;
-        for (const basic_handle &each : handles)
-            if (!each.is_open()) return all_answer::empty;
-        for (const basic_handle &each : handles)
-            if (each.shared != handles.front().shared) return all_answer::mixed;
-        return handles.front().shared->count == handles.size() ? all_answer::done : all_answer::missing;
+    /* The handles of a vector, each by its number. */
+    static auto in_order(std::vector<basic_handle> &handles) noexcept {
+        return [&handles](std::size_t i) -> basic_handle & { return handles[i]; };
+    }
+
+    /* Whether these are all handles of one set; `at` gives each by its number. */
+    template <class At>
+    static all_answer are_all(std::size_t count, const At &at) noexcept {
+        if (count == 0) return all_answer::missing;
+        for (std::size_t i = 0; i < count; i++)
+            if (!at(i).is_open()) return all_answer::empty;
+        for (std::size_t i = 0; i < count; i++)
+            if (at(i).shared != at(0).shared) return all_answer::mixed;
+        return at(0).shared->count == count ? all_answer::done : all_answer::missing;
     }
 
     /* Makes a call with all of them side by side, and then each has what is at its place. */
-    template <class Call>
-    static vbr_answer with_all(std::vector<basic_handle> &handles, const Call &call) noexcept {
-        auto &all = handles.front().shared->parked; // all are open, so each place is empty
-        for (std::size_t i = 0; i < handles.size(); i++) std::swap(all[i], handles[i].raw);
+    template <class At, class Call>
+    static vbr_answer with_all(std::size_t count, const At &at, const Call &call) noexcept {
+        auto &all = at(0).shared->parked; // all are open, so each place is empty
+        for (std::size_t i = 0; i < count; i++) std::swap(all[i], at(i).raw);
         vbr_answer code = call(all.data());
-        for (std::size_t i = 0; i < handles.size(); i++) std::swap(all[i], handles[i].raw);
+        for (std::size_t i = 0; i < count; i++) std::swap(all[i], at(i).raw);
         return code;
+    }
+
+    template <class At>
+    static all_answer renew_all(std::size_t count, const At &at, const shape &wanted) noexcept {
+        all_answer are = are_all(count, at);
+        if (are != all_answer::done) return are;
+        vbr_answer code = with_all(count, at, [&](auto *all) { return calls::renew_all(all, count, wanted); });
+        if (code == VBR_BAD_SHAPE) return all_answer::bad_shape;
+        if (code == VBR_NO_ROOM) return all_answer::no_room;
+        if (code != VBR_NO) return all_answer::no_memory;
+        at(0).shared->slots = wanted.slots;
+        return all_answer::done;
     }
 
     void takes(basic_handle &other) noexcept {

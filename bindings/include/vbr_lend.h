@@ -20,7 +20,8 @@
    What is done with a handle before it is given back comes before what the next borrower does (a release and an acquire).
    The handles and the lender stay where they are while there are loans. A lender takes 8 KiB, for words that are apart. The
    number of a loan is `mine - handle`: for data that lies beside each handle. A signal handler may borrow. Once all are given
-   back, the handles are closed by vbr_close as ever. Handles to a map are lent by the calls with `vbr_map_` in their names.
+   back, the handles are closed by vbr_close as ever, or go on over a fresh set by vbr_lender_renew, which doesn't wait for them
+   either: a program calls it again until they are. Handles to a map are lent by the calls with `vbr_map_` in their names.
    It is written for GCC and Clang, in C99 to C++23. */
 #ifndef VBR_LEND_H
 #define VBR_LEND_H
@@ -47,6 +48,7 @@ typedef struct vbr_lend_word {
 typedef struct vbr_lender {
     vbr_handle *handles;
     size_t count;
+    size_t lends; /* of so many one may be lent: of all, and of none while they are renewed */
     vbr_lend_word words[VBR_MAX_HANDLES];
 } vbr_lender;
 
@@ -56,15 +58,17 @@ typedef struct vbr_lender {
 typedef struct vbr_map_lender {
     vbr_map_handle *handles;
     size_t count;
+    size_t lends;
     vbr_lend_word words[VBR_MAX_HANDLES];
 } vbr_map_lender;
 
 /* What both lenders do first: the number of the handle that this thread was lent last. It is no part of the interface. */
 static __thread size_t vbr_lent_last;
 
-/* What both lenders do: the number of a free handle, which is lent now, or their count. It is no part of the interface. */
-VBR_NODISCARD VBR_NONNULL static inline size_t vbr_lend_number(vbr_lend_word *words, size_t count) VBR_NOEXCEPT {
-    size_t number = vbr_lent_last < count ? vbr_lent_last : 0, tried;
+/* What both lenders do: the number of a free handle, which is lent now, or of none of those that are lent, the greatest number. It
+   is no part of the interface. */
+VBR_NODISCARD VBR_NONNULL static inline size_t vbr_lend_number(vbr_lend_word *words, const size_t *lends) VBR_NOEXCEPT {
+    size_t count = __atomic_load_n(lends, __ATOMIC_RELAXED), number = vbr_lent_last < count ? vbr_lent_last : 0, tried;
     for (tried = 0; tried < count; tried++) {
         if (!__atomic_load_n(&words[number].lent, __ATOMIC_RELAXED) && !__atomic_exchange_n(&words[number].lent, 1, __ATOMIC_ACQUIRE)) {
             vbr_lent_last = number;
@@ -72,7 +76,25 @@ VBR_NODISCARD VBR_NONNULL static inline size_t vbr_lend_number(vbr_lend_word *wo
         }
         number = number + 1 < count ? number + 1 : 0;
     }
-    return count;
+    return SIZE_MAX;
+}
+
+/* What both lenders do for a renewal: none is lent from now on, and each handle that is free is taken; whether all are. Where not
+   all are, those are given back, and still none is lent. It is no part of the interface. */
+VBR_NODISCARD VBR_NONNULL static inline int vbr_lend_takes_all(vbr_lend_word *words, size_t count, size_t *lends) VBR_NOEXCEPT {
+    size_t taken = 0;
+    __atomic_store_n(lends, 0, __ATOMIC_RELAXED);
+    while (taken < count && !__atomic_exchange_n(&words[taken].lent, 1, __ATOMIC_ACQUIRE)) taken++;
+    if (taken == count) return 1;
+    while (taken > 0) __atomic_store_n(&words[--taken].lent, 0, __ATOMIC_RELEASE);
+    return 0;
+}
+
+/* What both lenders do after a renewal: all are lent again. It is no part of the interface. */
+VBR_NONNULL static inline void vbr_lend_gives_all(vbr_lend_word *words, size_t count, size_t *lends) VBR_NOEXCEPT {
+    size_t i;
+    for (i = 0; i < count; i++) __atomic_store_n(&words[i].lent, 0, __ATOMIC_RELEASE);
+    __atomic_store_n(lends, count, __ATOMIC_RELAXED);
 }
 
 /* Lends these handles, `count` of them, up to 64, from now on. No thread uses the lender before.
@@ -80,19 +102,18 @@ VBR_NODISCARD VBR_NONNULL static inline size_t vbr_lend_number(vbr_lend_word *wo
        vbr_lender lender = {0};
        vbr_lender_init(&lender, handle, 2); */
 VBR_NONNULL static inline void vbr_lender_init(vbr_lender *lender, vbr_handle *handles, size_t count) VBR_NOEXCEPT {
-    size_t i;
     lender->handles = handles;
     lender->count = count < VBR_MAX_HANDLES ? count : VBR_MAX_HANDLES;
-    for (i = 0; i < lender->count; i++) __atomic_store_n(&lender->words[i].lent, 0, __ATOMIC_RELEASE);
+    vbr_lend_gives_all(lender->words, lender->count, &lender->lends);
 }
 
-/* A free handle, or a null pointer where each was lent at a moment of the call. It tries each handle at most once, so it
-   never waits, and first the one that this thread was lent last. At most 64 are lent at a time.
+/* A free handle, or a null pointer where each was lent at a moment of the call, or they are being renewed. It tries each handle
+   at most once, so it never waits, and first the one that this thread was lent last. At most 64 are lent at a time.
 
        vbr_handle *mine = vbr_lend(&lender); // NULL: both are lent */
 VBR_NODISCARD VBR_NONNULL static inline vbr_handle *vbr_lend(vbr_lender *lender) VBR_NOEXCEPT {
-    size_t number = vbr_lend_number(lender->words, lender->count);
-    return number == lender->count ? VBR_NO_HANDLE : &lender->handles[number];
+    size_t number = vbr_lend_number(lender->words, &lender->lends);
+    return number == SIZE_MAX ? VBR_NO_HANDLE : &lender->handles[number];
 }
 
 /* Gives back a handle that was lent by this lender, and isn't in a call.
@@ -102,23 +123,44 @@ VBR_NONNULL static inline void vbr_give_back(vbr_lender *lender, vbr_handle *han
     __atomic_store_n(&lender->words[handle - lender->handles].lent, 0, __ATOMIC_RELEASE);
 }
 
+/* Lets the handles go on over a fresh set of this shape, as vbr_renew_all does, once none is on loan. From the first call on none is
+   lent: VBR_IN_USE, and a handle is still on loan, so call it again when it may be back. What it answers else is what vbr_renew_all
+   answers, and then all are lent again. A lender's renewals are one thread's. It waits for nobody.
+
+       while ((renewed = vbr_lender_renew(&lender, 2048 + 2 * 64, 2048, VBR_MAX_EPOCH)) == VBR_IN_USE) sched_yield(); // until all are back */
+VBR_NODISCARD VBR_NONNULL static inline vbr_answer vbr_lender_renew(vbr_lender *lender, uint32_t slots, uint32_t buckets,
+                                                                    uint64_t last_epoch) VBR_NOEXCEPT {
+    vbr_answer answer;
+    if (!lender->count) return VBR_MISSING;
+    if (!vbr_lend_takes_all(lender->words, lender->count, &lender->lends)) return VBR_IN_USE;
+    answer = vbr_renew_all(lender->handles, lender->count, slots, buckets, last_epoch);
+    vbr_lend_gives_all(lender->words, lender->count, &lender->lends);
+    return answer;
+}
+
+/* Lends again, where a renewal was answered VBR_IN_USE and is given up.
+
+       if (vbr_lender_renew(&lender, 1024 + 2 * 64, 1024, VBR_MAX_EPOCH) == VBR_IN_USE) vbr_lender_lend_on(&lender); // not now */
+VBR_NONNULL static inline void vbr_lender_lend_on(vbr_lender *lender) VBR_NOEXCEPT {
+    __atomic_store_n(&lender->lends, lender->count, __ATOMIC_RELAXED);
+}
+
 /* As vbr_lender_init, of handles to a map.
 
        vbr_map_lender lender = {0};
        vbr_map_lender_init(&lender, map, 2); */
 VBR_NONNULL static inline void vbr_map_lender_init(vbr_map_lender *lender, vbr_map_handle *handles, size_t count) VBR_NOEXCEPT {
-    size_t i;
     lender->handles = handles;
     lender->count = count < VBR_MAX_HANDLES ? count : VBR_MAX_HANDLES;
-    for (i = 0; i < lender->count; i++) __atomic_store_n(&lender->words[i].lent, 0, __ATOMIC_RELEASE);
+    vbr_lend_gives_all(lender->words, lender->count, &lender->lends);
 }
 
 /* As vbr_lend: a free handle to a map, or a null pointer.
 
        vbr_map_handle *mine = vbr_map_lend(&lender); // NULL: both are lent */
 VBR_NODISCARD VBR_NONNULL static inline vbr_map_handle *vbr_map_lend(vbr_map_lender *lender) VBR_NOEXCEPT {
-    size_t number = vbr_lend_number(lender->words, lender->count);
-    return number == lender->count ? VBR_NO_HANDLE : &lender->handles[number];
+    size_t number = vbr_lend_number(lender->words, &lender->lends);
+    return number == SIZE_MAX ? VBR_NO_HANDLE : &lender->handles[number];
 }
 
 /* Gives back a handle to a map that was lent by this lender, and isn't in a call.
@@ -126,6 +168,26 @@ VBR_NODISCARD VBR_NONNULL static inline vbr_map_handle *vbr_map_lend(vbr_map_len
        vbr_map_give_back(&lender, mine); // and mine isn't used any more */
 VBR_NONNULL static inline void vbr_map_give_back(vbr_map_lender *lender, vbr_map_handle *handle) VBR_NOEXCEPT {
     __atomic_store_n(&lender->words[handle - lender->handles].lent, 0, __ATOMIC_RELEASE);
+}
+
+/* As vbr_lender_renew, of handles to a map: each key keeps its value.
+
+       vbr_answer renewed = vbr_map_lender_renew(&lender, 2048 + 2 * 64, 2048, VBR_MAX_EPOCH); // VBR_IN_USE: a handle is on loan */
+VBR_NODISCARD VBR_NONNULL static inline vbr_answer vbr_map_lender_renew(vbr_map_lender *lender, uint32_t slots, uint32_t buckets,
+                                                                        uint64_t last_epoch) VBR_NOEXCEPT {
+    vbr_answer answer;
+    if (!lender->count) return VBR_MISSING;
+    if (!vbr_lend_takes_all(lender->words, lender->count, &lender->lends)) return VBR_IN_USE;
+    answer = vbr_map_renew_all(lender->handles, lender->count, slots, buckets, last_epoch);
+    vbr_lend_gives_all(lender->words, lender->count, &lender->lends);
+    return answer;
+}
+
+/* Lends again, where a renewal was answered VBR_IN_USE and is given up.
+
+       vbr_map_lender_lend_on(&lender); // and the renewal isn't made */
+VBR_NONNULL static inline void vbr_map_lender_lend_on(vbr_map_lender *lender) VBR_NOEXCEPT {
+    __atomic_store_n(&lender->lends, lender->count, __ATOMIC_RELAXED);
 }
 
 #undef VBR_NO_HANDLE

@@ -6,6 +6,7 @@
        vbr::loan waited = lender.lend_wait();                 // as soon as one is free
        vbr::loan in_time = lender.lend_for(10ms);             // none: all were lent until the time was over
        vbr::owned_loan task = lender.lend_owned_wait();       // for a task that may outlive the lender
+       vbr::all_answer renewed = lender.renew(shape);         // as soon as all loans are back
        vbr::closed closed = lender.close();                   // all handles or none
 
    A thread is lent the handle that it had last, where that is free: a loan and its return are then one atomic exchange on a word
@@ -13,6 +14,10 @@
    A lend that doesn't wait takes no lock and no memory. Who waits sleeps by a condition variable, which a return touches only
    where a thread waits; threads that wait have no order, and one that has a loan itself may wait for ever. So a signal handler
    borrows nothing.
+
+   A renewal lends no more from its beginning, and waits until all loans are back; then the handles go on over a fresh set with the
+   keys that were in it, and are lent again. Who waits for a handle meanwhile waits on. So a program that runs for long calls it
+   before the last epoch is spent, from any thread that has no loan.
 
    A lender may be moved while there are loans. These end before the lender that then has the handles; an owned loan may outlive it. */
 #ifndef VBR_LEND_HPP
@@ -60,12 +65,14 @@ deadline after(const std::chrono::duration<Rep, Period> &limit) {
    how many wait. So that one of the two sees the other, who begins to wait has all threads pass a memory barrier. */
 class waiters {
 public:
-    /* Wakes a thread that waits, if there is one: after something was given back, by a store. */
+    /* Wakes a thread that waits for one thing, if there is one, and those that wait for all: after something was given back, by a
+       store. */
     void wake_one() noexcept {
         std::atomic_signal_fence(std::memory_order_seq_cst);
         if (count.load(std::memory_order_relaxed) == 0) return;
         std::lock_guard<std::mutex> guard(lock);
-        changed.notify_one();
+        if (for_all > 0) changed.notify_all();
+        else changed.notify_one();
     }
 
     void wake_all() noexcept {
@@ -73,10 +80,28 @@ public:
         changed.notify_all();
     }
 
-    /* Waits until this is so, or the time is over. Where the system has no such barrier a thread looks again each millisecond. */
+    /* Waits until this is so, or the time is over. Where the system has no such barrier a thread looks again each millisecond. No two
+       threads look at the same time. */
     template <class Condition>
     void wait(const deadline &until, const Condition &is_so) {
         std::unique_lock<std::mutex> guard(lock);
+        wait_by(guard, until, is_so);
+    }
+
+    /* The same for what needs more than one thing that is given back. */
+    template <class Condition>
+    void wait_for_all(const deadline &until, const Condition &is_so) {
+        std::unique_lock<std::mutex> guard(lock);
+        for_all++;
+        wait_by(guard, until, is_so);
+        for_all--;
+    }
+
+private:
+    static bool is_over(const deadline &until) noexcept { return until && std::chrono::steady_clock::now() >= *until; }
+
+    template <class Condition>
+    void wait_by(std::unique_lock<std::mutex> &guard, const deadline &until, const Condition &is_so) {
         count.fetch_add(1);
         bool naps = !fence_all_threads();
         while (!is_so() && !is_over(until)) {
@@ -87,17 +112,37 @@ public:
         count.fetch_sub(1);
     }
 
-private:
-    static bool is_over(const deadline &until) noexcept { return until && std::chrono::steady_clock::now() >= *until; }
-
     std::atomic<std::size_t> count{0};
+    std::size_t for_all = 0; /* how many of them wait for all */
     std::mutex lock;
     std::condition_variable changed;
 };
 
+constexpr bool is_in_range(const shape &it) noexcept {
+    return it.slots - 1 < max_slots && it.buckets - 1 < max_buckets && it.last_epoch - 1 < max_epoch;
+}
+
 /* The number of the handle that this thread was lent last, by any lender: it tries that one first. So threads that are no more than
    handles come to have one each, and no two write the same cache line. */
 inline thread_local std::size_t lent_last = 0;
+
+/* The shape of a set, which a renewal changes while other threads read it. */
+class shared_shape {
+public:
+    void set(const shape &to) noexcept {
+        of_slots.store(to.slots, std::memory_order_relaxed);
+        of_buckets.store(to.buckets, std::memory_order_relaxed);
+        of_epoch.store(to.last_epoch, std::memory_order_relaxed);
+    }
+    std::uint32_t slots() const noexcept { return of_slots.load(std::memory_order_relaxed); }
+    std::uint32_t buckets() const noexcept { return of_buckets.load(std::memory_order_relaxed); }
+    std::uint64_t last_epoch() const noexcept { return of_epoch.load(std::memory_order_relaxed); }
+    bool is(const shape &other) const noexcept { return slots() == other.slots && buckets() == other.buckets && last_epoch() == other.last_epoch; }
+
+private:
+    std::atomic<std::uint32_t> of_slots{0}, of_buckets{0};
+    std::atomic<std::uint64_t> of_epoch{0};
+};
 
 /* A handle, and whether it is lent, on cache lines of their own. */
 template <class Handle>
@@ -121,18 +166,19 @@ public:
         for (Handle &each : handles)
             if (kept < max_handles && each.is_open() && (kept == 0 || each.shared == places[0].handle.shared))
                 places[kept++].handle = std::move(each);
-        count.store(kept, std::memory_order_release);
-        if (kept > 0) opened = {places[0].handle.slots(), places[0].handle.buckets(), places[0].handle.last_epoch()};
+        if (kept > 0) opened.set({places[0].handle.slots(), places[0].handle.buckets(), places[0].handle.last_epoch()});
+        count.store(kept, std::memory_order_relaxed);
+        lends.store(kept, std::memory_order_release);
     }
 
     std::size_t handles() const noexcept { return count.load(std::memory_order_relaxed); }
-    const shape &opened_with() const noexcept { return opened; }
+    const shared_shape &opened_with() const noexcept { return opened; }
     std::size_t number_of(const place_type *at) const noexcept { return static_cast<std::size_t>(at - places); }
 
-    /* A free handle, which is lent now, or none where each was lent at a moment of the call. */
+    /* A free handle, which is lent now, or none where each was lent at a moment of the call, or none is to be lent. */
     place_type *take() noexcept {
         std::size_t last = lent_last;
-        if (last < handles() && places[last].take()) return &places[last];
+        if (last < lends.load(std::memory_order_relaxed) && places[last].take()) return &places[last];
         return take_another(last);
     }
 
@@ -159,7 +205,55 @@ public:
         return told;
     }
 
+    /* Lets the handles go on over a fresh set of this shape, once all loans are back, if they are before the time is over. */
+    all_answer renew(const shape &wanted, const deadline &until) {
+        if (!is_in_range(wanted)) return all_answer::bad_shape;
+        renewal mine(*this);
+        const std::size_t before = renewals.load(std::memory_order_relaxed);
+        bool is_done_by_another = false;
+        waiting.wait_for_all(until, [&] {
+            bool no_other_has_its_turn = lends.load(std::memory_order_acquire) > 0;
+            is_done_by_another = no_other_has_its_turn && renewals.load(std::memory_order_relaxed) != before && opened.is(wanted);
+            return is_done_by_another || handles() == 0 || mine.takes_all();
+        });
+        if (is_done_by_another) return all_answer::done;
+        if (handles() == 0) return all_answer::empty;
+        if (!mine.has_all()) return all_answer::on_loan;
+        all_answer told = Handle::renew_all(handles(), [this](std::size_t number) -> Handle & { return places[number].handle; }, wanted);
+        if (told == all_answer::done) {
+            opened.set(wanted);
+            renewals.fetch_add(1, std::memory_order_relaxed);
+        }
+        return told;
+    }
+
 private:
+    /* A renewal: where it has its turn it lends no handle, and takes each that is free. At its end all are lent again. */
+    struct renewal {
+        explicit renewal(lending &lender) noexcept : of(lender) {}
+        renewal(const renewal &) = delete;
+        renewal &operator=(const renewal &) = delete;
+        ~renewal() {
+            if (!has_turn) return;
+            of.lends.store(of.handles(), std::memory_order_release);
+            for (std::size_t i = 0; i < taken; i++) of.places[i].is_lent.store(false, std::memory_order_release);
+            of.waiting.wake_all();
+        }
+
+        /* Whether it has all handles now. */
+        bool takes_all() noexcept {
+            std::size_t all = of.handles();
+            has_turn = has_turn || of.lends.compare_exchange_strong(all, 0, std::memory_order_acquire, std::memory_order_relaxed);
+            while (has_turn && !has_all() && of.places[taken].take()) taken++;
+            return has_all();
+        }
+        bool has_all() const noexcept { return taken > 0 && taken == of.handles(); }
+
+        lending &of;
+        bool has_turn = false;
+        std::size_t taken = 0;
+    };
+
     /* Handles that are taken one after another, until one is lent, and are given back at the end of this, unless they were closed. */
     struct all_taken {
         all_taken(lending &lender, std::size_t all) noexcept : of(lender) {
@@ -177,7 +271,7 @@ private:
 
     /* The same by a thread that isn't lent the one it had last. */
     place_type *take_another(std::size_t last) noexcept {
-        for (std::size_t i = 1, all = handles(); i <= all; i++) {
+        for (std::size_t i = 1, all = lends.load(std::memory_order_relaxed); i <= all; i++) {
             std::size_t number = (last + i) % all;
             if (!places[number].take()) continue;
             lent_last = number;
@@ -189,11 +283,14 @@ private:
     /* There are no handles any more: who waits is told so. */
     void end() noexcept {
         count.store(0, std::memory_order_relaxed);
+        lends.store(0, std::memory_order_relaxed);
         waiting.wake_all();
     }
 
     std::atomic<std::size_t> count{0};
-    shape opened;
+    std::atomic<std::size_t> lends{0}; /* of so many one may be lent: all, and none while they are renewed */
+    std::atomic<std::size_t> renewals{0};
+    shared_shape opened;
     waiters waiting;
     place_type places[max_handles];
 };
@@ -273,7 +370,8 @@ public:
            vbr::lender lender(std::move(opened.handles)); */
     explicit basic_lender(std::vector<Handle> &&handles) : all(std::make_shared<lending>()) { all->keep(handles); }
 
-    /* A free handle, or none where each was lent at a moment of the call. It tries each handle at most once.
+    /* A free handle, or none where each was lent at a moment of the call, or the set is being renewed. It tries each handle at most
+       once.
 
            vbr::loan mine = lender.lend(); */
     loan_type lend() noexcept { return loan_type(all.get(), taken()); }
@@ -310,12 +408,28 @@ public:
     /* What the set was opened with; 0 where it was given no handle.
 
            if (lender.slots() != shape.slots || lender.buckets() != shape.buckets) return 1; */
-    std::uint32_t slots() const noexcept { return all ? all->opened_with().slots : 0; }
-    std::uint32_t buckets() const noexcept { return all ? all->opened_with().buckets : 0; }
-    std::uint64_t last_epoch() const noexcept { return all && all->opened_with().slots ? all->opened_with().last_epoch : 0; }
+    std::uint32_t slots() const noexcept { return all ? all->opened_with().slots() : 0; }
+    std::uint32_t buckets() const noexcept { return all ? all->opened_with().buckets() : 0; }
+    std::uint64_t last_epoch() const noexcept { return all ? all->opened_with().last_epoch() : 0; }
 
-    /* Closes all handles and gives the report, or none: where one is on loan, and where there is no memory for the report, it lends
-       on.
+    /* Lets the handles go on over a fresh set of this shape, with the keys that were in it, or the entries: at epoch 1, and larger
+       where there are to be more of them. It lends none meanwhile, and waits until all loans are back, so a thread that has one itself
+       waits for ever. The fresh set is opened before the other one is given up. Unless it is done all is as it was, and it lends
+       again. Where another thread renews to the same shape while this one waits, one renewal serves both.
+
+           vbr::all_answer renewed = lender.renew(shape); */
+    all_answer renew(const shape &wanted) { return all ? all->renew(wanted, std::nullopt) : all_answer::empty; }
+
+    /* The same, or on_loan where not all loans were back until the time was over.
+
+           vbr::all_answer in_vain = lender.renew_for(shape, 10ms); // on_loan: a loan is still out */
+    template <class Rep, class Period>
+    all_answer renew_for(const shape &wanted, const std::chrono::duration<Rep, Period> &limit) {
+        return all ? all->renew(wanted, detail::after(limit)) : all_answer::empty;
+    }
+
+    /* Closes all handles and gives the report, or none: where one is on loan or they are being renewed, and where there is no memory
+       for the report, it lends on.
 
            vbr::closed closed = lender.close(); */
     typename Handle::closed_type close() {

@@ -5,12 +5,15 @@
    - that a handle is used: two threads that use one, with no order between them, are reported;
    - that what a thread did before it inserted a key comes before what a thread does that then finds it, and what it did
      before it removed one before what a thread does that then finds it absent;
-   - that what was done before a handle was closed comes before what the last close tells.
+   - that what was done before a handle was closed comes before what the last close tells, and that this one writes the report.
 
    Of maps it is told the same, where a get is a look-up, and besides that a value was written. A call that may give a key
    another value is told as a remove and an insert. A call of a walk is told to write its cursor, and one that gives a key finds
    it, and writes it. So a right program is silent,
-   and one that reads what it didn't look up, or what is absent, is reported. The sanitizer has a place for each of 16,384
+   and one that reads what it didn't look up, or what is absent, is reported. What the library itself copies and frees while it closes,
+   drops, reports and renews isn't told, since the sanitizer doesn't see the steps that order it: threads may close and drop handles
+   of their own at the same time. The names of the calls stand for the functions, so pointers to calls go through them too, and
+   members of these names keep one name. The sanitizer has a place for each of 16,384
    groups of keys, whatever the set, and takes a call that would have changed something, and is answered otherwise or refused,
    for one that has: where keys of a group meet, or after such an answer, it may miss a race. */
 #ifndef VBR_TSAN_H
@@ -26,6 +29,9 @@ void __tsan_acquire(void *address);
 void __tsan_release(void *address);
 void __tsan_write8(void *address);
 void __tsan_write4(void *address);
+void __tsan_write_range(void *address, unsigned long size);
+void __tsan_ignore_thread_begin(void);
+void __tsan_ignore_thread_end(void);
 
 /* For each group of keys whom inserts come before, and whom removes; then whom closes come before. */
 #define VBR_TSAN_GROUPS (1u << 14)
@@ -198,44 +204,66 @@ VBR_NODISCARD static inline vbr_answer vbr_tsan_map_next(vbr_map_handle *handle,
     return vbr_tsan_given(value, vbr_tsan_walked(cursor, key, vbr_map_next(handle, cursor, budget, key, value)));
 }
 
+/* What a call writes that may tell a report, whose items take so many bytes each. */
+static inline vbr_answer vbr_tsan_reported(void *items, size_t size, vbr_totals *report, vbr_answer answer) {
+    if (answer == VBR_YES || answer == VBR_NO_ROOM) __tsan_write_range(report, sizeof *report);
+    if (answer == VBR_YES && report->live > 0) __tsan_write_range(items, report->live * size);
+    return answer;
+}
+
 /* The calls that sets and maps have alike: FOR is nothing for a set and map_ for a map, and `item` is what a report has. */
 #define VBR_TSAN_CALLS(FOR, item) \
     VBR_NODISCARD static inline vbr_answer vbr_tsan_##FOR##close(vbr_##FOR##handle *handle, item *items, size_t room, \
                                                                  vbr_totals *report) VBR_NOEXCEPT { \
         vbr_tsan_##FOR##uses(handle); \
         __tsan_release(vbr_tsan_closed()); \
+        __tsan_ignore_thread_begin(); \
         vbr_answer answer = vbr_##FOR##close(handle, items, room, report); \
+        __tsan_ignore_thread_end(); \
         if (answer == VBR_YES || answer == VBR_LOST) __tsan_acquire(vbr_tsan_closed()); \
-        return answer; \
+        return vbr_tsan_reported(items, sizeof *items, report, answer); \
     } \
     VBR_NODISCARD static inline vbr_answer vbr_tsan_##FOR##close_all(vbr_##FOR##handle *handles, size_t count, item *items, \
                                                                      size_t room, vbr_totals *report) VBR_NOEXCEPT { \
         for (size_t i = 0; i < count; i++) vbr_tsan_##FOR##uses(&handles[i]); \
         __tsan_release(vbr_tsan_closed()); \
+        __tsan_ignore_thread_begin(); \
         vbr_answer answer = vbr_##FOR##close_all(handles, count, items, room, report); \
+        __tsan_ignore_thread_end(); \
         if (answer == VBR_YES) __tsan_acquire(vbr_tsan_closed()); \
-        return answer; \
+        return vbr_tsan_reported(items, sizeof *items, report, answer); \
     } \
     VBR_NODISCARD static inline vbr_answer vbr_tsan_##FOR##report_all(vbr_##FOR##handle *handles, size_t count, item *items, \
                                                                       size_t room, vbr_totals *report) VBR_NOEXCEPT { \
         for (size_t i = 0; i < count; i++) vbr_tsan_##FOR##uses(&handles[i]); \
-        return vbr_##FOR##report_all(handles, count, items, room, report); \
+        __tsan_ignore_thread_begin(); \
+        vbr_answer answer = vbr_##FOR##report_all(handles, count, items, room, report); \
+        __tsan_ignore_thread_end(); \
+        return vbr_tsan_reported(items, sizeof *items, report, answer); \
     } \
     VBR_NODISCARD static inline vbr_answer vbr_tsan_##FOR##renew_all(vbr_##FOR##handle *handles, size_t count, uint32_t slots, \
                                                                      uint32_t buckets, uint64_t last_epoch) VBR_NOEXCEPT { \
         for (size_t i = 0; i < count; i++) vbr_tsan_##FOR##uses(&handles[i]); \
-        return vbr_##FOR##renew_all(handles, count, slots, buckets, last_epoch); \
+        __tsan_ignore_thread_begin(); \
+        vbr_answer answer = vbr_##FOR##renew_all(handles, count, slots, buckets, last_epoch); \
+        __tsan_ignore_thread_end(); \
+        return answer; \
     } \
     VBR_NODISCARD static inline vbr_answer vbr_tsan_##FOR##renew_all_seeded(vbr_##FOR##handle *handles, size_t count, uint32_t slots, \
                                                                             uint32_t buckets, uint64_t last_epoch, \
                                                                             uint64_t seed) VBR_NOEXCEPT { \
         for (size_t i = 0; i < count; i++) vbr_tsan_##FOR##uses(&handles[i]); \
-        return vbr_##FOR##renew_all_seeded(handles, count, slots, buckets, last_epoch, seed); \
+        __tsan_ignore_thread_begin(); \
+        vbr_answer answer = vbr_##FOR##renew_all_seeded(handles, count, slots, buckets, last_epoch, seed); \
+        __tsan_ignore_thread_end(); \
+        return answer; \
     } \
     static inline void vbr_tsan_##FOR##drop(vbr_##FOR##handle *handle) VBR_NOEXCEPT { \
         vbr_tsan_##FOR##uses(handle); \
         __tsan_release(vbr_tsan_closed()); \
+        __tsan_ignore_thread_begin(); \
         vbr_##FOR##drop(handle); \
+        __tsan_ignore_thread_end(); \
     } \
     VBR_TSAN_NUMBER(FOR, uint64_t, epoch) \
     VBR_TSAN_NUMBER(FOR, uint64_t, last_epoch) \
@@ -257,46 +285,46 @@ VBR_TSAN_CALLS(map_, vbr_entry)
 #undef VBR_TSAN_CALLS
 #undef VBR_TSAN_NUMBER
 
-#define vbr_epoch(handle) vbr_tsan_epoch(handle)
-#define vbr_last_epoch(handle) vbr_tsan_last_epoch(handle)
-#define vbr_slots(handle) vbr_tsan_slots(handle)
-#define vbr_buckets(handle) vbr_tsan_buckets(handle)
-#define vbr_seed(handle) vbr_tsan_seed(handle)
-#define vbr_insert(handle, key, budget) vbr_tsan_insert(handle, key, budget)
-#define vbr_remove(handle, key, budget) vbr_tsan_remove(handle, key, budget)
-#define vbr_has(handle, key, budget) vbr_tsan_has(handle, key, budget)
-#define vbr_has_all(handle, keys, count, answers, budget) vbr_tsan_has_all(handle, keys, count, answers, budget)
-#define vbr_next(handle, cursor, budget, key) vbr_tsan_next(handle, cursor, budget, key)
-#define vbr_close(handle, keys, room, report) vbr_tsan_close(handle, keys, room, report)
-#define vbr_close_all(handles, count, keys, room, report) vbr_tsan_close_all(handles, count, keys, room, report)
-#define vbr_report_all(handles, count, keys, room, report) vbr_tsan_report_all(handles, count, keys, room, report)
-#define vbr_renew_all(handles, count, slots, buckets, last_epoch) vbr_tsan_renew_all(handles, count, slots, buckets, last_epoch)
-#define vbr_renew_all_seeded(handles, count, slots, buckets, last_epoch, seed) vbr_tsan_renew_all_seeded(handles, count, slots, buckets, last_epoch, seed)
-#define vbr_balance(handle) vbr_tsan_balance(handle)
-#define vbr_drop(handle) vbr_tsan_drop(handle)
-#define vbr_map_epoch(handle) vbr_tsan_map_epoch(handle)
-#define vbr_map_last_epoch(handle) vbr_tsan_map_last_epoch(handle)
-#define vbr_map_slots(handle) vbr_tsan_map_slots(handle)
-#define vbr_map_buckets(handle) vbr_tsan_map_buckets(handle)
-#define vbr_map_seed(handle) vbr_tsan_map_seed(handle)
-#define vbr_map_insert(handle, key, value, budget) vbr_tsan_map_insert(handle, key, value, budget)
-#define vbr_map_remove(handle, key, budget, value) vbr_tsan_map_remove(handle, key, budget, value)
-#define vbr_map_get(handle, key, budget, value) vbr_tsan_map_get(handle, key, budget, value)
-#define vbr_map_replace(handle, key, value, found, budget) vbr_tsan_map_replace(handle, key, value, found, budget)
-#define vbr_map_put(handle, key, value, found, budget) vbr_tsan_map_put(handle, key, value, found, budget)
-#define vbr_map_get_or_insert(handle, key, value, found, budget) vbr_tsan_map_get_or_insert(handle, key, value, found, budget)
-#define vbr_map_compare_exchange(handle, key, expected, value, found, budget) vbr_tsan_map_compare_exchange(handle, key, expected, value, found, budget)
-#define vbr_map_remove_if(handle, key, expected, found, budget) vbr_tsan_map_remove_if(handle, key, expected, found, budget)
-#define vbr_map_has(handle, key, budget) vbr_tsan_map_has(handle, key, budget)
-#define vbr_map_has_all(handle, keys, count, answers, budget) vbr_tsan_map_has_all(handle, keys, count, answers, budget)
-#define vbr_map_get_all(handle, keys, count, found, budget) vbr_tsan_map_get_all(handle, keys, count, found, budget)
-#define vbr_map_next(handle, cursor, budget, key, value) vbr_tsan_map_next(handle, cursor, budget, key, value)
-#define vbr_map_close(handle, entries, room, report) vbr_tsan_map_close(handle, entries, room, report)
-#define vbr_map_close_all(handles, count, entries, room, report) vbr_tsan_map_close_all(handles, count, entries, room, report)
-#define vbr_map_report_all(handles, count, entries, room, report) vbr_tsan_map_report_all(handles, count, entries, room, report)
-#define vbr_map_renew_all(handles, count, slots, buckets, last_epoch) vbr_tsan_map_renew_all(handles, count, slots, buckets, last_epoch)
-#define vbr_map_renew_all_seeded(handles, count, slots, buckets, last_epoch, seed) vbr_tsan_map_renew_all_seeded(handles, count, slots, buckets, last_epoch, seed)
-#define vbr_map_balance(handle) vbr_tsan_map_balance(handle)
-#define vbr_map_drop(handle) vbr_tsan_map_drop(handle)
+#define vbr_epoch vbr_tsan_epoch
+#define vbr_last_epoch vbr_tsan_last_epoch
+#define vbr_slots vbr_tsan_slots
+#define vbr_buckets vbr_tsan_buckets
+#define vbr_seed vbr_tsan_seed
+#define vbr_insert vbr_tsan_insert
+#define vbr_remove vbr_tsan_remove
+#define vbr_has vbr_tsan_has
+#define vbr_has_all vbr_tsan_has_all
+#define vbr_next vbr_tsan_next
+#define vbr_close vbr_tsan_close
+#define vbr_close_all vbr_tsan_close_all
+#define vbr_report_all vbr_tsan_report_all
+#define vbr_renew_all vbr_tsan_renew_all
+#define vbr_renew_all_seeded vbr_tsan_renew_all_seeded
+#define vbr_balance vbr_tsan_balance
+#define vbr_drop vbr_tsan_drop
+#define vbr_map_epoch vbr_tsan_map_epoch
+#define vbr_map_last_epoch vbr_tsan_map_last_epoch
+#define vbr_map_slots vbr_tsan_map_slots
+#define vbr_map_buckets vbr_tsan_map_buckets
+#define vbr_map_seed vbr_tsan_map_seed
+#define vbr_map_insert vbr_tsan_map_insert
+#define vbr_map_remove vbr_tsan_map_remove
+#define vbr_map_get vbr_tsan_map_get
+#define vbr_map_replace vbr_tsan_map_replace
+#define vbr_map_put vbr_tsan_map_put
+#define vbr_map_get_or_insert vbr_tsan_map_get_or_insert
+#define vbr_map_compare_exchange vbr_tsan_map_compare_exchange
+#define vbr_map_remove_if vbr_tsan_map_remove_if
+#define vbr_map_has vbr_tsan_map_has
+#define vbr_map_has_all vbr_tsan_map_has_all
+#define vbr_map_get_all vbr_tsan_map_get_all
+#define vbr_map_next vbr_tsan_map_next
+#define vbr_map_close vbr_tsan_map_close
+#define vbr_map_close_all vbr_tsan_map_close_all
+#define vbr_map_report_all vbr_tsan_map_report_all
+#define vbr_map_renew_all vbr_tsan_map_renew_all
+#define vbr_map_renew_all_seeded vbr_tsan_map_renew_all_seeded
+#define vbr_map_balance vbr_tsan_map_balance
+#define vbr_map_drop vbr_tsan_map_drop
 
 #endif

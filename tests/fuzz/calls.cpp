@@ -9,7 +9,8 @@
 // calls store the same value, so one that was stored before is told from the last; calls that expect a value expect that, or
 // another one. Walks go on by any cursor, with other
 // calls in between: each gives the next key of the map in the order of buckets, and by how many steps is known too, but for removed
-// nodes that may still be in their lists.
+// nodes that may still be in their lists. Balances are known after each call. All handles of a set are asked for a report, or to go on
+// over a fresh set of any shape: in any order, or not all of them, or with an empty one or one of another set among them.
 // Link with -Wl,--wrap=malloc,--wrap=realloc,--wrap=free,--wrap=getrandom.
 #include "fuzz.hpp"
 #include "vbr.h"
@@ -93,6 +94,10 @@ struct Sets {
     static constexpr auto open = vbr_open;
     static constexpr auto open_with = vbr_open_with;
     static constexpr auto close = vbr_close;
+    static constexpr auto report_all = vbr_report_all;
+    static constexpr auto renew_all = vbr_renew_all;
+    static constexpr auto balance = vbr_balance;
+    static constexpr auto epoch = vbr_epoch;
     static constexpr auto drop = vbr_drop;
     static int call(const Request &it, Handle *handle, uint32_t budget, uint64_t *) {
         return it.kind == INSERT   ? vbr_insert(handle, it.key, budget)
@@ -114,6 +119,10 @@ struct Maps {
     static constexpr auto open = vbr_map_open;
     static constexpr auto open_with = vbr_map_open_with;
     static constexpr auto close = vbr_map_close;
+    static constexpr auto report_all = vbr_map_report_all;
+    static constexpr auto renew_all = vbr_map_renew_all;
+    static constexpr auto balance = vbr_map_balance;
+    static constexpr auto epoch = vbr_map_epoch;
     static constexpr auto drop = vbr_map_drop;
     static int call(const Request &it, Handle *handle, uint32_t budget, uint64_t *found) {
         switch (it.kind) {
@@ -277,6 +286,7 @@ private:
     uint64_t values = 0;  // how many were stored
     typename Of::Handle cells[CELLS] = {};
     std::shared_ptr<Model> models[CELLS];
+    int64_t balances[CELLS] = {};
     vbr_cursor cursors[CELLS] = {};  // of each cell's walk, which goes on when another set is in the cell
 
     uint8_t byte() { return at < input.size() ? static_cast<uint8_t>(input[at++]) : 0; }
@@ -308,8 +318,11 @@ private:
             case 10: return x & 64 ? walk(cell()) : burst(cell(), key(), byte());
             case 11: case 12: return open(cell(), x & 32);
             case 13: return close(cell(), byte() % MOST_KEYS);
-            case 14: return drop(cell());
-            default: allowed = byte() % 8; return x & 16 ? open(cell(), x & 32) : close(cell(), MOST_KEYS);
+            case 14: return x & 64 ? all_at_once(cell(), x & 128) : drop(cell());
+            default:
+                allowed = byte() % 8;
+                if (x & 64) return all_at_once(cell(), x & 128);
+                return x & 16 ? open(cell(), x & 32) : close(cell(), MOST_KEYS);
         }
     }
 
@@ -400,7 +413,13 @@ private:
         for (const auto &item : items) model->keys[Of::key(item)] = Of::value(item);
         model->slots = slots, model->buckets = buckets, model->last_epoch = e;
         model->handles = model->open = count;
-        for (size_t i = from; i < from + count; i++) models[i] = model;
+        for (size_t i = from; i < from + count; i++) models[i] = model, balances[i] = i == from ? static_cast<int64_t>(items.size()) : 0;
+        check_balances(from, count);
+    }
+
+    void check_balances(size_t from, size_t count) {
+        for (size_t i = from; i < from + count; i++)
+            if (Of::balance(&cells[i]) != (models[i] ? balances[i] : 0)) fail("a balance");
     }
 
     // The steps that are promised to be enough.
@@ -454,7 +473,12 @@ private:
         check_value(m, it, answer, found);
         saw(what(kind), answer, there | (budget < most) << 2 | (m.keys.size() > 8) << 3 | (m.handles > 1) << 4 |
                                   (m.slots < 8) << 5 | (m.all_marked > 0) << 6 | (m.open < m.handles) << 7);
-        if (answer >= 0) change(m, it, there, budget < most + 9);
+        if (answer >= 0) {
+            auto before = static_cast<int64_t>(m.keys.size());
+            change(m, it, there, budget < most + 9);
+            balances[cell] += static_cast<int64_t>(m.keys.size()) - before;
+        }
+        check_balances(cell, 1);
     }
 
     // What an answered call does; a node that it takes out may still be in its list where the budget is short.
@@ -592,6 +616,84 @@ private:
         if (told) check_report(*m, report);
         if (answer == VBR_YES) check_items(*m, items);
         if (m && !short_of && answer != VBR_NO_ROOM) m->open--, models[cell] = nullptr;
+    }
+
+    // The cells of a set, by whose handles a call of all of them is made, mostly all; and what it answers for that, or VBR_NO.
+    std::vector<size_t> cells_of_all(size_t cell, int *told) {
+        std::vector<size_t> all;
+        std::shared_ptr<Model> m = models[cell];
+        for (size_t i = 0; i < CELLS; i++)
+            if (m && models[i] == m) all.push_back(i);
+        if (all.empty()) all = {cell};
+        uint8_t x = byte();
+        if (x & 1) std::reverse(all.begin(), all.end());
+        std::rotate(all.begin(), all.begin() + byte() % all.size(), all.end());
+        if (x >= 216) all.pop_back();
+        else if (x >= 176) all.back() = byte() % CELLS;
+        bool are_empty = false, are_mixed = false;
+        for (size_t i : all) are_empty |= !models[i], are_mixed |= models[i] != models[all[0]];
+        std::vector<size_t> sorted = all;
+        std::sort(sorted.begin(), sorted.end());
+        if (std::adjacent_find(sorted.begin(), sorted.end()) != sorted.end()) all.clear();  // no handle is there twice
+        *told = all.empty()                                 ? VBR_MISSING
+                : are_empty                                 ? VBR_EMPTY
+                : are_mixed                                 ? VBR_MIXED
+                : all.size() < models[all[0]]->handles      ? VBR_MISSING
+                                                            : VBR_NO;
+        return all;
+    }
+
+    // A report by all handles, or a renewal.
+    void all_at_once(size_t cell, bool renews) {
+        int told = VBR_NO;
+        std::vector<size_t> of = cells_of_all(cell, &told);
+        typename Of::Handle all[CELLS] = {};
+        for (size_t i = 0; i < of.size(); i++) std::swap(all[i], cells[of[i]]);
+        refused_one = false;
+        long before = blocks;
+        const std::shared_ptr<Model> m = of.empty() ? nullptr : models[of[0]];
+        int answer = renews ? renew(m, all, of.size(), told) : report(m, all, of.size(), told);
+        allowed = -1;
+        for (size_t i = 0; i < of.size(); i++) std::swap(all[i], cells[of[i]]);
+        if (answer != VBR_NO && blocks != before) fail("a call of all handles kept memory");
+        if (renews && answer == VBR_NO)
+            for (size_t i = 0; i < of.size(); i++) {
+                balances[of[i]] = i == 0 ? static_cast<int64_t>(m->keys.size()) : 0;
+                if (Of::epoch(&cells[of[i]]) != 1) fail("the epoch after a renewal");
+            }
+        for (size_t i : of) check_balances(i, 1);
+        saw(renews ? 17 : 18, answer, (of.size() > 1) | refused_one << 1 | (m && m->all_marked > 0) << 2 | (m && m->keys.size() > 8) << 3);
+    }
+
+    int report(const std::shared_ptr<Model> &m, typename Of::Handle *all, size_t count, int told) {
+        typename Of::Item items[MOST_KEYS + 1];
+        std::fill(std::begin(items), std::end(items), Of::item(NO_VALUE, NO_VALUE));
+        vbr_totals report = {77, 77, 77, 77};
+        size_t room = byte() % MOST_KEYS;
+        int want = told != VBR_NO ? told : m->keys.size() > room ? VBR_NO_ROOM : VBR_YES;
+        int answer = Of::report_all(all, count, items, room, &report);
+        bool is_short = answer == VBR_NO_MEMORY && refused_one;
+        if (answer != want && !is_short && !(told == VBR_MIXED && answer == VBR_MISSING)) fail("the answer of a report by all handles");
+        bool untouched = report.epoch == 77 && report.live == 77 && report.marked == 77 && report.free == 77;
+        if (answer == VBR_YES || answer == VBR_NO_ROOM) check_report(*m, report);
+        else if (!untouched) fail("a report by all handles wrote, and was refused");
+        if (answer == VBR_YES) check_items(*m, items);
+        else if (!(items[0] == Of::item(NO_VALUE, NO_VALUE))) fail("a report by all handles wrote keys that have no room");
+        return answer;
+    }
+
+    int renew(const std::shared_ptr<Model> &m, typename Of::Handle *all, size_t count, int told) {
+        uint64_t s = slots(), b = buckets(), e = last_epoch();
+        bool bad = s < 1 || s > VBR_MAX_SLOTS || b < 1 || b > VBR_MAX_BUCKETS || e < 1 || e > VBR_MAX_EPOCH;
+        int want = bad ? VBR_BAD_SHAPE : told != VBR_NO ? told : m->keys.size() > s ? VBR_NO_ROOM : VBR_NO;
+        int answer = Of::renew_all(all, count, static_cast<uint32_t>(s), static_cast<uint32_t>(b), e);
+        bool is_short = !bad && answer == VBR_NO_MEMORY && refused_one;
+        if (answer != want && !is_short && !(want == VBR_MIXED && answer == VBR_MISSING)) fail("the answer of a renewal");
+        if (answer != VBR_NO) return answer;
+        m->slots = static_cast<uint32_t>(s), m->buckets = static_cast<uint32_t>(b), m->last_epoch = e;
+        m->marked.clear();
+        m->all_marked = m->inserts = 0;
+        return answer;
     }
 
     static void check_items(const Model &m, const typename Of::Item *items) {

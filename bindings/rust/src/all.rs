@@ -24,14 +24,14 @@ impl<K: Kind> HandleOf<K> {
     ///
     /// [`ReportError::Mixed`], [`ReportError::Missing`] and [`ReportError::Memory`], tested in this order.
     pub fn report_all(handles: &mut [HandleOf<K>]) -> Result<K::Report, ReportError> {
-        let shared = shared_by(handles)?;
+        let shared = handles.shared()?;
         // SAFETY: it is there while one of its handles is open, and all are borrowed.
         let slots = unsafe { shared.as_ref() }.slots as usize;
         let mut items = Vec::new();
         items.try_reserve_exact(slots).map_err(|_| ReportError::Memory)?;
         items.resize(slots, K::Item::default());
         let mut told = ReportNumbers::default();
-        let code = with_raw(shared, handles, |all, count| {
+        let code = handles.with_raw(|all, count| {
             // SAFETY: these are all handles of the set or map, nothing else has one of them, and `items` has as much room.
             unsafe { K::REPORT_ALL(all, count, items.as_mut_ptr(), items.len(), &mut told) }
         });
@@ -63,16 +63,44 @@ impl<K: Kind> HandleOf<K> {
     /// [`RenewError`], and the handles stay as they were, and go on.
     pub fn renew_all(handles: &mut [HandleOf<K>], shape: Shape) -> Result<(), RenewError> {
         shape.check()?;
-        let mut shared = shared_by(handles)?;
+        handles.renew(shape)
+    }
+}
+
+/// Handles that one thread has, each by its place.
+pub(crate) trait All<K: Kind> {
+    fn count(&self) -> usize;
+    fn at(&mut self, place: usize) -> &mut HandleOf<K>;
+
+    /// What the handles share, if they are all handles of one set.
+    fn shared(&mut self) -> Result<NonNull<Shared>, ReportError> {
+        let count = self.count();
+        if count == 0 {
+            return Err(ReportError::Missing);
+        }
+        let first = self.at(0).shared.ok_or(ReportError::Missing)?;
+        if (0..count).any(|place| self.at(place).shared != Some(first)) {
+            return Err(ReportError::Mixed);
+        }
+        // SAFETY: it is there while one of its handles is open, and these are.
+        if count != unsafe { first.as_ref() }.count {
+            return Err(ReportError::Missing);
+        }
+        Ok(first)
+    }
+
+    /// Lets the handles go on over a fresh set of this shape, whose numbers are in range.
+    fn renew(&mut self, shape: Shape) -> Result<(), RenewError> {
+        let mut shared = self.shared()?;
         let Shape { slots, buckets, last_epoch, seed } = shape;
-        let seed = seed.unwrap_or_else(|| handles[0].seed());
-        let code = with_raw(shared, handles, |all, count| {
+        let seed = seed.unwrap_or_else(|| self.at(0).seed());
+        let code = self.with_raw(|all, count| {
             // SAFETY: these are all handles of the set or map, and nothing else has one of them.
             unsafe { K::RENEW_ALL(all, count, slots, buckets, last_epoch, seed) }
         });
         match code {
             0 => {
-                // SAFETY: all handles that share it are borrowed, so nothing else reaches it.
+                // SAFETY: this thread has all handles that share it, so nothing else reaches it.
                 unsafe { shared.as_mut() }.slots = slots;
                 Ok(())
             }
@@ -80,31 +108,31 @@ impl<K: Kind> HandleOf<K> {
             _ => Err(RenewError::Memory),
         }
     }
+
+    /// Makes a call of the library with all handles, which are all of one set, side by side, and then each handle has what is at
+    /// its place.
+    fn with_raw(&mut self, call: impl FnOnce(*mut Raw, usize) -> i32) -> i32 {
+        let count = self.count();
+        let Some(shared) = self.at(0).shared else { return 0 };
+        // SAFETY: it is there while one of its handles is open, and these are.
+        let shared = unsafe { shared.as_ref() };
+        for (place, parked) in shared.parked.iter().enumerate().take(count) {
+            parked.store(self.at(place).raw.get_mut().0, Ordering::Relaxed);
+        }
+        let code = call(shared.all(), count);
+        for (place, parked) in shared.parked.iter().enumerate().take(count) {
+            self.at(place).raw.get_mut().0 = parked.swap(null_mut(), Ordering::Relaxed);
+        }
+        code
+    }
 }
 
-/// What the handles share, if they are all handles of one set.
-fn shared_by<K: Kind>(handles: &[HandleOf<K>]) -> Result<NonNull<Shared>, ReportError> {
-    let first = handles.first().and_then(|handle| handle.shared).ok_or(ReportError::Missing)?;
-    if handles.iter().any(|handle| handle.shared != Some(first)) {
-        return Err(ReportError::Mixed);
+impl<K: Kind> All<K> for [HandleOf<K>] {
+    fn count(&self) -> usize {
+        self.len()
     }
-    // SAFETY: it is there while one of its handles is open, and these are.
-    if handles.len() != unsafe { first.as_ref() }.count {
-        return Err(ReportError::Missing);
-    }
-    Ok(first)
-}
 
-/// Makes a call of the library with all handles side by side, and then each handle has what is at its place.
-fn with_raw<K: Kind>(shared: NonNull<Shared>, handles: &mut [HandleOf<K>], call: impl FnOnce(*mut Raw, usize) -> i32) -> i32 {
-    // SAFETY: it is there while one of its handles is open, and these are.
-    let shared = unsafe { shared.as_ref() };
-    for (place, handle) in shared.parked.iter().zip(handles.iter_mut()) {
-        place.store(handle.raw.get_mut().0, Ordering::Relaxed);
+    fn at(&mut self, place: usize) -> &mut HandleOf<K> {
+        &mut self[place]
     }
-    let code = call(shared.all(), handles.len());
-    for (place, handle) in shared.parked.iter().zip(handles.iter_mut()) {
-        handle.raw.get_mut().0 = place.swap(null_mut(), Ordering::Relaxed);
-    }
-    code
 }

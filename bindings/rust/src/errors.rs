@@ -174,6 +174,8 @@ pub enum RenewError {
     Slots,
     /// There is no memory for the report or for the fresh set.
     Memory,
+    /// Of [`Table::renew_timeout`]: a handle was on loan until the time was over.
+    Lent,
 }
 
 impl From<ShapeError> for RenewError {
@@ -210,6 +212,7 @@ impl fmt::Display for RenewError {
             RenewError::Missing => "there are fewer handles than were opened",
             RenewError::Slots => "there are more keys than slots",
             RenewError::Memory => "there is no memory for the fresh set or map",
+            RenewError::Lent => "a handle was on loan until the time was over",
         })
     }
 }

@@ -1,19 +1,38 @@
 //! Handles on loan.
+use crate::all::All;
 use crate::handle::Unreported;
 use crate::waiting::Waiters;
-use crate::{HandleOf, Keys, Kind, OpenError, PassOf, Table};
+use crate::{HandleOf, Keys, Kind, OpenError, PassOf, RenewError, Shape, Table};
 use std::cell::{Cell, UnsafeCell};
 use std::fmt;
 use std::ops::{Deref, DerefMut};
 use std::ptr::NonNull;
-use std::sync::atomic::{AtomicBool, Ordering};
+use std::sync::atomic::{AtomicBool, AtomicU32, AtomicU64, AtomicUsize, Ordering};
 use std::sync::Arc;
 use std::time::Instant;
 
 /// The handles of one set or map, which it lends.
 pub(crate) struct Lender<K: Kind> {
     places: Box<[Place<K>]>,
+    /// Of so many one may be lent: of all, and of none while they are renewed. It is never more than there are.
+    lends: AtomicUsize,
+    shape: SharedShape,
+    renewals: AtomicUsize,
     waiters: Waiters,
+}
+
+/// The shape of a set, which a renewal changes while other threads read it.
+pub(crate) struct SharedShape {
+    slots: AtomicU32,
+    buckets: AtomicU32,
+    last_epoch: AtomicU64,
+}
+
+/// A renewal: where it has its turn no handle is lent, and it takes each that is free. At its end all are lent again.
+struct Renewal<'l, K: Kind> {
+    of: &'l Lender<K>,
+    has_turn: bool,
+    taken: usize,
 }
 
 /// A handle, and whether it is lent, on cache lines of their own.
@@ -34,12 +53,22 @@ thread_local! {
 
 impl<K: Kind> Lender<K> {
     /// Keeps the handles of one set or map.
-    pub(crate) fn of(handles: Vec<HandleOf<K>>) -> Result<Lender<K>, OpenError> {
+    pub(crate) fn of(handles: Vec<HandleOf<K>>, shape: Shape) -> Result<Lender<K>, OpenError> {
         let mut places = Vec::new();
         places.try_reserve_exact(handles.len()).map_err(|_| OpenError::Memory)?;
         let free = |handle| Place { is_lent: AtomicBool::new(false), handle: UnsafeCell::new(handle) };
         places.extend(handles.into_iter().map(free));
-        Ok(Lender { places: places.into_boxed_slice(), waiters: Waiters::default() })
+        Ok(Lender {
+            lends: AtomicUsize::new(places.len()),
+            places: places.into_boxed_slice(),
+            shape: SharedShape::of(shape),
+            renewals: AtomicUsize::new(0),
+            waiters: Waiters::default(),
+        })
+    }
+
+    pub(crate) fn shape(&self) -> &SharedShape {
+        &self.shape
     }
 
     /// How many handles there are.
@@ -47,11 +76,12 @@ impl<K: Kind> Lender<K> {
         self.places.len()
     }
 
-    /// The number of a free handle, which is lent now, or none where each was lent at a moment of the call.
+    /// The number of a free handle, which is lent now, or none where each was lent at a moment of the call, or none is to be lent.
     #[inline]
     pub(crate) fn take(&self) -> Option<usize> {
         let last = LAST.get();
-        if self.places.get(last).is_some_and(Place::take) {
+        // SAFETY: one of fewer than are lent is one of those that there are.
+        if last < self.lends.load(Ordering::Relaxed) && unsafe { self.places.get_unchecked(last) }.take() {
             return Some(last);
         }
         self.take_another(last)
@@ -60,7 +90,7 @@ impl<K: Kind> Lender<K> {
     /// The same by a thread that isn't lent the one it had last.
     #[cold]
     fn take_another(&self, last: usize) -> Option<usize> {
-        let count = self.count();
+        let count = self.lends.load(Ordering::Relaxed);
         let number = (1..=count).map(|it| (last + it) % count).find(|it| self.places[*it].take())?;
         LAST.set(number);
         Some(number)
@@ -75,6 +105,95 @@ impl<K: Kind> Lender<K> {
     /// Closes all handles, and tells what was in the set. Where it is refused memory they stay as they were.
     pub(crate) fn close(&mut self) -> Result<K::Report, Unreported> {
         HandleOf::close_all(&mut self.places)
+    }
+
+    /// Lets the handles go on over a fresh set of this shape, once all loans are back, if they are before the deadline.
+    pub(crate) fn renew(&self, shape: Shape, deadline: Option<Instant>) -> Result<(), RenewError> {
+        shape.check()?;
+        let before = self.renewals.load(Ordering::Relaxed);
+        let mut mine = Renewal { of: self, has_turn: false, taken: 0 };
+        let is_to_be_made = self.waiters.wait_for_all(deadline, || {
+            if self.is_renewed_since(before, shape) {
+                return Some(false);
+            }
+            mine.takes_all().then_some(true)
+        });
+        if !is_to_be_made.ok_or(RenewError::Lent)? {
+            return Ok(()); // another thread's serves both
+        }
+        mine.renew(shape)?;
+        self.shape.set(shape);
+        self.renewals.fetch_add(1, Ordering::Relaxed);
+        Ok(())
+    }
+
+    /// Whether no renewal is under way, and one that came after so many has given the set this shape.
+    fn is_renewed_since(&self, before: usize, shape: Shape) -> bool {
+        let is_lending = self.lends.load(Ordering::Acquire) > 0;
+        is_lending && self.renewals.load(Ordering::Relaxed) != before && self.shape.get() == shape
+    }
+}
+
+impl<K: Kind> Renewal<'_, K> {
+    /// Whether it has all handles now.
+    fn takes_all(&mut self) -> bool {
+        let Lender { places, lends, .. } = self.of;
+        let all = places.len();
+        self.has_turn |= lends.compare_exchange(all, 0, Ordering::Acquire, Ordering::Relaxed).is_ok();
+        while self.has_turn && self.taken < all && places[self.taken].take() {
+            self.taken += 1;
+        }
+        self.taken == all
+    }
+}
+
+impl<K: Kind> All<K> for Renewal<'_, K> {
+    fn count(&self) -> usize {
+        self.taken
+    }
+
+    fn at(&mut self, place: usize) -> &mut HandleOf<K> {
+        assert!(place < self.taken);
+        // SAFETY: this has taken it, and nothing else reaches it until it is given back.
+        unsafe { &mut *self.of.places[place].handle.get() }
+    }
+}
+
+impl<K: Kind> Drop for Renewal<'_, K> {
+    fn drop(&mut self) {
+        if self.has_turn {
+            self.of.lends.store(self.of.count(), Ordering::Release);
+            self.of.places[..self.taken].iter().for_each(|it| it.is_lent.store(false, Ordering::Release));
+            self.of.waiters.wake_all();
+        }
+    }
+}
+
+impl SharedShape {
+    fn of(Shape { slots, buckets, last_epoch }: Shape) -> SharedShape {
+        SharedShape { slots: AtomicU32::new(slots), buckets: AtomicU32::new(buckets), last_epoch: AtomicU64::new(last_epoch) }
+    }
+
+    fn set(&self, Shape { slots, buckets, last_epoch }: Shape) {
+        self.slots.store(slots, Ordering::Relaxed);
+        self.buckets.store(buckets, Ordering::Relaxed);
+        self.last_epoch.store(last_epoch, Ordering::Relaxed);
+    }
+
+    fn get(&self) -> Shape {
+        Shape { slots: self.slots(), buckets: self.buckets(), last_epoch: self.last_epoch() }
+    }
+
+    pub(crate) fn slots(&self) -> u32 {
+        self.slots.load(Ordering::Relaxed)
+    }
+
+    pub(crate) fn buckets(&self) -> u32 {
+        self.buckets.load(Ordering::Relaxed)
+    }
+
+    pub(crate) fn last_epoch(&self) -> u64 {
+        self.last_epoch.load(Ordering::Relaxed)
     }
 }
 

@@ -1,7 +1,7 @@
 //! A set or a map, which opens handles or lends them.
 use crate::handle::Unreported;
 use crate::lending::Lender;
-use crate::{CloseError, HandleOf, Kind, Lent, LentBy, OpenError, OwnedLent, Shape, Unclosed};
+use crate::{CloseError, HandleOf, Kind, Lent, LentBy, OpenError, OwnedLent, RenewError, Shape, Unclosed};
 use std::fmt;
 use std::sync::Arc;
 use std::time::{Duration, Instant};
@@ -21,7 +21,6 @@ use std::time::{Duration, Instant};
 #[repr(align(64))] // who is lent a handle reads it, so nothing that others write is on its cache line
 pub struct Table<K: Kind> {
     pub(crate) lender: Lender<K>,
-    shape: Shape,
 }
 
 impl<K: Kind> Table<K> {
@@ -133,7 +132,7 @@ impl<K: Kind> Table<K> {
     ///
     /// Those of [`Table::open`].
     pub fn lending(shape: Shape, handles: usize) -> Result<Table<K>, OpenError> {
-        Ok(Table { lender: Lender::of(HandleOf::open(shape, handles)?)?, shape })
+        Ok(Table { lender: Lender::of(HandleOf::open(shape, handles)?, shape)? })
     }
 
     /// Opens a set of these keys, as [`Table::open_with`] does, that lends its handles.
@@ -149,7 +148,7 @@ impl<K: Kind> Table<K> {
     ///
     /// Those of [`Table::open_with`].
     pub fn lending_with(shape: Shape, handles: usize, items: &[K::Item]) -> Result<Table<K>, OpenError> {
-        Ok(Table { lender: Lender::of(HandleOf::open_with(shape, handles, items)?)?, shape })
+        Ok(Table { lender: Lender::of(HandleOf::open_with(shape, handles, items)?, shape)? })
     }
 
     /// How many slots the set has.
@@ -162,7 +161,7 @@ impl<K: Kind> Table<K> {
     /// # Ok::<(), vbr::OpenError>(())
     /// ```
     pub fn slots(&self) -> u32 {
-        self.shape.slots
+        self.lender.shape().slots()
     }
 
     /// How many buckets the set has.
@@ -173,7 +172,7 @@ impl<K: Kind> Table<K> {
     /// # Ok::<(), vbr::OpenError>(())
     /// ```
     pub fn buckets(&self) -> u32 {
-        self.shape.buckets
+        self.lender.shape().buckets()
     }
 
     /// The last epoch of the set.
@@ -184,7 +183,7 @@ impl<K: Kind> Table<K> {
     /// # Ok::<(), vbr::OpenError>(())
     /// ```
     pub fn last_epoch(&self) -> u64 {
-        self.shape.last_epoch
+        self.lender.shape().last_epoch()
     }
 
     /// How many handles the set lends.
@@ -198,8 +197,8 @@ impl<K: Kind> Table<K> {
         self.lender.count()
     }
 
-    /// A free handle, or `None` where each was lent at a moment of the call. It tries each handle at most once, takes no lock
-    /// and no memory, and never waits: [`Table::lend_wait`] does. At most 64 are lent at a time.
+    /// A free handle, or `None` where each was lent at a moment of the call, or the set is being renewed. It tries each handle at
+    /// most once, takes no lock and no memory, and never waits: [`Table::lend_wait`] does. At most 64 are lent at a time.
     ///
     /// A thread is lent the handle that it had last, where that is free: a loan and its return are then one atomic exchange on
     /// a word that other threads don't write. Keep no loan while the thread waits for something else.
@@ -307,6 +306,53 @@ impl<K: Kind> Table<K> {
     #[inline]
     pub fn lend_owned_timeout(self: &Arc<Self>, limit: Duration) -> Option<OwnedLent<K>> {
         self.number_within(limit).map(|number| LentBy::of(Arc::clone(self), number))
+    }
+
+    /// Lets the handles go on over a fresh set of this shape, with the keys that were in it, or a map with the entries: at epoch 1,
+    /// and larger where there are to be more of them. No handle is lent meanwhile, and it waits until all loans are back: so a
+    /// thread that has one itself waits for ever (a loan of the same statement is one), and so does one that comes after a loan was
+    /// forgotten. Who waits for a handle waits on. The fresh set is opened before the other one is given up, so it takes the memory of both and of a report.
+    ///
+    /// Where another thread renews to the same shape while this one waits, one renewal serves both: so each thread may ask for one
+    /// that is told [`Refusal::EpochSpent`](crate::Refusal::EpochSpent), once it has dropped its loan.
+    ///
+    /// ```
+    /// # use vbr::{Refusal, Set, Shape};
+    /// let set = Set::lending_with(Shape::new(2, 2, 100), 2, &[5, 7])?;
+    /// assert_eq!(set.lend_wait().insert(9, 100_000), Err(Refusal::NoSlot));
+    /// set.renew(Shape::for_keys(1_000, 2))?;
+    /// assert!(set.lend_wait().insert(9, 100_000)?);
+    /// assert_eq!((set.slots(), set.close()?.keys), (1_128, vec![5, 7, 9]));
+    /// # Ok::<(), Box<dyn std::error::Error>>(())
+    /// ```
+    ///
+    /// # Errors
+    ///
+    /// [`RenewError::Shape`], which is tested before it waits, [`RenewError::Slots`] and [`RenewError::Memory`]. The set is as it
+    /// was then, and lends its handles again.
+    pub fn renew(&self, shape: Shape) -> Result<(), RenewError> {
+        self.lender.renew(shape, None)
+    }
+
+    /// As [`Table::renew`], or [`RenewError::Lent`] where not all loans were back until the time was over.
+    ///
+    /// ```
+    /// # use std::time::Duration;
+    /// # use vbr::{RenewError, Set, Shape};
+    /// let shape = Shape::for_keys(8, 2);
+    /// let set = Set::lending(shape, 2)?;
+    /// let mine = set.lend().expect("two are free");
+    /// assert_eq!(set.renew_timeout(shape, Duration::from_millis(1)), Err(RenewError::Lent));
+    /// drop(mine);
+    /// assert_eq!(set.renew_timeout(shape, Duration::from_secs(1)), Ok(()));
+    /// # Ok::<(), vbr::OpenError>(())
+    /// ```
+    ///
+    /// # Errors
+    ///
+    /// Those of [`Table::renew`], and [`RenewError::Lent`]. The set is as it was then, and lends its handles again.
+    pub fn renew_timeout(&self, shape: Shape, limit: Duration) -> Result<(), RenewError> {
+        self.lender.renew(shape, Instant::now().checked_add(limit))
     }
 
     /// Closes all handles, those of loans that were forgotten too, and tells what was in the set.

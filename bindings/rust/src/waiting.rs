@@ -9,7 +9,8 @@ use std::time::{Duration, Instant};
 #[derive(Default)]
 pub(crate) struct Waiters {
     count: AtomicUsize,
-    lock: Mutex<()>,
+    /// How many of them wait for more than one thing.
+    lock: Mutex<usize>,
     given_back: Condvar,
 }
 
@@ -17,7 +18,8 @@ pub(crate) struct Waiters {
 const NAP: Duration = Duration::from_millis(1);
 
 impl Waiters {
-    /// Wakes a thread that waits, if there is one. Call it after something was given back, by a store.
+    /// Wakes a thread that waits for one thing, if there is one, and those that wait for more. Call it after something was given
+    /// back, by a store.
     #[inline]
     pub(crate) fn wake_one(&self) {
         compiler_fence(Ordering::SeqCst);
@@ -28,14 +30,43 @@ impl Waiters {
 
     #[cold]
     fn wake_one_that_waits(&self) {
-        let _guard = self.guard();
-        self.given_back.notify_one();
+        let guard = self.guard();
+        if *guard > 0 {
+            self.given_back.notify_all();
+        } else {
+            self.given_back.notify_one();
+        }
     }
 
-    /// What `take` gives, as soon as it gives something; `None` if it gives nothing until the deadline.
+    /// Wakes all threads that wait.
+    pub(crate) fn wake_all(&self) {
+        let _guard = self.guard();
+        self.given_back.notify_all();
+    }
+
+    /// What `take` gives, as soon as it gives something; `None` if it gives nothing until the deadline. No two threads are in such a
+    /// `take` at the same time.
     #[cold]
-    pub(crate) fn wait<T>(&self, deadline: Option<Instant>, take: impl Fn() -> Option<T>) -> Option<T> {
+    pub(crate) fn wait<T>(&self, deadline: Option<Instant>, take: impl FnMut() -> Option<T>) -> Option<T> {
+        self.wait_by(self.guard(), deadline, take).0
+    }
+
+    /// The same for what needs more than one thing that is given back.
+    #[cold]
+    pub(crate) fn wait_for_all<T>(&self, deadline: Option<Instant>, take: impl FnMut() -> Option<T>) -> Option<T> {
         let mut guard = self.guard();
+        *guard += 1;
+        let (taken, mut guard) = self.wait_by(guard, deadline, take);
+        *guard -= 1;
+        taken
+    }
+
+    fn wait_by<'w, T>(
+        &'w self,
+        mut guard: MutexGuard<'w, usize>,
+        deadline: Option<Instant>,
+        mut take: impl FnMut() -> Option<T>,
+    ) -> (Option<T>, MutexGuard<'w, usize>) {
         self.count.fetch_add(1, Ordering::SeqCst);
         let nap = if fence_all_threads() { Duration::MAX } else { NAP };
         let taken = loop {
@@ -48,10 +79,10 @@ impl Waiters {
             guard = woken.unwrap_or_else(PoisonError::into_inner).0;
         };
         self.count.fetch_sub(1, Ordering::Relaxed);
-        taken
+        (taken, guard)
     }
 
-    fn guard(&self) -> MutexGuard<'_, ()> {
+    fn guard(&self) -> MutexGuard<'_, usize> {
         self.lock.lock().unwrap_or_else(PoisonError::into_inner)
     }
 }

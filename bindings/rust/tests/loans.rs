@@ -1,15 +1,16 @@
-//! Handles that are lent: at once or not at all, or as soon as one is free; to one thread at a time, and to no other set.
+//! Handles that are lent: at once or not at all, or as soon as one is free; to one thread at a time, and to no other set. And
+//! renewals, which wait for all loans while others wait for one.
 mod both;
 
 use both::Both;
 use std::cell::Cell;
 use std::collections::BTreeMap;
 use std::mem;
-use std::sync::atomic::{compiler_fence, AtomicBool, AtomicU64, Ordering};
+use std::sync::atomic::{compiler_fence, AtomicBool, AtomicU32, AtomicU64, Ordering};
 use std::sync::Arc;
 use std::thread;
 use std::time::{Duration, Instant};
-use vbr::{ample_budget, Keys, Lent, OpenError, OwnedLent, Pass, Set, Shape, Table, MAX_EPOCH};
+use vbr::{ample_budget, Keys, Lent, OpenError, OwnedLent, Pass, RenewError, Set, Shape, ShapeError, Table, MAX_EPOCH};
 
 const SOME: u64 = 64;
 const BUDGET: u32 = 100_000;
@@ -25,6 +26,10 @@ of_sets_and_maps! {
     a_wait_that_is_over
     loans_that_own_their_set
     tasks_that_wait
+    a_renewal_keeps_what_is_in
+    a_renewal_that_is_refused
+    none_is_lent_while_a_renewal_waits
+    renewals_while_others_wait
 }
 
 fn lending<K: Both>(handles: usize, keys: &[u64]) -> Table<K> {
@@ -244,6 +249,125 @@ fn tasks_that_wait<K: Both>() {
         .collect();
     tasks.into_iter().for_each(|task| task.join().expect("a task that ends"));
     assert_eq!((made.load(Ordering::Relaxed), keys_of(Arc::into_inner(set).expect("no loan is left")).len()), (60, 60));
+}
+
+fn a_renewal_keeps_what_is_in<K: Both>() {
+    let (set, large) = (lending::<K>(2, &[1, 2]), Shape::for_keys(4_000, 2));
+    assert_eq!(K::insert(&mut set.lend_wait(), 3, BUDGET), Ok(true));
+    assert_eq!(set.renew(large), Ok(()));
+    assert_eq!((set.slots(), set.buckets(), set.last_epoch(), set.handles()), (4_128, 4_096, MAX_EPOCH, 2));
+    {
+        let (one, mut other) = (set.lend().expect("two are free"), set.lend().expect("one is free"));
+        assert_eq!((one.slots(), one.epoch(), one.balance() + other.balance()), (4_128, 1, 3));
+        assert_eq!((one.has(3, BUDGET), K::remove(&mut other, 2, BUDGET)), (Ok(true), Ok(true)));
+    }
+    assert_eq!(set.renew_timeout(Shape::new(2, 1, 50), Duration::ZERO), Ok(()));
+    assert_eq!((set.slots(), set.buckets(), set.last_epoch()), (2, 1, 50));
+    assert_eq!(keys_of(set), [1, 3]);
+}
+
+/// The set is as it was then, and lends all handles that are there.
+fn a_renewal_that_is_refused<K: Both>() {
+    let set = lending::<K>(2, &[1, 2]);
+    let still = |lent: usize| {
+        let loans = [set.lend(), set.lend()];
+        assert_eq!((loans.iter().flatten().count(), set.slots()), (lent, 228));
+        assert!(loans.iter().flatten().all(|it| it.slots() == 228 && it.has(2, BUDGET) == Ok(true)));
+    };
+    assert_eq!(set.renew(Shape::new(0, 1, 1)), Err(RenewError::Shape(ShapeError::Slots(0))));
+    assert_eq!(set.renew(Shape::new(1, 1, 100)), Err(RenewError::Slots));
+    still(2);
+    let kept = set.lend();
+    assert_eq!(set.renew_timeout(Shape::new(8, 1, 100), Duration::from_millis(20)), Err(RenewError::Lent));
+    assert_eq!(set.renew_timeout(Shape::new(0, 1, 1), Duration::ZERO), Err(RenewError::Shape(ShapeError::Slots(0))));
+    still(1);
+    mem::forget(kept);
+    assert_eq!(set.renew_timeout(Shape::new(8, 1, 100), Duration::ZERO), Err(RenewError::Lent));
+    still(1);
+    assert_eq!(keys_of(set), [1, 2]);
+}
+
+/// None is lent, though one is free; once the loan is back the renewal is made, and who waited is lent a handle.
+fn none_is_lent_while_a_renewal_waits<K: Both>() {
+    let (set, wanted) = (lending::<K>(2, &[7]), Shape::new(300, 16, 1_000));
+    let mut kept = set.lend().expect("two are free");
+    thread::scope(|scope| {
+        let renews = scope.spawn(|| set.renew(wanted));
+        while set.lend().is_some() {
+            thread::yield_now(); // until it has begun
+        }
+        assert!(set.lend().is_none() && set.lend_timeout(Duration::from_millis(20)).is_none());
+        assert_eq!(set.renew_timeout(wanted, Duration::from_millis(5)), Err(RenewError::Lent)); // another one is waiting
+        let waits = scope.spawn(|| {
+            let mine = set.lend_wait();
+            (mine.slots(), mine.has(7, BUDGET), mine.has(8, BUDGET))
+        });
+        assert_eq!((set.slots(), kept.slots(), K::insert(&mut kept, 8, BUDGET)), (228, 228, Ok(true)));
+        scope.spawn(move || drop(kept));
+        assert_eq!(renews.join().expect("a thread that ends"), Ok(()));
+        assert_eq!(waits.join().expect("a thread that ends"), (300, Ok(true), Ok(true)));
+    });
+    assert_eq!(keys_of(set), [7, 8]);
+}
+
+/// Eight threads borrow three handles, in each way there is; loans are swapped, and dropped by other threads. Two threads renew the
+/// set all the while. At the end a loan is forgotten.
+fn renewals_while_others_wait<K: Both>() {
+    let set = Arc::new(lending::<K>(3, &[]));
+    let (lent, renewed, ends) = (&AtomicU32::new(0), &AtomicU32::new(0), &AtomicBool::new(false));
+    thread::scope(|scope| {
+        for renewal in 0..2 {
+            let set = &set;
+            scope.spawn(move || {
+                while !ends.load(Ordering::Relaxed) {
+                    let told = match renewal {
+                        0 => set.renew(Shape::for_keys(100 + lent.load(Ordering::Relaxed) % 7, 3)),
+                        _ => set.renew_timeout(Shape::for_keys(200, 3), Duration::from_millis(1)),
+                    };
+                    assert!(told.is_ok() || (renewal == 1 && told == Err(RenewError::Lent)));
+                    if renewed.fetch_add(u32::from(told.is_ok()), Ordering::Relaxed) % 4 == 0 {
+                        thread::sleep(Duration::from_micros(100));
+                    }
+                }
+            });
+        }
+        let borrowers: Vec<_> = (0..8)
+            .map(|key| {
+                let set = &set;
+                scope.spawn(move || {
+                    for round in 0..600 {
+                        drop(set.lend_owned());
+                        let mine = match round % 3 {
+                            0 => Some(set.lend_wait()),
+                            1 => set.lend_timeout(AT_LAST),
+                            _ => set.lend(),
+                        };
+                        let (Some(mut mine), mut other) = (mine, set.lend()) else { continue };
+                        lent.fetch_add(1, Ordering::Relaxed);
+                        if let Some(other) = &mut other {
+                            mem::swap(&mut mine, other);
+                        }
+                        assert_eq!(K::insert(&mut mine, key, BUDGET), Ok(true));
+                        assert_eq!(other.as_ref().map_or(Ok(true), |it| it.has(key, BUDGET)), Ok(true));
+                        assert_eq!(K::remove(&mut mine, key, BUDGET), Ok(true));
+                        if round % 100 == 0 {
+                            scope.spawn(move || drop((other, mine)));
+                        }
+                        if round % 10 == 0 {
+                            thread::yield_now();
+                        }
+                    }
+                })
+            })
+            .collect();
+        borrowers.into_iter().for_each(|it| it.join().expect("a thread that ends"));
+        ends.store(true, Ordering::Relaxed);
+    });
+    assert!(lent.load(Ordering::Relaxed) >= 8 * 400 && renewed.load(Ordering::Relaxed) > 0);
+    assert_eq!(set.renew(Shape::for_keys(8, 3)), Ok(()));
+    mem::forget(set.lend());
+    assert_eq!(set.renew_timeout(Shape::for_keys(8, 3), Duration::ZERO), Err(RenewError::Lent));
+    assert!(set.lend().is_some() && keys_of(Arc::into_inner(set).expect("no loan is left")).is_empty());
 }
 
 /// Loans go to other threads, and those with a share wherever a task goes; a pass is taken from either, and from a handle.

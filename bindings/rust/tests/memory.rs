@@ -1,12 +1,12 @@
 //! Memory of the crate's own: the last close alone asks for some, it is refused without loss, and what isn't needed is given
-//! back where there is memory for that. Where the library is refused memory for a close, all handles stay as they were.
+//! back where there is memory for that. Where the library is refused memory for a close or a renewal, all handles stay as they were.
 mod both;
 
 use both::Both;
 use std::alloc::{GlobalAlloc, Layout, System};
 use std::cell::Cell;
 use std::ffi::c_void;
-use vbr::{CloseError, OpenError, Shape, Table};
+use vbr::{CloseError, OpenError, RenewError, Shape, Table};
 
 /// Counts what this thread asks for, and refuses it while it is told to.
 struct Counting;
@@ -16,20 +16,40 @@ thread_local! {
     /// How many blocks the crate still gets, and whether the library is refused memory.
     static GRANTED: Cell<usize> = const { Cell::new(usize::MAX) };
     static LIBRARY_REFUSES: Cell<bool> = const { Cell::new(false) };
+    /// How many blocks the library still gets.
+    static LIBRARY_GRANTED: Cell<usize> = const { Cell::new(usize::MAX) };
 }
 
 extern "C" {
     fn __libc_malloc(size: usize) -> *mut c_void;
+    fn __libc_realloc(block: *mut c_void, size: usize) -> *mut c_void;
+}
+
+/// Whether the library is refused the block that it asks for.
+fn is_refused() -> bool {
+    let granted = LIBRARY_GRANTED.get();
+    LIBRARY_GRANTED.set(granted.saturating_sub(usize::from(granted < usize::MAX)));
+    LIBRARY_REFUSES.get() || granted == 0
 }
 
 /// The C library's, which the set's library calls.
 #[no_mangle]
 extern "C" fn malloc(size: usize) -> *mut c_void {
-    if LIBRARY_REFUSES.get() {
+    if is_refused() {
         return std::ptr::null_mut();
     }
     // SAFETY: as malloc.
     unsafe { __libc_malloc(size) }
+}
+
+/// The same.
+#[no_mangle]
+extern "C" fn realloc(block: *mut c_void, size: usize) -> *mut c_void {
+    if is_refused() {
+        return std::ptr::null_mut();
+    }
+    // SAFETY: as realloc.
+    unsafe { __libc_realloc(block, size) }
 }
 
 // SAFETY: it is the system's allocator, or no memory.
@@ -79,6 +99,7 @@ of_sets_and_maps! {
     a_report_that_there_is_no_memory_to_shorten
     a_close_that_the_library_refuses
     a_set_that_lends_its_handles_closes_all_or_none
+    a_set_that_lends_its_handles_is_renewed_or_not
 }
 
 /// How many bytes a key of a report takes, and an entry.
@@ -165,4 +186,26 @@ fn a_set_that_lends_its_handles_closes_all_or_none<K: Both>() {
     assert_eq!((report.keys, report.free), (vec![1, 2, 5, 6, 7], shape.slots - 5));
     let dropped = Table::<K>::lending(shape, 3).expect("a set");
     assert!(refused_in_the_library(|| dropped.close()).is_err());
+}
+
+/// Each block that a renewal asks for is refused in turn; the crate asks for none.
+fn a_set_that_lends_its_handles_is_renewed_or_not<K: Both>() {
+    let (shape, wanted) = (Shape::for_keys(1_000, 3), Shape::for_keys(2_000, 3));
+    let set = Table::<K>::lending_with(shape, 3, &K::items(&[1, 2])).expect("a set");
+    let shape_of = || Shape::new(set.slots(), set.buckets(), set.last_epoch());
+    for blocks in 0.. {
+        LIBRARY_GRANTED.set(blocks);
+        let told = refused(|| set.renew(wanted));
+        LIBRARY_GRANTED.set(usize::MAX);
+        let loans = [(); 3].map(|()| set.lend().expect("all are free"));
+        assert_eq!(shape_of(), if told.is_ok() { wanted } else { shape });
+        assert!(loans.iter().all(|it| it.slots() == set.slots() && it.has(2, 100_000) == Ok(true)));
+        if told.is_ok() {
+            assert!(blocks >= 4);
+            break;
+        }
+        assert_eq!(told, Err(RenewError::Memory));
+    }
+    let (report, _) = K::report(set.close().expect("memory"));
+    assert_eq!((report.keys, report.free), (vec![1, 2], wanted.slots - 2));
 }
