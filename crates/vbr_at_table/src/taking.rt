@@ -2,7 +2,7 @@
 ghost use Rattle.std.specs.Prelude.{◌≡◌, ◌≢◌, ◌≤◌, [], IfOk, IfErr, Some, None};
 ghost use Rattle.vbr_slots.specs.AtTables.{IsSameTable, pass_of, trace_of};
 ghost use Rattle.vbr_slots.specs.Calls.{Took};
-ghost use Rattle.vbr_slots.specs.Views.{IsOf, knows};
+ghost use Rattle.vbr_slots.specs.Views.{knows};
 ghost use Rattle.vbr_at_table.specs.Pieces.{told_steps};
 ghost use Rattle.vbr_at_table.specs.Pieces.{HasSlots, Probes, WinsNone};
 ghost use Rattle.vbr_at_table.specs.Pieces.{Chooses, ChoosesNone, IsChosen};
@@ -14,7 +14,7 @@ ghost use Rattle.vbr_at_table.specs.Taking.{IsTaken, Takes};
 use crate::budget::affords;
 use crate::hand::Hand;
 use crate::refusal::Refusal;
-use vbr_slots::{AtTable, Slots, Stepper};
+use vbr_slots::AtTable;
 use vbr_words::Nodes;
 use vbr_words::flags::{FLAGS, next_flag};
 
@@ -43,32 +43,14 @@ pub fn take<N: Nodes>(at: &mut AtTable<'_, N>, budget: u32) -> (Result<Hand, Ref
     ensures taken { IfOk result.0 (IsTaken (pass_of at.old) (pass_of at.new)) }
     ensures refused { IfErr result.0 (RefusesTake (pass_of at.old) (pass_of at.new) budget) }
 {
-    let slots = at.slots;
-    take_apart(slots, at.stepper, budget)
-}
-
-// As `take`, in a function of its own: what makes the steps is lent to it, so that a call which takes a
-// slot has all else of its own in registers.
-#[inline(never)]
-fn take_apart<N: Nodes>(
-    slots: &Slots<N>,
-    stepper: &mut Stepper,
-    budget: u32,
-) -> (Result<Hand, Refusal>, u32)
-    requires own { IsOf stepper.old.trace slots.now }
-    requires empty_hand { stepper.old.hand ≡ None }
-    ensures took { Took stepper.old.trace stepper.new.trace result.1 }
-    ensures takes { Takes stepper.old stepper.new budget }
-    ensures taken { IfOk result.0 (IsTaken stepper.old stepper.new) }
-    ensures refused { IfErr result.0 (RefusesTake stepper.old stepper.new budget) }
-{
-    match take_on(&mut AtTable { slots, stepper }, budget) {
+    match take_on(at, budget) {
         Ok((hand, used)) => (Ok(hand), used),
         Err((refusal, used)) => (Err(refusal), used),
     }
 }
 
 // Takes a slot piece by piece. Returns the hand, or why there is none, each with how many steps were made.
+#[inline(always)]
 fn take_on<N: Nodes>(at: &mut AtTable<'_, N>, budget: u32) -> Result<(Hand, u32), (Refusal, u32)>
     requires empty_hand { (pass_of at.old).hand ≡ None }
     ensures table { IsSameTable at.old at.new }
@@ -86,6 +68,7 @@ fn take_on<N: Nodes>(at: &mut AtTable<'_, N>, budget: u32) -> Result<(Hand, u32)
 // round the flag words, and begins with that of the slot that the pass tried last. It probes the first
 // slot of each, and then the lowest whose flag it found there, until the word has none. Returns how many
 // steps were used.
+#[inline(always)]
 fn win_slot<N: Nodes>(at: &mut AtTable<'_, N>, budget: u32) -> Result<u32, (Refusal, u32)>
     requires empty_hand { (pass_of at.old).hand ≡ None }
     ensures table { IsSameTable at.old at.new }
@@ -128,6 +111,7 @@ fn win_slot<N: Nodes>(at: &mut AtTable<'_, N>, budget: u32) -> Result<u32, (Refu
 // Reads the epoch and chooses the oldest slot of the own pool that is stamped below it. If there is none,
 // advances the epoch, where it is still that one and not the last, and chooses the oldest slot. Returns
 // the slot, and how many steps were used.
+#[inline(always)]
 fn choose<N: Nodes>(
     at: &mut AtTable<'_, N>,
     budget: u32,
@@ -163,6 +147,7 @@ fn choose<N: Nodes>(
 
 // The oldest slot of the own pool that is stamped below an epoch, if there is one, and how many steps
 // were used.
+#[inline(always)]
 fn scan<N: Nodes>(
     at: &mut AtTable<'_, N>,
     epoch: u64,
@@ -191,6 +176,7 @@ fn scan<N: Nodes>(
 
 // Gives birth to an incarnation in a slot of the own pool that is stamped below the epoch. Returns the
 // hand, and how many steps were used.
+#[inline(always)]
 fn bear<N: Nodes>(
     at: &mut AtTable<'_, N>,
     slot: u32,

@@ -38,6 +38,6 @@ pub use iterating::{next_entry_at, next_key_at, next_where_at};
 pub use looking_up::{get, has};
 pub use next::{next_entry, next_key};
 pub use removing::{remove, remove_entry, remove_if};
-pub use storing::store;
+pub use storing::{compare_exchange, get_or_insert, put, replace, store};
 pub use vbr_at_table::Refusal;
 pub use wanted::Wanted;

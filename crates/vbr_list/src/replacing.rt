@@ -27,7 +27,7 @@ fn steps_to_birth(word: u64) -> u32
 impl<N: Nodes> PendingCall<'_, N> {
     // Replaces the node that was found, whose value was read, by the slot in hand, which gets this
     // value, in six steps at most; the node is marked then. Else the hand comes back.
-    #[inline]
+    #[inline(always)]
     fn replace_found(&mut self, found: &Found, value: u64, hand: Hand) -> Result<Marked, Hand>
         requires read { KnowsValue self.old found.now }
         requires hand { HasHandAndRoom (pass_in self.old) hand }
@@ -55,7 +55,7 @@ impl<N: Nodes> PendingCall<'_, N> {
 
     // Unlinks and retires the node that was replaced, if the budget has room; where that is lost, walks
     // on until it is out of its list, by this pass or another.
-    #[inline]
+    #[inline(always)]
     fn unlink_replaced(&mut self, pred: &Held, marked: Marked)
         requires old { IsOldNode self.old pred.now marked }
         ensures goes { GoesOn self.old self.new }
@@ -78,7 +78,7 @@ impl<N: Nodes> PendingCall<'_, N> {
     /// Replaces the node that was found, whose value was read, by the slot in hand, which gets this
     /// value, and takes the old node out of its list, as far as the budget has room. Else the hand
     /// comes back.
-    #[inline]
+    #[inline(always)]
     pub(crate) fn replace_and_unlink(
         &mut self,
         found: &Found,

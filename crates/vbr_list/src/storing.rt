@@ -9,6 +9,7 @@ ghost use Rattle.vbr_list.specs.Settling.{AnswersPaid, AskLoses, Asks, AsksMet, 
 ghost use Rattle.vbr_list.specs.Storing.{CallsStore, HasUnstored};
 ghost use Rattle.vbr_list.specs.Telling.{KnowsThere};
 ghost use Rattle.vbr_list.specs.Traversing.{LocatesFor};
+ghost use Rattle.vbr_list.specs.declared.wanted.Wanted.TheVariants.{Absent, Anything, Present, Value};
 
 use crate::call::{PendingCall, begin};
 use crate::found::Found;
@@ -52,7 +53,7 @@ fn has_wanted(wanted: Wanted, present: bool) -> bool
 
 impl<N: Nodes> PendingCall<'_, N> {
     // Reads what was there where that is asked for, and answers a get with it where it isn't as wanted.
-    #[inline]
+    #[inline(always)]
     fn ask(&mut self, found: &Found, wanted: Wanted) -> Result<Met, Rollback>
         requires values { (trace_in self.old).start.shape.values ≡ true }
         requires locates { LocatesFor self.old found.now }
@@ -73,7 +74,7 @@ impl<N: Nodes> PendingCall<'_, N> {
 
     // Looks for the key until it is found as it is wanted, or a get was answered, as it is otherwise;
     // none where the budget has no room for one more piece. Where anything is wanted it makes no step.
-    #[inline]
+    #[inline(always)]
     fn meet(&mut self, wanted: Wanted) -> Option<Met>
         requires values { (trace_in self.old).start.shape.values ≡ true }
         ensures meets { Meeting self.old self.new }
@@ -101,7 +102,7 @@ impl<N: Nodes> PendingCall<'_, N> {
     }
 
     // Takes a slot once the key was found as it is wanted; else gives what was there.
-    #[inline]
+    #[inline(always)]
     fn prepare_store(&mut self, wanted: Wanted) -> Result<Prepared, Refusal>
         requires values { (trace_in self.old).start.shape.values ≡ true }
         requires empty_hand { (pass_in self.old).hand ≡ None }
@@ -129,7 +130,7 @@ impl<N: Nodes> PendingCall<'_, N> {
 impl<N: Nodes> PendingCall<'_, N> {
     // Links the slot in hand with this value where the key was found absent, in four steps. Else the
     // hand comes back.
-    #[inline]
+    #[inline(always)]
     fn link_found(&mut self, found: &Found, value: u64, hand: Hand) -> Result<(), Hand>
         requires knows { KnowsThere self.old found.now None }
         requires hand { HasHandAndRoom (pass_in self.old) hand }
@@ -157,7 +158,7 @@ impl<N: Nodes> PendingCall<'_, N> {
 
     // Puts the value where this was found: by an insert, or in the place of the value that was there.
     // Else the hand comes back.
-    #[inline]
+    #[inline(always)]
     fn change(
         &mut self,
         found: &Found,
@@ -182,7 +183,7 @@ impl<N: Nodes> PendingCall<'_, N> {
 
     // Stores the value if what was found is as it is wanted, else answers a get; gives what was there, and
     // the hand is empty. Else the hand comes back.
-    #[inline]
+    #[inline(always)]
     fn settle_store(
         &mut self,
         found: &Found,
@@ -218,7 +219,7 @@ impl<N: Nodes> PendingCall<'_, N> {
 
     // Stores the value by the slot in hand, if what is there is as it is wanted then, else answers a get;
     // gives what was there. The hand is spent.
-    #[inline]
+    #[inline(always)]
     fn store_with(
         &mut self,
         value: u64,
@@ -278,16 +279,101 @@ pub fn store(
     requires empty_hand { pass.old.hand ≡ None }
     ensures { CallsStore pass.old pass.new key value wanted budget result }
 {
+    match wanted {
+        Wanted::Absent => get_or_insert(slots, pass, key, value, budget),
+        Wanted::Present => replace(slots, pass, key, value, budget),
+        Wanted::Anything => put(slots, pass, key, value, budget),
+        Wanted::Value(expected) => compare_exchange(slots, pass, key, expected, value, budget),
+    }
+}
+
+/// As [`store`] where [`Wanted::Present`] is wanted, and compiled for that.
+#[inline]
+pub fn replace(
+    slots: &Slots<Entries>,
+    pass: &mut Pass,
+    key: u64,
+    value: u64,
+    budget: u32,
+) -> Result<Option<u64>, Refusal>
+    requires own { IsOf pass.old.trace slots.now }
+    requires empty_hand { pass.old.hand ≡ None }
+    ensures { CallsStore pass.old pass.new key value Present budget result }
+{
     pass.during(
         |stepper|
             requires own { IsOf stepper.old.trace slots.now }
             requires empty_hand { stepper.old.hand ≡ None }
-        { store_by(slots, stepper, key, value, wanted, budget) },
+        { store_by(slots, stepper, key, value, Wanted::Present, budget) },
+    )
+}
+
+/// As [`store`] where [`Wanted::Anything`] is wanted, and compiled for that.
+#[inline]
+pub fn put(
+    slots: &Slots<Entries>,
+    pass: &mut Pass,
+    key: u64,
+    value: u64,
+    budget: u32,
+) -> Result<Option<u64>, Refusal>
+    requires own { IsOf pass.old.trace slots.now }
+    requires empty_hand { pass.old.hand ≡ None }
+    ensures { CallsStore pass.old pass.new key value Anything budget result }
+{
+    pass.during(
+        |stepper|
+            requires own { IsOf stepper.old.trace slots.now }
+            requires empty_hand { stepper.old.hand ≡ None }
+        { store_by(slots, stepper, key, value, Wanted::Anything, budget) },
+    )
+}
+
+/// As [`store`] where [`Wanted::Absent`] is wanted, and compiled for that.
+#[inline]
+pub fn get_or_insert(
+    slots: &Slots<Entries>,
+    pass: &mut Pass,
+    key: u64,
+    value: u64,
+    budget: u32,
+) -> Result<Option<u64>, Refusal>
+    requires own { IsOf pass.old.trace slots.now }
+    requires empty_hand { pass.old.hand ≡ None }
+    ensures { CallsStore pass.old pass.new key value Absent budget result }
+{
+    pass.during(
+        |stepper|
+            requires own { IsOf stepper.old.trace slots.now }
+            requires empty_hand { stepper.old.hand ≡ None }
+        { store_by(slots, stepper, key, value, Wanted::Absent, budget) },
+    )
+}
+
+/// As [`store`] where [`Wanted::Value`] is wanted, and compiled for that.
+#[inline]
+pub fn compare_exchange(
+    slots: &Slots<Entries>,
+    pass: &mut Pass,
+    key: u64,
+    expected: u64,
+    value: u64,
+    budget: u32,
+) -> Result<Option<u64>, Refusal>
+    requires own { IsOf pass.old.trace slots.now }
+    requires empty_hand { pass.old.hand ≡ None }
+    ensures { CallsStore pass.old pass.new key value (Value expected) budget result }
+{
+    pass.during(
+        |stepper|
+            requires own { IsOf stepper.old.trace slots.now }
+            requires empty_hand { stepper.old.hand ≡ None }
+        { store_by(slots, stepper, key, value, Wanted::Value(expected), budget) },
     )
 }
 
 // As `store`, where no step is counted; and how many steps were made.
-#[inline]
+#[inline(always)]
 fn store_by(
     slots: &Slots<Entries>,
     stepper: &mut Stepper,

@@ -47,7 +47,7 @@ impl Stepper {
     }
 
     // Takes a slot out of its own pool, if it is there.
-    #[inline]
+    #[inline(always)]
     pub(crate) fn leave_pool(&mut self, slot: u32)
         ensures trace { self.new.trace ≡ self.old.trace }
         ensures pool { self.new.pool ≡ without slot self.old.pool }

@@ -103,9 +103,7 @@ impl Member<Entries> {
     pub fn replace(&mut self, key: u64, value: u64, budget: u32) -> Result<Option<u64>, Refusal>
         ensures { ReplacesEntry self.old self.new key value budget result }
     {
-        self.share
-            .set()
-            .store(&mut self.pass, key, value, Wanted::Present, budget)
+        self.share.set().replace(&mut self.pass, key, value, budget)
     }
 
     /// Gives a key a value, in at most `budget` steps, whether it is there or not, and gives the value that
@@ -122,10 +120,7 @@ impl Member<Entries> {
     pub fn put(&mut self, key: u64, value: u64, budget: u32) -> Result<Option<u64>, Refusal>
         ensures { PutsEntry self.old self.new key value budget result }
     {
-        let answer = self
-            .share
-            .set()
-            .store(&mut self.pass, key, value, Wanted::Anything, budget);
+        let answer = self.share.set().put(&mut self.pass, key, value, budget);
         self.balance = self
             .balance
             .wrapping_add(one_if_wanted(&answer, Wanted::Absent));
@@ -152,7 +147,9 @@ impl Member<Entries> {
     ) -> Result<Option<u64>, Refusal>
         ensures { ExchangesEntry self.old self.new key expected value budget result }
     {
-        self.share.set().store(&mut self.pass, key, value, Wanted::Value(expected), budget)
+        self.share
+            .set()
+            .compare_exchange(&mut self.pass, key, expected, value, budget)
     }
 
     /// Gives a key a value where it is absent, in at most `budget` steps, and gives what was there: none
@@ -177,7 +174,7 @@ impl Member<Entries> {
         let answer = self
             .share
             .set()
-            .store(&mut self.pass, key, value, Wanted::Absent, budget);
+            .get_or_insert(&mut self.pass, key, value, budget);
         self.balance = self
             .balance
             .wrapping_add(one_if_wanted(&answer, Wanted::Absent));

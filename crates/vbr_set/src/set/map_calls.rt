@@ -1,11 +1,14 @@
 //! The calls of a map: inserts, removes, gets and stores.
 ghost use Rattle.std.specs.Prelude.{◌≡◌, None};
 ghost use Rattle.vbr_slots.specs.Views.{IsOf};
-ghost use Rattle.vbr_set.specs.MapCalls.{GetsEntry, InsertsEntry, RemovesEntry, RemovesIf, StoresEntry};
+ghost use Rattle.vbr_set.specs.MapCalls.{ExchangesEntry, GetsEntry, GetsOrInsertsEntry, InsertsEntry, PutsEntry, RemovesEntry, RemovesIf, ReplacesEntry, StoresEntry};
 ghost use Rattle.vbr_set.specs.Members.{as_member};
 
 use crate::set::VbrSet;
-use vbr_list::{Refusal, Wanted, get, insert_entry, remove_entry, remove_if, store};
+use vbr_list::{
+    Refusal, Wanted, compare_exchange, get, get_or_insert, insert_entry, put, remove_entry,
+    remove_if, replace, store,
+};
 use vbr_machine::laws::a_run_is_a_map;
 use vbr_slots::Pass;
 use vbr_words::Entries;
@@ -157,6 +160,99 @@ impl VbrSet<Entries> {
         a_run_is_a_map();
         pass.law();
         let answer = store(&self.slots, pass, key, value, wanted, budget);
+        pass.law();
+        answer
+    }
+
+    /// As [`VbrMap::store`] where [`Wanted::Present`] is wanted, which has the source, and compiled for that.
+    ///
+    /// [`VbrMap::store`]: crate::VbrMap::store
+    #[inline]
+    pub fn replace(
+        &self,
+        pass: &mut Pass,
+        key: u64,
+        value: u64,
+        budget: u32,
+    ) -> Result<Option<u64>, Refusal>
+        requires own { IsOf pass.old.trace self.now }
+        requires empty_hand { pass.old.hand ≡ None }
+        ensures { ReplacesEntry (as_member self.now pass.old) (as_member self.now pass.new)
+            key value budget result }
+    {
+        a_run_is_a_map();
+        pass.law();
+        let answer = replace(&self.slots, pass, key, value, budget);
+        pass.law();
+        answer
+    }
+
+    /// As [`VbrMap::store`] where [`Wanted::Anything`] is wanted, which has the source, and compiled for that.
+    ///
+    /// [`VbrMap::store`]: crate::VbrMap::store
+    #[inline]
+    pub fn put(
+        &self,
+        pass: &mut Pass,
+        key: u64,
+        value: u64,
+        budget: u32,
+    ) -> Result<Option<u64>, Refusal>
+        requires own { IsOf pass.old.trace self.now }
+        requires empty_hand { pass.old.hand ≡ None }
+        ensures { PutsEntry (as_member self.now pass.old) (as_member self.now pass.new)
+            key value budget result }
+    {
+        a_run_is_a_map();
+        pass.law();
+        let answer = put(&self.slots, pass, key, value, budget);
+        pass.law();
+        answer
+    }
+
+    /// As [`VbrMap::store`] where [`Wanted::Absent`] is wanted, which has the source, and compiled for that.
+    ///
+    /// [`VbrMap::store`]: crate::VbrMap::store
+    #[inline]
+    pub fn get_or_insert(
+        &self,
+        pass: &mut Pass,
+        key: u64,
+        value: u64,
+        budget: u32,
+    ) -> Result<Option<u64>, Refusal>
+        requires own { IsOf pass.old.trace self.now }
+        requires empty_hand { pass.old.hand ≡ None }
+        ensures { GetsOrInsertsEntry (as_member self.now pass.old) (as_member self.now pass.new)
+            key value budget result }
+    {
+        a_run_is_a_map();
+        pass.law();
+        let answer = get_or_insert(&self.slots, pass, key, value, budget);
+        pass.law();
+        answer
+    }
+
+    /// As [`VbrMap::store`] where [`Wanted::Value`] is wanted, which has the source, and compiled for that.
+    ///
+    /// [`VbrMap::store`]: crate::VbrMap::store
+    #[inline]
+    pub fn compare_exchange(
+        &self,
+        pass: &mut Pass,
+        key: u64,
+        expected: u64,
+        value: u64,
+        budget: u32,
+    ) -> Result<Option<u64>, Refusal>
+        requires own { IsOf pass.old.trace self.now }
+        requires empty_hand { pass.old.hand ≡ None }
+        ensures { ExchangesEntry (as_member self.now pass.old) (as_member self.now pass.new)
+            key expected value budget result }
+    {
+        a_run_is_a_map();
+        pass.law();
+        let answer = compare_exchange(&self.slots, pass, key, expected, value, budget);
         pass.law();
         answer
     }

@@ -17,7 +17,7 @@ impl<N: Nodes> AtTable<'_, N> {
     /// Gives birth to a new incarnation in a slot of the pass, in one step. The slot was stamped
     /// before the last epoch that the pass read, which is the birth; it leaves the own pool and is
     /// in hand.
-    #[inline]
+    #[inline(always)]
     pub fn store_birth(&mut self, slot: u32)
         requires slot { slot < self.old.slots.now.start.shape.slots }
         requires may_bear { MayBear (holding_of (pass_of self.old) slot) }
