@@ -194,7 +194,7 @@ fn renew_late(
 ) -> Result<(VbrMap, Vec<Pass>), Fail>
     requires own { IsOf first.trace map × IsOf second.trace map }
     requires two { map.passes ≡ 2 }
-    ensures { IfOk result (λ r. r.1.items ≡ new_passes r.0 0 2) }
+    ensures fresh { IfOk result (λ r. r.1.items ≡ new_passes r.0 0 2) }
     ensures two { IfOk result (λ r. r.0.passes ≡ 2) }
 {
     let passes = Vec::from_array(alloc, [first])?;
