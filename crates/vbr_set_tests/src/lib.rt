@@ -10,6 +10,8 @@ mod iterating;
 #[cfg(test)]
 mod listing_threads;
 #[cfg(test)]
+mod many;
+#[cfg(test)]
 mod maps;
 #[cfg(test)]
 mod members;
