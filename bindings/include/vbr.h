@@ -54,7 +54,8 @@
    a remove with the old value and an insert with the new one, next to each other: no call finds the key absent in between, and
    a walk gives it with the one value or the other. A call that changed nothing is a look-up.
 
-   Who owns what. A set is opened with 1 to 64 handles, or by vbr_open_many with up to 65,536, and each handle owns one pass of the set, the
+   Who owns what. A set is opened with 1 to 64 handles, or by vbr_open_many with up to 65,536, and each handle owns one
+   pass of the set, the
    right to make calls, and a share of the set. A handle is all zero while it is empty: write {0}, or {} in
    C++, before it is opened. A full one belongs to the library: it may be moved (copied, and the old place set to
    zero, or never used again), and is never copied, compared, read or written otherwise. A full handle

@@ -15,7 +15,7 @@
    It takes no lock and no memory, never waits, and stands above the calls of vbr.h, which are proved; this header is tested.
    A thread is lent the handle that it had last, by any lender, where that is free: a loan and its return are then one atomic
    exchange on a word that other threads don't write, and threads that are no more than handles come to have one each. At most
-   64 handles are lent at a time; there are no more in a set. No pointer that a call is given is null.
+   64 handles are lent at a time; of a set that was opened with more, the first 64. No pointer that a call is given is null.
 
    What is done with a handle before it is given back comes before what the next borrower does (a release and an acquire).
    The handles and the lender stay where they are while there are loans. A lender takes 8 KiB, for words that are apart. The

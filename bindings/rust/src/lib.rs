@@ -92,7 +92,7 @@
 //! ([`core::mem::forget`]) is never closed, and neither is its set. After a fork the child uses no handle, unless the process
 //! had one thread.
 //!
-//! Threads that come and go, or are more than 64, borrow handles of a [`Set`] that lends them: [`Set::lend`] gives a free handle
+//! Threads that come and go, or are more than the handles, borrow those of a [`Set`] that lends them: [`Set::lend`] gives a free handle
 //! or none, [`Set::lend_wait`] and [`Set::lend_timeout`] wait for one, and [`Set::lend_owned`] and its kin give a loan with a
 //! share of the set, for tasks. A loan makes all calls of its handle, by the [`Pass`], and goes back when it is dropped.
 //!

@@ -14,6 +14,8 @@ mod iterating;
 #[cfg(test)]
 mod listing_threads;
 #[cfg(test)]
+mod many;
+#[cfg(test)]
 mod map_rows;
 #[cfg(test)]
 mod maps;

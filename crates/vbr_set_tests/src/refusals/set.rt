@@ -34,10 +34,10 @@ pub fn close(set: VbrSet, alloc: Global, passes: Vec<Pass>) -> Option<(Report, b
 }
 
 // What is in a set that stays open, and whether memory was refused.
-fn tell(set: &VbrSet, alloc: Global, passes: &mut [Pass]) -> Option<(Report, bool)>
-    requires of_set { AllOf set.now passes.old }
-    requires all { set.now.passes ≤ length passes.old }
-    ensures { passes.new ≡ passes.old }
+fn tell(set: &VbrSet, alloc: Global, passes: &mut Vec<Pass>) -> Option<(Report, bool)>
+    requires of_set { AllOf set.now passes.old.items }
+    requires all { set.now.passes ≤ length passes.old.items }
+    ensures { passes.new.items ≡ passes.old.items }
 {
     match set.report(alloc, passes) {
         Ok(report) => Some((report, false)),
