@@ -1,5 +1,5 @@
 -- What an opening of handles answers, and what it leaves in them.
-use Rattle.std.specs.Prelude.{◌≡◌, ℕ, ◌<◌, ◌≤◌, ◌⊎◌, All, Bool, true, false, List, [], length, map, Option, None, Some, Result, Ok, Err}
+use Rattle.std.specs.Prelude.{◌≡◌, ℕ, ◌<◌, ◌≤◌, ◌⊎◌, All, Bool, false, List, [], length, map, Option, None, Some, Result, Ok, Err}
 use Rattle.std.specs.List.Sorted.{IsStrictlyIncreasing}
 use Rattle.vbr_words.specs.Buckets.{multiplier_of}
 use Rattle.vbr_words.specs.Dimensions.{Dimensions, IsShape}

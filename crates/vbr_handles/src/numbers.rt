@@ -1,6 +1,6 @@
 //! The calls of handles with their answers as numbers, as they go to C: 1 is yes, 0 is no or done, 2 is that
 //! another value than the expected one was there, and each refusal has a number below 0.
-ghost use Rattle.std.specs.Prelude.{◌≡◌, ◌≤◌, [], length, IfOk};
+ghost use Rattle.std.specs.Prelude.{◌≡◌, ◌≤◌, length, IfOk};
 ghost use Rattle.vbr_machine.specs.declared.history.Op.TheVariants.{Insert, Remove, Has};
 ghost use Rattle.vbr_slots.specs.declared.opening.TheConstants.{MAX_MANY_PASSES, MAX_PASSES};
 ghost use Rattle.vbr_set.specs.AllMembers.{AreOfOneSet};

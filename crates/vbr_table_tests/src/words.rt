@@ -171,35 +171,50 @@ fn spreads_keys(rt: HostRuntime) -> Result<(), Fail> {
     Ok(())
 }
 
-/// By hand again: a seed has keys multiplied by 11400714819323198485 · (2 · seed + 1) mod 2^64. The seed
-/// that a shape tells is below 2^63.
+/// By hand again: a seed has keys multiplied by 11400714819323198485 · (2 · seed + 1) mod 2^64.
 #[test]
 fn spreads_keys_by_seeds(rt: HostRuntime) -> Result<(), Fail> {
     let shape = Shape::new(1, 1, 1)?;
     let rows = [
-        (0, 0, [9, 3, 7, 6]),
-        (1, 1, [13, 11, 6, 2]),
-        (7, 7, [4, 8, 0, 11]),
-        (
-            9_223_372_036_854_775_807,
-            9_223_372_036_854_775_807,
-            [6, 12, 8, 9],
-        ),
-        (9_223_372_036_854_775_808, 0, [9, 3, 7, 6]),
-        (9_223_372_036_854_775_809, 1, [13, 11, 6, 2]),
-        (u64::MAX, 9_223_372_036_854_775_807, [6, 12, 8, 9]),
+        (0, 1, 9),
+        (0, 4096, 7),
+        (1, 1, 13),
+        (1, 2, 11),
+        (1, 4096, 6),
+        (1, u64::MAX, 2),
+        (7, 1, 4),
+        (7, 2, 8),
+        (7, 4096, 0),
+        (7, u64::MAX, 11),
+        (u64::MAX, 1, 6),
+        (u64::MAX, 4096, 8),
     ];
-    for (seed, told, buckets) in rows {
+    for (seed, key, bucket) in rows {
+        let sixteen = shape.spread_with(16, seed)?;
+        assert_eq!(rt; sixteen.bucket_of(key), bucket, "{seed}");
+    }
+    Ok(())
+}
+
+/// Seeds whose difference is 2^63 are alike, and the lesser is told.
+#[test]
+fn tells_seeds(rt: HostRuntime) -> Result<(), Fail> {
+    let shape = Shape::new(1, 1, 1)?;
+    let rows = [
+        (0, 0),
+        (7, 7),
+        (9_223_372_036_854_775_807, 9_223_372_036_854_775_807),
+        (9_223_372_036_854_775_808, 0),
+        (9_223_372_036_854_775_815, 7),
+        (u64::MAX, 9_223_372_036_854_775_807),
+    ];
+    for (seed, told) in rows {
         let sixteen = shape.spread_with(16, seed)?;
         assert_eq!(rt; sixteen.seed(), Some(told), "{seed}");
-        assert_eq!(rt;
-            [1, 2, 4096, u64::MAX].map(|key| sixteen.bucket_of(key)),
-            buckets,
-            "{seed}"
-        );
     }
+    let three = shape.spread_over(3)?;
+    assert_eq!(rt; three.seed(), Some(0));
     assert_eq!(rt; shape.seed(), None);
-    assert_eq!(rt; shape.spread_over(3)?.seed(), Some(0));
     Ok(())
 }
 
