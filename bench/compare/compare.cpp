@@ -161,6 +161,8 @@ void add_walks(std::vector<Cell> &cells, const Options &options) {
 
 std::vector<Peer> &peers_of(const Options &options) { return options.maps ? map_peers() : peers(); }
 
+const std::vector<Peer> &batches_of(const Options &options) { return options.maps ? map_batches() : batches(); }
+
 std::vector<Cell> cells(const Options &options) {
     // look-ups, inserts, removes, and of maps alone replacements
     std::vector<std::array<unsigned, 4>> mixes{{100, 0, 0, 0}, {90, 5, 5, 0}, {50, 25, 25, 0}, {0, 50, 50, 0}};
@@ -168,9 +170,12 @@ std::vector<Cell> cells(const Options &options) {
     std::vector<Cell> cells;
     for (uint64_t range : options.ranges)
         for (auto [has, insert, remove, replace] : mixes)
-            for (unsigned threads : {1u, 2u, 4u})
-                for (const Peer &peer : peers_of(options))
-                    cells.push_back({&peer, {range, has, insert, remove, threads, options.operations * threads, 0, replace}, {}});
+            for (unsigned threads : {1u, 2u, 4u}) {
+                Workload workload{range, has, insert, remove, threads, options.operations * threads, 0, replace};
+                for (const Peer &peer : peers_of(options)) cells.push_back({&peer, workload, {}});
+                for (const Peer &peer : batches_of(options))
+                    if (has == 100) cells.push_back({&peer, workload, {}});
+            }
     if (options.maps) add_singles(cells, options);
     add_walks(cells, options);
     if (options.operations == 0) std::fputs("compare: finding how many calls a run shall have\n", stderr);
@@ -326,6 +331,7 @@ int main(int count, char **words) {
     std::vector<Peer> &all = peers_of(options);
     std::sort(all.begin(), all.end(), [](const Peer &a, const Peer &b) { return a.name < b.name; });
     for (const Peer &peer : all) check(peer);
+    for (const Peer &peer : batches_of(options)) check(peer, {1000, 100, 0, 0, 4, 800000, 1});
     if (options.maps) check_singles();
     check_walks(options);
     if (options.only_checks) return 0;

@@ -45,6 +45,18 @@ struct Kitherma {
     }
 };
 
+// The same by look-ups of many keys.
+struct KithermaAll : Kitherma {
+    using Kitherma::Kitherma;
+    uint64_t has_all(Handle &h, const uint64_t *keys, size_t count) {
+        vbr_answer answers[AT_ONCE];
+        vbr_has_all(h.of, keys, count, answers, BUDGET);
+        uint64_t yes = 0;
+        for (size_t i = 0; i < count; i++) yes += answer(answers[i]);
+        return yes;
+    }
+};
+
 struct KithermaMap {
     std::vector<vbr_map_handle> handles;
 
@@ -74,7 +86,20 @@ struct KithermaMap {
     }
 };
 
+struct KithermaMapAll : KithermaMap {
+    using KithermaMap::KithermaMap;
+    template <class F> void get_all(Handle &h, const uint64_t *keys, size_t count, F each) {
+        vbr_found found[AT_ONCE];
+        vbr_map_get_all(h.of, keys, count, found, BUDGET);
+        for (size_t i = 0; i < count; i++)
+            if (answer(found[i].answer)) each(i, found[i].value);
+    }
+};
+
 PEER("kitherma", Kitherma);
+const bool batches_of_set = (batches().push_back({"kitherma batches", measure<KithermaAll>, wrong_keys<KithermaAll>}), true);
+const bool batches_of_map =
+    (map_batches().push_back({"kitherma batches", measure<GetsAll<KithermaMapAll>>, wrong_keys<GetsAll<KithermaMapAll>>}), true);
 MAP_PEER("kitherma", KithermaMap, "replace");
 const bool singles_of_map = add_singles_of_map<KithermaMap>("kitherma");
 const bool singles_of_set = add_singles_of_set<Kitherma>("kitherma set");

@@ -63,6 +63,18 @@ template <class M> struct Looks : Gets<M> {
     bool has(Handle &h, uint64_t key) { return this->map.has(h.of_map, key); }
 };
 
+// The same, of a map that gets the values of many keys at once: it has
+//     template <class F> void get_all(Handle &, const uint64_t *keys, size_t count, F each);    calls `each` with a number and a value
+template <class M> struct GetsAll : Gets<M> {
+    using Gets<M>::Gets;
+    using Handle = typename Gets<M>::Handle;
+    uint64_t has_all(Handle &h, const uint64_t *keys, size_t count) {
+        uint64_t yes = 0;
+        this->map.get_all(h.of_map, keys, count, [&](size_t i, uint64_t value) { yes += h.notes(true, value, keys[i]); });
+        return yes;
+    }
+};
+
 inline std::vector<Peer> &map_peers() {
     static std::vector<Peer> list;
     return list;

@@ -95,11 +95,32 @@ template <class P> constexpr bool REPLACES<P, std::void_t<Replaced<P>>> = true;
 // The key of this number or of the one before, which is put in before a mix.
 inline uint64_t key_there(uint64_t number) { return key_of(number & ~uint64_t{1}); }
 
+// How many keys are looked up at once, of what can do so: it has
+//     uint64_t has_all(Handle &, const uint64_t *keys, size_t count);    how many of them are there
+// and is named by add_batches beside the peer that makes single calls.
+constexpr size_t AT_ONCE = 64;
+template <class P> using LookedUp = decltype(std::declval<P &>().has_all(std::declval<typename P::Handle &>(), nullptr, 0));
+template <class P, class = void> constexpr bool LOOKS_UP_ALL = false;
+template <class P> constexpr bool LOOKS_UP_ALL<P, std::void_t<LookedUp<P>>> = true;
+
+// As many look-ups, some at once; how many keys were there.
+template <class P> uint64_t looked_up(P &peer, typename P::Handle &handle, const Workload &w, Random &random, uint64_t calls) {
+    uint64_t keys[AT_ONCE], yes = 0;
+    for (uint64_t done = 0; done < calls; done += AT_ONCE) {
+        size_t count = static_cast<size_t>(std::min<uint64_t>(AT_ONCE, calls - done));
+        for (size_t i = 0; i < count; i++) keys[i] = key_of((random.next() >> 32) * w.range >> 32);
+        yes += peer.has_all(handle, keys, count);
+    }
+    return yes;
+}
+
 // The calls of one thread; how many were answered yes. Of a key that was put in before the value is replaced.
 template <class P>
 uint64_t mixed_calls(P &peer, typename P::Handle &handle, const Workload &w, unsigned thread, std::vector<int> &by_key) {
     Random random(w.run * 64 + thread);
     uint64_t calls = w.begin_of(thread + 1) - w.begin_of(thread), yes = 0;
+    if constexpr (LOOKS_UP_ALL<P>)
+        if (w.has == 100) return looked_up(peer, handle, w, random, calls);
     for (uint64_t i = 0; i < calls; i++) {
         uint64_t x = random.next(), number = (x >> 32) * w.range >> 32, place = (x & 0xffffff) * 100 >> 24;
         uint64_t key = key_of(number);
@@ -208,6 +229,17 @@ struct Peer {
 };
 
 inline std::vector<Peer> &peers() {
+    static std::vector<Peer> list;
+    return list;
+}
+
+// Those that look many keys up at once stand beside the others where all calls are look-ups.
+inline std::vector<Peer> &batches() {
+    static std::vector<Peer> list;
+    return list;
+}
+
+inline std::vector<Peer> &map_batches() {
     static std::vector<Peer> list;
     return list;
 }
