@@ -319,6 +319,7 @@ VBR_NODISCARD static inline vbr_answer value_report_all(vbr_map_handle *handles,
 #undef vbr_report_all
 #undef vbr_renew_all
 #undef vbr_balance
+#undef vbr_spare
 #undef vbr_drop
 #undef vbr_epoch
 #undef vbr_last_epoch
@@ -338,6 +339,7 @@ VBR_NODISCARD static inline vbr_answer value_report_all(vbr_map_handle *handles,
 #define vbr_report_all value_report_all
 #define vbr_renew_all(handles, count, slots, buckets, last_epoch) vbr_map_renew_all(handles, count, slots, buckets, last_epoch)
 #define vbr_balance(handle) vbr_map_balance(handle)
+#define vbr_spare(handle) vbr_map_spare(handle)
 #define vbr_drop(handle) vbr_map_drop(handle)
 #define vbr_epoch(handle) vbr_map_epoch(handle)
 #define vbr_last_epoch(handle) vbr_map_last_epoch(handle)

@@ -38,6 +38,7 @@ extern "C" {
     fn vbr_slots(handle: *mut Raw) -> u32;
     fn vbr_buckets(handle: *mut Raw) -> u32;
     fn vbr_balance(handle: *mut Raw) -> i64;
+    fn vbr_spare(handle: *mut Raw) -> u32;
     fn vbr_close_all(handles: *mut Raw, count: usize, keys: *mut u64, room: usize, told: *mut ReportNumbers) -> i32;
     fn vbr_report_all(handles: *mut Raw, count: usize, keys: *mut u64, room: usize, told: *mut ReportNumbers) -> i32;
     fn vbr_renew_all(handles: *mut Raw, count: usize, slots: u32, buckets: u32, last_epoch: u64) -> i32;
@@ -75,6 +76,7 @@ extern "C" {
     fn vbr_map_slots(handle: *mut Raw) -> u32;
     fn vbr_map_buckets(handle: *mut Raw) -> u32;
     fn vbr_map_balance(handle: *mut Raw) -> i64;
+    fn vbr_map_spare(handle: *mut Raw) -> u32;
     fn vbr_map_close_all(handles: *mut Raw, count: usize, entries: *mut Entry, room: usize, told: *mut ReportNumbers) -> i32;
     fn vbr_map_report_all(handles: *mut Raw, count: usize, entries: *mut Entry, room: usize, told: *mut ReportNumbers) -> i32;
     fn vbr_map_renew_all(handles: *mut Raw, count: usize, slots: u32, buckets: u32, last_epoch: u64) -> i32;
@@ -98,6 +100,7 @@ pub(crate) trait Calls<Item, Given, Told> {
     const SLOTS: unsafe extern "C" fn(*mut Raw) -> u32;
     const BUCKETS: unsafe extern "C" fn(*mut Raw) -> u32;
     const BALANCE: unsafe extern "C" fn(*mut Raw) -> i64;
+    const SPARE: unsafe extern "C" fn(*mut Raw) -> u32;
 
     /// The next call of a walk.
     ///
@@ -125,6 +128,7 @@ impl Calls<u64, u64, Report> for Keys {
     const SLOTS: unsafe extern "C" fn(*mut Raw) -> u32 = vbr_slots;
     const BUCKETS: unsafe extern "C" fn(*mut Raw) -> u32 = vbr_buckets;
     const BALANCE: unsafe extern "C" fn(*mut Raw) -> i64 = vbr_balance;
+    const SPARE: unsafe extern "C" fn(*mut Raw) -> u32 = vbr_spare;
 
     #[inline]
     unsafe fn next(handle: *mut Raw, cursor: &mut Cursor, budget: u32, key: &mut u64) -> i32 {
@@ -151,6 +155,7 @@ impl Calls<Entry, (u64, u64), MapReport> for Entries {
     const SLOTS: unsafe extern "C" fn(*mut Raw) -> u32 = vbr_map_slots;
     const BUCKETS: unsafe extern "C" fn(*mut Raw) -> u32 = vbr_map_buckets;
     const BALANCE: unsafe extern "C" fn(*mut Raw) -> i64 = vbr_map_balance;
+    const SPARE: unsafe extern "C" fn(*mut Raw) -> u32 = vbr_map_spare;
 
     #[inline]
     unsafe fn next(handle: *mut Raw, cursor: &mut Cursor, budget: u32, (key, value): &mut (u64, u64)) -> i32 {

@@ -17,3 +17,4 @@ pub mod Iterating
 pub mod Shown
 pub mod Reports
 pub mod Renewals
+pub mod GivingBack

@@ -13,6 +13,7 @@ ghost use Rattle.vbr_handles.specs.Renewals.{TellsRenewalBy};
 ghost use Rattle.vbr_handles.specs.Reports.{TellsCloseAllBy, TellsCloseBy, TellsReportBy, WritesAll};
 
 pub mod entries;
+pub mod giving_back;
 pub mod iterating;
 
 use crate::closing::CloseRefusal;

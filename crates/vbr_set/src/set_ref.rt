@@ -1,5 +1,6 @@
 //! A pass with a reference to its set.
 pub mod calls;
+pub mod giving_slots_back;
 pub mod iterating;
 pub mod map_calls;
 

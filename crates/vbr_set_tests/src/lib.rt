@@ -6,6 +6,8 @@ mod balances;
 #[cfg(test)]
 mod emptying;
 #[cfg(test)]
+mod given_back;
+#[cfg(test)]
 mod iterating;
 #[cfg(test)]
 mod listing_threads;
