@@ -38,6 +38,9 @@ static int all_at_once(void) {
     uint32_t budget = VBR_AMPLE_BUDGET(vbr_slots(&handle[0]));
     int is_crowded = 3 > 2 * vbr_buckets(&handle[0]); // three keys, and more than two for each bucket
     CHECK(!is_near && left == VBR_MAX_EPOCH - 1 && budget == 100018 && !is_crowded);
+    CHECK(vbr_insert(&handle[0], 7, budget) == VBR_YES && vbr_remove(&handle[0], 7, budget) == VBR_YES);
+    uint32_t given = vbr_spare(&handle[0]); // handle[1] can have them now
+    CHECK(given == 1);
     vbr_answer closed = vbr_close_all(handle, 2, keys, 8, &report); // VBR_YES: report.live is 3, keys are 2, 5, 9
     CHECK(closed == VBR_YES && report.live == 3 && keys[0] == 2 && keys[1] == 5 && keys[2] == 9);
     return 0;

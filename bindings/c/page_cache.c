@@ -162,7 +162,7 @@ static vbr_answer load(struct worker *w, uint64_t page, struct frame **pinned) {
         if (there == VBR_OUT_OF_STEPS) {
             steps = twice(w, steps);
         } else if (there == VBR_NO_SLOT) {
-            keep(w, evict(w)); /* a page that leaves the map leaves its slot to this handle */
+            keep(w, evict(w)); /* a page that leaves the map leaves its slot, mostly to this handle */
             w->full++;
         } else if (there == VBR_NO) {
             read_from_disk(f);

@@ -154,7 +154,10 @@
    difference is 2^63 are alike.
 
    Slots. Each slot is in one place: in the pool that all handles share, with one handle, under a key, or in a
-   removed node that is still in its list. A handle keeps slots to itself, at most 64 between two calls. A remove
+   removed node that is still in its list. A handle keeps slots to itself, at most 64 between two calls: the slot of a
+   removed node goes to the handle whose call takes the node out of its list. Mostly that is the one that removed the key,
+   but it may be any other that inserts or removes in the bucket meanwhile, also one whose remove is answered VBR_NO. A
+   handle that is closed or dropped gives its slots back, and vbr_spare does so of one that stays open. A remove
    that is answered VBR_YES has taken its node out of its list, unless its budget ended first; that of
    VBR_AMPLE_BUDGET doesn't end in short buckets. What a small one leaves in a list comes back with the next insert
    or remove that passes it, in the same bucket, or with a renewal. A call that gives a key another value takes a slot for it
@@ -163,8 +166,8 @@
    its own and found none in the shared pool; other handles may keep free ones. Where no other handle makes a step
    during an insert, and each stands between two calls, it comes only if the keys, the removed nodes that are still
    in lists, and 64 for each other handle are no fewer than the slots. Of an insert that calls of others overlap that
-   isn't proved. At VBR_NO_SLOT remove keys, let a handle that has free slots make the insert, or make it again; a
-   greater budget alone doesn't help. */
+   isn't proved. At VBR_NO_SLOT have the other handles give their slots back (vbr_spare, each in its own thread), remove
+   keys, or make the insert again; a greater budget alone doesn't help. */
 #ifndef VBR_H
 #define VBR_H
 
@@ -341,8 +344,8 @@ VBR_NODISCARD vbr_answer vbr_open_many_seeded(vbr_handle *handles, size_t count,
                                               uint64_t seed, const uint64_t *keys, size_t key_count) VBR_NOEXCEPT VBR_NONNULL;
 
 /* Adds a key, in at most `budget` steps: VBR_YES if it was absent, VBR_NO if it was there. Else VBR_OUT_OF_STEPS,
-   VBR_NO_SLOT, VBR_EPOCH_SPENT or VBR_EMPTY. At VBR_NO_SLOT remove keys, let a handle that has free slots make the
-   insert, or make it again. It takes no memory and never waits.
+   VBR_NO_SLOT, VBR_EPOCH_SPENT or VBR_EMPTY. At VBR_NO_SLOT have other handles give their slots back (vbr_spare), remove
+   keys, or make it again. It takes no memory and never waits.
 
        if (vbr_insert(&handle[0], 5, 100000) == VBR_YES) added++; // this call added 5 */
 VBR_NODISCARD vbr_answer vbr_insert(vbr_handle *handle, uint64_t key, uint32_t budget) VBR_NOEXCEPT VBR_NONNULL;
@@ -430,13 +433,21 @@ VBR_NODISCARD uint64_t vbr_seed(vbr_handle *handle) VBR_NOEXCEPT VBR_NONNULL;
        int64_t keys = vbr_balance(&handle[0]) + vbr_balance(&handle[1]); // no call is under way */
 VBR_NODISCARD int64_t vbr_balance(vbr_handle *handle) VBR_NOEXCEPT VBR_NONNULL;
 
+/* Puts the slots that the handle keeps to itself into the pool that all handles share, where any of them finds them, in one
+   step for each: how many they were, and 0 for an empty handle. Call it of a handle that inserts nothing for a time. It makes
+   no call of the set, takes no memory and can't fail. A slot stays which an insert of the handle had taken when it was refused
+   with VBR_OUT_OF_STEPS, or found that another had just added its key, until an insert of the handle takes it again.
+
+       uint32_t given = vbr_spare(&handle[0]); // handle[1] can have them now */
+uint32_t vbr_spare(vbr_handle *handle) VBR_NOEXCEPT VBR_NONNULL;
+
 /* The version of the library, which is VBR_VERSION where the header is of the same one. It has no handle, and can't fail.
 
        if (vbr_version() != VBR_VERSION) return 1; // the library is of another version than the header */
 VBR_NODISCARD uint32_t vbr_version(void) VBR_NOEXCEPT;
 
-/* Gives the pass back and leaves the handle empty: VBR_NO while others of its set are open. The last one
-   ends the set: VBR_YES, with the report and its keys, ascending. Only then is memory needed, which is
+/* Gives its slots back, as vbr_spare does, and its pass, and leaves the handle empty: VBR_NO while others of its set are open.
+   The last one ends the set: VBR_YES, with the report and its keys, ascending. Only then is memory needed, which is
    freed again. Behind the keys of the report the array stays as it was: all `room` keys, and the report,
    are initialised before.
    VBR_NO_MEMORY and VBR_NO_ROOM leave the last handle full: close it again, drop it, or go on with it. As
@@ -486,9 +497,9 @@ VBR_NODISCARD vbr_answer vbr_renew_all(vbr_handle *handles, size_t count, uint32
 VBR_NODISCARD vbr_answer vbr_renew_all_seeded(vbr_handle *handles, size_t count, uint32_t slots, uint32_t buckets,
                                               uint64_t last_epoch, uint64_t seed) VBR_NOEXCEPT VBR_NONNULL;
 
-/* Gives a handle up, empty or full, and leaves it empty. Its pass is given back as by a close, and no
-   report is told: the last handle of the set that is closed still gets it, and with the last one dropped
-   the set ends. It needs no memory. With a null pointer it does nothing.
+/* Gives a handle up, empty or full, and leaves it empty. Its slots and its pass are given back as by a close, and no report is
+   told: the last handle of the set that is closed still gets it, and with the last one dropped the set ends. It needs no
+   memory. With a null pointer it does nothing.
 
        vbr_drop(&handle[0]); // the close of handle[1] is told the report */
 void vbr_drop(vbr_handle *handle) VBR_NOEXCEPT;
@@ -553,8 +564,8 @@ VBR_NODISCARD vbr_answer vbr_map_open_many_seeded(vbr_map_handle *handles, size_
                                                   size_t entry_count) VBR_NOEXCEPT VBR_NONNULL;
 
 /* Adds a key with its value, in at most `budget` steps: VBR_YES if the key was absent, VBR_NO if it was there; then it keeps
-   the value that it has. Else VBR_OUT_OF_STEPS, VBR_NO_SLOT, VBR_EPOCH_SPENT or VBR_EMPTY. At VBR_NO_SLOT remove keys, let a
-   handle that has free slots make the insert, or make it again. It takes no memory and never waits.
+   the value that it has. Else VBR_OUT_OF_STEPS, VBR_NO_SLOT, VBR_EPOCH_SPENT or VBR_EMPTY. At VBR_NO_SLOT have other handles
+   give their slots back (vbr_map_spare), remove keys, or make it again. It takes no memory and never waits.
 
        if (vbr_map_insert(&map[0], 5, 70, 100000) == VBR_YES) added++; // this call stored 70 for 5 */
 VBR_NODISCARD vbr_answer vbr_map_insert(vbr_map_handle *handle, uint64_t key, uint64_t value,
@@ -697,9 +708,15 @@ VBR_NODISCARD uint64_t vbr_map_seed(vbr_map_handle *handle) VBR_NOEXCEPT VBR_NON
        int64_t entered = vbr_map_balance(&map[0]) + vbr_map_balance(&map[1]); // no call is under way */
 VBR_NODISCARD int64_t vbr_map_balance(vbr_map_handle *handle) VBR_NOEXCEPT VBR_NONNULL;
 
-/* Gives the pass back and leaves the handle empty: VBR_NO while others of its map are open. The last one ends the map: VBR_YES,
-   with the report and its entries, ascending by key. Only then is memory needed, which is freed again. Behind the entries of
-   the report the array stays as it was: all `room` entries, and the report, are initialised before.
+/* Puts the slots that the handle keeps to itself into the pool that all handles of the map share, as vbr_spare does of a set:
+   how many they were, and 0 for an empty handle.
+
+       uint32_t spared = vbr_map_spare(&map[0]); // map[1] can have them now */
+uint32_t vbr_map_spare(vbr_map_handle *handle) VBR_NOEXCEPT VBR_NONNULL;
+
+/* Gives its slots and its pass back and leaves the handle empty: VBR_NO while others of its map are open. The last one ends
+   the map: VBR_YES, with the report and its entries, ascending by key. Only then is memory needed, which is freed again.
+   Behind the entries of the report the array stays as it was: all `room` entries, and the report, are initialised before.
    VBR_NO_MEMORY and VBR_NO_ROOM leave the last handle full, as of vbr_close: as many entries as the map has slots always have
    room; where these have not, VBR_NO_ROOM writes the report and no entry, and report->live is how many entries there are. Else
    nothing is written. VBR_EMPTY: the handle is empty, or null. VBR_LOST: a pass is not there, and the map is gone; no program
@@ -739,9 +756,9 @@ VBR_NODISCARD vbr_answer vbr_map_renew_all(vbr_map_handle *handles, size_t count
 VBR_NODISCARD vbr_answer vbr_map_renew_all_seeded(vbr_map_handle *handles, size_t count, uint32_t slots, uint32_t buckets,
                                                   uint64_t last_epoch, uint64_t seed) VBR_NOEXCEPT VBR_NONNULL;
 
-/* Gives a handle up, empty or full, and leaves it empty. Its pass is given back as by a close, and no report is told: the last
-   handle of the map that is closed still gets it, and with the last one dropped the map ends. It needs no memory. With a null
-   pointer it does nothing.
+/* Gives a handle up, empty or full, and leaves it empty. Its slots and its pass are given back as by a close, and no report is
+   told: the last handle of the map that is closed still gets it, and with the last one dropped the map ends. It needs no
+   memory. With a null pointer it does nothing.
 
        vbr_map_drop(&map[0]); // the close of map[1] is told the report */
 void vbr_map_drop(vbr_map_handle *handle) VBR_NOEXCEPT;

@@ -277,6 +277,7 @@ struct set_calls {
     static std::uint32_t buckets(raw *handle) noexcept { return vbr_buckets(handle); }
     static std::uint64_t seed(raw *handle) noexcept { return vbr_seed(handle); }
     static std::int64_t balance(raw *handle) noexcept { return vbr_balance(handle); }
+    static std::uint32_t spare(raw *handle) noexcept { return vbr_spare(handle); }
     static vbr_answer report_all(raw *handles, std::size_t count, item *keys, std::size_t room, vbr_totals *totals) noexcept {
         return vbr_report_all(handles, count, keys, room, totals);
     }
@@ -308,6 +309,7 @@ struct map_calls {
     static std::uint32_t buckets(raw *handle) noexcept { return vbr_map_buckets(handle); }
     static std::uint64_t seed(raw *handle) noexcept { return vbr_map_seed(handle); }
     static std::int64_t balance(raw *handle) noexcept { return vbr_map_balance(handle); }
+    static std::uint32_t spare(raw *handle) noexcept { return vbr_map_spare(handle); }
     static vbr_answer report_all(raw *handles, std::size_t count, item *entries, std::size_t room, vbr_totals *totals) noexcept {
         return vbr_map_report_all(handles, count, entries, room, totals);
     }
@@ -477,6 +479,13 @@ public:
 
            std::int64_t keys = both.handles[0].balance() + both.handles[1].balance(); // no call is under way */
     std::int64_t balance() noexcept { return Calls::balance(&raw); }
+
+    /* Puts the slots that the handle keeps to itself into the pool that all handles share, where any of them finds them: how
+       many they were. Call it of a handle that inserts nothing for a time; one that is closed or ends does so by itself.
+       vbr_spare says which slots stay.
+
+           std::uint32_t given = mine.spare(); // the other handles can have them now */
+    std::uint32_t spare() noexcept { return Calls::spare(&raw); }
 
 protected:
     using calls = Calls;
@@ -753,6 +762,7 @@ private:
     /* Whether all others are closed. If not, this one is then closed too: it is parked for the last one. */
     bool is_last() noexcept {
         if (shared->open.load(std::memory_order_acquire) == 1) return true;
+        calls::spare(&raw); // those that are open can have its slots
         shared->parked[number] = raw;
         if (shared->open.fetch_sub(1, std::memory_order_acq_rel) == 1) {
             shared->open.store(1, std::memory_order_relaxed);

@@ -239,7 +239,7 @@ impl<'c> Worker<'c> {
                 Err(Refusal::NoSlot) => self.full += 1,
                 told => return told,
             }
-            // A page that leaves the index leaves its slot to this handle.
+            // A page that leaves the index leaves its slot, mostly to this handle.
             let (spare, _latch) = self.evict(index, true)?;
             self.spare.push(spare);
         }

@@ -39,8 +39,8 @@ pub enum Refusal {
     /// of them only where others inserted or removed in the key's bucket meanwhile, or advanced the epoch.
     OutOfSteps,
     /// An insert of an absent key, or a call that gives a key another value, found no slot: its handle had none of its own, and
-    /// none was found in the shared pool. Other handles may keep free ones. Remove keys, let a handle that has free slots make the
-    /// call, or make it again; a greater budget alone doesn't help.
+    /// none was found in the shared pool. Other handles may keep free ones: have them give these back (`spare`), remove keys,
+    /// or make the call again; a greater budget alone doesn't help.
     NoSlot,
     /// An insert of an absent key, or a call that gives a key another value, would have needed an epoch beyond the last one.
     /// Renew the set or the map, as [`Set::open_with`](crate::Set::open_with) and [`Map::open_with`](crate::Map::open_with)

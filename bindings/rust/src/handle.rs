@@ -381,6 +381,30 @@ impl<K: Kind> PassOf<K> {
         // SAFETY: as for `has`.
         unsafe { K::BALANCE(self.raw()) }
     }
+
+    /// Puts the slots that the handle keeps to itself, at most 64, into the pool that all handles share, where any of them
+    /// finds them, and returns how many they were. It makes a step for each, and can't fail. A handle that is closed or
+    /// dropped does so by itself: call it of one that inserts nothing for a time.
+    ///
+    /// A slot stays which an insert of the handle had taken when it was refused with [`Refusal::OutOfSteps`], or found that
+    /// another had just added its key, until an insert of the handle takes it again.
+    ///
+    /// ```
+    /// # use vbr::{Refusal, Set, Shape};
+    /// let mut handles = Set::open(Shape::new(1, 1, 100), 2)?;
+    /// assert!(handles[0].insert(5, 1_000)? && handles[0].remove(5, 1_000)?);
+    /// assert_eq!(handles[1].insert(6, 1_000), Err(Refusal::NoSlot)); // the first handle has the only slot
+    /// assert_eq!(handles[0].spare(), 1);
+    /// assert!(handles[1].insert(6, 1_000)?);
+    /// # Ok::<(), Box<dyn std::error::Error>>(())
+    /// ```
+    ///
+    /// [`Refusal::OutOfSteps`]: crate::Refusal::OutOfSteps
+    #[inline]
+    pub fn spare(&mut self) -> u32 {
+        // SAFETY: as for `has`.
+        unsafe { K::SPARE(self.raw()) }
+    }
 }
 
 impl<K: Kind> HandleOf<K> {
@@ -471,6 +495,9 @@ impl<K: Kind> HandleOf<K> {
         if shared.open.load(Ordering::Acquire) == 1 {
             return Some(at);
         }
+        // Those that are open can have its slots.
+        // SAFETY: `&mut` is exclusive.
+        unsafe { K::SPARE(self.raw.get()) };
         shared.parked[self.number].store(self.raw.get_mut().0, Ordering::Relaxed);
         if shared.open.fetch_sub(1, Ordering::AcqRel) == 1 {
             shared.parked[self.number].store(null_mut(), Ordering::Relaxed);

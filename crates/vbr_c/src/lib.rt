@@ -22,6 +22,7 @@
 ghost use Rattle.std.specs.Prelude.{◌≡◌, ◌+◌, ◌*◌};
 
 pub mod map;
+pub mod own_slots;
 pub mod set;
 
 pub use vbr_handles::{Entry, Found, ReportNumbers};

@@ -5,18 +5,19 @@ ghost use Rattle.std.specs.Prelude.{◌≡◌, None, length};
 ghost use Rattle.vbr_machine.specs.declared.history.Op.TheVariants.{Has};
 ghost use Rattle.vbr_handles.specs.Batches.{TellsGetAll, TellsHasAll};
 ghost use Rattle.vbr_handles.specs.Calls.{TellsCall, TellsInsertEntry};
+ghost use Rattle.vbr_handles.specs.GivingBack.{ClosesMapHandle};
 ghost use Rattle.vbr_handles.specs.Iterating.{TellsNextEntry};
 ghost use Rattle.vbr_handles.specs.ValueCalls.{TellsExchange, TellsGetEntry, TellsGetOrInsert, TellsPut, TellsRemoveEntry, TellsRemoveIf, TellsReplace};
 ghost use Rattle.vbr_handles.specs.Opening.{entries_start};
 ghost use Rattle.vbr_handles.specs.OpeningCodes.{TellsMapOpeningMany, TellsMapOpeningWith};
 ghost use Rattle.vbr_handles.specs.AllHandles.{map_members_in};
 ghost use Rattle.vbr_handles.specs.Renewals.{TellsMapRenewal};
-ghost use Rattle.vbr_handles.specs.Reports.{TellsMapClose, TellsMapCloseAll, TellsMapReport};
+ghost use Rattle.vbr_handles.specs.Reports.{TellsMapCloseAll, TellsMapReport};
 ghost use Rattle.vbr_set.specs.AllMembers.{AreOfOneSet};
 ghost use Rattle.vbr_handles.specs.Shown.{IsSeedOf, balance_shown, buckets_of, epoch_of, last_epoch_of, slots_of};
 
 use std::alloc::Global;
-use vbr_handles::numbers::{batches, entries, iterating};
+use vbr_handles::numbers::{batches, entries, giving_back, iterating};
 use vbr_handles::{Entry, Found, MapHandle, ReportNumbers, ShapeNumbers, numbers, shown};
 use vbr_set::Cursor;
 use vbr_words::Entries;
@@ -365,10 +366,10 @@ pub extern "C" fn vbr_map_close(
     entries: &mut [Entry],
     report: &mut ReportNumbers,
 ) -> i32
-    ensures { TellsMapClose handle.old.member handle.new.member entries.old entries.new
+    ensures { ClosesMapHandle handle.old.member handle.new.member entries.old entries.new
         report.old report.new result }
 {
-    numbers::close::<Entries, Entry>(alloc, handle.owner_mut(), entries, report)
+    giving_back::close::<Entries, Entry>(alloc, handle.owner_mut(), entries, report)
 }
 
 /// Closes a map by all its handles at once, as [`crate::set::vbr_close_all`] closes a set: 1, and it writes

@@ -3,17 +3,18 @@ ghost use Rattle.std.specs.Prelude.{◌≡◌, None, length};
 ghost use Rattle.vbr_machine.specs.declared.history.Op.TheVariants.{Insert, Remove, Has};
 ghost use Rattle.vbr_handles.specs.Batches.{TellsHasAll};
 ghost use Rattle.vbr_handles.specs.Calls.{TellsCall};
+ghost use Rattle.vbr_handles.specs.GivingBack.{ClosesHandle};
 ghost use Rattle.vbr_handles.specs.Iterating.{TellsNext};
 ghost use Rattle.vbr_handles.specs.Opening.{spread_start};
 ghost use Rattle.vbr_handles.specs.OpeningCodes.{TellsOpeningMany, TellsOpeningWith};
 ghost use Rattle.vbr_handles.specs.AllHandles.{members_in};
 ghost use Rattle.vbr_handles.specs.Renewals.{TellsRenewal};
-ghost use Rattle.vbr_handles.specs.Reports.{TellsClose, TellsCloseAll, TellsReport};
+ghost use Rattle.vbr_handles.specs.Reports.{TellsCloseAll, TellsReport};
 ghost use Rattle.vbr_set.specs.AllMembers.{AreOfOneSet};
 ghost use Rattle.vbr_handles.specs.Shown.{IsSeedOf, balance_shown, buckets_of, epoch_of, last_epoch_of, slots_of};
 
 use std::alloc::Global;
-use vbr_handles::numbers::{batches, iterating};
+use vbr_handles::numbers::{batches, giving_back, iterating};
 use vbr_handles::{Handle, ReportNumbers, ShapeNumbers, numbers, shown};
 use vbr_set::Cursor;
 use vbr_words::Keys;
@@ -228,7 +229,8 @@ pub extern "C" fn vbr_balance(handle: &mut Handle) -> i64
     shown::balance(handle.owner_mut())
 }
 
-/// Gives a pass back, and leaves the handle empty. 0 while other handles of the set are full. The
+/// Gives the slots that the handle keeps to itself back, as `vbr_spare` does, and then its pass, and leaves the
+/// handle empty. 0 while other handles of the set are full. The
 /// last one ends the set: 1, and it writes what the set held and its keys, ascending, in front of `keys`.
 /// It has no budget, and makes no call of the set.
 ///
@@ -248,10 +250,10 @@ pub extern "C" fn vbr_close(
     keys: &mut [u64],
     report: &mut ReportNumbers,
 ) -> i32
-    ensures { TellsClose handle.old.member handle.new.member keys.old keys.new
+    ensures { ClosesHandle handle.old.member handle.new.member keys.old keys.new
         report.old report.new result }
 {
-    numbers::close::<Keys, u64>(alloc, handle.owner_mut(), keys, report)
+    giving_back::close::<Keys, u64>(alloc, handle.owner_mut(), keys, report)
 }
 
 /// Closes a set by all its handles at once, in any order, and leaves them empty: 1, and it writes what the
@@ -338,9 +340,9 @@ pub extern "C" fn vbr_renew_all_seeded(
     numbers::renew_all::<Keys, u64, Handle>(alloc, handles, numbers)
 }
 
-/// Drops what the handle has, and leaves it empty. Its pass is given back, as by a close, so the last
-/// handle of its set that is closed is still told the report; with the last one dropped the set ends
-/// without. It makes no step, needs no memory, and can't fail.
+/// Drops what the handle has, and leaves it empty. Its slots and its pass are given back, as by a close, so the
+/// last handle of its set that is closed is still told the report; with the last one dropped the set ends
+/// without. It needs no memory, and can't fail.
 ///
 /// ```c file=bindings/c/answers.c
 /// for (int i = 0; i < 3; i++) vbr_drop(&three[i]);

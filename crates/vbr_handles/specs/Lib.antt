@@ -18,3 +18,4 @@ pub mod Batches
 pub mod Shown
 pub mod Reports
 pub mod Renewals
+pub mod GivingBack

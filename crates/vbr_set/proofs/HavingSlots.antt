@@ -10,6 +10,7 @@ use Rattle.vbr_machine.specs.declared.history.Op.{Op}
 use Rattle.vbr_machine.specs.declared.history.Op.TheVariants.{Insert, Remove, Has, Get}
 use Rattle.vbr_slots.specs.Tokens.{SeenView}
 use Rattle.vbr_slots.specs.Views.{Did, KeepsPool, PassView, TableView, Trace, new_trace}
+use Rattle.vbr_at_table.specs.GivingSlotsBack.{GivesSlotsBack}
 use Rattle.vbr_at_table.specs.KeptSlots.{HasSlot, KeepsSlots, UnlinkedInTurn}
 use Rattle.vbr_at_table.proofs.Lemmas.{did_none, did_stay_turn, turn_others}
 use Rattle.vbr_set.specs.Members.{MemberView}
@@ -55,6 +56,9 @@ all_caught set p q token all c =
     has : (slot : ℕ) → HasSlot p slot → HasSlot q slot
     has slot h = rw (c.pool.0, c.pool.1) h
 
+pub all_gave : (p q : PassView) (shared : ℕ) → HasAllSlots p → GivesSlotsBack p q shared → HasAllSlots q
+all_gave p q shared all g = all_kept p q g.kept all
+
 -- ---- in turn
 
 pub turn_opened : (set : TableView) (who : ℕ) → UnlinkedInTurn (new_trace set who)
@@ -73,3 +77,6 @@ turn_caught set p q token turn c =
   where
     P : Start × List Event × ℕ → Type 0
     P x = UnlinksInTurn x.0 x.1 x.2
+
+pub turn_gave : (p q : PassView) (shared : ℕ) → HasAllSlots p → UnlinkedInTurn p.trace → GivesSlotsBack p q shared → UnlinkedInTurn q.trace
+turn_gave p q shared all turn g = g.kept.turn all.stamped turn

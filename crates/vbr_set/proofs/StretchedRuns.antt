@@ -220,5 +220,6 @@ come_by_calls =
       went_over = λ p q sees none. record { sees = sees; advances = none_else p q none.count };
       met = λ p q epoch did pool. record { sees = sees_met p.trace q.trace epoch did; advances = none_else p q (did_none did refl pool).count };
       caught = came_caught;
+      gave = λ p q shared law g. record { sees = record { same = g.quiet.same; begins = g.quiet.seen; is_run = g.quiet.is_run law.is_run }; advances = none_else p q g.advances };
       after = came_after;
     }

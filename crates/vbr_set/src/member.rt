@@ -5,6 +5,7 @@ pub mod closing;
 pub mod closing_all;
 mod common;
 pub mod counting;
+pub mod giving_slots_back;
 pub mod iterating;
 mod mailbox;
 pub mod map_calls;
@@ -74,11 +75,13 @@ impl<N: Nodes> Member<N> {
 }
 
 /// One that is dropped gives its pass back as [`Member::close`] does, but is told nothing: so the last one
-/// that is closed is still told a report. It needs no memory, and makes no step.
+/// that is closed is still told a report. The slots that it keeps go into the shared pool before, so the others
+/// may take them ([`Member::give_slots_back`]). It needs no memory.
 impl<N: Nodes> Drop for Member<N> {
     fn drop(self) {
-        let (stake, pass) = self.into_parts();
+        let (stake, mut pass) = self.into_parts();
         if let Share::Among(common, seat) = stake.share {
+            common.set.give_slots_back(&mut pass);
             drop(leave(common, seat, pass));
         }
     }

@@ -3,14 +3,15 @@
 ghost use Rattle.vbr_set.specs.Laws.{NoSlotAlone, OneUnstampedAtEachMoment, PassesHaveAllTheirSlots, PassesUnlinkInTurn, SlotsThatSuffice};
 
 /// A law: a pass has all its slots in its own pool and its hand, and none unstamped, when it is opened,
-/// and behind each call of a set or a map, answered or refused, each meeting and each catching up.
+/// and behind each call of a set or a map, answered or refused, each meeting, each catching up, and each
+/// giving back of its slots.
 pub fn passes_have_all_their_slots()
     ensures { PassesHaveAllTheirSlots }
 {}
 
 /// A law: a pass has unlinked in turn, each slot only once it had stamped all that it had unlinked
-/// before, when it is opened, and behind each call of a set or a map, answered or refused, each meeting
-/// and each catching up.
+/// before, when it is opened, and behind each call of a set or a map, answered or refused, each meeting,
+/// each catching up, and each giving back of its slots.
 pub fn passes_unlink_in_turn()
     ensures { PassesUnlinkInTurn }
 {}

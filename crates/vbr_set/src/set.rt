@@ -1,6 +1,7 @@
 //! The set, and the map.
 pub mod calls;
 pub mod closing;
+pub mod giving_slots_back;
 pub mod iterating;
 pub mod map_calls;
 pub mod meeting;

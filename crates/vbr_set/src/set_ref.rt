@@ -1,6 +1,7 @@
 //! A pass with a reference to its set.
 pub mod batches;
 pub mod calls;
+pub mod giving_slots_back;
 pub mod iterating;
 pub mod map_calls;
 

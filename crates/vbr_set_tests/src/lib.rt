@@ -10,6 +10,8 @@ mod batches;
 #[cfg(test)]
 mod emptying;
 #[cfg(test)]
+mod given_back;
+#[cfg(test)]
 mod iterating;
 #[cfg(test)]
 mod listing_threads;

@@ -1,0 +1,69 @@
+/* Slots that a handle keeps to itself: who has them, and how others come to them. */
+#include "vbr.h"
+
+#include <stdio.h>
+#include <stdlib.h>
+
+#define CHECK(x) do { if (!(x)) { fprintf(stderr, "spare.c:%d: %s\n", __LINE__, #x); exit(1); } } while (0)
+
+enum { SLOTS = 100, BUDGET = 100000 };
+
+static vbr_handle handle[2];
+static uint64_t keys[SLOTS];
+static vbr_totals report;
+
+/* Puts keys in until there is no slot, and tells how many. */
+static uint32_t fill(vbr_handle *of) {
+    uint32_t added = 0;
+    vbr_answer answer = VBR_YES;
+    while (answer == VBR_YES) {
+        answer = vbr_insert(of, added, BUDGET);
+        added += answer == VBR_YES;
+    }
+    CHECK(answer == VBR_NO_SLOT);
+    return added;
+}
+
+static void empty(vbr_handle *of, uint32_t count) {
+    for (uint64_t key = 0; key < count; key++) CHECK(vbr_remove(of, key, BUDGET) == VBR_YES);
+}
+
+static void open_two(void) {
+    CHECK(vbr_open(handle, 2, SLOTS, 16, VBR_MAX_EPOCH) == VBR_NO);
+}
+
+/* The first handle has emptied the set, and keeps 63 slots: what is free else the other one finds, and once they are given back
+   it finds them all. */
+static void give_back(void) {
+    open_two();
+    CHECK(fill(&handle[0]) == SLOTS);
+    empty(&handle[0], SLOTS);
+    uint32_t found = fill(&handle[1]);
+    CHECK(found == SLOTS - 63);
+    empty(&handle[1], found);
+    uint32_t given = vbr_spare(&handle[0]);                   /* the other handle can have them */
+    CHECK(given == 63 && vbr_spare(&handle[0]) == 0);
+    CHECK(fill(&handle[1]) == SLOTS);
+    CHECK(vbr_insert(&handle[0], SLOTS, BUDGET) == VBR_NO_SLOT);
+    CHECK(vbr_close_all(handle, 2, keys, SLOTS, &report) == VBR_YES && report.live == SLOTS);
+    CHECK(vbr_spare(&handle[0]) == 0); /* it is empty */
+}
+
+/* A handle that is closed leaves its slots to the other one, and so does one that is dropped. */
+static void leave(int drops) {
+    open_two();
+    CHECK(fill(&handle[0]) == SLOTS);
+    empty(&handle[0], SLOTS);
+    if (drops) vbr_drop(&handle[0]);
+    else CHECK(vbr_close(&handle[0], keys, SLOTS, &report) == VBR_NO);
+    CHECK(fill(&handle[1]) == SLOTS);
+    CHECK(vbr_close(&handle[1], keys, SLOTS, &report) == VBR_YES && report.live == SLOTS && report.free == 0);
+}
+
+int main(void) {
+    give_back();
+    leave(0);
+    leave(1);
+    puts("slots given back in C: passed");
+    return 0;
+}

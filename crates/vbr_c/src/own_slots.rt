@@ -1,0 +1,28 @@
+//! The calls on the slots that a handle keeps to itself: of a set, and of a map.
+ghost use Rattle.vbr_handles.specs.GivingBack.{TellsGivenBack};
+
+use vbr_handles::numbers::giving_back;
+use vbr_handles::{Handle, MapHandle};
+
+/// Puts the slots that the handle keeps to itself into the pool that all handles share, one step for each, and
+/// returns how many; 0 where the handle is empty. It makes no call of the set, and can't fail. A slot stays that an
+/// insert had in hand and gave back, since it was refused or found its key there in the end, until an insert
+/// of the handle takes it again.
+///
+/// ```c file=bindings/c/spare.c
+/// uint32_t given = vbr_spare(&handle[0]);                   /* the other handle can have them */
+/// ```
+#[unsafe(no_mangle)]
+pub extern "C" fn vbr_spare(handle: &mut Handle) -> u32
+    ensures { TellsGivenBack handle.old.member handle.new.member result }
+{
+    giving_back::give_slots_back(handle.owner_mut())
+}
+
+/// Does the same of the handle of a map.
+#[unsafe(no_mangle)]
+pub extern "C" fn vbr_map_spare(handle: &mut MapHandle) -> u32
+    ensures { TellsGivenBack handle.old.member handle.new.member result }
+{
+    giving_back::give_slots_back(handle.owner_mut())
+}

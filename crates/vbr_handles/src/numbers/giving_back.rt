@@ -1,0 +1,37 @@
+//! Giving the slots of a handle's pass back, by itself and before a close.
+ghost use Rattle.vbr_set.specs.Closing.{ClosesBy};
+ghost use Rattle.vbr_handles.specs.GivingBack.{ClosesWithoutSlots, TellsGivenBack};
+
+use crate::listed::Listed;
+use crate::owner::Owner;
+use crate::report_numbers::ReportNumbers;
+use std::alloc::Global;
+use vbr_set::Kind;
+use vbr_set::member::Member;
+use vbr_words::Nodes;
+
+/// Puts the slots that the pass of a handle keeps to itself into the shared pool, as
+/// [`Member::give_slots_back`] does, and returns how many; 0 where the handle is empty.
+pub fn give_slots_back<N: Nodes>(owner: &mut Owner<Member<N>>) -> u32
+    ensures { TellsGivenBack owner.old.member owner.new.member result }
+{
+    if owner.is_empty() {
+        return 0;
+    }
+    owner.member_mut().give_slots_back()
+}
+
+/// Gives the slots of its pass back, and then closes a handle, as [`crate::numbers::close`] does: so those that go
+/// on have them. Where it is the last one and is refused, it stays full, and its slots are in the shared pool.
+pub fn close<N: Kind, I: Listed<N>>(
+    alloc: Global,
+    owner: &mut Owner<Member<N>>,
+    items: &mut [I],
+    told: &mut ReportNumbers,
+) -> i32
+    ensures { ClosesWithoutSlots I.listing (ClosesBy N.kind) owner.old.member owner.new.member
+        items.old items.new told.old told.new result }
+{
+    give_slots_back(owner);
+    crate::numbers::close::<N, I>(alloc, owner, items, told)
+}

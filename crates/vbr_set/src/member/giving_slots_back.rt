@@ -1,0 +1,27 @@
+//! Giving the slots of a member back.
+ghost use Rattle.std.specs.Prelude.{◌≡◌};
+ghost use Rattle.vbr_at_table.specs.GivingSlotsBack.{GivesSlotsBack};
+
+use crate::member::Member;
+use vbr_words::Nodes;
+
+impl<N: Nodes> Member<N> {
+    /// Puts the slots that the member keeps to itself into the shared pool, one step for each, and returns how
+    /// many: [`VbrSet::give_slots_back`] by its pass, which says which slots stay. Between two calls a member keeps up
+    /// to 64 slots, for its inserts to come; one that makes none for a time has them taken by others so. It makes
+    /// no call, and can't fail.
+    ///
+    /// # Example
+    ///
+    /// ```rattle file=crates/vbr_set_tests/src/given_back.rt
+    /// let given = one.give_slots_back();
+    /// ```
+    ///
+    /// [`VbrSet::give_slots_back`]: crate::VbrSet::give_slots_back
+    pub fn give_slots_back(&mut self) -> u32
+        ensures set { self.new.set ≡ self.old.set }
+        ensures gives { GivesSlotsBack self.old.pass self.new.pass result }
+    {
+        self.share.set().give_slots_back(&mut self.pass)
+    }
+}

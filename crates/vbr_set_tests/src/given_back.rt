@@ -1,0 +1,96 @@
+//! Slots that a member keeps to itself and gives back: rows of a set and of a map.
+ghost use Rattle.std.specs.Prelude.{◌≡◌};
+
+use crate::members::{expect_insert, expect_remove};
+use std::alloc::Global;
+use std::process::Abort;
+use std::test::Fail;
+use vbr_set::{Kind, MapMember, Member, Refusal, Shape, member};
+
+// The members of a set or a map of so many slots.
+fn open_members<N: Kind>(
+    rt: &impl Abort,
+    alloc: Global,
+    slots: u32,
+    count: u32,
+) -> Vec<member::Member<N>> {
+    let shape = Shape::new(slots, 1, 10).expect(rt, "a shape");
+    member::Member::<N>::open(alloc, shape, count).expect(rt, "memory")
+}
+
+// The member gives back so many slots, a step for each, and keeps so many.
+fn expect_given<N: Kind>(
+    rt: &impl Abort,
+    one: &mut member::Member<N>,
+    wanted: u32,
+    kept: usize,
+) {
+    let before = one.pass().steps();
+    let given = one.give_slots_back();
+    assert_eq!(rt; given, wanted);
+    assert_eq!(rt; one.pass().steps().saturating_sub(before), u64::from(wanted));
+    assert_eq!(rt; one.pass().pool().len(), kept);
+}
+
+// Two slots are the first member's. It gives them back, and then the other one has them.
+#[test]
+fn slots_of_a_set_are_given_back(rt: HostRuntime) -> Result<(), Fail> {
+    let members = open_members(&rt, rt.alloc(), 2, 2);
+    let [mut one, mut other] = <[Member; 2]>::try_from(members).ok().expect(&rt, "two members");
+    for key in 1..3 {
+        expect_insert(&rt, &mut one, key, true);
+        expect_remove(&rt, &mut one, key, true);
+    }
+    expect_insert(&rt, &mut one, 3, true);
+    expect_insert(&rt, &mut one, 4, true);
+    expect_remove(&rt, &mut one, 3, true);
+    expect_remove(&rt, &mut one, 4, true);
+    assert_eq!(rt; one.pass().pool().len(), 2);
+    assert_eq!(rt; other.insert(5, 100), Err(Refusal::NoSlot));
+    expect_given(&rt, &mut one, 2, 0);
+    expect_given(&rt, &mut one, 0, 0);
+    expect_insert(&rt, &mut other, 5, true);
+    expect_insert(&rt, &mut other, 6, true);
+    assert_eq!(rt; one.insert(7, 100), Err(Refusal::NoSlot));
+    Ok(())
+}
+
+#[test]
+fn slots_of_a_map_are_given_back(rt: HostRuntime) -> Result<(), Fail> {
+    let members = open_members(&rt, rt.alloc(), 1, 2);
+    let [mut one, mut other] = <[MapMember; 2]>::try_from(members).ok().expect(&rt, "two members");
+    assert_eq!(rt; one.insert(1, 70, 100), Ok(true));
+    assert_eq!(rt; one.remove(1, 100), Ok(Some(70)));
+    assert_eq!(rt; other.insert(2, 71, 100), Err(Refusal::NoSlot));
+    expect_given(&rt, &mut one, 1, 0);
+    assert_eq!(rt; other.insert(2, 71, 100), Ok(true));
+    assert_eq!(rt; one.insert(1, 72, 100), Err(Refusal::NoSlot));
+    Ok(())
+}
+
+// With 14 steps an insert takes a slot in its seventh, and is refused for want of steps: it gives the slot back in
+// hand. That one stays until the member bears in it again and removes that node.
+#[test]
+fn a_slot_that_was_in_hand_stays(rt: HostRuntime) -> Result<(), Fail> {
+    let members = open_members(&rt, rt.alloc(), 2, 1);
+    let [mut one] = <[Member; 1]>::try_from(members).ok().expect(&rt, "a member");
+    assert_eq!(rt; one.insert(5, 14), Err(Refusal::OutOfSteps { used: 7 }));
+    expect_given(&rt, &mut one, 0, 1);
+    expect_insert(&rt, &mut one, 5, true);
+    expect_remove(&rt, &mut one, 5, true);
+    expect_given(&rt, &mut one, 1, 0);
+    Ok(())
+}
+
+// A member that is dropped leaves its slots to the others.
+#[test]
+fn a_dropped_member_leaves_its_slots(rt: HostRuntime) -> Result<(), Fail> {
+    let members = open_members(&rt, rt.alloc(), 1, 2);
+    let [mut one, mut other] = <[Member; 2]>::try_from(members).ok().expect(&rt, "two members");
+    expect_insert(&rt, &mut one, 1, true);
+    expect_remove(&rt, &mut one, 1, true);
+    assert_eq!(rt; other.insert(2, 100), Err(Refusal::NoSlot));
+    drop(one);
+    expect_insert(&rt, &mut other, 2, true);
+    Ok(())
+}
