@@ -65,8 +65,8 @@ typedef struct vbr_map_lender {
 /* What both lenders do first: the number of the handle that this thread was lent last. It is no part of the interface. */
 static __thread size_t vbr_lent_last;
 
-/* What both lenders do: the number of a free handle, which is lent now, or of none of those that are lent, the greatest number. It
-   is no part of the interface. */
+/* What both lenders do: the number of a free handle, which is lent now, or SIZE_MAX where none is free or none is to be lent.
+   It is no part of the interface. */
 VBR_NODISCARD VBR_NONNULL static inline size_t vbr_lend_number(vbr_lend_word *words, const size_t *lends) VBR_NOEXCEPT {
     size_t count = __atomic_load_n(lends, __ATOMIC_RELAXED), number = vbr_lent_last < count ? vbr_lent_last : 0, tried;
     for (tried = 0; tried < count; tried++) {

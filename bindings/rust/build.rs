@@ -1,40 +1,91 @@
-//! Finds the static library: in the directory that `VBR_LIB_DIR` names, or else by pkg-config, or else among the files that
-//! were built before, where the crate lies in its repository and that has them. Pages (`DOCS_RS`) need none.
+//! Finds the static library: in the directory that `VBR_LIB_DIR` names, or else by pkg-config, where it has this crate's version, or
+//! else among the files that were built before, where the crate lies in its repository and that has them. What is linked is told.
+//! Pages (`DOCS_RS`) need none.
 use std::env;
-use std::path::Path;
+use std::path::{Path, PathBuf};
 use std::process::Command;
 
 fn main() {
     println!("cargo:rerun-if-env-changed=VBR_LIB_DIR");
     println!("cargo:rerun-if-env-changed=PKG_CONFIG_PATH");
+    println!("cargo:rerun-if-env-changed=PKG_CONFIG_LIBDIR");
     println!("cargo:rerun-if-env-changed=DOCS_RS");
     if env::var_os("DOCS_RS").is_some() {
         return;
     }
-    let dir = env::var("VBR_LIB_DIR").ok().or_else(installed).or_else(built_before);
-    let Some(dir) = dir else {
-        panic!(
-            "libvbr.a is not found: run `make install PREFIX=DIR` in the repository and put DIR/lib/pkgconfig \
-             on PKG_CONFIG_PATH, or `make lib`, and set VBR_LIB_DIR to the directory of libvbr.a"
-        );
-    };
+    let target = ["ARCH", "OS"].map(|it| env::var(format!("CARGO_CFG_TARGET_{it}")).unwrap_or_default());
+    assert!(
+        target == ["x86_64", "linux"],
+        "libvbr.a is for x86-64 under Linux, and the target is {} under {}",
+        target[0],
+        target[1]
+    );
+    let dir = found().unwrap_or_else(|why| panic!("{why}"));
     println!("cargo:rerun-if-changed={dir}/libvbr.a");
     println!("cargo:rustc-link-search=native={dir}");
     println!("cargo:rustc-link-lib=static=vbr");
 }
 
-/// The directory that pkg-config names.
-fn installed() -> Option<String> {
-    let told = Command::new("pkg-config").args(["--variable=libdir", "vbr"]).output().ok()?;
-    let dir = String::from_utf8(told.stdout).ok()?.trim().to_owned();
-    (told.status.success() && !dir.is_empty()).then_some(dir)
+/// The directory of the library, or why there is none. Where nobody named it, a warning of cargo tells which it is.
+fn found() -> Result<String, String> {
+    if let Ok(dir) = env::var("VBR_LIB_DIR") {
+        return if has_library(Path::new(&dir)) {
+            Ok(dir)
+        } else {
+            Err(format!("VBR_LIB_DIR is {dir}, and there is no libvbr.a"))
+        };
+    }
+    let installed = installed();
+    if let Ok(dir) = &installed {
+        println!("cargo:warning=links {dir}/libvbr.a, which pkg-config names");
+        return Ok(dir.clone());
+    }
+    if let Some(dir) = built_before() {
+        println!("cargo:warning=links {dir}/libvbr.a, which was built before");
+        return Ok(dir);
+    }
+    Err(format!(
+        "libvbr.a is not found ({}): run `make install PREFIX=DIR` in the repository and put DIR/lib/pkgconfig \
+         on PKG_CONFIG_PATH, or `make lib`, and set VBR_LIB_DIR to the directory of libvbr.a",
+        installed.unwrap_err()
+    ))
 }
 
-/// The folder `prebuilt` of the repository, two above the crate.
-fn built_before() -> Option<String> {
-    let dir = Path::new(&env::var_os("CARGO_MANIFEST_DIR")?).join("../../prebuilt");
-    if !["libvbr.a", "ORIGIN"].iter().all(|it| dir.join(it).is_file()) {
-        return None;
+fn has_library(dir: &Path) -> bool {
+    dir.join("libvbr.a").is_file()
+}
+
+/// The directory that pkg-config names, or why it names none of use.
+fn installed() -> Result<String, String> {
+    let version = told_by_pkg_config("--modversion")?;
+    let own = env::var("CARGO_PKG_VERSION").unwrap_or_default();
+    if version != own {
+        return Err(format!("pkg-config has version {version}, and this crate is of {own}"));
     }
-    Some(dir.canonicalize().ok()?.to_str()?.to_owned())
+    let dir = told_by_pkg_config("--variable=libdir")?;
+    if has_library(Path::new(&dir)) {
+        Ok(dir)
+    } else {
+        Err(format!("pkg-config names {dir}, where there is none"))
+    }
+}
+
+fn told_by_pkg_config(what: &str) -> Result<String, String> {
+    let told =
+        Command::new("pkg-config").args([what, "vbr"]).output().map_err(|why| format!("there is no pkg-config: {why}"))?;
+    let text = String::from_utf8_lossy(&told.stdout).trim().to_owned();
+    if told.status.success() && !text.is_empty() {
+        Ok(text)
+    } else {
+        Err("pkg-config knows no vbr".to_owned())
+    }
+}
+
+/// The folder `prebuilt` of the repository, above the crate; also where cargo unpacks it there, to see that it builds.
+fn built_before() -> Option<String> {
+    let own = PathBuf::from(env::var_os("CARGO_MANIFEST_DIR")?);
+    let repository = own.ancestors().find(|it| it.join("bindings/rust/Cargo.toml").is_file())?;
+    let dir = repository.join("prebuilt");
+    let is_whole = has_library(&dir) && dir.join("ORIGIN").is_file();
+    is_whole.then(|| dir.to_str().map(str::to_owned)).flatten()
 }

@@ -571,6 +571,7 @@ fn open_by<K: Kind>(
     open: impl FnOnce(*mut Raw, usize) -> i32,
 ) -> Result<Vec<HandleOf<K>>, OpenError> {
     shape.check()?;
+    check_version();
     // The library reads no handle of an opening whose count is out of range.
     let count = if handles > most { 0 } else { handles };
     let (mut raw, mut parked, mut opened, mut shared) = (Vec::new(), Vec::new(), Vec::new(), Vec::new());
@@ -600,6 +601,13 @@ fn open_by<K: Kind>(
         kind: PhantomData,
     }));
     Ok(opened)
+}
+
+/// Sees that the library is of the crate's version.
+fn check_version() {
+    let own = [env!("CARGO_PKG_VERSION_MAJOR"), env!("CARGO_PKG_VERSION_MINOR"), env!("CARGO_PKG_VERSION_PATCH")];
+    let [of_library, of_crate] = [crate::version(), own.iter().fold(0, |sum, it| sum * 1_000 + it.parse::<u32>().unwrap_or(0))];
+    assert!(of_library == of_crate, "the library is of version {of_library}, and the crate of {of_crate} (0.2.0 is 2000)");
 }
 
 /// The items in a block that is as long as they are, or in the one where they stand if there is no memory for that.

@@ -40,6 +40,10 @@ impl<K: Kind> Table<K> {
     /// # Errors
     ///
     /// The errors are tested in the order of [`OpenError`], and nothing is kept then.
+    ///
+    /// # Panics
+    ///
+    /// Where the library that the program was linked with isn't of the crate's version; so of each opening.
     pub fn open(shape: Shape, handles: usize) -> Result<Vec<HandleOf<K>>, OpenError> {
         HandleOf::open(shape, handles)
     }
