@@ -134,7 +134,11 @@ pub fn value_of<N: Nodes>(slots: &Slots<N>, pass: &mut Pass, node: &Held) -> Res
 /// As [`vbr_at_table::birth_after`], by a pass, whose steps are counted: two, or none where the link names
 /// nothing.
 #[inline]
-pub fn birth_after<N: Nodes>(slots: &Slots<N>, pass: &mut Pass, held: &Held) -> Result<u64, Rollback>
+pub fn birth_after<N: Nodes>(
+    slots: &Slots<N>,
+    pass: &mut Pass,
+    held: &Held,
+) -> Result<u64, Rollback>
     requires own { IsOf pass.old.trace slots.now }
     requires held { IsHeld (knows pass.old.trace) held.now }
     ensures reads { ReadsIn pass.old pass.new (steps_to_birth held.now.word) }

@@ -36,7 +36,10 @@ pub fn replace(
             requires hand { IsHandOf stepper.old hand }
         {
             let at = &mut AtTable { slots, stepper };
-            (vbr_at_table::replace(at, held, next_birth, key, value, hand), 4)
+            (
+                vbr_at_table::replace(at, held, next_birth, key, value, hand),
+                4,
+            )
         },
     )
 }

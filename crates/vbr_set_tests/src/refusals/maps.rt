@@ -257,7 +257,8 @@ fn map_is_renewed_with_keys(rt: HostRuntime) {
 
 // Reads a script of a map.
 fn reads(alloc: Global) -> Option<bool> {
-    let text = b"0 insert 5 70\n0 get 5\nsync\n0 insert 6\n0 remove 5\n0 has 5\n0 get 6\n0 get 7\n0 get 8\n";
+    let text =
+        b"0 insert 5 70\n0 get 5\nsync\n0 insert 6\n0 remove 5\n0 has 5\n0 get 6\n0 get 7\n0 get 8\n";
     for refusals in 0..ATTEMPTS {
         match parse_map_script(alloc, text, 1) {
             Ok(script) => {
