@@ -45,4 +45,4 @@ def tool():
 
 def llvm(name, *words, **how):
     """Runs a tool of LLVM, such as llvm-ar: the kit has them as one program, which goes by the name that it is called by."""
-    subprocess.run([name, *words], executable=f"{folder()}/toolchain/bin/clang", check=True, **how)
+    return subprocess.run([name, *words], executable=f"{folder()}/toolchain/bin/clang", check=True, **how)

@@ -110,7 +110,6 @@ pub fn remove(owner: &mut Owner<Member<Keys>>, key: u64, budget: u32) -> i32
 }
 
 /// Looks a key up by the member of a handle, of a set or of a map.
-#[inline(always)]
 pub fn has<N: Nodes>(owner: &mut Owner<Member<N>>, key: u64, budget: u32) -> i32
     ensures { TellsCall Has owner.old.member owner.new.member key budget result }
 {

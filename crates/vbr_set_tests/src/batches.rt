@@ -55,7 +55,7 @@ fn keys_of_a_set(rt: HostRuntime) -> Result<(), Fail> {
         assert_eq!(rt; answers[i], Ok(i % 2 == 1));
         assert_eq!(rt; one.has(keys[i], BUDGET), answers[i]);
     }
-    assert_eq!(rt; one.pass().steps() - before, other.pass().steps());
+    assert_eq!(rt; one.pass().steps().wrapping_sub(before), other.pass().steps());
     Ok(())
 }
 
@@ -75,7 +75,7 @@ fn keys_of_a_map(rt: HostRuntime) -> Result<(), Fail> {
         assert_eq!(rt; answers[i], Ok(is_odd));
         assert_eq!(rt;
             values[i],
-            Ok(if is_odd { Some(10 * keys[i]) } else { None })
+            Ok(if is_odd { Some(10 * i as u64) } else { None })
         );
     }
     Ok(())

@@ -32,7 +32,6 @@ pub fn remove(owner: &mut Owner<MapMember>, key: u64, budget: u32, value: &mut u
 }
 
 /// Looks a key up by the member of a handle, and writes the value that is stored with it.
-#[inline(always)]
 pub fn get(owner: &mut Owner<MapMember>, key: u64, budget: u32, value: &mut u64) -> i32
     ensures { TellsGetEntry owner.old.member owner.new.member key budget value.old value.new
         result }
