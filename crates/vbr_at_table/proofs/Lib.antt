@@ -42,3 +42,4 @@ mod OfKeys
 mod Replacements
 pub mod Lemmas
 mod GivingSlotsBack
+mod Reserves

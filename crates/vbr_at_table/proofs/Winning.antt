@@ -61,7 +61,7 @@ pub record Winning (p q : PassView) (budget used start next end : ℕ) : Type 0 
   pub second : end ≡ start → Probed q.trace (word_of_flag start + gained_by_now p.trace) (flag_words p.trace.start.shape.slots) used next
 
 -- what comes next is no further than the next word
-next_low : (word slot next : ℕ) → IsNextFlag word slot next → next ≤ 64 * (slot / 64 + 1)
+pub next_low : (word slot next : ℕ) → IsNextFlag word slot next → next ≤ 64 * (slot / 64 + 1)
 next_low word slot next is = ⊎_elim (λ (here : (word_of_flag next ≡ word_of_flag slot) × (has_flag word next ≡ true)). (let same = here.0 in omega arith)) (λ (past : (word ≡ 0) × (next ≡ 64 * (slot / 64 + 1))). (let e = past.1 in omega arith)) is.place
 
 -- one more flag was lost

@@ -28,4 +28,5 @@ pub mod Marks
 pub mod Exchanges
 pub mod Values
 pub mod Replacing
+pub mod Reserving
 pub mod Messages

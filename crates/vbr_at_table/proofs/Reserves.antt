@@ -1,0 +1,250 @@
+-- Slots come out of the shared pool into the own one, probed in their order.
+use Rattle.std.proofs.Common.{◌≡◌, ◌≢◌, ℕ, suc, ◌+◌, ◌-◌, ◌*◌, ◌/◌, ◌<◌, ◌≤◌, ◌==◌, Bool, true, false, cond, List, [], ◌∷◌, ◌++◌, length, length-append, Option, Some, None, refl, sym, ap, ◌∙◌, subst, append-nil, append_assoc, inl, inr, ⊎_elim, arith}
+use Rattle.std.specs.Prelude.{Contains, min, ◌⊎◌}
+use Rattle.std.proofs.lemmas.Bool.{cases_lt, ne_eqb}
+use Rattle.std.proofs.lemmas.List.Elements.{Contains-append_left, Contains-push, Contains-push_cases}
+use mathlib.Core.Logic.{dite}
+use native.Mathlib.Decide.{ℕ_discrete}
+use Rattle.vbr_words.specs.Flags.{IsNextFlag, has_flag, word_of_flag}
+use Rattle.vbr_machine.specs.Acceptance.{IsFree, IsInHand, MayBear}
+use Rattle.vbr_machine.specs.Knowledge.{Know}
+use Rattle.vbr_machine.specs.Machine.{found}
+use Rattle.vbr_machine.specs.Runs.{Begins, world_after}
+use Rattle.vbr_machine.specs.Start.{Start}
+use Rattle.vbr_machine.specs.declared.event.Event.{Event}
+use Rattle.vbr_machine.specs.declared.event.Step.TheVariants.{TakeFlag}
+use Rattle.vbr_machine.specs.Put.{put}
+use Rattle.vbr_machine.specs.declared.knowledge.Holding.{Holding}
+use Rattle.vbr_machine.specs.declared.knowledge.Holding.TheVariants.{Free, InHand, Unlinked}
+use Rattle.vbr_machine.specs.declared.knowledge.SlotPlace.TheVariants.{Shared}
+use Rattle.vbr_machine.proofs.Lemmas.{begins_trans, flag_shared, flag_won, put_here, put_other}
+use Rattle.vbr_slots.specs.Calls.{Quiet, Took}
+use Rattle.vbr_slots.specs.Pools.{HandFits, OwnPool, hand_without}
+use Rattle.vbr_slots.specs.Views.{Did, KeepsPool, PassView, Trace, event_of, knows}
+use Rattle.vbr_slots.proofs.Lemmas.{did_moment, did_quiet, did_took, moment_after, moment_before, quiet_on, quiet_refl, took_none, took_on}
+use Rattle.vbr_at_table.specs.Counts.{advances, flags_raised}
+use Rattle.vbr_at_table.specs.KeptSlots.{GoesInTurn, HasFree, HasSlot, KeepsSlots, PoolGrows, StampsUnlinked}
+use Rattle.vbr_at_table.specs.Reserving.{IsMissed, Reserves, ReservesFrom, TakesFlags, WasTaken, flags_tried, is_take, most_kept}
+use Rattle.vbr_at_table.specs.SharedPool.{WasOutside}
+use Rattle.vbr_at_table.proofs.Advancing.{did_made, did_stamps, grows_on, grows_same, keeps_known, keeps_refl, longer, same_advances, same_flags, slots_kept_on}
+use Rattle.vbr_at_table.proofs.InTurn.{did_turn}
+use Rattle.vbr_at_table.proofs.Shown.{flag_shown, in_pool, missed, missed_after, missed_before}
+use Rattle.vbr_at_table.proofs.Winning.{next_low}
+
+-- ---- what is taken, from step to step
+
+pub takes_none : (p : PassView) → TakesFlags p p 0
+takes_none p = record {
+  took = took_none p.trace;
+  tries = omega arith;
+  grows = grows_same p p refl;
+  each = λ slot there. inl there;
+  hand = refl;
+  quiet = quiet_refl p.trace;
+  kept = keeps_refl p;
+  raised = refl;
+  advances = refl;
+}
+
+taken_before : {p q r : Trace} {slot : ℕ} → WasTaken p q slot → Quiet q r → WasTaken p r slot
+taken_before {p} {q} {r} a b = record { moment = a.moment; is = moment_before a.is b; shared = a.shared; taken = begins_trans _ q.seen r.seen a.taken b.seen }
+
+taken_after : {p q r : Trace} {slot : ℕ} → Quiet p q → WasTaken q r slot → WasTaken p r slot
+taken_after {p} {q} {r} {slot} a b = record {
+  moment = b.moment;
+  is = moment_after a.seen b.is;
+  shared = subst (λ (start : Start). (world_after start b.moment).place slot ≡ Shared) a.same.start b.shared;
+  taken = subst (λ (who : ℕ). Begins (b.moment ++ event_of who (TakeFlag slot) ∷ []) r.seen) a.same.who b.taken;
+}
+
+pub takes_on : {p q r : PassView} (n m : ℕ) → TakesFlags p q n → TakesFlags q r m → TakesFlags p r (n + m)
+takes_on {p} {q} {r} n m a b = record {
+  took = took_on n m a.took b.took;
+  tries = let x = a.tries in let y = b.tries in omega (arith, x, y);
+  grows = grows_on p q r a.grows b.grows;
+  each = λ s there. ⊎_elim (λ earlier. ⊎_elim (λ first. inl first) (λ taken. inr (taken_before taken b.quiet)) (a.each s earlier)) (λ later. inr (taken_after a.quiet later)) (b.each s there);
+  hand = b.hand ∙ a.hand;
+  quiet = quiet_on a.quiet b.quiet;
+  kept = slots_kept_on p q r a.kept b.kept;
+  raised = b.raised ∙ a.raised;
+  advances = b.advances ∙ a.advances;
+}
+
+-- a flag was lost
+pub takes_lost : {p q : PassView} {slot n : ℕ} → Did (TakeFlag slot) p.trace q.trace n → has_flag n slot ≡ false → KeepsPool p q → TakesFlags p q 1
+takes_lost {p} {q} {slot} {n} d lost keeps =
+    let lost_flag : (a b : Know) → cond (has_flag n slot) a b ≡ b = λ a b. ap (λ (t : Bool). cond t a b) lost in
+    let know : knows q.trace ≡ knows p.trace = d.know ∙ lost_flag _ (knows p.trace) in
+    record {
+      took = did_took d;
+      tries = did_made is_take d;
+      grows = grows_same p q keeps.0;
+      each = λ s there. inl (subst (λ xs. Contains xs s) keeps.0 there);
+      hand = keeps.1;
+      quiet = did_quiet d (λ know. refl);
+      kept = keeps_known p q keeps (did_turn d) (λ s. ap (λ (k : Know). k.own s) know);
+      raised = same_flags d refl;
+      advances = same_advances d refl;
+    }
+
+-- a slot whose flag was won isn't in hand
+pub hand_stays : {start : Start} (p : PassView) {q : PassView} {slot n : ℕ} → Did (TakeFlag slot) p.trace q.trace n → has_flag n slot ≡ true → OwnPool start (knows q.trace) q.pool q.hand → hand_without slot q.hand ≡ q.hand
+hand_stays {start} p {q} {slot} {n} d won own =
+    let won_flag : (a b : Know) → cond (has_flag n slot) a b ≡ a = λ a b. ap (λ (t : Bool). cond t a b) won in
+    let now = ap (λ (k : Know). k.own slot) (d.know ∙ won_flag _ (knows p.trace)) ∙ put_here (knows p.trace).own slot _ in
+    other q.hand (λ is. neither ((knows q.trace).own slot) (subst IsFree (sym now) tt) (subst (HandFits start (knows q.trace) q.pool) is own.in_hand).1)
+  where
+    neither : (holding : Option Holding) → IsFree holding → IsInHand holding → ⊥
+    neither None a b = a
+    neither (Some (Free stamp)) a b = b
+    neither (Some (Unlinked reread)) a b = a
+    neither (Some (InHand known)) a b = a
+
+    other : (h : Option ℕ) → h ≢ Some slot → hand_without slot h ≡ h
+    other None apart = refl
+    other (Some s) apart = ap (λ (b : Bool). cond b None (Some s)) (ne_eqb s slot (λ e. apart (ap Some e)))
+
+-- a flag was won, and the slot is kept
+module _ {p q r : PassView} {slot n : ℕ} (d : Did (TakeFlag slot) p.trace q.trace n) (won : has_flag n slot ≡ true) (keeps : KeepsPool p q) (same : r.trace ≡ q.trace) (pool : r.pool ≡ q.pool ++ slot ∷ []) (hand : r.hand ≡ q.hand) where
+  pool_is : r.pool ≡ p.pool ++ slot ∷ []
+  pool_is = pool ∙ ap (λ xs. xs ++ slot ∷ []) keeps.0
+
+  has_kept : (s : ℕ) → HasSlot p s → HasSlot r s
+  has_kept s (inl c) = inl (subst (λ xs. Contains xs s) (sym pool_is) (Contains-append_left p.pool (slot ∷ []) s c))
+  has_kept s (inr h) = inr (hand ∙ keeps.1 ∙ h)
+
+  won_know : (a b : Know) → cond (has_flag n slot) a b ≡ a
+  won_know a b = ap (λ (t : Bool). cond t a b) won
+
+  others_own : (s : ℕ) → s ≢ slot → (knows q.trace).own s ≡ (knows p.trace).own s
+  others_own s other = ap (λ (k : Know). k.own s) (d.know ∙ won_know _ (knows p.trace)) ∙ put_other (knows p.trace).own _ _ s other
+
+  free : HasFree p r
+  free s could = dite (ℕ_discrete s slot)
+      (λ (is : s ≡ slot). inl (subst (λ xs. Contains xs s) (sym pool_is) (subst (λ x. Contains (p.pool ++ slot ∷ []) x) (sym is) (Contains-push p.pool slot))))
+      (λ (other : s ≢ slot). has_kept s (could.1 (subst MayBear (ap (λ (t : Trace). (knows t).own s) same ∙ others_own s other) could.0)))
+
+  now_taken : WasTaken p.trace q.trace slot
+  now_taken =
+      let moment = p.trace.seen ++ d.rest in
+      record {
+        moment = moment;
+        is = did_moment d;
+        shared = in_pool _ (flag_shared p.trace.start (world_after p.trace.start moment) slot (flag_won slot n (found p.trace.start (world_after p.trace.start moment) (TakeFlag slot)) (flag_shown d) won));
+        taken = ([], d.seen ∙ sym (append-nil (moment ++ event_of p.trace.who (TakeFlag slot) ∷ [])));
+      }
+
+  at_trace : (P : Trace → Type 0) → P q.trace → P r.trace
+  at_trace P x = subst P (sym same) x
+
+  pub takes_won : TakesFlags p r 1
+  takes_won = record {
+    took = at_trace (λ t. Took p.trace t 1) (did_took d);
+    tries = at_trace (λ t. flags_tried t ≡ flags_tried p.trace + 1) (did_made is_take d);
+    grows = (slot ∷ [], pool_is);
+    each = λ s there. ⊎_elim (λ before. inl before) (λ (is : slot ≡ s). inr (subst (WasTaken p.trace r.trace) is (at_trace (λ t. WasTaken p.trace t slot) now_taken))) (Contains-push_cases p.pool slot s (subst (λ xs. Contains xs s) pool_is there));
+    hand = hand ∙ keeps.1;
+    quiet = at_trace (Quiet p.trace) (did_quiet d (λ know. refl));
+    kept = record {
+      free = free;
+      stamped = at_trace (λ t. StampsUnlinked p.trace t) (did_stamps d refl);
+      turn = at_trace (λ t. GoesInTurn p.trace t) (did_turn d);
+    };
+    raised = at_trace (λ t. flags_raised t ≡ flags_raised p.trace) (same_flags d refl);
+    advances = at_trace (λ t. advances t ≡ advances p.trace) (same_advances d refl);
+  }
+
+-- ---- the way from one slot to another
+
+-- so many steps were made, and each slot before the next one was taken, or was outside
+pub record Reserving (p q : PassView) (from next to full used : ℕ) : Type 0 where
+  pub takes : TakesFlags p q used
+  pub most : (q.pool ≡ p.pool) ⊎ (length q.pool ≤ full)
+  pub ahead : (slot : ℕ) → slot < p.trace.start.shape.slots → from ≤ slot → slot < next → IsMissed p q slot
+  pub few : used + from ≤ next
+  pub within : used ≤ to - from
+
+pub reserving_none : (p : PassView) (from to most : ℕ) → Reserving p p from from to most 0
+reserving_none p from to most = record { takes = takes_none p; most = inl refl; ahead = λ slot low above below. absurd (omega (arith, above, below)); few = omega arith; within = omega arith }
+
+missed_on : (p : PassView) {q r : PassView} {n : ℕ} {slot : ℕ} → IsMissed p q slot → TakesFlags q r n → IsMissed p r slot
+missed_on p {slot = slot} (inl there) b = inl (subst (λ xs. Contains xs slot) (sym b.grows.1) (Contains-append_left _ b.grows.0 slot there))
+missed_on p (inr out) b = inr (missed_before out b.quiet)
+
+-- one that was taken
+pub reserving_won : {p q r : PassView} {from slot to most used : ℕ} → Reserving p q from slot to most used → slot < to → TakesFlags q r 1 → r.pool ≡ q.pool ++ slot ∷ [] → length q.pool < most → Reserving p r from (slot + 1) to most (used + 1)
+reserving_won {p} {q} {r} {from} {slot} {to} {most} {used} at below_to b pool low = record {
+  takes = takes_on used 1 at.takes b;
+  most = inr (let e : length r.pool ≡ length q.pool + 1 = ap length pool ∙ length-append q.pool (slot ∷ []) in omega (arith, e, low));
+  ahead = λ s in_shape above below. dite (ℕ_discrete s slot)
+      (λ (is : s ≡ slot). inl (subst (λ xs. Contains xs s) (sym pool) (subst (λ x. Contains (q.pool ++ slot ∷ []) x) (sym is) (Contains-push q.pool slot))))
+      (λ (other : s ≢ slot). missed_on p (at.ahead s in_shape above (omega (arith, below, other))) b);
+  few = let f = at.few in omega (arith, f);
+  within = let f = at.few in omega (arith, f, below_to);
+}
+
+-- one that was outside, and those up to the next one
+pub reserving_lost : {p q r : PassView} {from slot next to most used n : ℕ} → Reserving p q from slot to most used → slot < to → Did (TakeFlag slot) q.trace r.trace n → has_flag n slot ≡ false → KeepsPool q r → slot < next → ((s : ℕ) → s < q.trace.start.shape.slots → slot ≤ s → s < next → WasOutside q.trace r.trace s)
+    → Reserving p r from next to most (used + 1)
+reserving_lost {p} {q} {r} {from} {slot} {next} {to} {most} {used} at below_to d lost keeps on outside =
+    let b = takes_lost d lost keeps in
+    record {
+      takes = takes_on used 1 at.takes b;
+      most = ⊎_elim (λ same. inl (keeps.0 ∙ same)) (λ few. inr (subst (λ xs. length xs ≤ most) (sym keeps.0) few)) at.most;
+      ahead = λ s in_shape above below. ⊎_elim
+          (λ (earlier : s < slot). missed_on p (at.ahead s in_shape above earlier) b)
+          (λ (later : slot ≤ s). inr (missed_after at.takes.quiet (outside s (subst (λ (start : Start). s < start.shape.slots) (sym at.takes.quiet.same.start) in_shape) later below)))
+          (cases_lt s slot);
+      few = let f = at.few in omega (arith, f, on);
+      within = let f = at.few in omega (arith, f, below_to);
+    }
+
+-- the slots up to the lowest flag of the word, where that is behind
+pub up_to_next : {p q : Trace} {slot next n : ℕ} → Did (TakeFlag slot) p q n → has_flag n slot ≡ false → IsNextFlag n slot next → (s : ℕ) → s < p.start.shape.slots → slot ≤ s → s < next → WasOutside p q s
+up_to_next {p} {q} {slot} {next} {n} d lost then s low above below =
+    let past = next_low n slot next then in
+    let same : s / 64 ≡ slot / 64 = omega (arith, past, above, below) in
+    missed d lost s low same (then.before s same below)
+
+-- the slot alone
+pub up_to_it : {p q : Trace} {slot n : ℕ} → Did (TakeFlag slot) p q n → has_flag n slot ≡ false → (s : ℕ) → s < p.start.shape.slots → slot ≤ s → s < slot + 1 → WasOutside p q s
+up_to_it {p} {q} {slot} {n} d lost s low above below =
+    let same : s ≡ slot = omega (arith, above, below) in
+    missed d lost s low (ap word_of_flag same) (ap (has_flag n) same ∙ lost)
+
+-- at the end
+pub reserves_from : {p q : PassView} {from next to most used : ℕ} → Reserving p q from next to most used → (to ≤ next) ⊎ (most ≤ length q.pool) → to ≤ p.trace.start.shape.slots → ReservesFrom p q from to most used
+reserves_from {p} {q} {from} {next} {to} {most} at ends low = record {
+  takes = at.takes;
+  most = at.most;
+  enough = ⊎_elim (λ (over : to ≤ next). inr (λ slot below above. at.ahead slot (omega (arith, below, low)) above (omega (arith, below, over)))) (λ full. inl full) ends;
+  few = at.within;
+}
+
+-- ---- once round
+
+by_names : {p q r : PassView} {start wanted taken first second : ℕ} → ReservesFrom p q start p.trace.start.shape.slots (most_kept wanted) first → ReservesFrom q r 0 start (most_kept wanted) second → length r.pool ≡ length p.pool + taken → Reserves p r wanted taken (first + second)
+by_names {p} {q} {r} {start} {wanted} {taken} {first} {second} a b count = record {
+  takes = takes_on first second a.takes b.takes;
+  count = count;
+  most = ⊎_elim (λ (same : r.pool ≡ q.pool). ⊎_elim (λ before. inl (same ∙ before)) (λ few. inr (subst (λ xs. length xs ≤ most_kept wanted) (sym same) few)) a.most) (λ few. inr few) b.most;
+  enough = ⊎_elim
+      (λ (full : most_kept wanted ≤ length q.pool). inl (let more = longer q r b.takes.grows in omega (arith, full, more)))
+      (λ (above : (slot : ℕ) → slot < p.trace.start.shape.slots → start ≤ slot → IsMissed p q slot).
+      ⊎_elim (λ full. inl full)
+          (λ (below : (slot : ℕ) → slot < start → 0 ≤ slot → IsMissed q r slot).
+          inr (λ slot low. ⊎_elim
+              (λ (under : slot < start). ⊎_elim (λ there. inl there) (λ out. inr (missed_after a.takes.quiet out)) (below slot under (omega arith)))
+              (λ (over : start ≤ slot). missed_on p (above slot low over) b.takes)
+              (cases_lt slot start)))
+          b.enough)
+      a.enough;
+}
+
+pub reserves_round : {p q r : PassView} {start to full wanted taken first second : ℕ} → to ≡ p.trace.start.shape.slots → full ≡ most_kept wanted → ReservesFrom p q start to full first → ReservesFrom q r 0 start full second → length r.pool ≡ length p.pool + taken → Reserves p r wanted taken (first + second)
+reserves_round {p} {q} {r} {start} {to} {full} {wanted} {taken} {first} {second} end is a b count =
+    by_names (subst (λ (x : ℕ × ℕ). ReservesFrom p q start x.0 x.1 first) (λ i. (end i, is i)) a) (subst (λ (x : ℕ). ReservesFrom q r 0 start x second) is b) count
+
+-- how many were taken
+pub grown_by : (p q : PassView) → PoolGrows p q → (taken : ℕ) → taken ≡ length q.pool - length p.pool → length q.pool ≡ length p.pool + taken
+grown_by p q grows taken is = let more = longer p q grows in omega (arith, is, more)
