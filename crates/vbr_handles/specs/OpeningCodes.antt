@@ -1,5 +1,5 @@
 -- What an opening of handles tells as a number.
-use Rattle.std.specs.Prelude.{◌≡◌, ℤ, List, Option, Result}
+use Rattle.std.specs.Prelude.{◌≡◌, ℕ, ℤ, List, Option, Result}
 use Rattle.vbr_machine.specs.Start.{Start}
 use Rattle.vbr_slots.specs.declared.opening.TheConstants.{MAX_MANY_PASSES, MAX_PASSES}
 use Rattle.vbr_set.specs.Members.{MemberView as Member}
