@@ -5,14 +5,14 @@ use Rattle.std.proofs.lemmas.Bool.{false≢true}
 use Rattle.std.proofs.lemmas.List.{length-map}
 use Rattle.std.proofs.lemmas.List.Elements.{All-head, All-rest, All-same, All-tail}
 use Rattle.vbr_words.specs.Dimensions.{Dimensions}
-use Rattle.vbr_machine.specs.Start.{Start, start_with}
+use Rattle.vbr_machine.specs.Start.{start_with}
 use Rattle.vbr_slots.specs.Views.{PassView, TableView, new_passes}
 use Rattle.vbr_set.specs.Kinds.{KindOf}
 use Rattle.vbr_set.specs.Members.{MemberView as Member, new_members}
 use Rattle.vbr_set.specs.RenewingAll.{HasNoRoom, RenewsAllBy}
 use Rattle.vbr_handles.specs.AllHandles.{AreFull, StaySo, joined, members_by}
 use Rattle.vbr_handles.specs.Listings.{Listing}
-use Rattle.vbr_handles.specs.Opening.{listed_start, spread_shape}
+use Rattle.vbr_handles.specs.Opening.{spread_shape}
 use Rattle.vbr_handles.specs.RenewingAll.{HasMoreThanSlots, RenewsTo}
 use Rattle.vbr_handles.specs.declared.opening.ShapeNumbers.{ShapeNumbers}
 use Rattle.vbr_handles.proofs.AllHandles.{moved}

@@ -1,5 +1,5 @@
 -- How all handles of a set or of a map go on over a fresh one.
-use Rattle.std.specs.Prelude.{◌≡◌, ◌<◌, List, length, Option, Result, Ok, Err}
+use Rattle.std.specs.Prelude.{◌<◌, List, length, Option, Result, Ok, Err}
 use Rattle.vbr_words.specs.Dimensions.{IsShape}
 use Rattle.vbr_set.specs.AllMembers.{ReportsAllBy}
 use Rattle.vbr_set.specs.Closing.{ClosesBy}
