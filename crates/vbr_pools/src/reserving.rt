@@ -1,0 +1,29 @@
+//! Taking slots into the own pool ahead of the calls that need them.
+ghost use Rattle.std.specs.Prelude.{ℕ};
+ghost use Rattle.vbr_slots.specs.Calls.{Took};
+ghost use Rattle.vbr_slots.specs.Views.{IsOf};
+ghost use Rattle.vbr_at_table.specs.Reserving.{Reserves};
+
+use vbr_slots::{AtTable, Pass, Slots, Stepper};
+use vbr_words::Nodes;
+
+/// As [`vbr_at_table::reserve`], by a pass, whose steps are counted. Returns how many slots it took.
+pub fn reserve<N: Nodes>(slots: &Slots<N>, pass: &mut Pass, wanted: u32) -> u32
+    requires own { IsOf pass.old.trace slots.now }
+    ensures { (steps : ℕ) × Reserves pass.old pass.new wanted result steps }
+{
+    pass.during(
+        |stepper|
+            requires own { IsOf stepper.old.trace slots.now }
+        { reserve_by(slots, stepper, wanted) },
+    )
+}
+
+// How many were taken, and how many steps that took.
+fn reserve_by<N: Nodes>(slots: &Slots<N>, stepper: &mut Stepper, wanted: u32) -> (u32, u32)
+    requires own { IsOf stepper.old.trace slots.now }
+    ensures took { Took stepper.old.trace stepper.new.trace result.1 }
+    ensures reserves { Reserves stepper.old stepper.new wanted result.0 result.1 }
+{
+    vbr_at_table::reserve(&mut AtTable { slots, stepper }, wanted)
+}
