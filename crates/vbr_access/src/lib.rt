@@ -11,7 +11,6 @@
 pub mod confirming;
 pub mod marking;
 pub mod reading;
-pub mod replacing;
 pub mod unlinking;
 pub mod updating;
 
@@ -19,8 +18,7 @@ pub use confirming::{
     confirm_absent, confirm_absent_entry, confirm_look_up, confirm_present, confirm_present_entry,
 };
 pub use marking::{mark, mark_entry};
-pub use reading::{birth_after, checkpoint, first, key_of, next, value_of};
-pub use replacing::replace;
+pub use reading::{checkpoint, first, key_of, next, value_of};
 pub use unlinking::unlink;
-pub use updating::{update, update_entry};
+pub use updating::update;
 pub use vbr_at_table::{Checkpoint, Held, Marked, Rollback};

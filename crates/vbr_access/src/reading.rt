@@ -1,9 +1,8 @@
 //! Checkpoints and checked reads.
 ghost use Rattle.std.specs.Prelude.{◌≡◌, ◌<◌, true, IfOk, IfErr};
 ghost use Rattle.vbr_slots.specs.Views.{IsOf, knows};
-ghost use Rattle.vbr_at_table.specs.CallSteps.{steps_to_birth};
 ghost use Rattle.vbr_at_table.specs.Held.{IsSlot, IsHeld};
-ghost use Rattle.vbr_at_table.specs.Reading.{BirthMoved, IsBirthRead, IsCheckpoint, IsHeadRead, IsKeyRead, IsNextRead};
+ghost use Rattle.vbr_at_table.specs.Reading.{IsCheckpoint, IsHeadRead, IsKeyRead, IsNextRead};
 ghost use Rattle.vbr_at_table.specs.Reading.{ReadsIn, RollsBack, steps_to_next};
 ghost use Rattle.vbr_at_table.specs.Values.{IsValueRead};
 
@@ -127,37 +126,6 @@ pub fn value_of<N: Nodes>(slots: &Slots<N>, pass: &mut Pass, node: &Held) -> Res
                 vbr_at_table::value_of(&mut AtTable { slots, stepper }, node),
                 2,
             )
-        },
-    )
-}
-
-/// As [`vbr_at_table::birth_after`], by a pass, whose steps are counted: two, or none where the link names
-/// nothing.
-#[inline]
-pub fn birth_after<N: Nodes>(
-    slots: &Slots<N>,
-    pass: &mut Pass,
-    held: &Held,
-) -> Result<u64, Rollback>
-    requires own { IsOf pass.old.trace slots.now }
-    requires held { IsHeld (knows pass.old.trace) held.now }
-    ensures reads { ReadsIn pass.old pass.new (steps_to_birth held.now.word) }
-    ensures birth { IfOk result (IsBirthRead pass.old pass.new held.now.word) }
-    ensures moved { IfErr result (BirthMoved pass.old pass.new held.now.word) }
-{
-    let used = if decode(held.word).slot.is_some() {
-        2
-    } else {
-        0
-    };
-    pass.during(
-        |stepper|
-            requires own { IsOf stepper.old.trace slots.now }
-            requires held { IsHeld (knows stepper.old.trace) held.now }
-            requires used { used ≡ steps_to_birth held.now.word }
-        {
-            let at = &mut AtTable { slots, stepper };
-            (vbr_at_table::birth_after(at, held), used)
         },
     )
 }

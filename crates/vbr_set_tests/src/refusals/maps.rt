@@ -8,7 +8,7 @@ use std::alloc::Global;
 use vbr_core::{CoreRefusal, World, WorldRefusal, replay_with_entries};
 use vbr_machine::{Op, PlainMap};
 use vbr_script::{ScriptError, parse_map_script};
-use vbr_set::{CloseError, MapReport, OpenError, Pass, RenewError, Shape, VbrMap};
+use vbr_set::{CloseError, MapReport, OpenError, Pass, Shape, VbrMap};
 use vbr_slots::Slots;
 use vbr_words::Entries;
 
@@ -135,15 +135,28 @@ fn open_table(alloc: Global, shape: Shape) -> Option<(Slots<Entries>, Vec<Pass>,
     None
 }
 
+// The words of a table that is closed, and whether memory was refused.
+fn close_table(slots: Slots<Entries>, alloc: Global, passes: Vec<Pass>) -> Option<(Vec<u64>, bool)>
+    requires { AllOf slots passes.items }
+{
+    match slots.close(alloc, passes) {
+        Ok(words) => Some((words, false)),
+        Err(CloseError::Memory(slots, passes)) => match slots.close(alloc, passes) {
+            Ok(words) => Some((words, true)),
+            Err(CloseError::Memory(slots, passes)) => {
+                Some((slots.close(alloc, passes).ok()?, true))
+            }
+            Err(CloseError::Missing(..)) => None,
+        },
+        Err(CloseError::Missing(..)) => None,
+    }
+}
+
 // Opens a table with three entries, and closes it at once.
 fn table_opens(alloc: Global) -> Option<bool> {
     let shape = Shape::new(3, 1, 10).ok()?;
     let (slots, passes, refused) = open_table(alloc, shape)?;
-    let (words, refused_close) = match slots.close(alloc, passes) {
-        Ok(words) => (words, false),
-        Err(CloseError::Memory(slots, passes)) => (slots.close(alloc, passes).ok()?, true),
-        Err(CloseError::Missing(..)) => return None,
-    };
+    let (words, refused_close) = close_table(slots, alloc, passes)?;
     (words.len() == 19).then_some(refused | refused_close)
 }
 
@@ -216,41 +229,6 @@ fn map_tells_and_closes(alloc: Global) -> Option<bool> {
 #[test]
 fn map_tells_and_closes_with_keys(rt: HostRuntime) {
     is_right(&rt, map_tells_and_closes(rt.alloc()));
-}
-
-// A fresh map with the entries of this one, and whether memory was refused. Where nothing is left of the map,
-// the entries of its report go on.
-fn renew(alloc: Global, map: VbrMap, passes: Vec<Pass>) -> Option<(VbrMap, Vec<Pass>, bool)>
-    requires own { AllOf map passes.items }
-    requires two { map.passes ≡ 2 }
-    ensures { IfSome result (λ r. r.1.items ≡ new_passes r.0 0 2) }
-{
-    let shape = map.shape();
-    match map.renew(alloc, passes) {
-        Ok((map, passes)) => Some((map, passes, false)),
-        Err(RenewError::Missing(..)) => None,
-        Err(RenewError::Memory(map, passes)) => {
-            let (map, passes) = map.renew(alloc, passes).ok()?;
-            Some((map, passes, true))
-        }
-        Err(RenewError::Closed(report)) => {
-            let (map, passes) = VbrMap::open_with(alloc, shape, 2, &report.entries).ok()?;
-            has_three(&report).then_some((map, passes, true))
-        }
-    }
-}
-
-// Opens a map with three entries, renews it, and closes it.
-fn map_renews_and_closes(alloc: Global) -> Option<bool> {
-    let (map, passes, refused) = open_map(alloc, Shape::new(4, 2, 10).ok()?)?;
-    let (map, passes, refused_renewal) = renew(alloc, map, passes)?;
-    let (report, refused_close) = close_map(map, alloc, passes)?;
-    has_three(&report).then_some(refused | refused_renewal | refused_close)
-}
-
-#[test]
-fn map_is_renewed_with_keys(rt: HostRuntime) {
-    is_right(&rt, map_renews_and_closes(rt.alloc()));
 }
 
 // ---- a script
