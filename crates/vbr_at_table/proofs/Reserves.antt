@@ -232,12 +232,12 @@ by_names {p} {q} {r} {start} {wanted} {taken} {first} {second} a b count = recor
       (λ (full : most_kept wanted ≤ length q.pool). inl (let more = longer q r b.takes.grows in omega (arith, full, more)))
       (λ (above : (slot : ℕ) → slot < p.trace.start.shape.slots → start ≤ slot → IsMissed p q slot).
       ⊎_elim (λ full. inl full)
-          (λ (below : (slot : ℕ) → slot < start → 0 ≤ slot → IsMissed q r slot).
-          inr (λ slot low. ⊎_elim
-              (λ (under : slot < start). ⊎_elim (λ there. inl there) (λ out. inr (missed_after a.takes.quiet out)) (below slot under (omega arith)))
-              (λ (over : start ≤ slot). missed_on p (above slot low over) b.takes)
-              (cases_lt slot start)))
-          b.enough)
+      (λ (below : (slot : ℕ) → slot < start → 0 ≤ slot → IsMissed q r slot).
+      inr (λ slot low. ⊎_elim
+      (λ (under : slot < start). ⊎_elim (λ there. inl there) (λ out. inr (missed_after a.takes.quiet out)) (below slot under (omega arith)))
+      (λ (over : start ≤ slot). missed_on p (above slot low over) b.takes)
+      (cases_lt slot start)))
+      b.enough)
       a.enough;
 }
 

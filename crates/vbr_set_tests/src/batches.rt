@@ -55,7 +55,10 @@ fn keys_of_a_set(rt: HostRuntime) -> Result<(), Fail> {
         assert_eq!(rt; answers[i], Ok(i % 2 == 1));
         assert_eq!(rt; one.has(keys[i], BUDGET), answers[i]);
     }
-    assert_eq!(rt; one.pass().steps().wrapping_sub(before), other.pass().steps());
+    assert_eq!(rt;
+        one.pass().steps().wrapping_sub(before),
+        other.pass().steps()
+    );
     Ok(())
 }
 

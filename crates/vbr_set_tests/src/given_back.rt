@@ -19,16 +19,14 @@ fn open_members<N: Kind>(
 }
 
 // The member gives back so many slots, a step for each, and keeps so many.
-fn expect_given<N: Kind>(
-    rt: &impl Abort,
-    one: &mut member::Member<N>,
-    wanted: u32,
-    kept: usize,
-) {
+fn expect_given<N: Kind>(rt: &impl Abort, one: &mut member::Member<N>, wanted: u32, kept: usize) {
     let before = one.pass().steps();
     let given = one.give_slots_back();
     assert_eq!(rt; given, wanted);
-    assert_eq!(rt; one.pass().steps().saturating_sub(before), u64::from(wanted));
+    assert_eq!(rt;
+        one.pass().steps().saturating_sub(before),
+        u64::from(wanted)
+    );
     assert_eq!(rt; one.pass().pool().len(), kept);
 }
 
@@ -36,7 +34,9 @@ fn expect_given<N: Kind>(
 #[test]
 fn slots_of_a_set_are_given_back(rt: HostRuntime) -> Result<(), Fail> {
     let members = open_members(&rt, rt.alloc(), 2, 2);
-    let [mut one, mut other] = <[Member; 2]>::try_from(members).ok().expect(&rt, "two members");
+    let [mut one, mut other] = <[Member; 2]>::try_from(members)
+        .ok()
+        .expect(&rt, "two members");
     for key in 1..3 {
         expect_insert(&rt, &mut one, key, true);
         expect_remove(&rt, &mut one, key, true);
@@ -58,7 +58,9 @@ fn slots_of_a_set_are_given_back(rt: HostRuntime) -> Result<(), Fail> {
 #[test]
 fn slots_of_a_map_are_given_back(rt: HostRuntime) -> Result<(), Fail> {
     let members = open_members(&rt, rt.alloc(), 1, 2);
-    let [mut one, mut other] = <[MapMember; 2]>::try_from(members).ok().expect(&rt, "two members");
+    let [mut one, mut other] = <[MapMember; 2]>::try_from(members)
+        .ok()
+        .expect(&rt, "two members");
     assert_eq!(rt; one.insert(1, 70, 100), Ok(true));
     assert_eq!(rt; one.remove(1, 100), Ok(Some(70)));
     assert_eq!(rt; other.insert(2, 71, 100), Err(Refusal::NoSlot));
@@ -73,7 +75,9 @@ fn slots_of_a_map_are_given_back(rt: HostRuntime) -> Result<(), Fail> {
 #[test]
 fn a_slot_that_was_in_hand_stays(rt: HostRuntime) -> Result<(), Fail> {
     let members = open_members(&rt, rt.alloc(), 2, 1);
-    let [mut one] = <[Member; 1]>::try_from(members).ok().expect(&rt, "a member");
+    let [mut one] = <[Member; 1]>::try_from(members)
+        .ok()
+        .expect(&rt, "a member");
     assert_eq!(rt; one.insert(5, 14), Err(Refusal::OutOfSteps { used: 7 }));
     expect_given(&rt, &mut one, 0, 1);
     expect_insert(&rt, &mut one, 5, true);
@@ -86,7 +90,9 @@ fn a_slot_that_was_in_hand_stays(rt: HostRuntime) -> Result<(), Fail> {
 #[test]
 fn a_dropped_member_leaves_its_slots(rt: HostRuntime) -> Result<(), Fail> {
     let members = open_members(&rt, rt.alloc(), 1, 2);
-    let [mut one, mut other] = <[Member; 2]>::try_from(members).ok().expect(&rt, "two members");
+    let [mut one, mut other] = <[Member; 2]>::try_from(members)
+        .ok()
+        .expect(&rt, "two members");
     expect_insert(&rt, &mut one, 1, true);
     expect_remove(&rt, &mut one, 1, true);
     assert_eq!(rt; other.insert(2, 100), Err(Refusal::NoSlot));

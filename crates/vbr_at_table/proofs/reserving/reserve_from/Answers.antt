@@ -9,9 +9,9 @@ loop-slot-preserved-in-Ok g c =
     let hand = c.keep.ensures.hand ∙ hand_stays c.loop-slot.at.stepper.now won.did won.there c.law.ensures.own in (
       record { pass = c.keep.ensures.table.pass ∙ c.take_flag.ensures.table.pass ∙ c.loop-slot.invariant.0.pass; slots = c.keep.ensures.table.slots ∙ c.take_flag.ensures.table.slots ∙ c.loop-slot.invariant.0.slots },
       reserving_won c.loop-slot.invariant.1 c.loop-slot-test.true
-      (takes_won won.did won.there won.keeps c.keep.ensures.trace c.keep.ensures.pool hand)
-      (c.keep.ensures.pool ∙ ap (λ (xs : List ℕ). xs ++ c.loop-slot.slot ∷ []) won.keeps.0)
-      (subst (λ (xs : List ℕ). length xs < c.args.most) c.pool.ensures.pool c.if-pool-most.true),
+          (takes_won won.did won.there won.keeps c.keep.ensures.trace c.keep.ensures.pool hand)
+          (c.keep.ensures.pool ∙ ap (λ (xs : List ℕ). xs ++ c.loop-slot.slot ∷ []) won.keeps.0)
+          (subst (λ (xs : List ℕ). length xs < c.args.most) c.pool.ensures.pool c.if-pool-most.true),
     )
 
 pub loop-slot-preserved-then-slot-next : goal.loop-slot-preserved-then-slot-next
