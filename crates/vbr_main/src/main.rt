@@ -7,10 +7,10 @@ mod progress;
 use crate::progress::Progress;
 use std::alloc::{AllocError, Global};
 use std::fs::File;
-use std::io::{ErrorKind, IsTerminal, Write};
+use std::io::{ErrorKind, IsTerminal};
 use std::process::ExitCode;
 use std::{env, io};
-use vbr_run::{Gate, NoGate};
+use vbr_run::NoGate;
 
 fn main(rt: HostRuntime) -> ExitCode {
     let alloc = rt.alloc();
@@ -22,37 +22,36 @@ fn main(rt: HostRuntime) -> ExitCode {
         Ok(texts) => texts,
         Err(error) => return refused(&rt, &io::Error::from(error)),
     };
+    let files = |name: &str| File::open(&rt, name);
+    let mut reader = rt.stdin();
     let (mut output, mut errors) = (rt.stdout(), rt.stderr());
     if !errors.is_terminal() {
-        return run(&rt, &texts, &mut output, &mut errors, &NoGate);
+        let status = vbr_run::run(
+            &rt,
+            alloc,
+            &texts,
+            &mut reader,
+            &files,
+            &mut output,
+            &mut errors,
+            &NoGate,
+        );
+        return ExitCode::from(status);
     }
     let line = Progress::new(errors);
-    let (mut output, mut errors) = (line.ahead_of(output), line.ahead_of(errors));
-    let status = run(&rt, &texts, &mut output, &mut errors, &line);
-    line.erase();
-    status
-}
-
-// Does what the arguments ask for, on standard input or a file, and with these writers.
-fn run<W: Write, E: Write, G: Gate + Sync>(
-    rt: &HostRuntime,
-    texts: &[&str],
-    writer: &mut W,
-    errors: &mut E,
-    gate: &G,
-) -> ExitCode {
-    let files = |name: &str| File::open(rt, name);
-    let mut reader = rt.stdin();
+    let mut output = line.ahead_of(output);
+    let mut errors = line.ahead_of(errors);
     let status = vbr_run::run(
-        rt,
-        rt.alloc(),
-        texts,
+        &rt,
+        alloc,
+        &texts,
         &mut reader,
         &files,
-        writer,
-        errors,
-        gate,
+        &mut output,
+        &mut errors,
+        &line,
     );
+    line.erase();
     ExitCode::from(status)
 }
 

@@ -55,17 +55,19 @@ const UNKNOWN: &[u8] = b"'; --help has the names\n";
 /// # Example
 ///
 /// ```rattle file=crates/vbr_main/src/main.rt
-/// let files = |name: &str| File::open(rt, name);
+/// let files = |name: &str| File::open(&rt, name);
 /// let mut reader = rt.stdin();
+/// let (mut output, mut errors) = (rt.stdout(), rt.stderr());
+/// // ...
 /// let status = vbr_run::run(
-///     rt,
-///     rt.alloc(),
-///     texts,
+///     &rt,
+///     alloc,
+///     &texts,
 ///     &mut reader,
 ///     &files,
-///     writer,
-///     errors,
-///     gate,
+///     &mut output,
+///     &mut errors,
+///     &line,
 /// );
 /// ```
 pub fn run<
