@@ -1,5 +1,6 @@
 //! Stores where two passes meet: what one call finds of another that stands still on the way.
-use crate::entries::{Made, Row, expect};
+use crate::entries::Made;
+use crate::rows::{Row, expect};
 use std::alloc::Global;
 use std::process::Abort;
 use std::test::Fail;
@@ -7,14 +8,14 @@ use vbr_list::Wanted;
 
 // Pass 0 has inserted key 1, and pass 1 has replaced its value, 101, by 201, with no steps left to unlink the
 // old node. So the head names slot 0, which is marked, and that names slot 1.
-const REPLACED: [Row<'static>; 2] = [
+const REPLACED: [Row<'static, Made>; 2] = [
     Row::Call(0, 100, Made::Insert(1, 101, Ok(true))),
     Row::Call(1, 34, Made::Store(1, 201, Wanted::Present, Ok(Some(101)))),
 ];
 
 // Pass 0 has inserted key 1, and pass 1 has removed it, with no steps left to unlink its node. So the head
 // names slot 0, which is marked.
-const REMOVED: [Row<'static>; 2] = [
+const REMOVED: [Row<'static, Made>; 2] = [
     Row::Call(0, 100, Made::Insert(1, 101, Ok(true))),
     Row::Call(1, 18, Made::Remove(1, Ok(Some(101)))),
 ];
@@ -34,7 +35,7 @@ struct Stored {
 fn expect_after(
     rt: &impl Abort,
     alloc: Global,
-    before: [Row<'static>; 2],
+    before: [Row<'static, Made>; 2],
     value: Option<u64>,
     stored: Stored,
 ) -> Result<(), Fail> {
