@@ -199,10 +199,10 @@ fn close_map(map: VbrMap, alloc: Global, passes: Vec<Pass>) -> Option<(MapReport
 }
 
 // What is in a map that stays open, and whether memory was refused.
-fn tell(map: &VbrMap, alloc: Global, passes: &mut [Pass]) -> Option<(MapReport, bool)>
-    requires of_map { AllOf map.now passes.old }
-    requires all { map.now.passes ≤ length passes.old }
-    ensures { passes.new ≡ passes.old }
+fn tell(map: &VbrMap, alloc: Global, passes: &mut Vec<Pass>) -> Option<(MapReport, bool)>
+    requires of_map { AllOf map.now passes.old.items }
+    requires all { map.now.passes ≤ length passes.old.items }
+    ensures { passes.new.items ≡ passes.old.items }
 {
     for refusals in 0..ATTEMPTS {
         if let Ok(report) = map.report(alloc, passes) {
