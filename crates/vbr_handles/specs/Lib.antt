@@ -19,3 +19,4 @@ pub mod Shown
 pub mod Reports
 pub mod Renewals
 pub mod GivingBack
+pub mod Reserving

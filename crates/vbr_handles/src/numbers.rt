@@ -17,6 +17,7 @@ pub mod batches;
 pub mod entries;
 pub mod giving_back;
 pub mod iterating;
+pub mod reserving;
 
 use crate::closing::CloseRefusal;
 use crate::closing_all::CloseAllRefusal;

@@ -19,6 +19,7 @@ use Rattle.vbr_slots.specs.Views.{Did, KeepsPool, PassView, TableView, Trace, ne
 use Rattle.vbr_slots.specs.declared.pass.TheConstants.{POOL}
 use Rattle.vbr_at_table.specs.GivingSlotsBack.{GivesSlotsBack}
 use Rattle.vbr_at_table.specs.KeptSlots.{UnlinkedInTurn}
+use Rattle.vbr_at_table.specs.Reserving.{Reserves}
 use Rattle.vbr_list.specs.Budgets.{LacksSteps, listed_for}
 use Rattle.vbr_list.specs.Disturbed.{enough_among, enough_to_insert_among, enough_to_search_among, enough_to_store_among, most_disturbed, steps_for_slot, steps_to_prepare}
 use Rattle.vbr_list.specs.Expecting.{CallsRemoveIf}
@@ -79,21 +80,23 @@ CallsStayInOrder =
 
 -- ---- room
 
--- a pass has all its slots when it is opened, and behind each call of a set or a map, answered or refused, each meeting, each catching up and each giving back of its slots
+-- a pass has all its slots when it is opened, and behind each call of a set or a map, answered or refused, each meeting, each catching up, and each giving back and each reserve of slots
 pub record PassesHaveAllTheirSlots : Type 0 where
   pub opened : (set : TableView) (who : ℕ) → HasAllSlots (new_pass set who)
   pub called : (op : Op) (m n : MemberView) → HasAllSlots m.pass → IsCall op m n → HasAllSlots n.pass
   pub met : (p q : PassView) (epoch : ℕ) → HasAllSlots p → Did ReadEpoch p.trace q.trace epoch → KeepsPool p q → HasAllSlots q
   pub caught : (set : TableView) (p q : PassView) (token : SeenView) → HasAllSlots p → CatchesUp set p token q → HasAllSlots q
   pub gave : (p q : PassView) (shared : ℕ) → HasAllSlots p → GivesSlotsBack p q shared → HasAllSlots q
+  pub reserved : (p q : PassView) (wanted taken steps : ℕ) → HasAllSlots p → Reserves p q wanted taken steps → HasAllSlots q
 
--- a pass has unlinked in turn when it is opened, and behind each call of a set or a map, answered or refused, each meeting, each catching up and each giving back of its slots
+-- a pass has unlinked in turn when it is opened, and behind each call of a set or a map, answered or refused, each meeting, each catching up, and each giving back and each reserve of slots
 pub record PassesUnlinkInTurn : Type 0 where
   pub opened : (set : TableView) (who : ℕ) → UnlinkedInTurn (new_trace set who)
   pub called : (op : Op) (m n : MemberView) → HasAllSlots m.pass → UnlinkedInTurn m.pass.trace → IsCall op m n → UnlinkedInTurn n.pass.trace
   pub met : (p q : Trace) (epoch : ℕ) → UnlinkedInTurn p → Did ReadEpoch p q epoch → UnlinkedInTurn q
   pub caught : (set : TableView) (p q : PassView) (token : SeenView) → UnlinkedInTurn p.trace → CatchesUp set p token q → UnlinkedInTurn q.trace
   pub gave : (p q : PassView) (shared : ℕ) → HasAllSlots p → UnlinkedInTurn p.trace → GivesSlotsBack p q shared → UnlinkedInTurn q.trace
+  pub reserved : (p q : PassView) (wanted taken steps : ℕ) → HasAllSlots p → UnlinkedInTurn p.trace → Reserves p q wanted taken steps → UnlinkedInTurn q.trace
 
 -- a pass that has unlinked in turn had at most one slot unlinked and not yet stamped at each moment of what it has seen
 abbrev pub OneUnstampedAtEachMoment : Type 0

@@ -12,6 +12,7 @@ pub mod map_calls;
 pub mod meeting;
 pub mod opening;
 pub mod renewing_all;
+pub mod reserving;
 mod share;
 mod sharing;
 mod stake;

@@ -8,6 +8,7 @@ pub mod meeting;
 pub mod opening;
 pub mod renewing;
 pub mod reporting;
+pub mod reserving;
 pub mod tokens;
 
 ghost use Rattle.std.specs.Prelude.{◌≡◌};

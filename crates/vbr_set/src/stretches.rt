@@ -3,8 +3,8 @@
 ghost use Rattle.vbr_set.specs.Stretches.{MapStretchesMakeProgress, PassesComeByCalls, StretchesDisturb, StretchesMakeProgress};
 
 /// A law: an insert or a store, answered or refused, makes at most one step that would advance the
-/// epoch; each other call makes none, and so it is of going over keys, of meeting others, of catching up
-/// and of giving slots back.
+/// epoch; each other call makes none, and so it is of going over keys, of meeting others, of catching up,
+/// of giving slots back and of reserving some.
 pub fn passes_come_by_calls()
     ensures { PassesComeByCalls }
 {}

@@ -1,4 +1,4 @@
-//! Slots that a member keeps to itself and gives back: rows of a set and of a map.
+//! Slots that a member keeps to itself, gives back, and takes in reserve: rows of a set and of a map.
 ghost use Rattle.std.specs.Prelude.{◌≡◌};
 
 use crate::members::{expect_insert, expect_remove};
@@ -27,6 +27,19 @@ fn expect_given<N: Kind>(rt: &impl Abort, one: &mut member::Member<N>, wanted: u
         one.pass().steps().saturating_sub(before),
         u64::from(wanted)
     );
+    assert_eq!(rt; one.pass().pool().len(), kept);
+}
+
+// The member takes so many slots of those that it wants, and keeps so many then.
+fn expect_reserved<N: Kind>(
+    rt: &impl Abort,
+    one: &mut member::Member<N>,
+    wanted: u32,
+    taken: u32,
+    kept: usize,
+) {
+    let reserved = one.reserve(wanted);
+    assert_eq!(rt; reserved, taken);
     assert_eq!(rt; one.pass().pool().len(), kept);
 }
 
@@ -80,6 +93,8 @@ fn a_slot_that_was_in_hand_stays(rt: HostRuntime) -> Result<(), Fail> {
         .expect(&rt, "a member");
     assert_eq!(rt; one.insert(5, 14), Err(Refusal::OutOfSteps { used: 7 }));
     expect_given(&rt, &mut one, 0, 1);
+    expect_reserved(&rt, &mut one, 2, 1, 2);
+    expect_given(&rt, &mut one, 1, 1);
     expect_insert(&rt, &mut one, 5, true);
     expect_remove(&rt, &mut one, 5, true);
     expect_given(&rt, &mut one, 1, 0);
@@ -98,5 +113,47 @@ fn a_dropped_member_leaves_its_slots(rt: HostRuntime) -> Result<(), Fail> {
     assert_eq!(rt; other.insert(2, 100), Err(Refusal::NoSlot));
     drop(one);
     expect_insert(&rt, &mut other, 2, true);
+    Ok(())
+}
+
+// A reserve is what is wanted, what there is, and never more than 63.
+#[test]
+fn members_reserve_slots(rt: HostRuntime) -> Result<(), Fail> {
+    let members = open_members(&rt, rt.alloc(), 4, 2);
+    let [mut one, mut other] = <[Member; 2]>::try_from(members).ok().expect(&rt, "two members");
+    expect_reserved(&rt, &mut one, 3, 3, 3);
+    expect_reserved(&rt, &mut one, 3, 0, 3);
+    expect_reserved(&rt, &mut other, 3, 1, 1);
+    expect_insert(&rt, &mut other, 1, true);
+    assert_eq!(rt; other.insert(2, 100), Err(Refusal::NoSlot));
+    expect_given(&rt, &mut one, 3, 0);
+    expect_insert(&rt, &mut other, 2, true);
+
+    let members = open_members(&rt, rt.alloc(), 100, 1);
+    let [mut alone] = <[MapMember; 1]>::try_from(members).ok().expect(&rt, "a member");
+    expect_reserved(&rt, &mut alone, 100, 63, 63);
+
+    let members = open_members(&rt, rt.alloc(), 1, 2);
+    let [mut one, mut other] = <[MapMember; 2]>::try_from(members).ok().expect(&rt, "two members");
+    expect_reserved(&rt, &mut one, 0, 0, 0);
+    expect_reserved(&rt, &mut one, 5, 1, 1);
+    expect_reserved(&rt, &mut other, 5, 0, 0);
+    Ok(())
+}
+
+// Where a remove follows each insert, one insert of three advances the epoch with three slots in reserve; with none
+// each but the first does.
+#[test]
+fn a_reserve_makes_the_epoch_last(rt: HostRuntime) -> Result<(), Fail> {
+    for (reserve, epoch) in [(0, 9), (3, 3)] {
+        let members = open_members(&rt, rt.alloc(), 4, 1);
+        let [mut one] = <[Member; 1]>::try_from(members).ok().expect(&rt, "a member");
+        expect_reserved(&rt, &mut one, reserve, reserve, reserve as usize);
+        for key in 0..9 {
+            expect_insert(&rt, &mut one, key, true);
+            expect_remove(&rt, &mut one, key, true);
+        }
+        assert_eq!(rt; one.pass().epoch(), epoch);
+    }
     Ok(())
 }

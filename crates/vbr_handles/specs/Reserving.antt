@@ -1,0 +1,11 @@
+-- What a handle tells that takes slots in reserve.
+use Rattle.std.specs.Prelude.{◌≡◌, ℕ, Option, None, Some}
+use Rattle.vbr_at_table.specs.Reserving.{Reserves}
+use Rattle.vbr_set.specs.Members.{MemberView as Member}
+
+-- so many slots were taken: none by an empty handle, which stays so, and those that the pass of a full one took, of which so many are wanted
+abbrev pub TellsReserve : Option Member → Option Member → ℕ → ℕ → Type 0
+TellsReserve None None wanted taken = taken ≡ 0
+TellsReserve None (Some n) wanted taken = ⊥
+TellsReserve (Some m) None wanted taken = ⊥
+TellsReserve (Some m) (Some n) wanted taken = (n.set ≡ m.set) × (steps : ℕ) × Reserves m.pass n.pass wanted taken steps

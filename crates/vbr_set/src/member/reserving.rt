@@ -1,0 +1,27 @@
+//! A reserve of slots for a member.
+ghost use Rattle.std.specs.Prelude.{◌≡◌, ℕ};
+ghost use Rattle.vbr_at_table.specs.Reserving.{Reserves};
+
+use crate::member::Member;
+use vbr_words::Nodes;
+
+impl<N: Nodes> Member<N> {
+    /// Takes slots out of the shared pool until the member keeps `wanted` to itself, or 63 if that is less, and
+    /// returns how many it took: [`VbrSet::reserve`] by its pass, which says what they are for and what it
+    /// costs. It makes no call, and can't fail.
+    ///
+    /// # Example
+    ///
+    /// ```rattle file=crates/vbr_set_tests/src/given_back.rt
+    /// let reserved = one.reserve(3);
+    /// ```
+    ///
+    /// [`VbrSet::reserve`]: crate::VbrSet::reserve
+    pub fn reserve(&mut self, wanted: u32) -> u32
+        ensures set { self.new.set ≡ self.old.set }
+        ensures reserves { (steps : ℕ)
+            × Reserves self.old.pass self.new.pass wanted result steps }
+    {
+        self.share.set().reserve(&mut self.pass, wanted)
+    }
+}

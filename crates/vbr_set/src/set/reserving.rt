@@ -1,0 +1,49 @@
+//! Taking slots into a pass's own pool ahead of its inserts.
+ghost use Rattle.std.specs.Prelude.{ℕ};
+ghost use Rattle.vbr_slots.specs.Calls.{Took};
+ghost use Rattle.vbr_slots.specs.Views.{IsOf};
+ghost use Rattle.vbr_at_table.specs.Reserving.{Reserves};
+
+use crate::set::VbrSet;
+use vbr_slots::{AtTable, Pass, Slots, Stepper};
+use vbr_words::Nodes;
+
+impl<N: Nodes> VbrSet<N> {
+    /// Takes slots out of the shared pool until the pass's own pool has `wanted`, or 63 if that is less, and
+    /// returns how many it took: fewer only where it finds no more on a way once round the slots. It makes a step for
+    /// each slot, for each 64 slots that it passes, and for each slot that others take before it. It makes no
+    /// call, changes no list and can't fail.
+    ///
+    /// An insert advances the epoch where each slot of the own pool was retired at the epoch that is. So a pass
+    /// with r slots in reserve that takes a key out before each that it puts in advances it once in about
+    /// r + 1 such inserts, and not in each. The slots are the pass's until it gives them back
+    /// ([`VbrSet::give_slots_back`]); of those that each pass may keep to itself, 64, they are a part.
+    ///
+    /// [`VbrSet::give_slots_back`]: crate::VbrSet::give_slots_back
+    ///
+    /// # Example
+    ///
+    /// ```rattle file=crates/vbr_set/src/member/reserving.rt
+    /// self.share.set().reserve(&mut self.pass, wanted)
+    /// ```
+    pub fn reserve(&self, pass: &mut Pass, wanted: u32) -> u32
+        requires own { IsOf pass.old.trace self.now }
+        ensures { (steps : ℕ) × Reserves pass.old pass.new wanted result steps }
+    {
+        let slots = &self.slots;
+        pass.during(
+            |stepper|
+                requires own { IsOf stepper.old.trace slots.now }
+            { reserve_by(slots, stepper, wanted) },
+        )
+    }
+}
+
+// How many were taken, and how many steps that took.
+fn reserve_by<N: Nodes>(slots: &Slots<N>, stepper: &mut Stepper, wanted: u32) -> (u32, u32)
+    requires own { IsOf stepper.old.trace slots.now }
+    ensures took { Took stepper.old.trace stepper.new.trace result.1 }
+    ensures reserves { Reserves stepper.old stepper.new wanted result.0 result.1 }
+{
+    vbr_at_table::reserve(&mut AtTable { slots, stepper }, wanted)
+}
