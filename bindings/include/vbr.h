@@ -131,7 +131,7 @@
    for each: with four nodes in a bucket that is 2,992 for has, 5,192 for remove and 5,404 for insert.
 
    Memory and sizes. The words of a set take 8 * (2 + buckets + 4 * slots + slots / 64) bytes, the last part rounded
-   up, in one block, and each handle about 1,200 bytes besides; opening and closing take as much as the words again
+   up, in one block, and each handle about 2,200 bytes besides; opening and closing take as much as the words again
    while they run, and the last close 9 bytes more for each slot. Of a map the words take 8 bytes more for each slot, and the
    last close 17. Open with a slot for each key that is in the set at
    one time, and 64 for each handle (see Slots). Open with as many buckets as keys, a power of two: a bucket then has
