@@ -1,4 +1,4 @@
-/* Slots that a handle keeps to itself: who has them, and how others come to them. */
+/* Slots that a handle keeps to itself: who has them, how others come to them, and how a handle takes some in reserve. */
 #include "vbr.h"
 
 #include <stdio.h>
@@ -60,8 +60,23 @@ static void leave(int drops) {
     CHECK(vbr_close(&handle[1], keys, SLOTS, &report) == VBR_YES && report.live == SLOTS && report.free == 0);
 }
 
+/* A reserve is what is wanted and there, at most 63. The other handle has the rest, and all once it is given back. */
+static void take_in_reserve(void) {
+    open_two();
+    uint32_t taken = vbr_reserve(&handle[0], 32);             /* for its inserts to come */
+    CHECK(taken == 32 && vbr_reserve(&handle[0], 32) == 0);
+    CHECK(vbr_reserve(&handle[0], SLOTS) == 31);
+    uint32_t found = fill(&handle[1]);
+    CHECK(found == SLOTS - 63 && vbr_reserve(&handle[1], 1) == 0);
+    empty(&handle[1], found);
+    CHECK(vbr_spare(&handle[0]) == 63 && fill(&handle[1]) == SLOTS);
+    CHECK(vbr_close_all(handle, 2, keys, SLOTS, &report) == VBR_YES && report.live == SLOTS);
+    CHECK(vbr_reserve(&handle[0], 32) == 0); /* it is empty */
+}
+
 int main(void) {
     give_back();
+    take_in_reserve();
     leave(0);
     leave(1);
     puts("slots given back in C: passed");

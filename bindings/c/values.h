@@ -362,6 +362,7 @@ VBR_NODISCARD static inline vbr_answer value_report_all(vbr_map_handle *handles,
 #undef vbr_renew_all
 #undef vbr_balance
 #undef vbr_spare
+#undef vbr_reserve
 #undef vbr_drop
 #undef vbr_epoch
 #undef vbr_last_epoch
@@ -395,6 +396,7 @@ VBR_NODISCARD static inline vbr_answer value_report_all(vbr_map_handle *handles,
 #define vbr_seed vbr_map_seed
 #define vbr_renew_all_seeded vbr_map_renew_all_seeded
 #define vbr_spare vbr_map_spare
+#define vbr_reserve vbr_map_reserve
 #define vbr_lender vbr_map_lender
 #define vbr_lender_init vbr_map_lender_init
 #define vbr_lend vbr_map_lend

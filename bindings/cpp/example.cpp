@@ -63,6 +63,7 @@ static int calls() {
     if (mine.insert(6, budget) == vbr::answer::yes) added++; // this call added 6
     if (mine.remove(6, budget) == vbr::answer::yes) taken++; // this call took 6 out
     std::uint32_t given = mine.spare(); // the other handles can have them now
+    std::uint32_t reserved = mine.reserve(32); // for its inserts to come
     if (vbr::is_refusal(mine.insert(7, budget))) return 1;
     if (mine.has(7, budget) == vbr::answer::yes) there++; // 7 was there during the call
     const std::vector<std::uint64_t> wanted{5, 8, 7};
@@ -71,7 +72,7 @@ static int calls() {
     CHECK((answers == std::vector{vbr::answer::yes, vbr::answer::no, vbr::answer::yes}));
     const char *text = vbr::to_string(mine.has(8, 1)); // "out of steps": one is too few
     bool is_near = mine.epoch() + 1000 >= mine.last_epoch(); // then renew the set
-    CHECK(added == 1 && taken == 1 && there == 1 && !is_near && given == 1 && std::string(text) == "out of steps");
+    CHECK(added == 1 && taken == 1 && there == 1 && !is_near && given == 1 && reserved == 32 && std::string(text) == "out of steps");
     vbr::closed told = mine.close(); // told.report is there where told.answer is last
     if (told.answer == vbr::close_answer::no_memory) return 1; // the handle is as it was, and can be closed again
     std::uint64_t sum = 0;

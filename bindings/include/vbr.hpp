@@ -278,6 +278,7 @@ struct set_calls {
     static std::uint64_t seed(raw *handle) noexcept { return vbr_seed(handle); }
     static std::int64_t balance(raw *handle) noexcept { return vbr_balance(handle); }
     static std::uint32_t spare(raw *handle) noexcept { return vbr_spare(handle); }
+    static std::uint32_t reserve(raw *handle, std::uint32_t wanted) noexcept { return vbr_reserve(handle, wanted); }
     static vbr_answer report_all(raw *handles, std::size_t count, item *keys, std::size_t room, vbr_totals *totals) noexcept {
         return vbr_report_all(handles, count, keys, room, totals);
     }
@@ -310,6 +311,7 @@ struct map_calls {
     static std::uint64_t seed(raw *handle) noexcept { return vbr_map_seed(handle); }
     static std::int64_t balance(raw *handle) noexcept { return vbr_map_balance(handle); }
     static std::uint32_t spare(raw *handle) noexcept { return vbr_map_spare(handle); }
+    static std::uint32_t reserve(raw *handle, std::uint32_t wanted) noexcept { return vbr_map_reserve(handle, wanted); }
     static vbr_answer report_all(raw *handles, std::size_t count, item *entries, std::size_t room, vbr_totals *totals) noexcept {
         return vbr_map_report_all(handles, count, entries, room, totals);
     }
@@ -486,6 +488,13 @@ public:
 
            std::uint32_t given = mine.spare(); // the other handles can have them now */
     std::uint32_t spare() noexcept { return Calls::spare(&raw); }
+
+    /* Takes slots out of the pool that all handles share until the handle keeps `wanted` to itself, or 63 if that is less, and
+       returns how many it took: fewer only where it finds no more. Call it of a handle that from now on takes a key
+       out before each that it puts in: vbr_reserve says what that is for, and spare gives the slots back.
+
+           std::uint32_t reserved = mine.reserve(32); // for its inserts to come */
+    std::uint32_t reserve(std::uint32_t wanted) noexcept { return Calls::reserve(&raw, wanted); }
 
 protected:
     using calls = Calls;

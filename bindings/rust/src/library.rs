@@ -60,6 +60,7 @@ extern "C" {
     fn vbr_seed(handle: *mut Raw) -> u64;
     fn vbr_balance(handle: *mut Raw) -> i64;
     fn vbr_spare(handle: *mut Raw) -> u32;
+    fn vbr_reserve(handle: *mut Raw, wanted: u32) -> u32;
     fn vbr_close_all(handles: *mut Raw, count: usize, keys: *mut u64, room: usize, told: *mut ReportNumbers) -> i32;
     fn vbr_report_all(handles: *mut Raw, count: usize, keys: *mut u64, room: usize, told: *mut ReportNumbers) -> i32;
     fn vbr_renew_all_seeded(handles: *mut Raw, count: usize, slots: u32, buckets: u32, last_epoch: u64, seed: u64) -> i32;
@@ -111,6 +112,7 @@ extern "C" {
     fn vbr_map_seed(handle: *mut Raw) -> u64;
     fn vbr_map_balance(handle: *mut Raw) -> i64;
     fn vbr_map_spare(handle: *mut Raw) -> u32;
+    fn vbr_map_reserve(handle: *mut Raw, wanted: u32) -> u32;
     fn vbr_map_close_all(handles: *mut Raw, count: usize, entries: *mut Entry, room: usize, told: *mut ReportNumbers) -> i32;
     fn vbr_map_report_all(handles: *mut Raw, count: usize, entries: *mut Entry, room: usize, told: *mut ReportNumbers) -> i32;
     fn vbr_map_renew_all_seeded(handles: *mut Raw, count: usize, slots: u32, buckets: u32, last_epoch: u64, seed: u64) -> i32;
@@ -137,6 +139,7 @@ pub(crate) trait Calls<Item, Given, Told> {
     const SEED: unsafe extern "C" fn(*mut Raw) -> u64;
     const BALANCE: unsafe extern "C" fn(*mut Raw) -> i64;
     const SPARE: unsafe extern "C" fn(*mut Raw) -> u32;
+    const RESERVE: unsafe extern "C" fn(*mut Raw, u32) -> u32;
 
     /// The next call of a walk.
     ///
@@ -167,6 +170,7 @@ impl Calls<u64, u64, Report> for Keys {
     const SEED: unsafe extern "C" fn(*mut Raw) -> u64 = vbr_seed;
     const BALANCE: unsafe extern "C" fn(*mut Raw) -> i64 = vbr_balance;
     const SPARE: unsafe extern "C" fn(*mut Raw) -> u32 = vbr_spare;
+    const RESERVE: unsafe extern "C" fn(*mut Raw, u32) -> u32 = vbr_reserve;
 
     #[inline]
     unsafe fn next(handle: *mut Raw, cursor: &mut Cursor, budget: u32, key: &mut u64) -> i32 {
@@ -196,6 +200,7 @@ impl Calls<Entry, (u64, u64), MapReport> for Entries {
     const SEED: unsafe extern "C" fn(*mut Raw) -> u64 = vbr_map_seed;
     const BALANCE: unsafe extern "C" fn(*mut Raw) -> i64 = vbr_map_balance;
     const SPARE: unsafe extern "C" fn(*mut Raw) -> u32 = vbr_map_spare;
+    const RESERVE: unsafe extern "C" fn(*mut Raw, u32) -> u32 = vbr_map_reserve;
 
     #[inline]
     unsafe fn next(handle: *mut Raw, cursor: &mut Cursor, budget: u32, (key, value): &mut (u64, u64)) -> i32 {

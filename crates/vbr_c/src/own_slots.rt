@@ -1,7 +1,8 @@
 //! The calls on the slots that a handle keeps to itself: of a set, and of a map.
 ghost use Rattle.vbr_handles.specs.GivingBack.{TellsGivenBack};
+ghost use Rattle.vbr_handles.specs.Reserving.{TellsReserve};
 
-use vbr_handles::numbers::giving_back;
+use vbr_handles::numbers::{giving_back, reserving};
 use vbr_handles::{Handle, MapHandle};
 
 /// Puts the slots that the handle keeps to itself into the pool that all handles share, one step for each, and
@@ -25,4 +26,27 @@ pub extern "C" fn vbr_map_spare(handle: &mut MapHandle) -> u32
     ensures { TellsGivenBack handle.old.member handle.new.member result }
 {
     giving_back::give_slots_back(handle.owner_mut())
+}
+
+/// Takes slots out of the pool that all handles share until the handle keeps `wanted` to itself, or 63 if that is
+/// less, and returns how many it took: fewer only where it finds no more on a way once round the slots; 0 where the
+/// handle is empty. It makes no call of the set, and can't fail. A handle with r slots in reserve that takes a key
+/// out before each that it puts in advances the epoch in about one of r + 1 such inserts.
+///
+/// ```c file=bindings/c/spare.c
+/// uint32_t taken = vbr_reserve(&handle[0], 32);             /* for its inserts to come */
+/// ```
+#[unsafe(no_mangle)]
+pub extern "C" fn vbr_reserve(handle: &mut Handle, wanted: u32) -> u32
+    ensures { TellsReserve handle.old.member handle.new.member wanted result }
+{
+    reserving::reserve(handle.owner_mut(), wanted)
+}
+
+/// Does the same of the handle of a map.
+#[unsafe(no_mangle)]
+pub extern "C" fn vbr_map_reserve(handle: &mut MapHandle, wanted: u32) -> u32
+    ensures { TellsReserve handle.old.member handle.new.member wanted result }
+{
+    reserving::reserve(handle.owner_mut(), wanted)
 }

@@ -121,7 +121,8 @@ fn a_dropped_member_leaves_its_slots(rt: HostRuntime) -> Result<(), Fail> {
 fn members_reserve_slots(rt: HostRuntime) -> Result<(), Fail> {
     let members = open_members(&rt, rt.alloc(), 4, 2);
     let [mut one, mut other] = <[Member; 2]>::try_from(members).ok().expect(&rt, "two members");
-    expect_reserved(&rt, &mut one, 3, 3, 3);
+    let reserved = one.reserve(3);
+    assert_eq!(rt; reserved, 3);
     expect_reserved(&rt, &mut one, 3, 0, 3);
     expect_reserved(&rt, &mut other, 3, 1, 1);
     expect_insert(&rt, &mut other, 1, true);
