@@ -120,7 +120,9 @@ fn a_dropped_member_leaves_its_slots(rt: HostRuntime) -> Result<(), Fail> {
 #[test]
 fn members_reserve_slots(rt: HostRuntime) -> Result<(), Fail> {
     let members = open_members(&rt, rt.alloc(), 4, 2);
-    let [mut one, mut other] = <[Member; 2]>::try_from(members).ok().expect(&rt, "two members");
+    let [mut one, mut other] = <[Member; 2]>::try_from(members)
+        .ok()
+        .expect(&rt, "two members");
     let reserved = one.reserve(3);
     assert_eq!(rt; reserved, 3);
     expect_reserved(&rt, &mut one, 3, 0, 3);
@@ -131,11 +133,15 @@ fn members_reserve_slots(rt: HostRuntime) -> Result<(), Fail> {
     expect_insert(&rt, &mut other, 2, true);
 
     let members = open_members(&rt, rt.alloc(), 100, 1);
-    let [mut alone] = <[MapMember; 1]>::try_from(members).ok().expect(&rt, "a member");
+    let [mut alone] = <[MapMember; 1]>::try_from(members)
+        .ok()
+        .expect(&rt, "a member");
     expect_reserved(&rt, &mut alone, 100, 63, 63);
 
     let members = open_members(&rt, rt.alloc(), 1, 2);
-    let [mut one, mut other] = <[MapMember; 2]>::try_from(members).ok().expect(&rt, "two members");
+    let [mut one, mut other] = <[MapMember; 2]>::try_from(members)
+        .ok()
+        .expect(&rt, "two members");
     expect_reserved(&rt, &mut one, 0, 0, 0);
     expect_reserved(&rt, &mut one, 5, 1, 1);
     expect_reserved(&rt, &mut other, 5, 0, 0);
@@ -148,7 +154,9 @@ fn members_reserve_slots(rt: HostRuntime) -> Result<(), Fail> {
 fn a_reserve_makes_the_epoch_last(rt: HostRuntime) -> Result<(), Fail> {
     for (reserve, epoch) in [(0, 9), (3, 3)] {
         let members = open_members(&rt, rt.alloc(), 4, 1);
-        let [mut one] = <[Member; 1]>::try_from(members).ok().expect(&rt, "a member");
+        let [mut one] = <[Member; 1]>::try_from(members)
+            .ok()
+            .expect(&rt, "a member");
         expect_reserved(&rt, &mut one, reserve, reserve, reserve as usize);
         for key in 0..9 {
             expect_insert(&rt, &mut one, key, true);
