@@ -1,7 +1,7 @@
 // Memory that vbr.hpp is refused: it throws std::bad_alloc, and all stays as it was; and the closes that need none ask for none.
 // Memory that the library is refused while it closes a set, or renews it: all handles stay as they were, those of a lender too, which
 // lends on. A set is closed by vbr_close_all. Threads that ask for the same renewal share one.
-// Link with -Wl,--wrap=malloc,--wrap=realloc,--wrap=vbr_close,--wrap=vbr_map_close,--wrap=vbr_renew_all,--wrap=vbr_map_renew_all.
+// Link with -Wl,--wrap=malloc,--wrap=realloc,--wrap=vbr_close,--wrap=vbr_map_close,--wrap=vbr_renew_all_seeded,--wrap=vbr_map_renew_all_seeded.
 #include "vbr.hpp"
 
 #include <cstdio>
@@ -17,7 +17,7 @@ static bool library_refuses = false; // what the library asks for
 static long library_granted = -1;    // how many blocks it still gets, where that isn't below 0
 static long asked = 0;
 static int closed_alone = 0;             // calls of vbr_close and vbr_map_close
-static std::atomic<int> renewals_made{0}; // calls of vbr_renew_all and vbr_map_renew_all
+static std::atomic<int> renewals_made{0}; // calls of vbr_renew_all_seeded and vbr_map_renew_all_seeded
 
 extern "C" {
 void *__real_malloc(std::size_t size);
@@ -31,17 +31,17 @@ static bool is_refused() {
 }
 void *__wrap_malloc(std::size_t size) { return is_refused() ? nullptr : __real_malloc(size); }
 void *__wrap_realloc(void *block, std::size_t size) { return is_refused() ? nullptr : __real_realloc(block, size); }
-vbr_answer __real_vbr_renew_all(vbr_handle *handles, std::size_t count, std::uint32_t slots, std::uint32_t buckets, std::uint64_t last_epoch);
-vbr_answer __wrap_vbr_renew_all(vbr_handle *handles, std::size_t count, std::uint32_t slots, std::uint32_t buckets, std::uint64_t last_epoch);
-vbr_answer __wrap_vbr_renew_all(vbr_handle *handles, std::size_t count, std::uint32_t slots, std::uint32_t buckets, std::uint64_t last_epoch) {
+vbr_answer __real_vbr_renew_all_seeded(vbr_handle *handles, std::size_t count, std::uint32_t slots, std::uint32_t buckets, std::uint64_t last_epoch, std::uint64_t seed);
+vbr_answer __wrap_vbr_renew_all_seeded(vbr_handle *handles, std::size_t count, std::uint32_t slots, std::uint32_t buckets, std::uint64_t last_epoch, std::uint64_t seed);
+vbr_answer __wrap_vbr_renew_all_seeded(vbr_handle *handles, std::size_t count, std::uint32_t slots, std::uint32_t buckets, std::uint64_t last_epoch, std::uint64_t seed) {
     renewals_made++;
-    return __real_vbr_renew_all(handles, count, slots, buckets, last_epoch);
+    return __real_vbr_renew_all_seeded(handles, count, slots, buckets, last_epoch, seed);
 }
-vbr_answer __real_vbr_map_renew_all(vbr_map_handle *handles, std::size_t count, std::uint32_t slots, std::uint32_t buckets, std::uint64_t last_epoch);
-vbr_answer __wrap_vbr_map_renew_all(vbr_map_handle *handles, std::size_t count, std::uint32_t slots, std::uint32_t buckets, std::uint64_t last_epoch);
-vbr_answer __wrap_vbr_map_renew_all(vbr_map_handle *handles, std::size_t count, std::uint32_t slots, std::uint32_t buckets, std::uint64_t last_epoch) {
+vbr_answer __real_vbr_map_renew_all_seeded(vbr_map_handle *handles, std::size_t count, std::uint32_t slots, std::uint32_t buckets, std::uint64_t last_epoch, std::uint64_t seed);
+vbr_answer __wrap_vbr_map_renew_all_seeded(vbr_map_handle *handles, std::size_t count, std::uint32_t slots, std::uint32_t buckets, std::uint64_t last_epoch, std::uint64_t seed);
+vbr_answer __wrap_vbr_map_renew_all_seeded(vbr_map_handle *handles, std::size_t count, std::uint32_t slots, std::uint32_t buckets, std::uint64_t last_epoch, std::uint64_t seed) {
     renewals_made++;
-    return __real_vbr_map_renew_all(handles, count, slots, buckets, last_epoch);
+    return __real_vbr_map_renew_all_seeded(handles, count, slots, buckets, last_epoch, seed);
 }
 vbr_answer __wrap_vbr_close(vbr_handle *handle, std::uint64_t *keys, std::size_t room, vbr_totals *report);
 vbr_answer __wrap_vbr_close(vbr_handle *, std::uint64_t *, std::size_t, vbr_totals *) {
