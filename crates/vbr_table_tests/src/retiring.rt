@@ -43,9 +43,9 @@ fn node_behind<N: Nodes>(rt: &impl Abort, slots: &Slots<N>, pass: &mut Pass, hea
     ensures at { result.at ≡ Slot 0 }
     ensures names { (slot : ℕ) × Names head.now slot × (result.at ≡ Slot slot) }
 {
-    let node = next(slots, pass, head)
-        .expect(rt, "the epoch has not moved")
-        .expect(rt, "a node");
+    let Some(node) = next(slots, pass, head).expect(rt, "the epoch has not moved") else {
+        panic!(rt; "no node")
+    };
     assert!(rt; node.word == 33_554_432);
     assert_eq!(rt; (node.at, node.birth), (At::Slot(0), 1));
     node

@@ -538,7 +538,7 @@ fn two_passes_share_a_slot(rt: HostRuntime) {
 
 #[test]
 fn two_passes_share_a_slot_with_a_value(rt: HostRuntime) -> Result<(), Fail> {
-    let shape = shape_of::<Entries>((2, 1, 10))?;
+    let shape = Shape::new(2, 1, 10)?.with_values();
     let (slots, a, b) = open_two::<Entries>(rt.alloc(), shape).expect(&rt, "there is memory");
     let wanted = [
         2,
