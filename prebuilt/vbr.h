@@ -30,8 +30,8 @@
    Compare what a call answers with VBR_YES: a refusal is no 0, and so is true where a program asks `if (vbr_has(..))`.
 
    Link with -lvbr (`pkg-config --cflags --libs vbr`). The library needs nothing but malloc, realloc and
-   free, each block aligned to 16 bytes as these align it, what copies and fills memory, and madvise, by which it offers
-   large blocks to the kernel for large pages. It is built for processors of x86-64-v2 and later, under Linux.
+   free, each block aligned to 16 bytes as these align it, what copies and fills memory, madvise, by which it offers
+   large blocks to the kernel for large pages, and getrandom and clock_gettime for seeds. It is built for processors of x86-64-v2 and later, under Linux.
 
    Maps. Each call on a set has its like on a map, with `vbr_map_` in its name, and handles to maps are of a type of their own.
    What is said here of sets and their keys holds of maps and their entries too; vbr_map_get is a second kind of look-up, and
@@ -54,7 +54,8 @@
    a remove with the old value and an insert with the new one, next to each other: no call finds the key absent in between, and
    a walk gives it with the one value or the other. A call that changed nothing is a look-up.
 
-   Who owns what. A set is opened with 1 to 64 handles, and each handle owns one pass of the set, the
+   Who owns what. A set is opened with 1 to 64 handles, or by vbr_open_many with up to 65,536, and each handle owns one
+   pass of the set, the
    right to make calls, and a share of the set. A handle is all zero while it is empty: write {0}, or {} in
    C++, before it is opened. A full one belongs to the library: it may be moved (copied, and the old place set to
    zero, or never used again), and is never copied, compared, read or written otherwise. A full handle
@@ -130,22 +131,33 @@
    for each: with four nodes in a bucket that is 2,992 for has, 5,192 for remove and 5,404 for insert.
 
    Memory and sizes. The words of a set take 8 * (2 + buckets + 4 * slots + slots / 64) bytes, the last part rounded
-   up, in one block, and each handle about 1,200 bytes besides; opening and closing take as much as the words again
+   up, in one block, and each handle about 2,200 bytes besides; opening and closing take as much as the words again
    while they run, and the last close 9 bytes more for each slot. Of a map the words take 8 bytes more for each slot, and the
    last close 17. Open with a slot for each key that is in the set at
    one time, and 64 for each handle (see Slots). Open with as many buckets as keys, a power of two: a bucket then has
    about one node, and takes 8 bytes. Give keys that are there at the start to vbr_open_with, which lays them all in one go;
    by inserts a million took three times as long. Keys are spread over the buckets by a multiplication, so keys with a pattern (in
-   sequence, multiples of a page, pointers) do no harm; keys that somebody chooses to fall into one bucket do, and
-   each call then passes them all. Only calls that take a slot, for a key or a new value, advance the epoch, and once the last
+   sequence, multiples of a page, pointers) do no harm, and by a seed, so that nobody can choose keys which fall into one
+   bucket (see Seeds). Only calls that take a slot, for a key or a new value, advance the epoch, and once the last
    one is spent they may be refused: the greatest lasts fifteen hours at ten million inserts a second that advance it, as one in
    sixteen does of a cache that takes sixteen keys out at a time. Before it is spent a set is renewed:
    vbr_renew_all lets all its handles go on over a fresh one with its keys, at epoch 1. The numbers are 1 to VBR_MAX_SLOTS
    slots, 1 to VBR_MAX_BUCKETS buckets, and 1 to VBR_MAX_EPOCH as the last epoch; the most slots and buckets take 673
    million bytes, and of a map 807.
 
+   Seeds. The number that keys are multiplied by comes from a seed, any number of 64 bits. vbr_open, vbr_open_with and those of
+   maps draw one at each opening, by getrandom of the system; vbr_open_seeded is given one, and with the same one each key has the
+   same bucket. A renewal keeps the seed, and vbr_renew_all_seeded is given another. While a drawn seed is secret, any two keys
+   share a bucket with a probability of at most 2 / buckets, where these are a power of two, whoever chose the keys. What tells of
+   it is to be kept from those who choose keys: the order in which a walk gives keys, how many steps a call needs, and how long it
+   takes. Where that can't be, renew from time to time by vbr_renew_all_seeded with a seed of vbr_random_seed. Seeds whose
+   difference is 2^63 are alike.
+
    Slots. Each slot is in one place: in the pool that all handles share, with one handle, under a key, or in a
-   removed node that is still in its list. A handle keeps slots to itself, at most 64 between two calls. A remove
+   removed node that is still in its list. A handle keeps slots to itself, at most 64 between two calls: the slot of a
+   removed node goes to the handle whose call takes the node out of its list. Mostly that is the one that removed the key,
+   but it may be any other that inserts or removes in the bucket meanwhile, also one whose remove is answered VBR_NO. A
+   handle that is closed or dropped gives its slots back, and vbr_spare does so of one that stays open. A remove
    that is answered VBR_YES has taken its node out of its list, unless its budget ended first; that of
    VBR_AMPLE_BUDGET doesn't end in short buckets. What a small one leaves in a list comes back with the next insert
    or remove that passes it, in the same bucket, or with a renewal. A call that gives a key another value takes a slot for it
@@ -154,8 +166,8 @@
    its own and found none in the shared pool; other handles may keep free ones. Where no other handle makes a step
    during an insert, and each stands between two calls, it comes only if the keys, the removed nodes that are still
    in lists, and 64 for each other handle are no fewer than the slots. Of an insert that calls of others overlap that
-   isn't proved. At VBR_NO_SLOT remove keys, let a handle that has free slots make the insert, or make it again; a
-   greater budget alone doesn't help. */
+   isn't proved. At VBR_NO_SLOT have the other handles give their slots back (vbr_spare, each in its own thread), remove
+   keys, or make the insert again; a greater budget alone doesn't help. */
 #ifndef VBR_H
 #define VBR_H
 
@@ -209,6 +221,12 @@ extern "C" {
 #define VBR_MAX_EPOCH 549755813887ull
 #define VBR_MAX_HANDLES 64u
 
+/* The most handles of a set or a map that vbr_open_many and vbr_map_open_many open.
+
+       static vbr_handle many[1000];
+       if (1000 > VBR_MAX_MANY_HANDLES) return 1; // else vbr_open_many answers VBR_BAD_COUNT */
+#define VBR_MAX_MANY_HANDLES 65536u
+
 /* A budget that no call runs out of in short buckets, in a set of so many slots.
 
        uint32_t budget = VBR_AMPLE_BUDGET(vbr_slots(&handle[0])); */
@@ -242,7 +260,7 @@ typedef enum vbr_answer {
     VBR_EMPTY = -4,        /* the handle is empty, or null where it may be; nothing was done */
     VBR_IN_USE = -5,       /* open: one of the handles is not empty; nothing was done */
     VBR_BAD_SHAPE = -6,    /* open, renew_all: slots, buckets or last_epoch is out of range; nothing was done */
-    VBR_BAD_COUNT = -7,    /* open: count is not from 1 to 64; nothing was done */
+    VBR_BAD_COUNT = -7,    /* open: count is not from 1 to 64, of open_many to 65,536; nothing was done */
     VBR_NO_MEMORY = -8,    /* open: nothing was done; close: it is the last and stays as it was; report_all, close_all,
                               renew_all: they are as they were */
     VBR_LOST = -9,         /* close: it was the last, and a pass is not there; the set is gone. A handle
@@ -292,9 +310,42 @@ VBR_NODISCARD vbr_answer vbr_open(vbr_handle *handles, size_t count, uint32_t sl
 VBR_NODISCARD vbr_answer vbr_open_with(vbr_handle *handles, size_t count, uint32_t slots, uint32_t buckets,
                                        uint64_t last_epoch, const uint64_t *keys, size_t key_count) VBR_NOEXCEPT VBR_NONNULL;
 
+/* Opens a set as vbr_open_with does, of `key_count` keys, which may be none, with its keys spread over the buckets by this seed:
+   VBR_NO. What it answers else is what vbr_open_with answers, and means the same. With the same seed and number of buckets each
+   key has the same bucket, so walks have the same order and calls take as many steps. With seed 0 keys are multiplied by 2^64
+   over the golden ratio, as all libraries before 0.3.0 did. "Seeds" tells which seed to choose.
+
+       if (vbr_open_seeded(handle, 2, 1024 + 2 * 64, 1024, VBR_MAX_EPOCH, 7, some, 3) != VBR_NO) return 1; */
+VBR_NODISCARD vbr_answer vbr_open_seeded(vbr_handle *handles, size_t count, uint32_t slots, uint32_t buckets, uint64_t last_epoch,
+                                         uint64_t seed, const uint64_t *keys, size_t key_count) VBR_NOEXCEPT VBR_NONNULL;
+
+/* A seed that the system draws at random, as vbr_open has it: by getrandom, and without waiting. Where the system has no random
+   number yet, shortly after it was started, or refuses the call, the seed is made of the time and an address of the stack: it
+   differs from one to the next, and somebody outside may guess it. It can't fail.
+
+       vbr_answer renewed = vbr_renew_all_seeded(handle, 2, 2048 + 2 * 64, 2048, VBR_MAX_EPOCH, vbr_random_seed()); */
+VBR_NODISCARD uint64_t vbr_random_seed(void) VBR_NOEXCEPT;
+
+/* Opens a set of `key_count` keys, which may be none, as vbr_open_with does, with up to VBR_MAX_MANY_HANDLES handles: VBR_NO. Else
+   what vbr_open_with answers, in its order; VBR_BAD_COUNT where count is 0 or above VBR_MAX_MANY_HANDLES. No call on a key takes a
+   step more for more handles, and those that take all handles take time in proportion to them. Each handle may keep 64 slots, as
+   ever, so a thousand want 64,000 more than keys.
+
+       static vbr_handle many[1000];
+       if (vbr_open_many(many, 1000, 1024 + 1000 * 64, 1024, VBR_MAX_EPOCH, some, 3) != VBR_NO) return 1; */
+VBR_NODISCARD vbr_answer vbr_open_many(vbr_handle *handles, size_t count, uint32_t slots, uint32_t buckets,
+                                       uint64_t last_epoch, const uint64_t *keys, size_t key_count) VBR_NOEXCEPT VBR_NONNULL;
+
+/* Opens a set as vbr_open_many does, with its keys spread by this seed, as vbr_open_seeded.
+
+       static vbr_handle seeded[1000];
+       if (vbr_open_many_seeded(seeded, 1000, 1024 + 1000 * 64, 1024, VBR_MAX_EPOCH, 7, some, 3) != VBR_NO) return 1; */
+VBR_NODISCARD vbr_answer vbr_open_many_seeded(vbr_handle *handles, size_t count, uint32_t slots, uint32_t buckets, uint64_t last_epoch,
+                                              uint64_t seed, const uint64_t *keys, size_t key_count) VBR_NOEXCEPT VBR_NONNULL;
+
 /* Adds a key, in at most `budget` steps: VBR_YES if it was absent, VBR_NO if it was there. Else VBR_OUT_OF_STEPS,
-   VBR_NO_SLOT, VBR_EPOCH_SPENT or VBR_EMPTY. At VBR_NO_SLOT remove keys, let a handle that has free slots make the
-   insert, or make it again. It takes no memory and never waits.
+   VBR_NO_SLOT, VBR_EPOCH_SPENT or VBR_EMPTY. At VBR_NO_SLOT have other handles give their slots back (vbr_spare), remove
+   keys, or make it again. It takes no memory and never waits.
 
        if (vbr_insert(&handle[0], 5, 100000) == VBR_YES) added++; // this call added 5 */
 VBR_NODISCARD vbr_answer vbr_insert(vbr_handle *handle, uint64_t key, uint32_t budget) VBR_NOEXCEPT VBR_NONNULL;
@@ -311,6 +362,17 @@ VBR_NODISCARD vbr_answer vbr_remove(vbr_handle *handle, uint64_t key, uint32_t b
 
        if (vbr_has(&handle[1], 5, 100000) == VBR_YES) there++; // 5 was there during the call */
 VBR_NODISCARD vbr_answer vbr_has(vbr_handle *handle, uint64_t key, uint32_t budget) VBR_NOEXCEPT VBR_NONNULL;
+
+/* Looks `count` keys up, and writes what vbr_has answers to keys[i], with this budget, to answers[i]: VBR_YES, VBR_NO,
+   VBR_OUT_OF_STEPS or VBR_EMPTY. Each is a call of its own, and they are made in the order of the keys, so a refusal of one says
+   nothing of the others. It is for many keys of a set that is larger than the cache: it loads what the look-ups of sixteen keys
+   begin with before it makes them, so that they wait for memory together. These loads are no steps. With a count of 0 the other
+   pointers may be null. It takes no memory and never waits.
+
+       vbr_has_all(&handle[0], wanted, 3, answers, 100000);
+       for (int i = 0; i < 3; i++) there += answers[i] == VBR_YES; // wanted[i] was there during its call */
+void vbr_has_all(vbr_handle *handle, const uint64_t *keys, size_t count, vbr_answer *answers,
+                 uint32_t budget) VBR_NOEXCEPT VBR_NONNULL_FIRST;
 
 /* Where a walk stands: before the first key, or after the one that was given last. Its 16 bytes may be copied and kept, and
    the walk goes on from a copy as well. What they say is of the shape of a set. With another handle, or a set of another
@@ -358,6 +420,12 @@ VBR_NODISCARD uint32_t vbr_slots(vbr_handle *handle) VBR_NOEXCEPT VBR_NONNULL;
        int is_crowded = 3 > 2 * vbr_buckets(&handle[0]); // three keys, and more than two for each bucket */
 VBR_NODISCARD uint32_t vbr_buckets(vbr_handle *handle) VBR_NOEXCEPT VBR_NONNULL;
 
+/* The seed that spreads the keys of the set, drawn or given: the one that it was opened with, or, of one from 2^63 on, the one 2^63
+   less, which is its like; 0 for an empty handle.
+
+       uint64_t seed = vbr_seed(&handle[0]); // opens a set whose keys have the same buckets */
+VBR_NODISCARD uint64_t vbr_seed(vbr_handle *handle) VBR_NOEXCEPT VBR_NONNULL;
+
 /* How many keys the calls of the handle have added, less those that they took out: its inserts that were answered VBR_YES, less
    its removes that were. The first of the handles that were opened together begins with the keys that the set opened with, the
    others with 0; an empty handle has 0. It makes no step. "How many keys are in the set" tells what the sum of all is.
@@ -365,13 +433,32 @@ VBR_NODISCARD uint32_t vbr_buckets(vbr_handle *handle) VBR_NOEXCEPT VBR_NONNULL;
        int64_t keys = vbr_balance(&handle[0]) + vbr_balance(&handle[1]); // no call is under way */
 VBR_NODISCARD int64_t vbr_balance(vbr_handle *handle) VBR_NOEXCEPT VBR_NONNULL;
 
+/* Puts the slots that the handle keeps to itself into the pool that all handles share, where any of them finds them, in one
+   step for each: how many they were, and 0 for an empty handle. Call it of a handle that inserts nothing for a time. It makes
+   no call of the set, takes no memory and can't fail. A slot stays which an insert of the handle had taken when it was refused
+   with VBR_OUT_OF_STEPS, or found that another had just added its key, until an insert of the handle takes it again.
+
+       uint32_t given = vbr_spare(&handle[0]); // handle[1] can have them now */
+uint32_t vbr_spare(vbr_handle *handle) VBR_NOEXCEPT VBR_NONNULL;
+
+/* Takes slots out of the pool that all handles share until the handle keeps `wanted` to itself, or 63 if that is less, and
+   returns how many it took: fewer only where it finds no more on a way once round the slots, and 0 for an empty handle. It
+   makes a step for each slot that it takes or that others take before it, and for each 64 slots that it passes. Call it of a
+   handle that from now on takes a key out before each that it puts in, as a cache does that is full: with 32 slots in reserve
+   it advances the epoch in about one of 33 inserts, and with none in nearly each. Inserts take slots of the handle first, so
+   those that fill the set use up a reserve that was taken before. It makes no call of the set, takes no memory and can't fail.
+   vbr_spare gives the slots back.
+
+       uint32_t taken = vbr_reserve(&handle[0], 32); // for its inserts to come */
+uint32_t vbr_reserve(vbr_handle *handle, uint32_t wanted) VBR_NOEXCEPT VBR_NONNULL;
+
 /* The version of the library, which is VBR_VERSION where the header is of the same one. It has no handle, and can't fail.
 
        if (vbr_version() != VBR_VERSION) return 1; // the library is of another version than the header */
 VBR_NODISCARD uint32_t vbr_version(void) VBR_NOEXCEPT;
 
-/* Gives the pass back and leaves the handle empty: VBR_NO while others of its set are open. The last one
-   ends the set: VBR_YES, with the report and its keys, ascending. Only then is memory needed, which is
+/* Gives its slots back, as vbr_spare does, and its pass, and leaves the handle empty: VBR_NO while others of its set are open.
+   The last one ends the set: VBR_YES, with the report and its keys, ascending. Only then is memory needed, which is
    freed again. Behind the keys of the report the array stays as it was: all `room` keys, and the report,
    are initialised before.
    VBR_NO_MEMORY and VBR_NO_ROOM leave the last handle full: close it again, drop it, or go on with it. As
@@ -404,7 +491,7 @@ VBR_NODISCARD vbr_answer vbr_report_all(vbr_handle *handles, size_t count, uint6
                                         vbr_totals *report) VBR_NOEXCEPT VBR_NONNULL;
 
 /* Lets all `count` handles of a set, in any order, go on over a fresh set of this shape with the keys that were in it: VBR_NO. The
-   epoch is 1 again, the first handle's balance is the number of keys, and that of the others is 0. No other thread is in a call
+   set keeps its seed. The epoch is 1 again, the first handle's balance is the number of keys, and that of the others is 0. No other thread is in a call
    on one of them. It takes the memory of a report and of an opening with the keys, while the set is still there, whose memory is
    freed then.
    Else the handles stay as they were, and go on: VBR_BAD_SHAPE; VBR_EMPTY, one is empty; VBR_MIXED, two are of different sets, by
@@ -415,9 +502,15 @@ VBR_NODISCARD vbr_answer vbr_report_all(vbr_handle *handles, size_t count, uint6
 VBR_NODISCARD vbr_answer vbr_renew_all(vbr_handle *handles, size_t count, uint32_t slots, uint32_t buckets,
                                        uint64_t last_epoch) VBR_NOEXCEPT VBR_NONNULL;
 
-/* Gives a handle up, empty or full, and leaves it empty. Its pass is given back as by a close, and no
-   report is told: the last handle of the set that is closed still gets it, and with the last one dropped
-   the set ends. It needs no memory. With a null pointer it does nothing.
+/* Lets all handles of a set go on over a fresh one of this shape, as vbr_renew_all does, with its keys spread by this seed.
+
+       vbr_answer renewed = vbr_renew_all_seeded(handle, 2, 2048 + 2 * 64, 2048, VBR_MAX_EPOCH, vbr_random_seed()); */
+VBR_NODISCARD vbr_answer vbr_renew_all_seeded(vbr_handle *handles, size_t count, uint32_t slots, uint32_t buckets,
+                                              uint64_t last_epoch, uint64_t seed) VBR_NOEXCEPT VBR_NONNULL;
+
+/* Gives a handle up, empty or full, and leaves it empty. Its slots and its pass are given back as by a close, and no report is
+   told: the last handle of the set that is closed still gets it, and with the last one dropped the set ends. It needs no
+   memory. With a null pointer it does nothing.
 
        vbr_drop(&handle[0]); // the close of handle[1] is told the report */
 void vbr_drop(vbr_handle *handle) VBR_NOEXCEPT;
@@ -456,9 +549,34 @@ VBR_NODISCARD vbr_answer vbr_map_open_with(vbr_map_handle *handles, size_t count
                                            uint64_t last_epoch, const vbr_entry *entries,
                                            size_t entry_count) VBR_NOEXCEPT VBR_NONNULL;
 
+/* Opens a map as vbr_map_open_with does, of `entry_count` entries, which may be none, with its keys spread over the buckets by this
+   seed, as vbr_open_seeded opens a set.
+
+       if (vbr_map_open_seeded(map, 2, 1024 + 2 * 64, 1024, VBR_MAX_EPOCH, 7, some_entries, 3) != VBR_NO) return 1; */
+VBR_NODISCARD vbr_answer vbr_map_open_seeded(vbr_map_handle *handles, size_t count, uint32_t slots, uint32_t buckets,
+                                             uint64_t last_epoch, uint64_t seed, const vbr_entry *entries,
+                                             size_t entry_count) VBR_NOEXCEPT VBR_NONNULL;
+
+/* Opens a map of `entry_count` entries, which may be none, as vbr_map_open_with does, with up to VBR_MAX_MANY_HANDLES handles, as
+   vbr_open_many does.
+
+       static vbr_map_handle many[1000];
+       if (vbr_map_open_many(many, 1000, 1024 + 1000 * 64, 1024, VBR_MAX_EPOCH, some, 3) != VBR_NO) return 1; */
+VBR_NODISCARD vbr_answer vbr_map_open_many(vbr_map_handle *handles, size_t count, uint32_t slots, uint32_t buckets,
+                                           uint64_t last_epoch, const vbr_entry *entries,
+                                           size_t entry_count) VBR_NOEXCEPT VBR_NONNULL;
+
+/* Opens a map as vbr_map_open_many does, with its keys spread by this seed, as vbr_open_seeded opens a set.
+
+       static vbr_map_handle seeded_maps[1000];
+       if (vbr_map_open_many_seeded(seeded_maps, 1000, 1024 + 1000 * 64, 1024, VBR_MAX_EPOCH, 7, some_entries, 3) != VBR_NO) return 1; */
+VBR_NODISCARD vbr_answer vbr_map_open_many_seeded(vbr_map_handle *handles, size_t count, uint32_t slots, uint32_t buckets,
+                                                  uint64_t last_epoch, uint64_t seed, const vbr_entry *entries,
+                                                  size_t entry_count) VBR_NOEXCEPT VBR_NONNULL;
+
 /* Adds a key with its value, in at most `budget` steps: VBR_YES if the key was absent, VBR_NO if it was there; then it keeps
-   the value that it has. Else VBR_OUT_OF_STEPS, VBR_NO_SLOT, VBR_EPOCH_SPENT or VBR_EMPTY. At VBR_NO_SLOT remove keys, let a
-   handle that has free slots make the insert, or make it again. It takes no memory and never waits.
+   the value that it has. Else VBR_OUT_OF_STEPS, VBR_NO_SLOT, VBR_EPOCH_SPENT or VBR_EMPTY. At VBR_NO_SLOT have other handles
+   give their slots back (vbr_map_spare), remove keys, or make it again. It takes no memory and never waits.
 
        if (vbr_map_insert(&map[0], 5, 70, 100000) == VBR_YES) added++; // this call stored 70 for 5 */
 VBR_NODISCARD vbr_answer vbr_map_insert(vbr_map_handle *handle, uint64_t key, uint64_t value,
@@ -535,6 +653,28 @@ VBR_NODISCARD vbr_answer vbr_map_remove_if(vbr_map_handle *handle, uint64_t key,
        if (vbr_map_has(&map[0], 5, 100000) == VBR_YES) there++; // 5 was there during the call */
 VBR_NODISCARD vbr_answer vbr_map_has(vbr_map_handle *handle, uint64_t key, uint32_t budget) VBR_NOEXCEPT VBR_NONNULL;
 
+/* Looks `count` keys up without their values, as vbr_has_all does: answers[i] is what vbr_map_has answers to keys[i].
+
+       vbr_map_has_all(&map[0], wanted, 3, answers, 100000); // answers[i] is that of wanted[i] */
+void vbr_map_has_all(vbr_map_handle *handle, const uint64_t *keys, size_t count, vbr_answer *answers,
+                     uint32_t budget) VBR_NOEXCEPT VBR_NONNULL_FIRST;
+
+/* What vbr_map_get_all tells of a key.
+
+       vbr_found given[3]; */
+typedef struct vbr_found {
+    uint64_t value;    /* the value of the key where the answer is VBR_YES, else 0 */
+    vbr_answer answer; /* VBR_YES, VBR_NO, VBR_OUT_OF_STEPS or VBR_EMPTY */
+} vbr_found;
+
+/* Looks `count` keys up and gives their values, as vbr_has_all looks keys up: found[i] has what vbr_map_get answers to keys[i],
+   and the value.
+
+       vbr_map_get_all(&map[0], wanted, 3, given, 100000);
+       for (int i = 0; i < 3; i++) sum += given[i].value; // 0 where wanted[i] isn't there */
+void vbr_map_get_all(vbr_map_handle *handle, const uint64_t *keys, size_t count, vbr_found *found,
+                     uint32_t budget) VBR_NOEXCEPT VBR_NONNULL_FIRST;
+
 /* Gives the next key of a walk with its value, as vbr_next gives a key: VBR_YES, and the two are then in `*key` and `*value`,
    and were in the map together at a moment of the call; VBR_NO at the end, where no key is left. Else VBR_OUT_OF_STEPS or
    VBR_EMPTY. Unless it answers VBR_YES neither is written. At VBR_OUT_OF_STEPS the cursor keeps how far it has come. The value
@@ -568,15 +708,32 @@ VBR_NODISCARD uint32_t vbr_map_slots(vbr_map_handle *handle) VBR_NOEXCEPT VBR_NO
        int is_crowded = 3 > 2 * vbr_map_buckets(&map[0]); // three keys, and more than two for each bucket */
 VBR_NODISCARD uint32_t vbr_map_buckets(vbr_map_handle *handle) VBR_NOEXCEPT VBR_NONNULL;
 
+/* The seed that spreads the keys of the map, as vbr_seed tells of a set.
+
+       uint64_t seed = vbr_map_seed(&map[0]); // opens a map whose keys have the same buckets */
+VBR_NODISCARD uint64_t vbr_map_seed(vbr_map_handle *handle) VBR_NOEXCEPT VBR_NONNULL;
+
 /* How many keys the calls of the handle have added, less those that they took out, as vbr_balance tells of a set. A call that
    changes a value leaves it as it was.
 
        int64_t entered = vbr_map_balance(&map[0]) + vbr_map_balance(&map[1]); // no call is under way */
 VBR_NODISCARD int64_t vbr_map_balance(vbr_map_handle *handle) VBR_NOEXCEPT VBR_NONNULL;
 
-/* Gives the pass back and leaves the handle empty: VBR_NO while others of its map are open. The last one ends the map: VBR_YES,
-   with the report and its entries, ascending by key. Only then is memory needed, which is freed again. Behind the entries of
-   the report the array stays as it was: all `room` entries, and the report, are initialised before.
+/* Puts the slots that the handle keeps to itself into the pool that all handles of the map share, as vbr_spare does of a set:
+   how many they were, and 0 for an empty handle.
+
+       uint32_t spared = vbr_map_spare(&map[0]); // map[1] can have them now */
+uint32_t vbr_map_spare(vbr_map_handle *handle) VBR_NOEXCEPT VBR_NONNULL;
+
+/* Takes slots in reserve for the inserts to come of the handle, as vbr_reserve does of a set: how many it took, and 0 for an
+   empty handle.
+
+       uint32_t reserved = vbr_map_reserve(&map[0], 32); // for its inserts to come */
+uint32_t vbr_map_reserve(vbr_map_handle *handle, uint32_t wanted) VBR_NOEXCEPT VBR_NONNULL;
+
+/* Gives its slots and its pass back and leaves the handle empty: VBR_NO while others of its map are open. The last one ends
+   the map: VBR_YES, with the report and its entries, ascending by key. Only then is memory needed, which is freed again.
+   Behind the entries of the report the array stays as it was: all `room` entries, and the report, are initialised before.
    VBR_NO_MEMORY and VBR_NO_ROOM leave the last handle full, as of vbr_close: as many entries as the map has slots always have
    room; where these have not, VBR_NO_ROOM writes the report and no entry, and report->live is how many entries there are. Else
    nothing is written. VBR_EMPTY: the handle is empty, or null. VBR_LOST: a pass is not there, and the map is gone; no program
@@ -610,9 +767,15 @@ VBR_NODISCARD vbr_answer vbr_map_report_all(vbr_map_handle *handles, size_t coun
 VBR_NODISCARD vbr_answer vbr_map_renew_all(vbr_map_handle *handles, size_t count, uint32_t slots, uint32_t buckets,
                                            uint64_t last_epoch) VBR_NOEXCEPT VBR_NONNULL;
 
-/* Gives a handle up, empty or full, and leaves it empty. Its pass is given back as by a close, and no report is told: the last
-   handle of the map that is closed still gets it, and with the last one dropped the map ends. It needs no memory. With a null
-   pointer it does nothing.
+/* Lets all handles of a map go on over a fresh one of this shape, as vbr_map_renew_all does, with its keys spread by this seed.
+
+       vbr_answer renewed = vbr_map_renew_all_seeded(map, 2, 2048 + 2 * 64, 2048, VBR_MAX_EPOCH, vbr_random_seed()); */
+VBR_NODISCARD vbr_answer vbr_map_renew_all_seeded(vbr_map_handle *handles, size_t count, uint32_t slots, uint32_t buckets,
+                                                  uint64_t last_epoch, uint64_t seed) VBR_NOEXCEPT VBR_NONNULL;
+
+/* Gives a handle up, empty or full, and leaves it empty. Its slots and its pass are given back as by a close, and no report is
+   told: the last handle of the map that is closed still gets it, and with the last one dropped the map ends. It needs no
+   memory. With a null pointer it does nothing.
 
        vbr_map_drop(&map[0]); // the close of map[1] is told the report */
 void vbr_map_drop(vbr_map_handle *handle) VBR_NOEXCEPT;
