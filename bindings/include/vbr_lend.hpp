@@ -126,22 +126,31 @@ constexpr bool is_in_range(const shape &it) noexcept {
    handles come to have one each, and no two write the same cache line. */
 inline thread_local std::size_t lent_last = 0;
 
-/* The shape of a set, which a renewal changes while other threads read it. */
+/* The shape of a set, with the seed that was asked for if one was; a renewal changes it while other threads read it. */
 class shared_shape {
 public:
     void set(const shape &to) noexcept {
         of_slots.store(to.slots, std::memory_order_relaxed);
         of_buckets.store(to.buckets, std::memory_order_relaxed);
         of_epoch.store(to.last_epoch, std::memory_order_relaxed);
+        is_seeded.store(to.seed.has_value(), std::memory_order_relaxed);
+        of_seed.store(to.seed.value_or(0), std::memory_order_relaxed);
     }
     std::uint32_t slots() const noexcept { return of_slots.load(std::memory_order_relaxed); }
     std::uint32_t buckets() const noexcept { return of_buckets.load(std::memory_order_relaxed); }
     std::uint64_t last_epoch() const noexcept { return of_epoch.load(std::memory_order_relaxed); }
-    bool is(const shape &other) const noexcept { return slots() == other.slots && buckets() == other.buckets && last_epoch() == other.last_epoch; }
+    bool is(const shape &other) const noexcept {
+        return slots() == other.slots && buckets() == other.buckets && last_epoch() == other.last_epoch && has_seed_of(other);
+    }
 
 private:
+    bool has_seed_of(const shape &other) const noexcept {
+        return is_seeded.load(std::memory_order_relaxed) == other.seed.has_value() && of_seed.load(std::memory_order_relaxed) == other.seed.value_or(0);
+    }
+
     std::atomic<std::uint32_t> of_slots{0}, of_buckets{0};
-    std::atomic<std::uint64_t> of_epoch{0};
+    std::atomic<std::uint64_t> of_epoch{0}, of_seed{0};
+    std::atomic<bool> is_seeded{false};
 };
 
 /* A handle, and whether it is lent, on cache lines of their own. */

@@ -21,11 +21,13 @@ pub(crate) struct Lender<K: Kind> {
     waiters: Waiters,
 }
 
-/// The shape of a set, which a renewal changes while other threads read it.
+/// The shape of a set, with the seed that was asked for if one was; a renewal changes it while other threads read it.
 pub(crate) struct SharedShape {
     slots: AtomicU32,
     buckets: AtomicU32,
     last_epoch: AtomicU64,
+    has_seed: AtomicBool,
+    seed: AtomicU64,
 }
 
 /// A renewal: where it has its turn no handle is lent, and it takes each that is free. At its end all are lent again.
@@ -170,18 +172,27 @@ impl<K: Kind> Drop for Renewal<'_, K> {
 }
 
 impl SharedShape {
-    fn of(Shape { slots, buckets, last_epoch }: Shape) -> SharedShape {
-        SharedShape { slots: AtomicU32::new(slots), buckets: AtomicU32::new(buckets), last_epoch: AtomicU64::new(last_epoch) }
+    fn of(Shape { slots, buckets, last_epoch, seed }: Shape) -> SharedShape {
+        SharedShape {
+            slots: AtomicU32::new(slots),
+            buckets: AtomicU32::new(buckets),
+            last_epoch: AtomicU64::new(last_epoch),
+            has_seed: AtomicBool::new(seed.is_some()),
+            seed: AtomicU64::new(seed.unwrap_or_default()),
+        }
     }
 
-    fn set(&self, Shape { slots, buckets, last_epoch }: Shape) {
+    fn set(&self, Shape { slots, buckets, last_epoch, seed }: Shape) {
         self.slots.store(slots, Ordering::Relaxed);
         self.buckets.store(buckets, Ordering::Relaxed);
         self.last_epoch.store(last_epoch, Ordering::Relaxed);
+        self.has_seed.store(seed.is_some(), Ordering::Relaxed);
+        self.seed.store(seed.unwrap_or_default(), Ordering::Relaxed);
     }
 
     fn get(&self) -> Shape {
-        Shape { slots: self.slots(), buckets: self.buckets(), last_epoch: self.last_epoch() }
+        let seed = self.has_seed.load(Ordering::Relaxed).then(|| self.seed.load(Ordering::Relaxed));
+        Shape { slots: self.slots(), buckets: self.buckets(), last_epoch: self.last_epoch(), seed }
     }
 
     pub(crate) fn slots(&self) -> u32 {
