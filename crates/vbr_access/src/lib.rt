@@ -20,5 +20,5 @@ pub use confirming::{
 pub use marking::{mark, mark_entry};
 pub use reading::{checkpoint, first, key_of, next, value_of};
 pub use unlinking::unlink;
-pub use updating::update;
+pub use updating::{update, update_entry};
 pub use vbr_at_table::{Checkpoint, Held, Marked, Rollback};
