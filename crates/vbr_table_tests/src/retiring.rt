@@ -17,7 +17,7 @@ use vbr_slots::{Pass, Slots};
 use vbr_words::{At, Nodes};
 
 // The head of bucket 0, which has this word, read after a new checkpoint in epoch 1.
-fn head_of<N: Nodes>(rt: &impl Abort, slots: &Slots<N>, pass: &mut Pass, word: u64) -> Held
+pub fn head_of<N: Nodes>(rt: &impl Abort, slots: &Slots<N>, pass: &mut Pass, word: u64) -> Held
     requires own { IsOf pass.old.trace slots.now }
     requires bucket { 0 < slots.now.start.shape.buckets }
     ensures own { IsOf pass.new.trace slots.now }
