@@ -91,8 +91,14 @@ pub extern "C" fn vbr_map_open_many_seeded(
 /// vbr_answer again = vbr_map_insert(&map[1], 5, 71);  /* VBR_NO: 5 keeps its value */
 /// ```
 #[unsafe(no_mangle)]
-pub extern "C" fn vbr_map_insert_within(handle: &mut MapHandle, key: u64, value: u64, budget: u32) -> i32
-    ensures called { TellsInsertEntry handle.old.owned.member handle.new.owned.member key value budget result }
+pub extern "C" fn vbr_map_insert_within(
+    handle: &mut MapHandle,
+    key: u64,
+    value: u64,
+    budget: u32,
+) -> i32
+    ensures called { TellsInsertEntry handle.old.owned.member handle.new.owned.member
+        key value budget result }
     ensures steps { handle.new.steps ≡ handle.old.steps }
 {
     entries::insert(handle.owned.owner_mut(), key, value, budget)
@@ -112,8 +118,8 @@ pub extern "C" fn vbr_map_remove_within(
     value: &mut u64,
     budget: u32,
 ) -> i32
-    ensures called { TellsRemoveEntry handle.old.owned.member handle.new.owned.member key budget value.old value.new
-        result }
+    ensures called { TellsRemoveEntry handle.old.owned.member handle.new.owned.member
+        key budget value.old value.new result }
     ensures steps { handle.new.steps ≡ handle.old.steps }
 {
     entries::remove(handle.owned.owner_mut(), key, value, budget)
@@ -133,8 +139,8 @@ pub extern "C" fn vbr_map_get_within(
     value: &mut u64,
     budget: u32,
 ) -> i32
-    ensures called { TellsGetEntry handle.old.owned.member handle.new.owned.member key budget value.old value.new
-        result }
+    ensures called { TellsGetEntry handle.old.owned.member handle.new.owned.member
+        key budget value.old value.new result }
     ensures steps { handle.new.steps ≡ handle.old.steps }
 {
     entries::get(handle.owned.owner_mut(), key, value, budget)
@@ -202,8 +208,8 @@ pub extern "C" fn vbr_map_get_or_insert_within(
     found: &mut u64,
     budget: u32,
 ) -> i32
-    ensures called { TellsGetOrInsert handle.old.owned.member handle.new.owned.member key value budget
-        found.old found.new result }
+    ensures called { TellsGetOrInsert handle.old.owned.member handle.new.owned.member
+        key value budget found.old found.new result }
     ensures steps { handle.new.steps ≡ handle.old.steps }
 {
     entries::get_or_insert(handle.owned.owner_mut(), key, value, found, budget)
@@ -225,11 +231,18 @@ pub extern "C" fn vbr_map_compare_exchange_within(
     found: &mut u64,
     budget: u32,
 ) -> i32
-    ensures called { TellsExchange handle.old.owned.member handle.new.owned.member key expected value budget
-        found.old found.new result }
+    ensures called { TellsExchange handle.old.owned.member handle.new.owned.member
+        key expected value budget found.old found.new result }
     ensures steps { handle.new.steps ≡ handle.old.steps }
 {
-    entries::compare_exchange(handle.owned.owner_mut(), key, expected, value, found, budget)
+    entries::compare_exchange(
+        handle.owned.owner_mut(),
+        key,
+        expected,
+        value,
+        found,
+        budget,
+    )
 }
 
 /// Takes a key out where it has the value that is expected, as [`vbr_map_remove_within`] does: 1; 2 if it has another
@@ -247,8 +260,8 @@ pub extern "C" fn vbr_map_remove_if_within(
     found: &mut u64,
     budget: u32,
 ) -> i32
-    ensures called { TellsRemoveIf handle.old.owned.member handle.new.owned.member key expected budget
-        found.old found.new result }
+    ensures called { TellsRemoveIf handle.old.owned.member handle.new.owned.member
+        key expected budget found.old found.new result }
     ensures steps { handle.new.steps ≡ handle.old.steps }
 {
     entries::remove_if(handle.owned.owner_mut(), key, expected, found, budget)
@@ -262,7 +275,8 @@ pub extern "C" fn vbr_map_remove_if_within(
 /// ```
 #[unsafe(no_mangle)]
 pub extern "C" fn vbr_map_has_within(handle: &mut MapHandle, key: u64, budget: u32) -> i32
-    ensures called { TellsCall Has handle.old.owned.member handle.new.owned.member key budget result }
+    ensures called { TellsCall Has handle.old.owned.member handle.new.owned.member
+        key budget result }
     ensures steps { handle.new.steps ≡ handle.old.steps }
 {
     numbers::has(handle.owned.owner_mut(), key, budget)
@@ -281,7 +295,8 @@ pub extern "C" fn vbr_map_has_all_within(
     budget: u32,
 )
     requires { length answers.old ≡ length keys.now }
-    ensures called { TellsHasAll handle.old.owned.member handle.new.owned.member keys.now budget answers.new }
+    ensures called { TellsHasAll handle.old.owned.member handle.new.owned.member
+        keys.now budget answers.new }
     ensures steps { handle.new.steps ≡ handle.old.steps }
 {
     batches::has_all(handle.owned.owner_mut(), keys, answers, budget);
@@ -301,7 +316,8 @@ pub extern "C" fn vbr_map_get_all_within(
     budget: u32,
 )
     requires { length found.old ≡ length keys.now }
-    ensures called { TellsGetAll handle.old.owned.member handle.new.owned.member keys.now budget found.new }
+    ensures called { TellsGetAll handle.old.owned.member handle.new.owned.member
+        keys.now budget found.new }
     ensures steps { handle.new.steps ≡ handle.old.steps }
 {
     batches::get_all(handle.owned.owner_mut(), keys, found, budget);
@@ -390,8 +406,8 @@ pub extern "C" fn vbr_map_close(
     entries: &mut [Entry],
     report: &mut ReportNumbers,
 ) -> i32
-    ensures closes { ClosesMapHandle handle.old.owned.member handle.new.owned.member entries.old entries.new
-        report.old report.new result }
+    ensures closes { ClosesMapHandle handle.old.owned.member handle.new.owned.member
+        entries.old entries.new report.old report.new result }
     ensures steps { handle.new.steps ≡ handle.old.steps }
 {
     giving_back::close::<Entries, Entry>(alloc, handle.owned.owner_mut(), entries, report)
@@ -511,7 +527,8 @@ pub extern "C" fn vbr_map_next_within(
     entry: &mut Entry,
     budget: u32,
 ) -> i32
-    ensures next { TellsNextEntry handle.old.owned.member handle.new.owned.member cursor.old cursor.new budget
+    ensures next { TellsNextEntry handle.old.owned.member handle.new.owned.member
+        cursor.old cursor.new budget
         (entry.old.key, entry.old.value) (entry.new.key, entry.new.value) result }
     ensures steps { handle.new.steps ≡ handle.old.steps }
 {

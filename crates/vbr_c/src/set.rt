@@ -101,7 +101,8 @@ pub extern "C" fn vbr_open_many_seeded(
 /// ```
 #[unsafe(no_mangle)]
 pub extern "C" fn vbr_insert_within(handle: &mut Handle, key: u64, budget: u32) -> i32
-    ensures called { TellsCall Insert handle.old.owned.member handle.new.owned.member key budget result }
+    ensures called { TellsCall Insert handle.old.owned.member handle.new.owned.member
+        key budget result }
     ensures steps { handle.new.steps ≡ handle.old.steps }
 {
     numbers::insert(handle.owned.owner_mut(), key, budget)
@@ -118,7 +119,8 @@ pub extern "C" fn vbr_insert_within(handle: &mut Handle, key: u64, budget: u32) 
 /// ```
 #[unsafe(no_mangle)]
 pub extern "C" fn vbr_remove_within(handle: &mut Handle, key: u64, budget: u32) -> i32
-    ensures called { TellsCall Remove handle.old.owned.member handle.new.owned.member key budget result }
+    ensures called { TellsCall Remove handle.old.owned.member handle.new.owned.member
+        key budget result }
     ensures steps { handle.new.steps ≡ handle.old.steps }
 {
     numbers::remove(handle.owned.owner_mut(), key, budget)
@@ -135,7 +137,8 @@ pub extern "C" fn vbr_remove_within(handle: &mut Handle, key: u64, budget: u32) 
 /// ```
 #[unsafe(no_mangle)]
 pub extern "C" fn vbr_has_within(handle: &mut Handle, key: u64, budget: u32) -> i32
-    ensures called { TellsCall Has handle.old.owned.member handle.new.owned.member key budget result }
+    ensures called { TellsCall Has handle.old.owned.member handle.new.owned.member
+        key budget result }
     ensures steps { handle.new.steps ≡ handle.old.steps }
 {
     numbers::has(handle.owned.owner_mut(), key, budget)
@@ -153,9 +156,15 @@ pub extern "C" fn vbr_has_within(handle: &mut Handle, key: u64, budget: u32) -> 
 /// vbr_has_all(&handle[0], wanted, 3, answers);
 /// ```
 #[unsafe(no_mangle)]
-pub extern "C" fn vbr_has_all_within(handle: &mut Handle, keys: &[u64], answers: &mut [i32], budget: u32)
+pub extern "C" fn vbr_has_all_within(
+    handle: &mut Handle,
+    keys: &[u64],
+    answers: &mut [i32],
+    budget: u32,
+)
     requires { length answers.old ≡ length keys.now }
-    ensures called { TellsHasAll handle.old.owned.member handle.new.owned.member keys.now budget answers.new }
+    ensures called { TellsHasAll handle.old.owned.member handle.new.owned.member
+        keys.now budget answers.new }
     ensures steps { handle.new.steps ≡ handle.old.steps }
 {
     batches::has_all(handle.owned.owner_mut(), keys, answers, budget);
@@ -290,7 +299,8 @@ pub extern "C" fn vbr_close_all(
     report: &mut ReportNumbers,
 ) -> i32
     requires { AreOfOneSet (members_in handles.old) }
-    ensures closes { TellsCloseAll handles.old handles.new keys.old keys.new report.old report.new result }
+    ensures closes { TellsCloseAll handles.old handles.new keys.old keys.new
+        report.old report.new result }
     ensures steps { KeepSteps handles.old handles.new }
 {
     numbers::close_all::<Keys, u64, Handle>(alloc, handles, keys, report)
@@ -313,7 +323,8 @@ pub extern "C" fn vbr_report_all(
     report: &mut ReportNumbers,
 ) -> i32
     requires { AreOfOneSet (members_in handles.old) }
-    ensures reports { TellsReport handles.old handles.new keys.old keys.new report.old report.new result }
+    ensures reports { TellsReport handles.old handles.new keys.old keys.new
+        report.old report.new result }
     ensures steps { KeepSteps handles.old handles.new }
 {
     numbers::report_all::<Keys, u64, Handle>(alloc, handles, keys, report)
@@ -416,8 +427,8 @@ pub extern "C" fn vbr_next_within(
     key: &mut u64,
     budget: u32,
 ) -> i32
-    ensures next { TellsNext handle.old.owned.member handle.new.owned.member cursor.old cursor.new budget
-        key.old key.new result }
+    ensures next { TellsNext handle.old.owned.member handle.new.owned.member
+        cursor.old cursor.new budget key.old key.new result }
     ensures steps { handle.new.steps ≡ handle.old.steps }
 {
     iterating::next_key(handle.owned.owner_mut(), cursor, key, budget)
