@@ -1,5 +1,5 @@
 -- Members that were asked come back to their handles.
-use Rattle.std.proofs.Common.{◌≡◌, ℕ, zero, suc, ◌+◌, ◌<◌, ◌≢◌, false, List, [], ◌∷◌, ◌++◌, length, map, drop, refl, sym, ap, ◌∙◌, subst, arith}
+use Rattle.std.proofs.Common.{◌≡◌, ℕ, zero, suc, ◌+◌, ◌<◌, ◌≤◌, ◌≢◌, false, List, [], ◌∷◌, ◌++◌, length, map, drop, refl, sym, ap, ◌∙◌, subst, arith}
 use Rattle.std.specs.Prelude.{IfSome, IsSome, Option, None, Some, slice_index_or, slice_set}
 use Rattle.std.proofs.lemmas.Bool.{false≢true}
 use Rattle.std.proofs.lemmas.List.{length-map}
@@ -97,9 +97,18 @@ module _ {H : Type 0} (member : H → Option Member) where
     pub many : length handles ≡ length (first ∷ others)
     pub opened : passes ≡ first.set.passes
 
-  pub counted : (passes : ℕ) (first : H) (others handles : List H) → handles ≡ first ∷ others → AreFull member handles → IfSome (member first) (λ m. passes ≡ m.set.passes) → Counted passes handles
-  counted passes first others handles split full = go (member first) refl (All-head (λ (h : H). IsSome (member h)) first others (All-same (λ (h : H). IsSome (member h)) (first ∷ others) handles (sym split) full))
+  pub counted : (passes : ℕ) (handles : List H) (d : H) → 0 < length handles → AreFull member handles → IfSome (member (slice_index_or handles 0 d)) (λ m. passes ≡ m.set.passes) → Counted passes handles
+  counted passes handles d within full = go (member first) refl (here_full member handles 0 d within full)
     where
+      first : H
+      first = slice_index_or handles 0 d
+
+      others : List H
+      others = drop 1 handles
+
+      split : handles ≡ first ∷ others
+      split = from_here member handles 0 d within
+
       many : length handles ≡ length (members_by member handles)
       many = sym (length-map handles member) ∙ sym (ap (λ (os : List (Option Member)). length os) (all_members handles full)) ∙ length-map (members_by member handles) Some
 
@@ -114,8 +123,8 @@ module _ {H : Type 0} (member : H → Option Member) where
   pub too_few : (passes : ℕ) (handles : List H) → Counted passes handles → length handles < passes → AreTooFew (members_by member handles)
   too_few passes handles c less = let many = c.many in let opened = c.opened in subst AreTooFew (sym c.are) (omega (arith, less, many, opened))
 
-  pub enough : (passes : ℕ) (handles : List H) → Counted passes handles → ¬ (length handles < passes) → ¬ (AreTooFew (members_by member handles))
-  enough passes handles c not few = let many = c.many in let opened = c.opened in let less : length (c.first ∷ c.others) < c.first.set.passes = subst AreTooFew c.are few in not (omega (arith, less, many, opened))
+  pub enough : (passes : ℕ) (handles : List H) → Counted passes handles → passes ≤ length handles → ¬ (AreTooFew (members_by member handles))
+  enough passes handles c most few = let many = c.many in let opened = c.opened in let less : length (c.first ∷ c.others) < c.first.set.passes = subst AreTooFew c.are few in omega (arith, less, many, opened, most)
 
   pub not_all : (passes : ℕ) (handles : List H) → Counted passes handles → length handles ≢ passes → AreNotAll (members_by member handles)
   not_all passes handles c differ = subst AreNotAll (sym c.are) (λ (same : length (c.first ∷ c.others) ≡ c.first.set.passes). differ (c.many ∙ same ∙ sym c.opened))

@@ -64,7 +64,7 @@ pub(crate) fn ask_all<N: Kind, H: HandleOf<N>>(
     if !are_full::<N, H>(handles) {
         return Err(AskRefusal::Empty);
     }
-    if lack::<N, H>(handles, question) {
+    if lack::<N, H>(handles, &question) {
         return Err(AskRefusal::Missing);
     }
     if !are_beside::<N, H>(handles) {
@@ -191,17 +191,17 @@ fn are_full<N: Nodes, H: HandleOf<N>>(handles: &mut [H]) -> bool
 }
 
 // Whether handles, which are full, are fewer than what is asked of them wants, or not as many.
-fn lack<N: Nodes, H: HandleOf<N>>(handles: &mut [H], question: Question) -> bool
+fn lack<N: Nodes, H: HandleOf<N>>(handles: &mut [H], question: &Question) -> bool
     requires { AreFull H.member handles.old }
     ensures same { handles.new ≡ handles.old }
-    ensures yes { result ≡ true → Lack question (members_by H.member handles.old) }
-    ensures no { result ≡ false → ¬ (Lack question (members_by H.member handles.old)) }
+    ensures yes { result ≡ true → Lack question.now (members_by H.member handles.old) }
+    ensures no { result ≡ false → ¬ (Lack question.now (members_by H.member handles.old)) }
 {
-    let count = handles.len();
-    let Some((first, _)) = handles.split_first_mut() else {
+    if handles.is_empty() {
         return true;
-    };
-    let passes = first.passes() as usize;
+    }
+    let count = handles.len();
+    let passes = handles[0].passes() as usize;
     match question {
         Question::Report => count < passes,
         Question::Renew(_) => count != passes,
