@@ -12,7 +12,7 @@ def short(library, program):
         trial("tools", ["tests/tools"]),
         trial("clients", ["bindings/test"], library),
         trial("streams", ["tests/program", "target/vbr_run"], program),
-        trial("scripts", ["tests/runs", "target/vbr_run"], program),
+        trial("scripts", ["tests/four-workers", "target/vbr_run"], program),
         trial("kept-inputs", ["tests/fuzz/run", "--kept"], library, program),
     ]
 
