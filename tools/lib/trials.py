@@ -1,4 +1,4 @@
-"""What is tried of the library and the program once they stand in target/, as commands for tools/side_by_side.py."""
+"""What is tried of the library and the program once they stand in target/, as tasks of side_by_side.py."""
 import side_by_side
 
 
