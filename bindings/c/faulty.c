@@ -47,7 +47,7 @@ typedef vbr_entry an_item;
 #define WRAP(call) __wrap_vbr_map_##call
 #define LOOK_UP __real_vbr_map_get_within
 #define WITH(value) , value
-#define GIVE(to, value) (*(to) = (value))
+#define GIVE(to, value) ((to) ? (void)(*(to) = (value)) : (void)0)
 #define KEY(item) (item).key
 vbr_answer __real_vbr_map_get_within(vbr_map_handle *handle, uint64_t key, uint64_t *value, uint32_t budget);
 vbr_answer __real_vbr_map_get_or_insert_within(vbr_map_handle *handle, uint64_t key, uint64_t value, uint64_t *found, uint32_t budget);
@@ -165,6 +165,8 @@ vbr_answer WRAP(has_within)(a_handle *handle, uint64_t key, uint32_t budget) {
 
 #ifdef OF_MAPS
 vbr_answer __wrap_vbr_map_get_within(vbr_map_handle *handle, uint64_t key, uint64_t *value, uint32_t budget) {
+    uint64_t unasked = 0;
+    if (!value) value = &unasked;
     uint64_t old = *value;
     make_late();
     vbr_answer answer = __real_vbr_map_get_within(handle, key, value, now(19) ? budget / 2 : budget);

@@ -97,6 +97,8 @@ vbr_answer __wrap_vbr_map_insert_within(vbr_map_handle *handle, uint64_t key, ui
 }
 
 vbr_answer __wrap_vbr_map_remove_within(vbr_map_handle *handle, uint64_t key, uint64_t *value, uint32_t budget) {
+    uint64_t unasked = 0;
+    if (!value) value = &unasked;
     vbr_answer answer = __real_vbr_map_remove_within(handle, key, value, budget);
     uint64_t removed = *value;
     if (answer == VBR_YES && now(4)) give_kept(key, value);
@@ -105,6 +107,8 @@ vbr_answer __wrap_vbr_map_remove_within(vbr_map_handle *handle, uint64_t key, ui
 }
 
 vbr_answer __wrap_vbr_map_get_within(vbr_map_handle *handle, uint64_t key, uint64_t *value, uint32_t budget) {
+    uint64_t unasked = 0;
+    if (!value) value = &unasked;
     vbr_answer answer = __real_vbr_map_get_within(handle, key, value, budget);
     if (answer == VBR_YES && (now(1) || now(2))) give_kept(key, value);
     if (answer == VBR_YES && now(3)) give_other(handle, key, value, budget);
