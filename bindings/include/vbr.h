@@ -129,7 +129,7 @@ typedef enum vbr_answer {
     VBR_BAD_KEYS = -10,    /* open_with: the keys do not ascend, or there are more than slots; nothing
                               was done */
     VBR_NO_ROOM = -11,     /* close: it is the last and stays as it was; the report tells how many keys; renew_all: there
-                              are more keys than slots; they are as they were */
+                              are more keys than slots, and they are as they were */
     VBR_MISSING = -12,     /* report_all, close_all, renew_all: not all handles that were opened; they are as they were */
     VBR_EMPTY VBR_DEPRECATED("VBR_NO_HANDLE") = -4, /* the old name of VBR_NO_HANDLE, for one version */
     VBR_MIXED = -13        /* report_all, close_all, renew_all: handles of different sets; they are as they were */
