@@ -27,19 +27,19 @@ static void measure(const char *what, uint32_t slots, uint32_t buckets, uint32_t
     CHECK(keys);
     for (int round = 0; round < ROUNDS; round++) {
         vbr_handle handle[HANDLES] = {{0}};
-        vbr_totals report = {0};
+        vbr_report report = {0};
         for (uint64_t i = 0; i < count; i++) keys[i] = i * step + (i * 0x9E3779B97F4A7C15u >> 20) % step;
         double begun = now();
-        if (count) CHECK(vbr_open_with(handle, HANDLES, slots, buckets, VBR_MAX_EPOCH, keys, count) == VBR_NO);
-        else CHECK(vbr_open(handle, HANDLES, slots, buckets, VBR_MAX_EPOCH) == VBR_NO);
+        if (count) CHECK(vbr_open_with(handle, HANDLES, slots, buckets, VBR_MAX_EPOCH, keys, count) == VBR_OK);
+        else CHECK(vbr_open(handle, HANDLES, slots, buckets, VBR_MAX_EPOCH) == VBR_OK);
         double opened = now();
         clock_t hand_begun = clock();
         CHECK(vbr_close_all(handle, HANDLES, keys, slots, &report) == VBR_YES && report.live == count);
         double closed = now();
-        CHECK(vbr_open_with(handle, HANDLES, slots, buckets, VBR_MAX_EPOCH, keys, report.live) == VBR_NO);
+        CHECK(vbr_open_with(handle, HANDLES, slots, buckets, VBR_MAX_EPOCH, keys, report.live) == VBR_OK);
         double renewed = now();
         clock_t once_begun = clock();
-        CHECK(vbr_renew_all(handle, HANDLES, slots, buckets, VBR_MAX_EPOCH) == VBR_NO && vbr_balance(&handle[0]) == count);
+        CHECK(vbr_renew_all(handle, HANDLES, slots, buckets, VBR_MAX_EPOCH) == VBR_OK && vbr_balance(&handle[0]) == count);
         at_once = least(at_once, (double)(clock() - once_begun) / CLOCKS_PER_SEC);
         by_hand = least(by_hand, (double)(once_begun - hand_begun) / CLOCKS_PER_SEC);
         for (int i = 0; i < HANDLES; i++) vbr_drop(&handle[i]);
