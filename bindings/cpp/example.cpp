@@ -252,7 +252,7 @@ static int ranges() {
 // A handle to a set of the keys 1 to 9 in four buckets. With seed 0 the bucket of a key is told by the part behind the point of its
 // product with 0.618034: below a quarter it is the first, and so on.
 static vbr::handle opened_with_nine() {
-    return std::move(vbr::open_with(vbr::shape{9 + 64, 4, vbr::max_epoch, 0, {}}, 1, {1, 2, 3, 4, 5, 6, 7, 8, 9}).value()[0]);
+    return std::move(vbr::open_with(vbr::shape{9 + 64, 4, vbr::max_epoch, 0}, 1, {1, 2, 3, 4, 5, 6, 7, 8, 9}).value()[0]);
 }
 
 static const std::vector<std::uint64_t> nine_by_bucket{2, 5, 4, 7, 1, 6, 9, 3, 8};
@@ -320,7 +320,7 @@ static vbr::refusal walked(Walk walk, std::vector<std::uint64_t> &given) {
 // A range asks again while its cursor moves: eleven steps are enough for a key in a bucket of its own, among empty ones, and not
 // for the second key of a bucket. Then it throws the refusal, and goes on from there with more.
 static int refused_walks() {
-    vbr::handle wide = std::move(vbr::open_with(vbr::shape{1 + 64, 4096, vbr::max_epoch, 0, {}}, 1, {7}).value()[0]);
+    vbr::handle wide = std::move(vbr::open_with(vbr::shape{1 + 64, 4096, vbr::max_epoch, 0}, 1, {7}).value()[0]);
     vbr::cursor at;
     CHECK(wide.next_within(at, vbr::steps{11}) == vbr::refusal::out_of_steps);
     std::vector<std::uint64_t> given;
@@ -487,14 +487,14 @@ static int seeds() {
 
 // Balances, and all handles at once: their report, and their renewal.
 static int all_handles() {
-    std::vector<vbr::handle> both = vbr::open_with(vbr::shape{4, 1, 100, {}, {}}, 2, {2, 5}).value();
+    std::vector<vbr::handle> both = vbr::open_with(vbr::shape{4, 1, 100}, 2, {2, 5}).value();
     CHECK(*both[1].insert(7) && *both[0].remove(2));
     std::int64_t keys = both[0].balance() + both[1].balance(); // no call is under way
     CHECK(keys == 2 && both[1].balance() == 1);
     vbr::report now = vbr::handle::report_all(both).value(); // now.keys is {5, 7}
     CHECK((now.keys == std::vector<std::uint64_t>{5, 7}));
-    CHECK(vbr::handle::renew_all(both, {0, 1, 100, {}, {}}) == vbr::refusal::bad_shape);
-    CHECK(vbr::handle::renew_all(both, {1, 1, 100, {}, {}}) == vbr::refusal::no_room && both[0].slots() == 4);
+    CHECK(vbr::handle::renew_all(both, {0, 1, 100}) == vbr::refusal::bad_shape);
+    CHECK(vbr::handle::renew_all(both, {1, 1, 100}) == vbr::refusal::no_room && both[0].slots() == 4);
     vbr::result<void> renewed = vbr::handle::renew_all(both, vbr::shape::for_keys(4096, 2));
     if (!renewed) return 1; // renewed.error() tells why
     CHECK(both[0].buckets() == 4096 && both[0].balance() == 2);

@@ -169,7 +169,7 @@ static int ranges() {
 
 // All entries, bucket by bucket: each key with its value; from a cursor on; and each refusal.
 static int walks() {
-    vbr::map_handle mine = std::move(vbr::open_map_with(vbr::shape{9 + 64, 4, vbr::max_epoch, 0, {}}, 1,
+    vbr::map_handle mine = std::move(vbr::open_map_with(vbr::shape{9 + 64, 4, vbr::max_epoch, 0}, 1,
                                                         {{1, 10}, {2, 20}, {3, 30}, {4, 40}, {5, 50}, {6, 60}, {7, 70}, {8, 80}, {9, 90}})->at(0));
     const list by_bucket{{2, 20}, {5, 50}, {4, 40}, {7, 70}, {1, 10}, {6, 60}, {9, 90}, {3, 30}, {8, 80}};
     std::uint64_t sum = 0;
