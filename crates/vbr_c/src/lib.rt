@@ -2,9 +2,9 @@
 //! Version Based Reclamation (Sheffi, Herlihy and Petrank 2021), as `vbr_set` has it. Each thread has a
 //! handle, which owns a pass of the set or the map and a share of it.
 //!
-//! The exports that are given a budget, as `vbr_insert_within`, have it as their last argument. The calls of `vbr.h` that
-//! are given none, as `vbr_insert`, are lines of that header: they make the same calls with the budget of the handle,
-//! which no export reads or writes.
+//! The exports that are given a budget, as `vbr_insert_within`, have it as their last argument. In C each has a form that
+//! is given none, a line of the header: it makes the same call with the budget of the handle, which no export reads or
+//! writes.
 //!
 //! No call asks anything of its caller but what the types say: a handle is moved and never copied,
 //! and one call at a time has it. Only those of all handles at once, as `vbr_close_all`, ask besides that

@@ -299,7 +299,8 @@ pub extern "C" fn vbr_close_all(
     report: &mut ReportNumbers,
 ) -> i32
     requires { AreOfOneSet (members_in handles.old) }
-    ensures closes { TellsCloseAll handles.old handles.new keys.old keys.new report.old report.new result }
+    ensures closes { TellsCloseAll handles.old handles.new keys.old keys.new
+        report.old report.new result }
     ensures steps { KeepSteps handles.old handles.new }
 {
     numbers::close_all::<Keys, u64, Handle>(alloc, handles, keys, report)
@@ -322,7 +323,8 @@ pub extern "C" fn vbr_report_all(
     report: &mut ReportNumbers,
 ) -> i32
     requires { AreOfOneSet (members_in handles.old) }
-    ensures reports { TellsReport handles.old handles.new keys.old keys.new report.old report.new result }
+    ensures reports { TellsReport handles.old handles.new keys.old keys.new
+        report.old report.new result }
     ensures steps { KeepSteps handles.old handles.new }
 {
     numbers::report_all::<Keys, u64, Handle>(alloc, handles, keys, report)

@@ -188,7 +188,8 @@ pub fn renew_all<N: Kind, I: Listed<N>, H: HandleOf<N>>(
     numbers: ShapeNumbers,
 ) -> i32
     requires { AreOfOneSet (members_by H.member handles.old) }
-    ensures renews { TellsRenewalBy N.kind I.listing H.member handles.old handles.new numbers result }
+    ensures renews { TellsRenewalBy N.kind I.listing H.member handles.old handles.new
+        numbers result }
     ensures steps { map H.steps handles.new ≡ map H.steps handles.old }
 {
     renew_all_code(crate::renewing_all::renew_all::<N, I, H>(alloc, handles, numbers))
