@@ -66,7 +66,7 @@ static int round_with(long n, int *done) {
     *done = 0;
     allowed = n;
     int32_t code = keyed ? vbr_open_with(handle, 3, 8, 2, 100, opening, 2) : vbr_open(handle, 3, 8, 2, 100);
-    if (code != VBR_NO) {
+    if (code != VBR_OK) {
         allowed = -1;
         CHECK(code == VBR_NO_MEMORY && blocks == 0);
         for (int i = 0; i < 3; i++) CHECK(vbr_has(&handle[i], 7) == VBR_NO_HANDLE);
@@ -122,7 +122,20 @@ static int renewed_with(long n, int *done) {
     return 0;
 }
 
+/* A set whose handles are given up asks for no memory, and frees all. */
+static int ended(void) {
+    vbr_handle handle[3] = {{0}};
+    static const uint64_t opening[2] = {6, 7};
+    CHECK(vbr_open_with(handle, 3, 8, 2, 100, opening, 2) == VBR_OK && blocks > 0);
+    allowed = 0, stays_short = 1;
+    vbr_end_all(handle, 3);
+    CHECK(allowed == 0 && blocks == 0);
+    allowed = -1;
+    return 0;
+}
+
 int main(void) {
+    if (ended()) return 1;
     for (stays_short = 0; stays_short < 2; stays_short++) {
         int done = 0;
         for (long n = 0; !done; n++)

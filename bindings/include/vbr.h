@@ -81,8 +81,8 @@ VBR_NODISCARD uint32_t vbr_version(void) VBR_NOEXCEPT;
        if (1000 > VBR_MAX_MANY_HANDLES) return 1; // else vbr_open_many answers VBR_BAD_COUNT */
 #define VBR_MAX_MANY_HANDLES 65536u
 
-/* The ample budget, which the calls of a handle have unless it is given another: no call runs out of so many steps in short
-   buckets, in a set of any number of slots.
+/* The ample budget, which the calls of a handle have unless it is given another: no call on a key runs out of so many steps in
+   short buckets, in a set of any number of slots. A call of a walk may, where it passes many empty buckets.
 
        handle[0].steps = VBR_AMPLE_STEPS; // which 0 says too */
 #define VBR_AMPLE_STEPS 400000u
