@@ -5,8 +5,6 @@
 
 namespace {
 
-constexpr uint32_t BUDGET = 1000000;
-
 [[noreturn]] void refused() {
     std::fputs("compare: a call of Kitherma was refused\n", stderr);
     std::_Exit(1);
@@ -24,10 +22,10 @@ struct Kitherma {
     std::vector<vbr_handle> handles;
 
     explicit Kitherma(const Workload &w) : handles(w.threads) {
-        if (vbr_open(handles.data(), handles.size(), w.slots(), buckets(w), VBR_MAX_EPOCH) != VBR_NO) refused();
+        if (vbr_open(handles.data(), handles.size(), w.slots(), buckets(w), VBR_MAX_EPOCH) != VBR_OK) refused();
     }
     ~Kitherma() {
-        for (vbr_handle &handle : handles) vbr_drop(&handle);
+        vbr_end_all(handles.data(), handles.size());
     }
 
     struct Handle {
@@ -35,13 +33,13 @@ struct Kitherma {
         Handle(Kitherma &peer, unsigned thread) : of(&peer.handles[thread]) {}
     };
 
-    bool insert(Handle &h, uint64_t key) { return answer(vbr_insert(h.of, key, BUDGET)); }
-    bool remove(Handle &h, uint64_t key) { return answer(vbr_remove(h.of, key, BUDGET)); }
-    bool has(Handle &h, uint64_t key) { return answer(vbr_has(h.of, key, BUDGET)); }
+    bool insert(Handle &h, uint64_t key) { return answer(vbr_insert(h.of, key)); }
+    bool remove(Handle &h, uint64_t key) { return answer(vbr_remove(h.of, key)); }
+    bool has(Handle &h, uint64_t key) { return answer(vbr_has(h.of, key)); }
 
     template <class F> void walk(Handle &h, F each) {
         vbr_cursor cursor = VBR_CURSOR_BEGIN;
-        for (uint64_t key; answer(vbr_next(h.of, &cursor, BUDGET, &key));) each(key);
+        for (uint64_t key; answer(vbr_next(h.of, &cursor, &key));) each(key);
     }
 };
 
@@ -50,7 +48,7 @@ struct KithermaAll : Kitherma {
     using Kitherma::Kitherma;
     uint64_t has_all(Handle &h, const uint64_t *keys, size_t count) {
         vbr_answer answers[AT_ONCE];
-        vbr_has_all(h.of, keys, count, answers, BUDGET);
+        vbr_has_all(h.of, keys, count, answers);
         uint64_t yes = 0;
         for (size_t i = 0; i < count; i++) yes += answer(answers[i]);
         return yes;
@@ -61,10 +59,10 @@ struct KithermaMap {
     std::vector<vbr_map_handle> handles;
 
     explicit KithermaMap(const Workload &w) : handles(w.threads) {
-        if (vbr_map_open(handles.data(), handles.size(), w.slots(), buckets(w), VBR_MAX_EPOCH) != VBR_NO) refused();
+        if (vbr_map_open(handles.data(), handles.size(), w.slots(), buckets(w), VBR_MAX_EPOCH) != VBR_OK) refused();
     }
     ~KithermaMap() {
-        for (vbr_map_handle &handle : handles) vbr_map_drop(&handle);
+        vbr_map_end_all(handles.data(), handles.size());
     }
 
     struct Handle {
@@ -72,17 +70,17 @@ struct KithermaMap {
         Handle(KithermaMap &peer, unsigned thread) : of(&peer.handles[thread]) {}
     };
 
-    bool insert(Handle &h, uint64_t key, uint64_t value) { return answer(vbr_map_insert(h.of, key, value, BUDGET)); }
-    bool remove(Handle &h, uint64_t key, uint64_t &value) { return answer(vbr_map_remove(h.of, key, BUDGET, &value)); }
-    bool get(Handle &h, uint64_t key, uint64_t &value) { return answer(vbr_map_get(h.of, key, BUDGET, &value)); }
+    bool insert(Handle &h, uint64_t key, uint64_t value) { return answer(vbr_map_insert(h.of, key, value)); }
+    bool remove(Handle &h, uint64_t key, uint64_t &value) { return answer(vbr_map_remove(h.of, key, &value)); }
+    bool get(Handle &h, uint64_t key, uint64_t &value) { return answer(vbr_map_get(h.of, key, &value)); }
     bool replace(Handle &h, uint64_t key, uint64_t value, uint64_t &old) {
-        return answer(vbr_map_replace(h.of, key, value, &old, BUDGET));
+        return answer(vbr_map_replace(h.of, key, value, &old));
     }
-    bool has(Handle &h, uint64_t key) { return answer(vbr_map_has(h.of, key, BUDGET)); }
+    bool has(Handle &h, uint64_t key) { return answer(vbr_map_has(h.of, key)); }
 
     template <class F> void walk(Handle &h, F each) {
         vbr_cursor cursor = VBR_CURSOR_BEGIN;
-        for (uint64_t key, value; answer(vbr_map_next(h.of, &cursor, BUDGET, &key, &value));) each(key, value);
+        for (vbr_entry entry = {}; answer(vbr_map_next(h.of, &cursor, &entry));) each(entry.key, entry.value);
     }
 };
 
@@ -90,7 +88,7 @@ struct KithermaMapAll : KithermaMap {
     using KithermaMap::KithermaMap;
     template <class F> void get_all(Handle &h, const uint64_t *keys, size_t count, F each) {
         vbr_found found[AT_ONCE];
-        vbr_map_get_all(h.of, keys, count, found, BUDGET);
+        vbr_map_get_all(h.of, keys, count, found);
         for (size_t i = 0; i < count; i++)
             if (answer(found[i].answer)) each(i, found[i].value);
     }
