@@ -240,16 +240,17 @@ public:
         return has_value();
     }
 
-    /* The value; where there is none it throws vbr::refused.
+    /* The value; where there is none it throws vbr::refused. Of a result that is about to end it is a value of its own, so that a loop may
+       go over it.
 
            if (mine.insert(6).value()) count++; // this call added 6
            if (*mine.has(6)) there++; // `*` is the same */
     constexpr T &value() & { return asked(), kept; }
     constexpr const T &value() const & { return asked(), kept; }
-    constexpr T &&value() && { return asked(), std::move(kept); }
+    constexpr T value() && { return asked(), std::move(kept); }
     constexpr T &operator*() & { return value(); }
     constexpr const T &operator*() const & { return value(); }
-    constexpr T &&operator*() && { return std::move(*this).value(); }
+    constexpr T operator*() && { return std::move(*this).value(); }
     constexpr T *operator->() { return &value(); }
     constexpr const T *operator->() const { return &value(); }
 
