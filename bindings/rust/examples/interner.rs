@@ -9,6 +9,7 @@
 //!
 //! The program interns one stream of words by four threads, and sees that no word has two numbers, no number two words, and each
 //! word comes back.
+#![allow(clippy::cast_possible_truncation, reason = "the numbers are small")]
 use std::collections::HashMap;
 use std::error::Error;
 use std::sync::atomic::{AtomicU32, AtomicU64, Ordering::Relaxed};
@@ -64,7 +65,7 @@ impl Interner<'_> {
 /// A word of the stream: some come often.
 fn word_of(meeting: u32) -> Word {
     let mixed = (u64::from(meeting) + 1).wrapping_mul(0x9e37_79b9_7f4a_7c15) >> 32;
-    let number = (mixed * mixed >> 32) * u64::from(WORDS) >> 32;
+    let number = (((mixed * mixed) >> 32) * u64::from(WORDS)) >> 32;
     let letter = |place: u32| b'a' + (number / 26_u64.pow(place) % 26) as u8;
     Word([letter(0), letter(1), letter(2), letter(3), 0, 0, 0, 0])
 }

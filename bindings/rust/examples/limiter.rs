@@ -10,6 +10,7 @@
 //! The program counts, for each client and each window, how many requests were admitted, over all threads: no more than
 //! `LIMIT`, and just as many where one was refused. A careless limiter, which gets the value and puts the next one, admits too
 //! many.
+#![allow(clippy::cast_possible_truncation, reason = "the numbers are small")]
 use std::error::Error;
 use std::sync::atomic::AtomicU32;
 use std::sync::atomic::Ordering::Relaxed;

@@ -9,6 +9,7 @@
 //!
 //! Beside the map it is noted of each user until when a call has promised that the login lives. The program sees that no login
 //! is told absent before that. With a careless sweeper, which removes whatever is there, it finds one that is.
+#![allow(clippy::cast_possible_truncation, reason = "the numbers are small")]
 use std::error::Error;
 use std::sync::atomic::AtomicU64;
 use std::sync::atomic::Ordering::SeqCst;
@@ -80,14 +81,13 @@ impl Known {
         let lives = self.promised[user].load(SeqCst);
         let now = self.now.fetch_add(1, SeqCst);
         let found = logins.use_now(user as u64, now)?;
-        let until = match found {
-            Some(until) => until,
-            None => {
-                assert!(lives <= self.now.load(SeqCst), "a login that lives is told absent");
-                let until = self.now.load(SeqCst) + LIFE;
-                logins.log_in(user as u64, until)?;
-                until
-            }
+        let until = if let Some(until) = found {
+            until
+        } else {
+            assert!(lives <= self.now.load(SeqCst), "a login that lives is told absent");
+            let until = self.now.load(SeqCst) + LIFE;
+            logins.log_in(user as u64, until)?;
+            until
         };
         self.promised[user].fetch_max(until, SeqCst);
         Ok(found.is_none())

@@ -16,6 +16,7 @@
 //! The program plays one stream of requests, by one thread, by one with an index that is too small, and by four, and beside
 //! each a plain CLOCK over a `HashMap`, on one thread. One thread has to have the very same hits, and four about as many. Each
 //! checkpoint is compared with how often each page was changed before it began, and the disk at the end with the requests.
+#![allow(clippy::cast_possible_truncation, clippy::cast_precision_loss, reason = "the numbers are small")]
 use std::collections::HashMap;
 use std::error::Error;
 use std::sync::atomic::Ordering::{Acquire, Relaxed, Release};
@@ -129,7 +130,7 @@ impl Cache {
     fn checkpoint(&self, index: &MapHandle) -> Result<u64, Refusal> {
         let due = self.changes_made();
         let mut written = 0;
-        for entry in index.iter() {
+        for entry in index {
             let (page, number) = entry?;
             let mut frame = self.frames[number as usize].write().expect("a frame");
             // Where it has another page by now, this one was written back when it left.
@@ -262,9 +263,9 @@ impl<'c> Worker<'c> {
                 continue; // somebody reads it, or brings a page in
             };
             match frame.page {
-                None if wants_slot => continue,
+                None if wants_slot => {}
                 None => return Ok((number, frame)),
-                Some(_) if self.cache.used[number].swap(false, Relaxed) => continue,
+                Some(_) if self.cache.used[number].swap(false, Relaxed) => {}
                 Some(page) => {
                     // Before it leaves the index: a checkpoint that doesn't meet it there takes it for written.
                     self.cache.write_back(&mut frame);
@@ -391,8 +392,8 @@ impl Plain {
             let frame = self.hand % FRAMES;
             self.hand += 1;
             match self.pages[frame] {
-                _ if for_slot_of == Some(frame) => continue,
-                None if for_slot_of.is_some() => continue,
+                _ if for_slot_of == Some(frame) => {}
+                None if for_slot_of.is_some() => {}
                 None => return frame,
                 Some(_) if self.used[frame] => self.used[frame] = false,
                 Some(page) => {

@@ -13,6 +13,7 @@
 //!
 //! The program counts what was paid into each account: it is what the accounts have at the end, and had when they were ended. No
 //! copy is of two records. A careless reader, which doesn't compare the generation, finds one that is.
+#![allow(clippy::cast_possible_truncation, reason = "words have two numbers of 32 bits each")]
 use std::error::Error;
 use std::sync::atomic::Ordering::{AcqRel, Acquire, Relaxed, Release};
 use std::sync::atomic::{AtomicU32, AtomicU64};

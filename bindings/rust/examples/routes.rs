@@ -8,6 +8,7 @@
 //!
 //! The program counts packets that found no route, and sees that each found a way that its prefix had at a time of the look-up:
 //! routes are numbered, and a reader is never told an older one than it was told before.
+#![allow(clippy::cast_possible_truncation, reason = "the numbers are small")]
 use std::error::Error;
 use std::sync::atomic::{AtomicBool, Ordering::Relaxed};
 use std::thread;

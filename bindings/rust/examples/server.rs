@@ -9,6 +9,7 @@
 //!
 //! The last epoch is small here, so that the map is renewed often. The program sees that no request is lost: those of the sessions
 //! that ended, and those that are in the map at its end, are all that were made.
+#![allow(clippy::cast_possible_truncation, reason = "the numbers are small")]
 use std::error::Error;
 use std::sync::atomic::AtomicBool;
 use std::sync::atomic::Ordering::Relaxed;

@@ -211,6 +211,8 @@ mod kind;
 mod lending;
 mod library;
 mod map;
+#[cfg(doctest)]
+mod misuse;
 mod order;
 mod pass;
 mod reporting;

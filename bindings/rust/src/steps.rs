@@ -24,6 +24,10 @@ pub struct Steps(u32);
 impl Steps {
     /// So many that no call runs out of them in short buckets: 400,000, which is no less than 100,000 and a step for each 64 of
     /// the most slots that there may be.
+    ///
+    /// ```
+    /// assert!(vbr::Steps::AMPLE.count() >= 100_000 + vbr::MAX_SLOTS / 64);
+    /// ```
     pub const AMPLE: Steps = Steps(400_000);
 
     /// A budget of so many steps.

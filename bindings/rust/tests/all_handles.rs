@@ -1,4 +1,5 @@
 //! All handles of a set or a map at once: their balances, their report and their renewal, and each refusal.
+#![allow(clippy::cast_possible_truncation, reason = "the numbers are small")]
 use vbr::{Handle, Map, MapHandle, RenewError, ReportError, Set, Shape, ShapeError, Steps};
 
 #[test]
@@ -13,7 +14,7 @@ fn a_set_is_reported_and_renewed() {
     Handle::renew_all(&mut handles, Shape::for_keys(4_096, 2)).expect("a fresh set");
     assert_eq!([handles[0].balance(), handles[1].balance()], [2, 0]);
     assert_eq!((handles[0].buckets(), handles[1].epoch()), (4_096, 1));
-    for key in 10..2_000 {
+    for key in 10..2_000_u64 {
         assert!(handles[(key % 2) as usize].insert(key).expect("an answer"));
     }
     let last = handles.pop().expect("two handles");

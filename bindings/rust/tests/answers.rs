@@ -3,9 +3,12 @@ mod both;
 
 use both::{Both, Told};
 use vbr::{
-    CloseError, Entries, Handle, HandleOf, Iter, Keys, KeysError, Lent, Map, MapHandle, MapPass, MapReport, OpenError,
+    CloseError, Cursor, Entries, Handle, HandleOf, Iter, Keys, KeysError, Lent, Map, MapHandle, MapPass, MapReport, OpenError,
 };
-use vbr::{OutOfSteps, OwnedLent, Pass, Refusal, Report, ReportError, Set, Shape, ShapeError, Steps, Table, Unclosed};
+use vbr::{
+    OutOfSteps, OwnedLent, Pass, PassOf, Refusal, RenewError, Report, ReportError, Set, Shape, ShapeError, Steps, Table,
+    Unclosed,
+};
 use vbr::{MAX_BUCKETS, MAX_EPOCH, MAX_HANDLES, MAX_SLOTS};
 
 of_sets_and_maps! {
@@ -23,6 +26,8 @@ of_sets_and_maps! {
     a_handle_that_is_forgotten
     errors_pass_as_any_error
     look_ups_through_a_shared_reference
+    budgets_of_handles
+    a_set_that_ends
 }
 
 /// Closes the last handle.
@@ -225,6 +230,13 @@ fn a_handle_that_is_forgotten<K: Both>() {
 
 fn errors_pass_as_any_error<K: Both>() {
     fn is_any<T: std::error::Error + Send + Sync + 'static>() {}
+    fn runs<K: Both>() -> Result<(), Box<dyn std::error::Error + Send + Sync>> {
+        let mut handle = Table::<K>::handles(Shape::for_keys(8, 1))?.remove(0);
+        K::insert(&mut handle, 5)?;
+        handle.close()?.ok_or("not the last")?;
+        Table::<K>::handles(Shape::new(0, 1, 1))?;
+        Ok(())
+    }
     is_any::<OpenError>();
     is_any::<KeysError>();
     is_any::<ShapeError>();
@@ -233,16 +245,82 @@ fn errors_pass_as_any_error<K: Both>() {
     is_any::<ReportError>();
     is_any::<CloseError<HandleOf<K>>>();
     is_any::<CloseError<Table<K>>>();
-    fn runs<K: Both>() -> Result<(), Box<dyn std::error::Error + Send + Sync>> {
-        let mut handle = Table::<K>::handles(Shape::for_keys(8, 1))?.remove(0);
-        K::insert(&mut handle, 5)?;
-        handle.close()?.ok_or("not the last")?;
-        Table::<K>::handles(Shape::new(0, 1, 1))?;
-        Ok(())
-    }
     assert_eq!(runs::<K>().unwrap_err().to_string(), "0 slots are not from 1 to 16777215");
     let goes_on = Unclosed::into_handle;
     let _: fn(Unclosed<HandleOf<K>>) -> HandleOf<K> = goes_on;
+    assert_eq!(format!("{:?}", CloseError::<HandleOf<K>>::Lost), "Lost");
+    assert_eq!((Refusal::from(OutOfSteps), OutOfSteps.to_string()), (Refusal::OutOfSteps, Refusal::OutOfSteps.to_string()));
+}
+
+/// Errors, shapes, budgets and reports are keys of a hash set.
+#[test]
+fn hashes() {
+    fn is_hashed<T: std::hash::Hash + Eq>() {}
+    is_hashed::<OpenError>();
+    is_hashed::<KeysError>();
+    is_hashed::<ShapeError>();
+    is_hashed::<Refusal>();
+    is_hashed::<OutOfSteps>();
+    is_hashed::<ReportError>();
+    is_hashed::<RenewError>();
+    is_hashed::<Shape>();
+    is_hashed::<Steps>();
+    is_hashed::<Report>();
+    is_hashed::<MapReport>();
+}
+
+/// The budget of a handle is that of its shape; calls have it, and those within another one have that.
+fn budgets_of_handles<K: Both>() {
+    let few = Steps::new(1);
+    let refused = |pass: &mut PassOf<K>| {
+        let mut answers = [Ok(true)];
+        pass.has_all(&[5], &mut answers);
+        let walks = [
+            pass.iter().next().map(|it| it.map(K::key)),
+            pass.next(&mut Cursor::first()).map(|it| it.map(K::key)).transpose(),
+        ];
+        let refused = [pass.has(5) == Err(OutOfSteps), answers == [Err(OutOfSteps)], walks == [Some(Err(OutOfSteps)); 2]];
+        assert!(refused.iter().all(|it| *it == refused[0]));
+        assert_eq!(K::remove(pass, 6) == Err(OutOfSteps), refused[0]);
+        assert_eq!(K::insert(pass, 5) == Err(Refusal::OutOfSteps), refused[0]);
+        refused[0]
+    };
+    let shape = Shape::for_keys(8, 2);
+    let mut handles = Table::<K>::handles_with(shape, &K::items(&[5])).expect("a set");
+    assert!(handles.iter().all(|it| it.steps() == Steps::AMPLE));
+    assert!(!refused(&mut handles[0]));
+    handles[0].set_steps(few);
+    assert_eq!([handles[0].steps(), handles[1].steps()], [few, Steps::AMPLE]);
+    assert!(refused(&mut handles[0]) && !refused(&mut handles[1]));
+    assert_eq!(handles[0].has_within(5, Steps::AMPLE), Ok(true));
+    HandleOf::renew_all(&mut handles, shape).expect("a fresh set"); // which leaves them
+    assert_eq!([handles[0].steps(), handles[1].steps()], [few, Steps::AMPLE]);
+    HandleOf::renew_all(&mut handles, shape.with_steps(Steps::new(1_000))).expect("a fresh set");
+    assert_eq!([handles[0].steps(), handles[1].steps()], [Steps::new(1_000); 2]);
+    let set = Table::<K>::open_with(shape.with_steps(few), &K::items(&[5])).expect("a set");
+    assert!(refused(&mut set.lend_wait()) && refused(&mut set.lend_wait()));
+    set.renew(shape.with_steps(Steps::AMPLE)).expect("a fresh set");
+    assert!(!refused(&mut set.lend_wait()));
+}
+
+fn a_set_that_ends<K: Both>() {
+    let set = Table::<K>::open_with(Shape::for_keys(8, 3), &K::items(&[5, 7])).expect("a set");
+    std::mem::forget(set.lend());
+    set.end();
+}
+
+#[test]
+fn names_of_std() {
+    let shape = Shape::for_keys(8, 1);
+    let set = Set::handles_with(shape, &[5]).expect("a set").remove(0);
+    assert_eq!((set.contains(5), set.contains(6)), (Ok(true), Ok(false)));
+    let map = Map::handles_with(shape, &[(5, 70)]).expect("a map").remove(0);
+    assert_eq!((map.contains_key(5), map.contains_key(6)), (Ok(true), Ok(false)));
+    let mut walked = Vec::new();
+    for entry in &map {
+        walked.push(entry.expect("steps"));
+    }
+    assert_eq!(walked, [(5, 70)]);
 }
 
 fn look_ups_through_a_shared_reference<K: Both>() {

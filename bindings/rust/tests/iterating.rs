@@ -1,5 +1,6 @@
 //! Walks over all keys of sets and all entries of maps: their order, the budgets that are just enough, what a refused call
 //! leaves, and what they give while other threads make calls. Each test is made of sets and of maps.
+#![allow(clippy::cast_possible_truncation, reason = "the numbers are small")]
 mod both;
 
 use both::{entry_of, key_of, value_of, Both};

@@ -1,5 +1,6 @@
 //! Handles that are lent: at once or not at all, or as soon as one is free; to one thread at a time, and to no other set. And
 //! renewals, which wait for all loans while others wait for one.
+#![allow(clippy::cast_possible_truncation, reason = "the numbers are small")]
 mod both;
 
 use both::Both;
@@ -10,7 +11,7 @@ use std::sync::atomic::{compiler_fence, AtomicBool, AtomicU32, AtomicU64, Orderi
 use std::sync::Arc;
 use std::thread;
 use std::time::{Duration, Instant};
-use vbr::{Keys, Lent, OwnedLent, Pass, RenewError, Set, Shape, ShapeError, Table, MAX_EPOCH};
+use vbr::{Keys, Lent, LentBy, OwnedLent, Pass, RenewError, Set, Shape, ShapeError, Table, MAX_EPOCH};
 
 const SOME: u64 = 64;
 const AT_LAST: Duration = Duration::from_secs(600);
@@ -50,8 +51,8 @@ fn each_handle_once<K: Both>() {
     assert_eq!(keys_of(set), []);
     let all = lending::<K>(100, &[1, 2]);
     let loans: Vec<_> = (0..100).map(|_| all.lend().expect("a free handle")).collect();
-    let mut numbers: Vec<_> = loans.iter().map(|it| it.number()).collect();
-    numbers.sort();
+    let mut numbers: Vec<_> = loans.iter().map(LentBy::number).collect();
+    numbers.sort_unstable();
     assert!(all.lend().is_none() && numbers.into_iter().eq(0..100));
     drop(loans);
     assert_eq!(keys_of(all), [1, 2]);
@@ -162,7 +163,7 @@ impl Step {
 fn a_return_as_another_begins_to_wait() {
     const ROUNDS: u64 = 5_000;
     let set = lending::<Keys>(1, &[]);
-    let [lent, waits, done] = [(); 3].map(|_| Step(AtomicU64::new(0)));
+    let [lent, waits, done] = [(); 3].map(|()| Step(AtomicU64::new(0)));
     let lines: Vec<Step> = (0..128).map(|_| Step(AtomicU64::new(0))).collect();
     let write_all = |round| lines.iter().for_each(|it| it.0.store(round, Ordering::Relaxed));
     thread::scope(|scope| {
@@ -244,7 +245,9 @@ fn tasks_that_wait<K: Both>() {
             })
         })
         .collect();
-    tasks.into_iter().for_each(|task| task.join().expect("a task that ends"));
+    for task in tasks {
+        task.join().expect("a task that ends");
+    }
     assert_eq!((made.load(Ordering::Relaxed), keys_of(Arc::into_inner(set).expect("no loan is left")).len()), (60, 60));
 }
 
@@ -357,7 +360,9 @@ fn renewals_while_others_wait<K: Both>() {
                 })
             })
             .collect();
-        borrowers.into_iter().for_each(|it| it.join().expect("a thread that ends"));
+        for it in borrowers {
+            it.join().expect("a thread that ends");
+        }
         ends.store(true, Ordering::Relaxed);
     });
     assert!(lent.load(Ordering::Relaxed) >= 8 * 400 && renewed.load(Ordering::Relaxed) > 0);
@@ -372,11 +377,11 @@ fn renewals_while_others_wait<K: Both>() {
 fn loans_are_sent() {
     fn is_sent<T: Send>() {}
     fn is_a_task<T: Send + 'static>() {}
-    is_sent::<Lent<'_>>();
-    is_a_task::<OwnedLent>();
     fn visits(pass: &mut Pass) -> bool {
         pass.insert(5).is_ok_and(|_| pass.has(5) == Ok(true))
     }
+    is_sent::<Lent<'_>>();
+    is_a_task::<OwnedLent>();
     let set = Arc::new(Set::open(Shape::for_keys(8, 1)).expect("a set"));
     assert!(visits(&mut set.lend_wait()) && visits(&mut set.lend_owned_wait()));
     assert!(visits(&mut Set::handles(Shape::for_keys(8, 1)).expect("a set")[0]));

@@ -1,5 +1,6 @@
 //! Four threads on one map, whose epoch is spent again and again: each value tells the call that stored it, and is given only
 //! as the answers allow. And threads that count in the same entries.
+#![allow(clippy::cast_possible_truncation, reason = "the numbers are small")]
 use std::collections::HashSet;
 use std::sync::atomic::{AtomicBool, Ordering};
 use std::thread;
@@ -183,7 +184,7 @@ fn check(workers: &[Worker], left: Vec<(u64, u64)>) {
         assert!(there.remove(value), "a value that nobody stored, or that was taken out twice");
     }
     assert!(left.iter().all(|(key, value)| value >> 48 == *key));
-    assert!(left.is_sorted_by(|one, next| one.0 < next.0));
+    assert!(left.windows(2).all(|pair| pair[0].0 < pair[1].0));
     assert_eq!(left.into_iter().map(|(_, value)| value).collect::<HashSet<_>>(), there);
 }
 

@@ -1,12 +1,13 @@
 //! Memory of the crate's own: the last close alone asks for some, it is refused without loss, and what isn't needed is given
 //! back where there is memory for that. Where the library is refused memory for a close or a renewal, all handles stay as they were.
+#![allow(clippy::result_large_err, reason = "a set comes back within the error")]
 mod both;
 
 use both::Both;
 use std::alloc::{GlobalAlloc, Layout, System};
 use std::cell::Cell;
 use std::ffi::c_void;
-use vbr::{CloseError, OpenError, RenewError, Shape, Table};
+use vbr::{CloseError, OpenError, RenewError, Set, Shape, Table};
 
 /// Counts what this thread asks for, and refuses it while it is told to.
 struct Counting;
@@ -110,9 +111,9 @@ fn bytes_of_a_report() {
 
 fn one_report_and_no_loss<K: Both>() {
     let shape = Shape::for_keys(1_000, 3);
-    assert_eq!(refused(|| Table::<K>::handles(shape.with_handles(3)).err()), Some(OpenError::Memory));
-    assert!(matches!(refused(|| Table::<K>::open(shape.with_handles(3)).err()), Some(OpenError::Memory)));
-    let mut handles = Table::<K>::handles(shape.with_handles(3)).expect("a set");
+    assert_eq!(refused(|| Table::<K>::handles(shape).err()), Some(OpenError::Memory));
+    assert!(matches!(refused(|| Table::<K>::open(shape).err()), Some(OpenError::Memory)));
+    let mut handles = Table::<K>::handles(shape).expect("a set");
     assert_eq!(K::insert(&mut handles[0], 5), Ok(true));
     assert_eq!(K::insert(&mut handles[2], 7), Ok(true));
     let before = ASKED.get();
@@ -126,6 +127,7 @@ fn one_report_and_no_loss<K: Both>() {
     let Err(CloseError::Memory(unclosed)) = refused(|| last.close()) else {
         panic!("a report without memory");
     };
+    assert_eq!(format!("{unclosed:?}"), "Unclosed { .. }");
     let mut handle = unclosed.into_handle();
     assert_eq!(handle.has(5), Ok(true));
     assert_eq!(K::insert(&mut handle, 6), Ok(true));
@@ -143,15 +145,27 @@ fn a_report_that_there_is_no_memory_to_shorten<K: Both>() {
     assert_eq!((told.keys, told.room), (vec![5, 7], 1_000 + 64));
 }
 
+/// Keys whose layout isn't that of `u64` have room of their own, which there is before the set is closed.
+#[test]
+fn a_report_of_small_keys() {
+    let mut handle = Set::handles_with(Shape::for_keys(1_000, 1), &[5_u8, 7]).expect("a set").remove(0);
+    for blocks in 0..2 {
+        let Err(CloseError::Memory(unclosed)) = granted(blocks, || handle.close()) else {
+            panic!("a report without memory");
+        };
+        handle = unclosed.into_handle();
+        assert_eq!(handle.has(7), Ok(true));
+    }
+    let report = granted(2, || handle.close()).expect("memory for the report").expect("the only handle");
+    assert_eq!((report.keys.as_slice(), report.keys.capacity()), (&[5, 7][..], 1_000 + 64));
+}
+
 fn a_close_that_the_library_refuses<K: Both>() {
     let shape = Shape::for_keys(1_000, 3);
-    assert_eq!(refused_in_the_library(|| Table::<K>::handles(shape.with_handles(3)).err()), Some(OpenError::Memory));
+    assert_eq!(refused_in_the_library(|| Table::<K>::handles(shape).err()), Some(OpenError::Memory));
     let items = K::items(&[1, 2]);
-    assert_eq!(
-        refused_in_the_library(|| Table::<K>::handles_with(shape.with_handles(3), &items).err()),
-        Some(OpenError::Memory)
-    );
-    let mut handles = Table::<K>::handles(shape.with_handles(3)).expect("a set");
+    assert_eq!(refused_in_the_library(|| Table::<K>::handles_with(shape, &items).err()), Some(OpenError::Memory));
+    let mut handles = Table::<K>::handles(shape).expect("a set");
     for (key, handle) in (5..).zip(&mut handles) {
         assert_eq!(K::insert(handle, key), Ok(true));
     }
@@ -173,7 +187,7 @@ fn a_close_that_the_library_refuses<K: Both>() {
 
 fn a_set_that_lends_its_handles_closes_all_or_none<K: Both>() {
     let shape = Shape::for_keys(1_000, 3);
-    let mut set = Table::<K>::open_with(shape.with_handles(3), &K::items(&[1, 2])).expect("a set");
+    let mut set = Table::<K>::open_with(shape, &K::items(&[1, 2])).expect("a set");
     std::mem::forget(set.lend());
     for (key, by_the_library) in [(5, false), (6, true), (7, true)] {
         let told = if by_the_library { refused_in_the_library(|| set.close()) } else { refused(|| set.close()) };
@@ -187,14 +201,18 @@ fn a_set_that_lends_its_handles_closes_all_or_none<K: Both>() {
     }
     let report = K::report(set.close().expect("memory"));
     assert_eq!((report.keys, report.free), (vec![1, 2, 5, 6, 7], shape.slots - 5));
-    let dropped = Table::<K>::open(shape.with_handles(3)).expect("a set");
+    let dropped = Table::<K>::open(shape).expect("a set");
     assert!(refused_in_the_library(|| dropped.close()).is_err());
+    let ended = Table::<K>::open_with(shape, &K::items(&[1, 2])).expect("a set");
+    let before = ASKED.get();
+    refused(|| refused_in_the_library(|| ended.end()));
+    assert_eq!(ASKED.get(), before);
 }
 
 /// Each block that a renewal asks for is refused in turn; the crate asks for none.
 fn a_set_that_lends_its_handles_is_renewed_or_not<K: Both>() {
     let (shape, wanted) = (Shape::for_keys(1_000, 3), Shape::for_keys(2_000, 3));
-    let set = Table::<K>::open_with(shape.with_handles(3), &K::items(&[1, 2])).expect("a set");
+    let set = Table::<K>::open_with(shape, &K::items(&[1, 2])).expect("a set");
     let shape_of = || Shape::new(set.slots(), set.buckets(), set.last_epoch()).with_handles(set.handle_count());
     for blocks in 0.. {
         LIBRARY_GRANTED.set(blocks);

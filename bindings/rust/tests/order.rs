@@ -1,6 +1,7 @@
 //! Four threads that tell each other by channels, locks and joins what they did, and each answer checked against what the
 //! program's own order says: a key that is known to be inserted and never removed is there, and one that is known to be
 //! removed for good is not.
+#![allow(clippy::cast_possible_truncation, reason = "the numbers are small")]
 use std::sync::mpsc::{channel, Receiver, Sender};
 use std::sync::Mutex;
 use std::thread;
@@ -44,7 +45,7 @@ fn key(id: u64, round: u64) -> u64 {
 
 /// Inserts keys, removes the odd ones later, and tells the next thread what it knows: by a channel, and every third time
 /// by a lock for all.
-fn work(mut handle: Handle, id: usize, from: Receiver<Known>, to: Sender<Known>, board: &Mutex<Known>) -> (Handle, Known) {
+fn work(mut handle: Handle, id: usize, from: &Receiver<Known>, to: &Sender<Known>, board: &Mutex<Known>) -> (Handle, Known) {
     let mut known = Known::default();
     for round in 0..ROUNDS {
         assert_eq!(handle.insert(key(id as u64, round)), Ok(true));
@@ -82,7 +83,7 @@ fn answers_keep_the_order_of_the_program() {
             .map(|(id, handle, from, to)| {
                 scope.spawn({
                     let board = &board;
-                    move || work(handle, id, from, to, board)
+                    move || work(handle, id, &from, &to, board)
                 })
             })
             .collect();
