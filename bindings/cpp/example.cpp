@@ -271,6 +271,10 @@ static int walks() {
     for (std::uint64_t key : mine.keys(at)) sum += key;
     CHECK(sum == 45 + 6 + 9 + 3 + 8 && mine.next(at) == std::nullopt);
     at = vbr::cursor();
+    auto next = mine.next(at);
+    while (next == vbr::refusal::out_of_steps) next = mine.next(at); // from where it came to
+    if (*next) sum += **next;
+    CHECK(sum == 45 + 26 + 2);
     while (std::optional<std::uint64_t> key = mine.next(at).value()) sum += *key;
     CHECK(sum == 45 + 26 + 45);
     for (std::uint64_t key : mine.keys_within(vbr::steps{1000})) CHECK(*mine.remove(key));

@@ -739,9 +739,11 @@ public:
     }
 
     /* The next key of a walk, and of a map the next entry; none at the end. The cursor is then after it; where the call is refused
-       for want of steps it keeps how far it has come.
+       for want of steps, as among very many empty buckets, it keeps how far it has come.
 
-           while (std::optional<std::uint64_t> key = mine.next(at).value()) sum += *key; */
+           auto next = mine.next(at);
+           while (next == vbr::refusal::out_of_steps) next = mine.next(at); // from where it came to
+           if (*next) sum += **next; */
     result<std::optional<item_type>> next(cursor &at) noexcept { return next_within(at, steps()); }
     result<std::optional<item_type>> next_within(cursor &at, vbr::steps budget) noexcept {
         typename Kind::words words = {};
@@ -796,7 +798,7 @@ protected:
     ~basic_pass() = default;
     basic_walk<Kind> walk(cursor *at, vbr::steps budget) noexcept { return {&raw, at, budget}; }
 
-    /* Calls with some keys after others, each time with where they begin and how many they are. */
+    // Calls with some keys after others, each time with where they begin and how many they are.
     template <class Call>
     static void in_parts(const key_type *keys, std::size_t count, const Call &call) noexcept {
         for (std::size_t from = 0, some; from < count; from += some) {
@@ -1177,7 +1179,7 @@ private:
     std::shared_ptr<detail::shared<kind>> shared;
 };
 
-/* Handles that are lent: vbr_lend.hpp has them. */
+// vbr_lend.hpp has these.
 template <class Handle>
 class basic_lender;
 template <class Handle, class Owner = detail::lending<Handle> *>

@@ -182,7 +182,7 @@ public:
         for (Handle &each : handles)
             if (kept < max_handles && each.is_open() && (kept == 0 || each.shared == places[0].handle.shared))
                 places[kept++].handle = std::move(each);
-        if (kept > 0) opened.set({places[0].handle.slots(), places[0].handle.buckets(), places[0].handle.last_epoch(), {}, {}});
+        if (kept > 0) opened.set({places[0].handle.slots(), places[0].handle.buckets(), places[0].handle.last_epoch()});
         count.store(kept, std::memory_order_relaxed);
         lends.store(kept, std::memory_order_release);
     }
