@@ -1,4 +1,4 @@
-/* Threads that close or drop their own handles at the same time: each gives its pass back, and the last one that closes is told
+/* Threads that close, drop or end their own handles at the same time: each gives its pass back, and the last one that closes is told
    what the calls of all leave. The calls are made by pointers to them, as a table of calls has them.
 
        closings [ROUNDS [FAULT]]
@@ -23,7 +23,8 @@ static const struct {
     vbr_answer (*vbr_insert_within)(vbr_handle *handle, uint64_t key, uint32_t steps);
     vbr_answer (*vbr_close)(vbr_handle *handle, uint64_t *keys, size_t room, vbr_report *report);
     void (*vbr_drop)(vbr_handle *handle);
-} calls = {vbr_insert, vbr_insert_within, vbr_close, vbr_drop};
+    void (*vbr_end_all)(vbr_handle *handles, size_t count);
+} calls = {vbr_insert, vbr_insert_within, vbr_close, vbr_drop, vbr_end_all};
 
 static struct worker {
     pthread_t thread;
@@ -57,7 +58,8 @@ static void *work(void *of) {
     }
     tell(&ready);
     await(&ready, THREADS);
-    if (w->drops) calls.vbr_drop(&w->handle);
+    if (w->drops && w->number % 2) calls.vbr_drop(&w->handle);
+    else if (w->drops) calls.vbr_end_all(&w->handle, 1);
     else w->closed = calls.vbr_close(&w->handle, w->keys, SLOTS, &w->report);
     return NULL;
 }

@@ -242,9 +242,22 @@ static int closed_at_once(void) {
     return 0;
 }
 
+/* A get and a remove by whom nobody asks for the value. */
+static int unasked(void) {
+    vbr_map_handle one = {0};
+    vbr_report report = {0};
+    CHECK(vbr_map_get(&one, 5, NULL) == VBR_NO_HANDLE && vbr_map_remove(&one, 5, NULL) == VBR_NO_HANDLE);
+    CHECK(vbr_map_open(&one, 1, 2, 1, VBR_MAX_EPOCH) == VBR_OK && vbr_map_insert(&one, 5, 50) == VBR_YES);
+    CHECK(vbr_map_get(&one, 5, NULL) == VBR_YES && vbr_map_get(&one, 6, NULL) == VBR_NO && vbr_map_get_within(&one, 5, NULL, 7) == VBR_OUT_OF_STEPS);
+    CHECK(vbr_map_remove(&one, 6, NULL) == VBR_NO && vbr_map_remove_within(&one, 5, NULL, 7) == VBR_OUT_OF_STEPS);
+    CHECK(vbr_map_remove(&one, 5, NULL) == VBR_YES && vbr_map_get(&one, 5, NULL) == VBR_NO);
+    CHECK(vbr_map_close(&one, entries, 1, &report) == VBR_YES && report.live == 0);
+    return 0;
+}
+
 int main(void) {
     if (empty_handles() || largest_map() || calls_and_closes() || values_of_incarnations() || opened_with_entries() || closed_at_once() ||
-        outcomes_of_changes() || refusals_of_changes() || values_in_turn())
+        outcomes_of_changes() || refusals_of_changes() || values_in_turn() || unasked())
         return 1;
     puts("values of maps in C: passed");
     return 0;

@@ -114,6 +114,7 @@ int main(int count, char **words) {
             full += refused[client][window] > 0;
         }
     CHECK(sum == REQUESTS && full > 0 && full < CLIENTS * WINDOWS);
-    std::printf("limiter in C++: passed, the limit was reached %llu times by %u clients in %u windows\n", static_cast<unsigned long long>(full), CLIENTS, WINDOWS);
+    std::printf("limiter in C++: passed, the limit was reached %llu times by %u clients in %u windows\n",
+                static_cast<unsigned long long>(full), CLIENTS, WINDOWS);
     return 0;
 }

@@ -21,10 +21,12 @@ static constexpr bool stays_in_its_set() {
     using loan = typename vbr::basic_lender<Handle>::loan_type;
     using pass = std::remove_reference_t<decltype(*std::declval<loan &>())>;
     return !std::is_swappable_v<pass> && !std::is_move_constructible_v<pass> && !std::is_assignable_v<pass &, Handle> &&
-           !std::is_constructible_v<Handle, pass> && !closes<pass> && closes<Handle> && std::is_swappable_v<loan> && !std::is_copy_constructible_v<loan>;
+           !std::is_constructible_v<Handle, pass> && !closes<pass> && closes<Handle> && std::is_swappable_v<loan> &&
+           !std::is_copy_constructible_v<loan>;
 }
 static_assert(stays_in_its_set<vbr::handle>() && stays_in_its_set<vbr::map_handle>());
-static_assert(!std::is_convertible_v<vbr::loan, bool> && !std::is_copy_constructible_v<vbr::lender> && !std::is_constructible_v<vbr::lender, std::vector<vbr::handle> &>);
+static_assert(!std::is_convertible_v<vbr::loan, bool> && !std::is_copy_constructible_v<vbr::lender>);
+static_assert(!std::is_constructible_v<vbr::lender, std::vector<vbr::handle> &>);
 static_assert(std::is_nothrow_move_assignable_v<vbr::lender> && std::is_nothrow_default_constructible_v<vbr::owned_loan>);
 
 struct of_sets {
@@ -302,7 +304,8 @@ static int renewals() {
     const vbr::shape small{2, 1, 100}, large = vbr::shape::for_keys(4000, 2);
     for (std::uint64_t key = 1; key < 4; key++) CHECK(Of::adds(*of_all.lend(), key) && Of::adds(*lender.lend(), key));
     CHECK(lender.renew(large) == vbr::refusal::missing && of_all.renew(small) == vbr::refusal::no_room);
-    for (vbr::shape bad : {vbr::shape{0, 1, 1}, vbr::shape{1, vbr::max_buckets + 1, 1}, vbr::shape{1, 1, 0}}) CHECK(of_all.renew(bad) == vbr::refusal::bad_shape);
+    for (vbr::shape bad : {vbr::shape{0, 1, 1}, vbr::shape{1, vbr::max_buckets + 1, 1}, vbr::shape{1, 1, 0}})
+        CHECK(of_all.renew(bad) == vbr::refusal::bad_shape);
     for (auto *each : {&lender, &of_all}) {
         auto one = each->lend(), other = each->lend();
         CHECK(one && other && !each->lend() && each->slots() == one->slots() && one->has(3).value());
@@ -364,7 +367,8 @@ static int renewals_and_loans() {
     for (std::uint32_t i = 0; i < 2; i++)
         renew.emplace_back([&, i] {
             while (!ends) {
-                auto told = i ? lender.renew(vbr::shape::for_keys(100 + static_cast<std::uint32_t>(lent.load()) % 7, 3)) : lender.renew_for(vbr::shape::for_keys(200, 3), 1ms);
+                auto other = vbr::shape::for_keys(100 + static_cast<std::uint32_t>(lent.load()) % 7, 3);
+                auto told = i ? lender.renew(other) : lender.renew_for(vbr::shape::for_keys(200, 3), 1ms);
                 if (told) renewed++;
                 else if (told != vbr::refusal::on_loan || i) wrong++;
                 if (renewed % 4 == 0) std::this_thread::sleep_for(100us);
@@ -380,7 +384,8 @@ static int renewals_and_loans() {
 template <class Of>
 static int all() {
     if (renewals<Of>() || lends_none_meanwhile<Of>() || renewals_and_loans<Of>()) return 1;
-    return ends_without_a_report<Of>() || each_handle_once<Of>() || closes_all_or_none<Of>() || moved<Of>() || waits<Of>() || ends_of_waits<Of>() || tasks<Of>();
+    if (ends_without_a_report<Of>() || each_handle_once<Of>() || closes_all_or_none<Of>() || moved<Of>()) return 1;
+    return waits<Of>() || ends_of_waits<Of>() || tasks<Of>();
 }
 
 int main() {

@@ -52,7 +52,9 @@ public:
     void log_in(user who, login now) { static_cast<void>(map.lend_wait()->put(who, now).value()); }
 
     // Gives a login more time; false if it was taken out, or is another by now.
-    bool extend(user who, login seen, std::uint32_t until) { return map.lend_wait()->compare_exchange(who, seen, {seen.ticket, until}).value().is_done; }
+    bool extend(user who, login seen, std::uint32_t until) {
+        return map.lend_wait()->compare_exchange(who, seen, {seen.ticket, until}).value().is_done;
+    }
 
     bool log_out(user who, login seen) { return map.lend_wait()->remove_if(who, seen).value().is_done; }
 
@@ -144,7 +146,8 @@ int main(int count, char **words) {
     std::vector<server> servers;
     std::vector<std::thread> threads;
     for (user i = 0; i < THREADS; i++) servers.emplace_back(cache, i * USERS_OF_EACH);
-    for (std::size_t i = 0; i < THREADS; i++) threads.emplace_back([&, i] { work(cache, servers[i], 88172645463325252u + i, is_careless); });
+    for (std::size_t i = 0; i < THREADS; i++)
+        threads.emplace_back([&, i] { work(cache, servers[i], 88172645463325252u + i, is_careless); });
     for (std::thread &thread : threads) thread.join();
     expired += cache.expire(now, false);
     std::map<user, login> wanted;
@@ -154,6 +157,7 @@ int main(int count, char **words) {
     std::vector<login_cache::logins::entry> left = cache.close();
     CHECK(left.size() == wanted.size() && expired > 0 && extended > 0);
     for (auto [who, found] : left) CHECK(wanted.count(who) && wanted[who] == found);
-    std::printf("a cache of logins in C++: passed, %u logins, of which %ld expired and %zu are left\n", tickets.load(), expired.load(), left.size());
+    std::printf("a cache of logins in C++: passed, %u logins, of which %ld expired and %zu are left\n", tickets.load(), expired.load(),
+                left.size());
     return 0;
 }

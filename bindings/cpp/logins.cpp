@@ -128,6 +128,7 @@ int main(int count, char **words) {
     std::uint64_t live = static_cast<std::uint64_t>(std::count_if(promised, promised + USERS, [](moment until) { return until > now; }));
     for (vbr::entry each : last->entries) CHECK(each.value > now && each.value >= promised[each.key]);
     CHECK(live == last->entries.size());
-    std::printf("logins in C++: passed, %ld logins, of which %ld were swept, and %ld were there again\n", logged_in.load(), swept.load(), kept.load());
+    std::printf("logins in C++: passed, %ld logins, of which %ld were swept, and %ld were there again\n", logged_in.load(), swept.load(),
+                kept.load());
     return 0;
 }

@@ -1,4 +1,5 @@
-// The map in C++: the examples of vbr.hpp (bindings/headers sees that their lines are here), values that change, ranges of entries, walks, closes, ends of handles, exceptions, and loans.
+// The map in C++: the examples of vbr.hpp (bindings/headers sees that their lines are here), values that change, ranges of entries,
+// walks, closes, ends of handles, exceptions, and loans.
 #include "vbr.hpp"
 
 #include <array>
@@ -15,7 +16,8 @@
 // What doesn't compile is seen by bindings/headers; here what a type doesn't do.
 static_assert(!std::is_copy_constructible_v<vbr::map_handle> && !std::is_copy_assignable_v<vbr::map_handle>);
 static_assert(std::is_nothrow_move_constructible_v<vbr::map_handle> && std::is_nothrow_move_assignable_v<vbr::map_handle>);
-static_assert(!std::is_constructible_v<bool, vbr::map_pass::found> && !std::is_constructible_v<bool, vbr::result<vbr::compared<std::uint64_t>>>);
+static_assert(!std::is_constructible_v<bool, vbr::map_pass::found>);
+static_assert(!std::is_constructible_v<bool, vbr::result<vbr::compared<std::uint64_t>>>);
 static_assert(!std::is_constructible_v<vbr::map_handle, vbr::handle> && !std::is_constructible_v<vbr::handle, vbr::map_handle>);
 static_assert(!std::is_convertible_v<vbr::map_loan, bool> && !std::is_convertible_v<vbr::compared<std::uint64_t>, bool>);
 
@@ -79,8 +81,10 @@ static int calls() {
     std::optional<std::uint64_t> taken = mine.remove(6).value(); // what 6 had
     CHECK(added == 1 && sum == 60 && taken == 60u && mine.has(6) == false);
     CHECK(mine.remove(6) == std::nullopt && mine.get(6) == std::nullopt && mine.get(2) == 20u);
-    CHECK(mine.get_within(2, vbr::steps{1}) == vbr::refusal::out_of_steps && mine.has_within(2, vbr::steps{1}) == vbr::refusal::out_of_steps);
-    CHECK(mine.insert_within(3, 30, vbr::steps{1}) == vbr::refusal::out_of_steps && mine.remove_within(2, vbr::steps{1}) == vbr::refusal::out_of_steps);
+    CHECK(mine.get_within(2, vbr::steps{1}) == vbr::refusal::out_of_steps);
+    CHECK(mine.has_within(2, vbr::steps{1}) == vbr::refusal::out_of_steps);
+    CHECK(mine.insert_within(3, 30, vbr::steps{1}) == vbr::refusal::out_of_steps);
+    CHECK(mine.remove_within(2, vbr::steps{1}) == vbr::refusal::out_of_steps);
     std::optional<vbr::map_report> told = mine.close().value();
     for (vbr::entry each : told->entries) sum += each.value;
     CHECK(told->free == shape.slots - 2 && sum == 60 + 20 + 50);
@@ -112,10 +116,13 @@ static int changes() {
     CHECK(mine.fetch_update(6, [](std::uint64_t value) { return value + 1; }) == 31u && mine.get(6) == 32u);
     CHECK(mine.fetch_update(9, half) == std::nullopt && mine.fetch_update_within(7, half, vbr::steps{1}) == vbr::refusal::out_of_steps);
     const vbr::steps few{1};
-    CHECK(mine.remove_if(7, 71) == done(71) && mine.replace_within(6, 1, few) == vbr::refusal::out_of_steps && mine.put_within(6, 1, few) == vbr::refusal::out_of_steps);
-    CHECK(mine.get_or_insert_within(6, 1, few) == vbr::refusal::out_of_steps && mine.remove_if_within(6, 32, few) == vbr::refusal::out_of_steps);
+    CHECK(mine.remove_if(7, 71) == done(71) && mine.replace_within(6, 1, few) == vbr::refusal::out_of_steps);
+    CHECK(mine.put_within(6, 1, few) == vbr::refusal::out_of_steps);
+    CHECK(mine.get_or_insert_within(6, 1, few) == vbr::refusal::out_of_steps);
+    CHECK(mine.remove_if_within(6, 32, few) == vbr::refusal::out_of_steps);
     CHECK(mine.compare_exchange_within(6, 32, 1, few) == vbr::refusal::out_of_steps && mine.get(6) == 32u);
-    CHECK(told(mine) == (list{{6, 32}, {8, 80}}) && mine.put(6, 1) == vbr::refusal::no_handle && mine.fetch_update(6, half) == vbr::refusal::no_handle);
+    CHECK(told(mine) == (list{{6, 32}, {8, 80}}) && mine.put(6, 1) == vbr::refusal::no_handle);
+    CHECK(mine.fetch_update(6, half) == vbr::refusal::no_handle);
     return 0;
 }
 
@@ -139,8 +146,10 @@ static int updates() {
 static int refusals() {
     vbr::shape small{2, 1, 1};
     vbr::map_handle one = std::move(vbr::open_map(small, 1)->at(0));
-    CHECK(one.insert(1, 10) == true && one.insert(2, 20) == true && one.insert(3, 30) == vbr::refusal::no_slot && one.get(3) == std::nullopt);
-    CHECK(one.replace(1, 11) == vbr::refusal::no_slot && one.fetch_update(1, [](std::uint64_t value) { return value + 1; }) == vbr::refusal::no_slot);
+    CHECK(one.insert(1, 10) == true && one.insert(2, 20) == true && one.insert(3, 30) == vbr::refusal::no_slot);
+    CHECK(one.get(3) == std::nullopt);
+    CHECK(one.replace(1, 11) == vbr::refusal::no_slot);
+    CHECK(one.fetch_update(1, [](std::uint64_t value) { return value + 1; }) == vbr::refusal::no_slot);
     CHECK(one.remove(1) == 10u && one.insert(3, 30) == vbr::refusal::epoch_spent);
     CHECK(vbr::open_map(vbr::shape{}, 1) == vbr::refusal::bad_shape);
     CHECK(vbr::open_map(small, 0) == vbr::refusal::bad_count && vbr::open_map(small, 65) == vbr::refusal::bad_count);
@@ -169,8 +178,8 @@ static int ranges() {
 
 // All entries, bucket by bucket: each key with its value; from a cursor on; and each refusal.
 static int walks() {
-    vbr::map_handle mine = std::move(vbr::open_map_with(vbr::shape{9 + 64, 4, vbr::max_epoch, 0}, 1,
-                                                        {{1, 10}, {2, 20}, {3, 30}, {4, 40}, {5, 50}, {6, 60}, {7, 70}, {8, 80}, {9, 90}})->at(0));
+    const list nine{{1, 10}, {2, 20}, {3, 30}, {4, 40}, {5, 50}, {6, 60}, {7, 70}, {8, 80}, {9, 90}};
+    vbr::map_handle mine = std::move(vbr::open_map_with(vbr::shape{9 + 64, 4, vbr::max_epoch, 0}, 1, nine)->at(0));
     const list by_bucket{{2, 20}, {5, 50}, {4, 40}, {7, 70}, {1, 10}, {6, 60}, {9, 90}, {3, 30}, {8, 80}};
     std::uint64_t sum = 0;
     for (auto [key, value] : mine.entries()) sum += key * value;

@@ -83,7 +83,8 @@ int taken_for_no(vbr::handle &set, vbr::map_handle &map, vbr::loan &loan) {
 }
 
 // Handles aren't copied, and one of another type, or a loan, doesn't take the place of one.
-void handles(vbr::handle &set, vbr::map_handle &map, vbr::set<std::uint32_t>::handle &small, vbr::lender &lender, vbr::loan &loan, std::vector<vbr::handle> &all) {
+void handles(vbr::handle &set, vbr::map_handle &map, vbr::set<std::uint32_t>::handle &small, vbr::lender &lender, vbr::loan &loan,
+             std::vector<vbr::handle> &all) {
     vbr::handle copied = set; // refused
     vbr::loan lent = loan; // refused
     set = std::move(small); // refused

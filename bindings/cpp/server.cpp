@@ -91,6 +91,7 @@ int main() {
     std::uint64_t sum = ended;
     for (vbr::entry each : told.entries) sum += each.value;
     CHECK(sum == THREADS * REQUESTS); // or a request is lost, or counted twice
-    std::printf("server in C++: passed, %llu requests, and the clock renewed the map %ld times\n", static_cast<unsigned long long>(sum), renewals);
+    std::printf("server in C++: passed, %llu requests, and the clock renewed the map %ld times\n", static_cast<unsigned long long>(sum),
+                renewals);
     return 0;
 }

@@ -27,7 +27,6 @@ private:
 struct place {
     std::uint16_t shelf, row;
     std::int32_t column;
-    friend bool operator==(const place &one, const place &other) { return one.shelf == other.shelf && one.row == other.row && one.column == other.column; }
 };
 
 struct padded {
@@ -38,11 +37,14 @@ struct padded {
 template <> inline constexpr bool vbr::is_by_bits<float> = true; // in place of a key that is told apart by ==
 
 // What may be a key.
-static_assert(vbr::is_by_bits<colour> && vbr::is_by_bits<address> && vbr::is_by_bits<place> && vbr::is_by_bits<std::int64_t> && vbr::is_by_bits<char *>);
+static_assert(vbr::is_by_bits<colour> && vbr::is_by_bits<address> && vbr::is_by_bits<place> && vbr::is_by_bits<std::int64_t>);
+static_assert(vbr::is_by_bits<char *>);
 static_assert(!vbr::is_by_bits<padded> && !vbr::is_by_bits<double> && vbr::is_by_bits<float>);
 // Each type has handles of its own, and those of plain numbers are those of vbr::open.
-static_assert(std::is_same_v<vbr::set<>::handle, vbr::handle> && std::is_same_v<vbr::map<>::handle, vbr::map_handle> && std::is_same_v<vbr::map<>::entry, vbr::entry>);
-static_assert(!std::is_constructible_v<vbr::set<std::uint32_t>::handle, vbr::handle> && !std::is_convertible_v<vbr::set<std::uint32_t>::handle &, vbr::pass &>);
+static_assert(std::is_same_v<vbr::set<>::handle, vbr::handle> && std::is_same_v<vbr::map<>::handle, vbr::map_handle>);
+static_assert(std::is_same_v<vbr::map<>::entry, vbr::entry>);
+static_assert(!std::is_constructible_v<vbr::set<std::uint32_t>::handle, vbr::handle>);
+static_assert(!std::is_convertible_v<vbr::set<std::uint32_t>::handle &, vbr::pass &>);
 static_assert(sizeof(vbr::set<colour>::handle) == sizeof(vbr::handle));
 
 using ports = vbr::map<address, std::uint16_t>;
@@ -62,38 +64,46 @@ static int example() {
     return 0;
 }
 
+template <class Key>
+static bool is_same(const Key &one, const Key &other) {
+    return !vbr::by_bits{}(one, other) && !vbr::by_bits{}(other, one);
+}
+
+template <class Key>
+static bool are_same(const std::vector<Key> &one, const std::vector<Key> &other) {
+    return std::equal(one.begin(), one.end(), other.begin(), other.end(), is_same<Key>);
+}
+
 // A set of three keys of a type, whose order by bits is that of the list: each call, a walk, reports, batches and a renewal.
 template <class Key>
 static int as_keys(const std::vector<Key> &keys) {
     using numbers = vbr::set<Key>;
-    const auto same = [](const std::vector<Key> &one, const std::vector<Key> &other) {
-        return std::equal(one.begin(), one.end(), other.begin(), other.end(), [](const Key &a, const Key &b) { return !vbr::by_bits{}(a, b) && !vbr::by_bits{}(b, a); });
-    };
     auto handles = numbers::open_with(vbr::shape::for_keys(100, 2), 2, keys).value();
     typename numbers::handle &one = handles[0], &other = handles[1];
     for (const Key &key : keys) CHECK(one.has(key) == true && other.insert(key) == false);
     CHECK(one.remove(keys[1]) == true && one.has(keys[1]) == false && one.remove_within(keys[1], vbr::steps{100}) == false);
-    CHECK(one.insert_within(keys[1], vbr::steps{1}) == vbr::refusal::out_of_steps && other.has_within(keys[1], vbr::steps{1}) == vbr::refusal::out_of_steps);
+    CHECK(one.insert_within(keys[1], vbr::steps{1}) == vbr::refusal::out_of_steps);
+    CHECK(other.has_within(keys[1], vbr::steps{1}) == vbr::refusal::out_of_steps);
     std::vector<Key> asked;
     for (int i = 0; i < 50; i++) asked.insert(asked.end(), keys.begin(), keys.end()); // more than a batch
     std::vector<vbr::result<bool>> answers(asked.size());
     one.has_all(asked.data(), asked.size(), answers.data());
     for (std::size_t i = 0; i < answers.size(); i++) CHECK(answers[i] == (i % 3 != 1));
-    CHECK(one.insert(keys[1]) == true && same(numbers::handle::report_all(handles)->keys, keys));
+    CHECK(one.insert(keys[1]) == true && are_same(numbers::handle::report_all(handles)->keys, keys));
     CHECK(numbers::handle::renew_all(handles, vbr::shape::for_keys(200, 2)) && other.has(keys[2]) == true);
     std::vector<Key> walked;
     for (Key key : other.keys()) walked.push_back(key);
     vbr::cursor at;
-    for (std::size_t i = 0; i < 3; i++) CHECK(!vbr::by_bits{}(one.next(at).value().value(), walked[i]) && !vbr::by_bits{}(walked[i], walked[i]));
-    CHECK(one.next(at).value() == std::nullopt);
+    for (std::size_t i = 0; i < 3; i++) CHECK(is_same(one.next(at).value().value(), walked[i]));
+    CHECK(!one.next(at).value());
     std::sort(walked.begin(), walked.end(), vbr::by_bits{});
-    CHECK(same(walked, keys));
+    CHECK(are_same(walked, keys));
     typename numbers::lender lender(std::move(handles));
     {
         typename numbers::loan mine = lender.lend();
         CHECK(*mine->remove(keys[0]));
     }
-    CHECK(same(lender.close().value()->keys, {keys[1], keys[2]}));
+    CHECK(are_same(lender.close().value()->keys, {keys[1], keys[2]}));
     return 0;
 }
 
@@ -101,13 +111,19 @@ static int as_keys(const std::vector<Key> &keys) {
 template <class Value>
 static int as_values(const Value (&of)[3]) {
     using values = vbr::map<std::int16_t, Value>;
-    auto handles = values::open_with(vbr::shape::for_keys(100, 1), 1, {{1, of[0]}, {2, of[1]}, {-1, of[2]}}).value(); // -1 is the last by its bits
+    // by its bits -1 is the last
+    auto handles = values::open_with(vbr::shape::for_keys(100, 1), 1, {{1, of[0]}, {2, of[1]}, {-1, of[2]}}).value();
     typename values::handle &mine = handles[0];
-    CHECK(mine.get(1) == of[0] && mine.get(-1) == of[2] && mine.get(3) == std::nullopt && mine.replace(2, of[2]) == of[1] && mine.put(2, of[0]) == of[2]);
-    CHECK(mine.insert(1, of[1]) == false && mine.get_or_insert(1, of[1]) == of[0] && mine.get_or_insert(4, of[1]) == std::nullopt && mine.remove(4) == of[1]);
-    CHECK((mine.compare_exchange(1, of[1], of[2]) == vbr::compared<Value>{false, of[0]}) && (mine.compare_exchange(1, of[0], of[1]) == vbr::compared<Value>{true, of[0]}));
-    CHECK((mine.remove_if(1, of[0]) == vbr::compared<Value>{false, of[1]}) && (mine.remove_if(1, of[1]) == vbr::compared<Value>{true, of[1]}));
-    CHECK(mine.fetch_update(2, [&](Value) { return of[2]; }) == of[0] && mine.get(2) == of[2] && mine.fetch_update(9, [&](Value was) { return was; }) == std::nullopt);
+    CHECK(mine.get(1) == of[0] && mine.get(-1) == of[2] && mine.get(3) == std::nullopt && mine.replace(2, of[2]) == of[1]);
+    CHECK(mine.put(2, of[0]) == of[2]);
+    CHECK(mine.insert(1, of[1]) == false && mine.get_or_insert(1, of[1]) == of[0] && mine.get_or_insert(4, of[1]) == std::nullopt);
+    CHECK(mine.remove(4) == of[1]);
+    CHECK((mine.compare_exchange(1, of[1], of[2]) == vbr::compared<Value>{false, of[0]}));
+    CHECK((mine.compare_exchange(1, of[0], of[1]) == vbr::compared<Value>{true, of[0]}));
+    CHECK((mine.remove_if(1, of[0]) == vbr::compared<Value>{false, of[1]}));
+    CHECK((mine.remove_if(1, of[1]) == vbr::compared<Value>{true, of[1]}));
+    CHECK(mine.fetch_update(2, [&](Value) { return of[2]; }) == of[0] && mine.get(2) == of[2]);
+    CHECK(mine.fetch_update(9, [&](Value was) { return was; }) == std::nullopt);
     const std::int16_t asked[] = {-1, 9, 2};
     typename values::pass::found found[3];
     mine.get_all(asked, 3, found);
@@ -146,7 +162,8 @@ int main() {
     const double halves[3] = {0.5, -1.5, 1e300};
     int *const pointers[3] = {&one, &other, nullptr};
     if (example() || ranges() || floats()) return 1;
-    if (as_keys<std::int64_t>({0, 5, -5}) || as_keys<address>({address(1), address(2), address(~0u)}) || as_keys<place>({{5, 1, 0}, {5, 2, 0}, {1, 1, 1}})) return 1;
+    if (as_keys<std::int64_t>({0, 5, -5}) || as_keys<address>({address(1), address(2), address(~0u)})) return 1;
+    if (as_keys<place>({{5, 1, 0}, {5, 2, 0}, {1, 1, 1}})) return 1;
     if (as_values<std::int8_t>({1, -1, 127}) || as_values(halves) || as_values(pointers) || as_values<bool>({true, false, true})) return 1;
     std::puts("typed keys and values in C++: passed");
     return 0;

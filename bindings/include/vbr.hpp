@@ -277,7 +277,9 @@ public:
            if (mine.has_within(8, vbr::steps{1}) == vbr::refusal::out_of_steps) tired++; */
     friend constexpr bool operator==(const result &one, const T &other) { return one.has_value() && one.kept == other; }
     friend constexpr bool operator==(const result &one, refusal other) noexcept { return !one.has_value() && one.why == other; }
-    friend constexpr bool operator==(const result &one, const result &other) { return one.why == other.why && (!one.has_value() || one.kept == other.kept); }
+    friend constexpr bool operator==(const result &one, const result &other) {
+        return one.why == other.why && (!one.has_value() || one.kept == other.kept);
+    }
     template <class U>
     friend constexpr bool operator!=(const result &one, const U &other) {
         return !(one == other);
@@ -344,7 +346,9 @@ struct [[nodiscard]] compared {
     std::optional<Value> found{}; /* what the key had; none where it is absent */
 
     explicit constexpr operator bool() const noexcept { return is_done; }
-    friend constexpr bool operator==(const compared &one, const compared &other) { return one.is_done == other.is_done && one.found == other.found; }
+    friend constexpr bool operator==(const compared &one, const compared &other) {
+        return one.is_done == other.is_done && one.found == other.found;
+    }
 };
 
 /* Whether two values of a type are the same just where their bytes are. It is so of integers, enumerations, pointers, and structs of
@@ -364,7 +368,7 @@ constexpr bool is_plain = std::is_same_v<T, std::uint64_t>;
 template <class T>
 constexpr void fits_key() noexcept {
     static_assert(std::is_trivially_copyable_v<T> && sizeof(T) <= 8, "a key or a value is trivially copyable, of at most 64 bits");
-    static_assert(is_by_bits<T>, "a type with padding, or of floating point, has values that are equal and differ in bits: see vbr::is_by_bits");
+    static_assert(is_by_bits<T>, "values with padding, or of floating point, may be equal and differ in bits: see vbr::is_by_bits");
 }
 
 template <class T>
@@ -420,7 +424,9 @@ struct basic_entry {
     Key key;
     Value value;
 
-    friend constexpr bool operator==(const basic_entry &one, const basic_entry &other) { return one.key == other.key && one.value == other.value; }
+    friend constexpr bool operator==(const basic_entry &one, const basic_entry &other) {
+        return one.key == other.key && one.value == other.value;
+    }
 };
 using entry = vbr_entry;
 
@@ -462,7 +468,9 @@ struct set_calls {
     static void has_all(raw *handle, const std::uint64_t *keys, std::size_t count, vbr_answer *answers, std::uint32_t steps) noexcept {
         vbr_has_all_within(handle, keys, count, answers, steps);
     }
-    static vbr_answer next(raw *handle, vbr_cursor *at, words *key, std::uint32_t steps) noexcept { return vbr_next_within(handle, at, key, steps); }
+    static vbr_answer next(raw *handle, vbr_cursor *at, words *key, std::uint32_t steps) noexcept {
+        return vbr_next_within(handle, at, key, steps);
+    }
     static std::uint64_t epoch(const raw *handle) noexcept { return vbr_epoch(handle); }
     static std::uint64_t last_epoch(const raw *handle) noexcept { return vbr_last_epoch(handle); }
     static std::uint32_t slots(const raw *handle) noexcept { return vbr_slots(handle); }
@@ -471,10 +479,12 @@ struct set_calls {
     static std::int64_t balance(const raw *handle) noexcept { return vbr_balance(handle); }
     static std::uint32_t spare(raw *handle) noexcept { return vbr_spare(handle); }
     static std::uint32_t reserve(raw *handle, std::uint32_t wanted) noexcept { return vbr_reserve(handle, wanted); }
-    static vbr_answer open(raw *handles, std::size_t count, const shape &wanted, std::uint64_t seed, const words *keys, std::size_t key_count) noexcept {
+    static vbr_answer open(raw *handles, std::size_t count, const shape &wanted, std::uint64_t seed, const words *keys,
+                           std::size_t key_count) noexcept {
         return vbr_open_seeded(handles, count, wanted.slots, wanted.buckets, wanted.last_epoch, seed, keys, key_count);
     }
-    static vbr_answer open_many(raw *handles, std::size_t count, const shape &wanted, std::uint64_t seed, const words *keys, std::size_t key_count) noexcept {
+    static vbr_answer open_many(raw *handles, std::size_t count, const shape &wanted, std::uint64_t seed, const words *keys,
+                                std::size_t key_count) noexcept {
         return vbr_open_many_seeded(handles, count, wanted.slots, wanted.buckets, wanted.last_epoch, seed, keys, key_count);
     }
     static vbr_answer report_all(raw *handles, std::size_t count, words *keys, std::size_t room, vbr_report *report) noexcept {
@@ -497,7 +507,9 @@ struct map_calls {
     static void has_all(raw *handle, const std::uint64_t *keys, std::size_t count, vbr_answer *answers, std::uint32_t steps) noexcept {
         vbr_map_has_all_within(handle, keys, count, answers, steps);
     }
-    static vbr_answer next(raw *handle, vbr_cursor *at, words *entry, std::uint32_t steps) noexcept { return vbr_map_next_within(handle, at, entry, steps); }
+    static vbr_answer next(raw *handle, vbr_cursor *at, words *entry, std::uint32_t steps) noexcept {
+        return vbr_map_next_within(handle, at, entry, steps);
+    }
     static std::uint64_t epoch(const raw *handle) noexcept { return vbr_map_epoch(handle); }
     static std::uint64_t last_epoch(const raw *handle) noexcept { return vbr_map_last_epoch(handle); }
     static std::uint32_t slots(const raw *handle) noexcept { return vbr_map_slots(handle); }
@@ -506,10 +518,12 @@ struct map_calls {
     static std::int64_t balance(const raw *handle) noexcept { return vbr_map_balance(handle); }
     static std::uint32_t spare(raw *handle) noexcept { return vbr_map_spare(handle); }
     static std::uint32_t reserve(raw *handle, std::uint32_t wanted) noexcept { return vbr_map_reserve(handle, wanted); }
-    static vbr_answer open(raw *handles, std::size_t count, const shape &wanted, std::uint64_t seed, const words *entries, std::size_t entry_count) noexcept {
+    static vbr_answer open(raw *handles, std::size_t count, const shape &wanted, std::uint64_t seed, const words *entries,
+                           std::size_t entry_count) noexcept {
         return vbr_map_open_seeded(handles, count, wanted.slots, wanted.buckets, wanted.last_epoch, seed, entries, entry_count);
     }
-    static vbr_answer open_many(raw *handles, std::size_t count, const shape &wanted, std::uint64_t seed, const words *entries, std::size_t entry_count) noexcept {
+    static vbr_answer open_many(raw *handles, std::size_t count, const shape &wanted, std::uint64_t seed, const words *entries,
+                                std::size_t entry_count) noexcept {
         return vbr_map_open_many_seeded(handles, count, wanted.slots, wanted.buckets, wanted.last_epoch, seed, entries, entry_count);
     }
     static vbr_answer report_all(raw *handles, std::size_t count, words *entries, std::size_t room, vbr_report *report) noexcept {
@@ -722,7 +736,9 @@ public:
 
            if (*mine.has(7)) there++; // 7 was there during the call */
     result<bool> has(key_type key) noexcept { return has_within(key, steps()); }
-    result<bool> has_within(key_type key, vbr::steps budget) noexcept { return detail::yes_or_no(Kind::has(&raw, detail::word_of(key), budget.count())); }
+    result<bool> has_within(key_type key, vbr::steps budget) noexcept {
+        return detail::yes_or_no(Kind::has(&raw, detail::word_of(key), budget.count()));
+    }
 
     /* Whether each of some keys is there: answers[i] is what `has` tells of keys[i], with this budget. Each is a call of its own,
        and they are made in the order of the keys. It is for many keys of a set that is larger than the cache: their look-ups wait
@@ -739,9 +755,11 @@ public:
     }
 
     /* The next key of a walk, and of a map the next entry; none at the end. The cursor is then after it; where the call is refused
-       for want of steps it keeps how far it has come.
+       for want of steps, as among very many empty buckets, it keeps how far it has come.
 
-           while (std::optional<std::uint64_t> key = mine.next(at).value()) sum += *key; */
+           auto next = mine.next(at);
+           while (next == vbr::refusal::out_of_steps) next = mine.next(at); // from where it came to
+           if (*next) sum += **next; */
     result<std::optional<item_type>> next(cursor &at) noexcept { return next_within(at, steps()); }
     result<std::optional<item_type>> next_within(cursor &at, vbr::steps budget) noexcept {
         typename Kind::words words = {};
@@ -796,7 +814,7 @@ protected:
     ~basic_pass() = default;
     basic_walk<Kind> walk(cursor *at, vbr::steps budget) noexcept { return {&raw, at, budget}; }
 
-    /* Calls with some keys after others, each time with where they begin and how many they are. */
+    // Calls with some keys after others, each time with where they begin and how many they are.
     template <class Call>
     static void in_parts(const key_type *keys, std::size_t count, const Call &call) noexcept {
         for (std::size_t from = 0, some; from < count; from += some) {
@@ -943,7 +961,8 @@ public:
     }
     result<compared<Value>> compare_exchange_within(Key key, Value expected, Value value, vbr::steps budget) noexcept {
         std::uint64_t had = 0;
-        vbr_answer told = vbr_map_compare_exchange_within(&this->raw, detail::word_of(key), detail::word_of(expected), detail::word_of(value), &had, budget.count());
+        vbr_answer told = vbr_map_compare_exchange_within(&this->raw, detail::word_of(key), detail::word_of(expected),
+                                                          detail::word_of(value), &had, budget.count());
         return detail::compared_by<Value>(told, had);
     }
 
@@ -1044,7 +1063,9 @@ public:
         if (result<void> are = are_all(handles.size(), at); !are) return are.error();
         detail::report_room<kind> room(handles.front().shared->slots);
         vbr_answer code = with_all(handles.size(), at, [&](auto *all) {
-            return room.fill([&](auto *items, std::size_t size, vbr_report *totals) { return kind::report_all(all, handles.size(), items, size, totals); });
+            return room.fill([&](auto *items, std::size_t size, vbr_report *totals) {
+                return kind::report_all(all, handles.size(), items, size, totals);
+            });
         });
         if (code != VBR_YES) return refusal{code};
         return room.report();
@@ -1177,7 +1198,7 @@ private:
     std::shared_ptr<detail::shared<kind>> shared;
 };
 
-/* Handles that are lent: vbr_lend.hpp has them. */
+// vbr_lend.hpp has these.
 template <class Handle>
 class basic_lender;
 template <class Handle, class Owner = detail::lending<Handle> *>
@@ -1191,14 +1212,16 @@ struct array_of {
 };
 
 template <class Items>
-struct array_of<Items, std::void_t<decltype(std::data(std::declval<const Items &>())), decltype(std::size(std::declval<const Items &>()))>> {
+struct array_of<Items, std::void_t<decltype(std::data(std::declval<const Items &>())),
+                                   decltype(std::size(std::declval<const Items &>()))>> {
     using type = std::remove_cv_t<std::remove_pointer_t<decltype(std::data(std::declval<const Items &>()))>>;
 };
 
 /* Whether a value of one type stands for one of another without doubt: it is of that type, or an unsigned number that isn't wider. */
 template <class From, class To>
-inline constexpr bool stands_for = std::is_same_v<From, To> || (std::is_unsigned_v<From> && std::is_unsigned_v<To> && sizeof(From) <= sizeof(To) &&
-                                                                !std::is_same_v<From, bool> && !std::is_same_v<To, bool>);
+inline constexpr bool stands_for =
+    std::is_same_v<From, To> || (std::is_unsigned_v<From> && std::is_unsigned_v<To> && sizeof(From) <= sizeof(To) &&
+                                 !std::is_same_v<From, bool> && !std::is_same_v<To, bool>);
 
 /* An item of a range, as a key or an entry. */
 template <class Key>
@@ -1208,21 +1231,26 @@ Key taken_as(const set_of<Key> *, const Key &key) noexcept {
 
 template <class Key, class From>
 Key taken_as(const set_of<Key> *, const From &key) noexcept {
-    static_assert(stands_for<From, Key>, "keys are of the set's type of keys, or unsigned numbers that it has room for");
+    static_assert(stands_for<From, Key>, "keys are of the set's type, or unsigned numbers that it has room for");
     return static_cast<Key>(key);
 }
 
 template <class Key, class Value, class From>
 typename map_of<Key, Value>::item taken_as(const map_of<Key, Value> *, const From &from) noexcept {
     const auto &[key, value] = from;
-    static_assert(stands_for<std::decay_t<decltype(key)>, Key>, "keys are of the map's type of keys, or unsigned numbers that it has room for");
-    static_assert(stands_for<std::decay_t<decltype(value)>, Value>, "values are of the map's type of values, or unsigned numbers that it has room for");
+    static_assert(stands_for<std::decay_t<decltype(key)>, Key>, "keys are of the map's type, or unsigned numbers that it has room for");
+    static_assert(stands_for<std::decay_t<decltype(value)>, Value>, "values are of the map's type, or unsigned numbers that have room");
     return {static_cast<Key>(key), static_cast<Value>(value)};
 }
 
 /* The openings of sets, and those of maps; vbr::set and vbr::map have them. */
 template <class Handle>
 struct openings {
+private:
+    using kind = typename Handle::kind;
+    using item = typename Handle::item_type;
+
+public:
     using handle = Handle;
     using pass = typename Handle::pass_type;
     using report = typename Handle::report_type;
@@ -1231,15 +1259,14 @@ struct openings {
     using lender = basic_lender<Handle>;
 
     static result<std::vector<Handle>> open(const shape &wanted, std::size_t count) { return open_with(wanted, count, nullptr, 0); }
-    static result<std::vector<Handle>> open_with(const shape &wanted, std::size_t count, const typename Handle::item_type *items, std::size_t item_count) {
+    static result<std::vector<Handle>> open_with(const shape &wanted, std::size_t count, const item *items, std::size_t item_count) {
         return opened(kind::open, wanted, count, max_handles, items, item_count);
     }
-    static result<std::vector<Handle>> open_with(const shape &wanted, std::size_t count, std::initializer_list<typename Handle::item_type> items) {
+    static result<std::vector<Handle>> open_with(const shape &wanted, std::size_t count, std::initializer_list<item> items) {
         return open_with(wanted, count, items.begin(), items.size());
     }
     template <class Items>
     static result<std::vector<Handle>> open_with(const shape &wanted, std::size_t count, const Items &items) {
-        using item = typename Handle::item_type;
         if constexpr (std::is_same_v<typename array_of<Items>::type, item>) {
             return open_with(wanted, count, std::data(items), std::size(items));
         } else {
@@ -1248,15 +1275,14 @@ struct openings {
             return open_with(wanted, count, copy.data(), copy.size());
         }
     }
-    static result<std::vector<Handle>> open_many(const shape &wanted, std::size_t count, const typename Handle::item_type *items = nullptr, std::size_t item_count = 0) {
+    static result<std::vector<Handle>> open_many(const shape &wanted, std::size_t count, const item *items = nullptr,
+                                                 std::size_t item_count = 0) {
         return opened(kind::open_many, wanted, count, max_many_handles, items, item_count);
     }
 
 private:
-    using kind = typename Handle::kind;
-
     template <class Call>
-    static result<std::vector<Handle>> opened(const Call &call, const shape &wanted, std::size_t count, std::size_t most, const typename Handle::item_type *items,
+    static result<std::vector<Handle>> opened(const Call &call, const shape &wanted, std::size_t count, std::size_t most, const item *items,
                                               std::size_t item_count) {
         static constexpr typename kind::words none = {};
         std::vector<typename kind::words> copy;
@@ -1352,7 +1378,8 @@ result<std::vector<handle>> open_with(const shape &wanted, std::size_t count, co
 /* Opens a set of these keys, which ascend and may be none, with `count` handles, from 1 to max_many_handles.
 
        std::vector<vbr::handle> crowd = vbr::open_many(vbr::shape::for_keys(1024, 1000), 1000).value(); */
-inline result<std::vector<handle>> open_many(const shape &wanted, std::size_t count, const std::uint64_t *keys = nullptr, std::size_t key_count = 0) {
+inline result<std::vector<handle>> open_many(const shape &wanted, std::size_t count, const std::uint64_t *keys = nullptr,
+                                             std::size_t key_count = 0) {
     return set<>::open_many(wanted, count, keys, key_count);
 }
 
@@ -1364,7 +1391,8 @@ inline result<std::vector<map_handle>> open_map(const shape &wanted, std::size_t
 /* Opens a map of these entries, whose keys ascend, each above the one before.
 
        auto some = vbr::open_map_with(shape, 1, want.data(), want.size()); */
-inline result<std::vector<map_handle>> open_map_with(const shape &wanted, std::size_t count, const entry *entries, std::size_t entry_count) {
+inline result<std::vector<map_handle>> open_map_with(const shape &wanted, std::size_t count, const entry *entries,
+                                                     std::size_t entry_count) {
     return map<>::open_with(wanted, count, entries, entry_count);
 }
 
@@ -1387,7 +1415,8 @@ result<std::vector<map_handle>> open_map_with(const shape &wanted, std::size_t c
 /* Opens a map of these entries, whose keys ascend, and which may be none, with `count` handles, from 1 to max_many_handles.
 
        std::vector<vbr::map_handle> crowd = vbr::open_map_many(vbr::shape::for_keys(1024, 1000), 1000).value(); */
-inline result<std::vector<map_handle>> open_map_many(const shape &wanted, std::size_t count, const entry *entries = nullptr, std::size_t entry_count = 0) {
+inline result<std::vector<map_handle>> open_map_many(const shape &wanted, std::size_t count, const entry *entries = nullptr,
+                                                     std::size_t entry_count = 0) {
     return map<>::open_many(wanted, count, entries, entry_count);
 }
 

@@ -142,12 +142,14 @@ public:
     std::uint32_t buckets() const noexcept { return of_buckets.load(std::memory_order_relaxed); }
     std::uint64_t last_epoch() const noexcept { return of_epoch.load(std::memory_order_relaxed); }
     bool is(const shape &other) const noexcept {
-        return slots() == other.slots && buckets() == other.buckets && last_epoch() == other.last_epoch && has_seed_of(other) && has_steps_of(other);
+        return slots() == other.slots && buckets() == other.buckets && last_epoch() == other.last_epoch && has_seed_of(other) &&
+               has_steps_of(other);
     }
 
 private:
     bool has_seed_of(const shape &other) const noexcept {
-        return is_seeded.load(std::memory_order_relaxed) == other.seed.has_value() && of_seed.load(std::memory_order_relaxed) == other.seed.value_or(0);
+        return is_seeded.load(std::memory_order_relaxed) == other.seed.has_value() &&
+               of_seed.load(std::memory_order_relaxed) == other.seed.value_or(0);
     }
 
     bool has_steps_of(const shape &other) const noexcept {
@@ -182,7 +184,7 @@ public:
         for (Handle &each : handles)
             if (kept < max_handles && each.is_open() && (kept == 0 || each.shared == places[0].handle.shared))
                 places[kept++].handle = std::move(each);
-        if (kept > 0) opened.set({places[0].handle.slots(), places[0].handle.buckets(), places[0].handle.last_epoch(), {}, {}});
+        if (kept > 0) opened.set({places[0].handle.slots(), places[0].handle.buckets(), places[0].handle.last_epoch()});
         count.store(kept, std::memory_order_relaxed);
         lends.store(kept, std::memory_order_release);
     }
@@ -363,7 +365,8 @@ public:
 private:
     template <class>
     friend class basic_lender;
-    basic_loan(Owner from, typename detail::lending<Handle>::place_type *which) noexcept : owner(which ? std::move(from) : Owner()), at(which) {}
+    basic_loan(Owner from, typename detail::lending<Handle>::place_type *which) noexcept
+        : owner(which ? std::move(from) : Owner()), at(which) {}
 
     void give_back() noexcept {
         if (at) owner->give_back(*std::exchange(at, nullptr));

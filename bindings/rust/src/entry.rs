@@ -175,6 +175,27 @@ impl<K: Bits, V: Bits, F: FnMut(&mut V)> ModifiedEntry<'_, K, V, F> {
         self.or_insert_with(|| value)
     }
 
+    /// The same with the default value.
+    ///
+    /// ```
+    /// # use vbr::{Map, Shape};
+    /// let mut handle = Map::<u64, u64>::handles(Shape::for_keys(8, 1))?.remove(0);
+    /// assert_eq!(handle.entry(5).and_modify(|value| *value += 1).or_default()?, 0);
+    /// assert_eq!(handle.entry(5).and_modify(|value| *value += 1).or_default()?, 1);
+    /// # Ok::<(), Box<dyn std::error::Error>>(())
+    /// ```
+    ///
+    /// # Errors
+    ///
+    /// Those of [`ModifiedEntry::or_insert`]. Nothing was changed then.
+    #[inline]
+    pub fn or_default(self) -> Result<V, Refusal>
+    where
+        V: Default,
+    {
+        self.or_insert_with(V::default)
+    }
+
     /// The same with a value that is made where the key is absent, once at most.
     ///
     /// ```
