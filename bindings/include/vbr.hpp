@@ -20,7 +20,7 @@
    Each call gives a vbr::result: what it answers, or why it was refused. A refusal is no absence: it is asked for by has_value and
    error, and where nobody asks, value throws it.
 
-   All keys, one after another, while other threads make calls; vbr.h says under "Walks" which are given, and how often:
+   All keys, one after another, while other threads make calls; vbr(3) says under "Going over all keys" which are given:
 
        for (std::uint64_t key : handles[0].keys()) sum += key;
 
@@ -30,15 +30,15 @@
        std::vector<ports::handle> of = ports::open(vbr::shape::for_keys(1024, 2), 2).value();
 
    A handle has a budget, the ample one unless it is given another. Its calls make no more steps than that; those whose names end in
-   `_within` are given one of their own, the last of what they take. vbr.h tells under "Budgets" how many steps suffice.
+   `_within` are given one of their own, the last of what they take. vbr(3) tells how many steps suffice.
 
-   It is a header over the calls of vbr.h, which says what each asks and answers, and links with the same library. Only
+   It is a header over the calls of vbr.h, which says what each asks and answers; vbr(3) has what holds of all. Only
    openings, closes and reports take memory; where a vector finds none they throw std::bad_alloc and leave all as it was. The
    balances of all handles, added up while no call is under way, are how many keys are in the set; so does a report tell it. What is
-   said of sets and keys holds of maps and entries, as in vbr.h.
+   said of sets and keys holds of maps and entries.
 
    A handle may go to another thread by whatever orders the two. Where a thread ends, or an exception leaves a function, the
-   handles that it owned end too, which closes them; nothing is lost. What vbr.h says of cancelled threads, signals and forks
+   handles that it owned end too, which closes them; nothing is lost. What vbr(3) says of cancelled threads, signals and forks
    holds here as well: a signal handler inserts, removes, changes values, looks up and walks by `next`, asks results by has_value, and
    opens, closes and ends no handle. */
 #ifndef VBR_HPP
@@ -112,7 +112,7 @@ struct shape {
     std::uint32_t slots = 0;
     std::uint32_t buckets = 0;
     std::uint64_t last_epoch = max_epoch;
-    /* What keys are spread by, as vbr.h tells under "Seeds"; without one an opening draws it, and a renewal keeps that of its set.
+    /* What keys are spread by, as vbr(3) tells of seeds; without one an opening draws it, and a renewal keeps that of its set.
 
            vbr::shape seeded = vbr::shape::for_keys(1024, 2);
            seeded.seed = 7; */
@@ -124,7 +124,7 @@ struct shape {
     std::optional<vbr::steps> steps = std::nullopt;
 
     /* The shape for this many keys at one time and this many handles: a slot for each key and 64 for each handle, and the
-       least power of two that isn't below the number of keys for the buckets. vbr.h says under "Slots" what that is enough
+       least power of two that isn't below the number of keys for the buckets. vbr(3) says what that is enough
        for, and what to do at refusal::no_slot.
 
            auto most = vbr::open(vbr::shape::for_keys(1024, vbr::max_handles), vbr::max_handles); */
