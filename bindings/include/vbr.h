@@ -7,7 +7,7 @@
        vbr_end_all(handle, 2);                              // and their memory is freed
 
    Compare an answer with VBR_YES: a refusal is below 0, and so is true. Link with -lvbr (`pkg-config --cflags --libs vbr`). What holds of
-   every call (maps, owners, pointers, threads, order, walks, sizes, budgets) is in vbr(3), and in docs/USING.md, which it is made of. */
+   every call (maps, owners, pointers, threads, order, walks, sizes, budgets) is in vbr(3), which is made of docs/C.md and docs/USING.md. */
 #ifndef VBR_H
 #define VBR_H
 
