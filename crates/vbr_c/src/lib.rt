@@ -2,15 +2,20 @@
 //! Version Based Reclamation (Sheffi, Herlihy and Petrank 2021), as `vbr_set` has it. Each thread has a
 //! handle, which owns a pass of the set or the map and a share of it.
 //!
+//! The exports that are given a budget, as `vbr_insert_within`, have it as their last argument. In C each has a form that
+//! is given none, a line of the header: it makes the same call with the budget of the handle, which no export reads or
+//! writes.
+//!
 //! No call asks anything of its caller but what the types say: a handle is moved and never copied,
 //! and one call at a time has it. Only those of all handles at once, as `vbr_close_all`, ask besides that
-//! the handles are of one set or map, and those of several keys that there is room for each answer. `bindings/include/vbr.h` is what a C programmer reads.
+//! the handles are of one set or map, and those of several keys that there is room for each answer.
+//! `bindings/include/vbr.h` is what a C programmer reads.
 //!
 //! ```c file=bindings/c/example.c
 //! /* handles, count, slots (keys, and 64 for each handle), buckets (as many as keys), last_epoch */
-//! if (vbr_open(handle, 2, 1024 + 2 * 64, 1024, VBR_MAX_EPOCH) != VBR_NO) return 1;
-//! vbr_answer added = vbr_insert(&handle[0], 5, 100000);       /* VBR_YES: 5 was absent */
-//! vbr_answer there = vbr_has(&handle[1], 5, 100000);          /* VBR_YES, from another thread too */
+//! if (vbr_open(handle, 2, 1024 + 2 * 64, 1024, VBR_MAX_EPOCH) != VBR_OK) return 1;
+//! vbr_answer added = vbr_insert(&handle[0], 5);       /* VBR_YES: 5 was absent */
+//! vbr_answer there = vbr_has(&handle[1], 5);          /* VBR_YES, from another thread too */
 //! vbr_answer first = vbr_close(&handle[0], keys, 8, &report); /* VBR_NO: the other handle is open */
 //! vbr_answer last = vbr_close(&handle[1], keys, 8, &report);  /* VBR_YES: report.live is 1, keys[0] is 5 */
 //! ```
@@ -27,8 +32,8 @@ pub mod set;
 
 pub use vbr_handles::{Entry, Found, ReportNumbers};
 
-// 0.2.0
-const VERSION: u32 = 2_000;
+// 0.3.0
+const VERSION: u32 = 3_000;
 
 /// The version of the library: major * 1000000 + minor * 1000 + patch.
 ///
@@ -37,7 +42,7 @@ const VERSION: u32 = 2_000;
 /// ```
 #[unsafe(no_mangle)]
 pub extern "C" fn vbr_version() -> u32
-    ensures { result ≡ 0 * 1000000 + 2 * 1000 + 0 }
+    ensures { result ≡ 0 * 1000000 + 3 * 1000 + 0 }
 {
     VERSION
 }

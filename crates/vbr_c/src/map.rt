@@ -8,9 +8,9 @@ ghost use Rattle.vbr_handles.specs.Calls.{TellsCall, TellsInsertEntry};
 ghost use Rattle.vbr_handles.specs.GivingBack.{ClosesMapHandle};
 ghost use Rattle.vbr_handles.specs.Iterating.{TellsNextEntry};
 ghost use Rattle.vbr_handles.specs.ValueCalls.{TellsExchange, TellsGetEntry, TellsGetOrInsert, TellsPut, TellsRemoveEntry, TellsRemoveIf, TellsReplace};
-ghost use Rattle.vbr_handles.specs.Opening.{entries_start};
+ghost use Rattle.vbr_handles.specs.Opening.{AreEmpty, entries_start};
 ghost use Rattle.vbr_handles.specs.OpeningCodes.{TellsMapOpeningMany, TellsMapOpeningWith};
-ghost use Rattle.vbr_handles.specs.AllHandles.{map_members_in};
+ghost use Rattle.vbr_handles.specs.AllHandles.{KeepMapSteps, map_members_in};
 ghost use Rattle.vbr_handles.specs.Renewals.{TellsMapRenewal};
 ghost use Rattle.vbr_handles.specs.Reports.{TellsMapCloseAll, TellsMapReport};
 ghost use Rattle.vbr_set.specs.AllMembers.{AreOfOneSet};
@@ -26,7 +26,7 @@ use vbr_words::Entries;
 /// of keys. The entries ascend by key, each key above the one before.
 ///
 /// ```c file=bindings/c/seeds.c
-/// if (vbr_map_open_seeded(map, 2, 1024 + 2 * 64, 1024, VBR_MAX_EPOCH, 7, some_entries, 3) != VBR_NO) return 1;
+/// if (vbr_map_open_seeded(map, 2, 1024 + 2 * 64, 1024, VBR_MAX_EPOCH, 7, some_entries, 3) != VBR_OK) return 1;
 /// ```
 #[unsafe(no_mangle)]
 pub extern "C" fn vbr_map_open_seeded(
@@ -38,9 +38,10 @@ pub extern "C" fn vbr_map_open_seeded(
     seed: u64,
     entries: &[Entry],
 ) -> i32
-    ensures { TellsMapOpeningWith handles.old handles.new (entries_start
+    ensures opens { TellsMapOpeningWith handles.old handles.new (entries_start
         (record { slots = slots; buckets = buckets; last_epoch = last_epoch; seed = seed })
         entries.now) result }
+    ensures steps { KeepMapSteps handles.old handles.new }
 {
     let numbers = ShapeNumbers {
         slots,
@@ -55,7 +56,7 @@ pub extern "C" fn vbr_map_open_seeded(
 /// [`crate::set::vbr_open_many_seeded`] opens a set of keys.
 ///
 /// ```c file=bindings/c/seeds.c
-/// if (vbr_map_open_many_seeded(seeded_maps, 1000, 1024 + 1000 * 64, 1024, VBR_MAX_EPOCH, 7, some_entries, 3) != VBR_NO) return 1;
+/// if (vbr_map_open_many_seeded(seeded_maps, 1000, 1024 + 1000 * 64, 1024, VBR_MAX_EPOCH, 7, some_entries, 3) != VBR_OK) return 1;
 /// ```
 #[unsafe(no_mangle)]
 pub extern "C" fn vbr_map_open_many_seeded(
@@ -67,10 +68,11 @@ pub extern "C" fn vbr_map_open_many_seeded(
     seed: u64,
     entries: &[Entry],
 ) -> i32
-    ensures { TellsMapOpeningMany handles.old handles.new
+    ensures opens { TellsMapOpeningMany handles.old handles.new
         (entries_start
         (record { slots = slots; buckets = buckets; last_epoch = last_epoch; seed = seed })
         entries.now) result }
+    ensures steps { KeepMapSteps handles.old handles.new }
 {
     let numbers = ShapeNumbers {
         slots,
@@ -81,53 +83,67 @@ pub extern "C" fn vbr_map_open_many_seeded(
     numbers::open_many::<Entries, Entry, MapHandle>(alloc, handles, numbers, entries)
 }
 
-/// Adds a key with its value, as [`crate::set::vbr_insert`] adds a key: 1 if the key was absent, 0 if it
+/// Adds a key with its value, as [`crate::set::vbr_insert_within`] adds a key: 1 if the key was absent, 0 if it
 /// was there, and then it keeps the value that it had. The same budget is enough.
 ///
 /// ```c file=bindings/c/map_example.c
-/// vbr_answer added = vbr_map_insert(&map[0], 5, 70, 100000);  /* VBR_YES: 5 was absent, and now has the value 70 */
-/// vbr_answer again = vbr_map_insert(&map[1], 5, 71, 100000);  /* VBR_NO: 5 keeps its value */
+/// vbr_answer added = vbr_map_insert(&map[0], 5, 70);  /* VBR_YES: 5 was absent, and now has the value 70 */
+/// vbr_answer again = vbr_map_insert(&map[1], 5, 71);  /* VBR_NO: 5 keeps its value */
 /// ```
 #[unsafe(no_mangle)]
-pub extern "C" fn vbr_map_insert(handle: &mut MapHandle, key: u64, value: u64, budget: u32) -> i32
-    ensures { TellsInsertEntry handle.old.member handle.new.member key value budget result }
+pub extern "C" fn vbr_map_insert_within(
+    handle: &mut MapHandle,
+    key: u64,
+    value: u64,
+    budget: u32,
+) -> i32
+    ensures called { TellsInsertEntry handle.old.owned.member handle.new.owned.member
+        key value budget result }
+    ensures steps { handle.new.steps ≡ handle.old.steps }
 {
-    entries::insert(handle.owner_mut(), key, value, budget)
+    entries::insert(handle.owned.owner_mut(), key, value, budget)
 }
 
-/// Takes a key out, as [`crate::set::vbr_remove`] does: 1 if it was there, and the value that was stored
+/// Takes a key out, as [`crate::set::vbr_remove_within`] does: 1 if it was there, and the value that was stored
 /// with it is written; 0 if it was absent. The same budget is enough. With any answer but 1 nothing is
 /// written.
 ///
 /// ```c file=bindings/c/map_calls.c
-/// if (vbr_map_remove(&map[1], 5, 100000, &value) == VBR_YES) taken++; // this call took 5 out, with its value
+/// if (vbr_map_remove(&map[1], 5, &value) == VBR_YES) taken++; // this call took 5 out, with its value
 /// ```
 #[unsafe(no_mangle)]
-pub extern "C" fn vbr_map_remove(
+pub extern "C" fn vbr_map_remove_within(
     handle: &mut MapHandle,
     key: u64,
-    budget: u32,
     value: &mut u64,
+    budget: u32,
 ) -> i32
-    ensures { TellsRemoveEntry handle.old.member handle.new.member key budget value.old value.new
-        result }
+    ensures called { TellsRemoveEntry handle.old.owned.member handle.new.owned.member
+        key budget value.old value.new result }
+    ensures steps { handle.new.steps ≡ handle.old.steps }
 {
-    entries::remove(handle.owner_mut(), key, budget, value)
+    entries::remove(handle.owned.owner_mut(), key, value, budget)
 }
 
-/// Looks a key up, as [`vbr_map_has`] does: 1 if it is there, and the value that is stored with it is
+/// Looks a key up, as [`vbr_map_has_within`] does: 1 if it is there, and the value that is stored with it is
 /// written; 0 if it is absent. The same budget is enough, and the same refusals come. With any answer but 1
 /// nothing is written.
 ///
 /// ```c file=bindings/c/map_example.c
-/// vbr_answer there = vbr_map_get(&map[1], 5, 100000, &value); /* VBR_YES: value is 70 */
+/// vbr_answer there = vbr_map_get(&map[1], 5, &value); /* VBR_YES: value is 70 */
 /// ```
 #[unsafe(no_mangle)]
-pub extern "C" fn vbr_map_get(handle: &mut MapHandle, key: u64, budget: u32, value: &mut u64) -> i32
-    ensures { TellsGetEntry handle.old.member handle.new.member key budget value.old value.new
-        result }
+pub extern "C" fn vbr_map_get_within(
+    handle: &mut MapHandle,
+    key: u64,
+    value: &mut u64,
+    budget: u32,
+) -> i32
+    ensures called { TellsGetEntry handle.old.owned.member handle.new.owned.member
+        key budget value.old value.new result }
+    ensures steps { handle.new.steps ≡ handle.old.steps }
 {
-    entries::get(handle.owner_mut(), key, budget, value)
+    entries::get(handle.owned.owner_mut(), key, value, budget)
 }
 
 /// Gives a key that is there another value, in at most `budget` steps: 1, and the value that it had is written;
@@ -140,71 +156,74 @@ pub extern "C" fn vbr_map_get(handle: &mut MapHandle, key: u64, budget: u32, val
 /// nothing is written.
 ///
 /// ```c file=bindings/c/map_calls.c
-/// if (vbr_map_replace(&map[0], 5, 72, &found, 100000) == VBR_YES) changed++; // 5 had the value found, and has 72
+/// if (vbr_map_replace(&map[0], 5, 72, &found) == VBR_YES) changed++; // 5 had the value found, and has 72
 /// ```
 #[unsafe(no_mangle)]
-pub extern "C" fn vbr_map_replace(
+pub extern "C" fn vbr_map_replace_within(
     handle: &mut MapHandle,
     key: u64,
     value: u64,
     found: &mut u64,
     budget: u32,
 ) -> i32
-    ensures { TellsReplace handle.old.member handle.new.member key value budget
+    ensures called { TellsReplace handle.old.owned.member handle.new.owned.member key value budget
         found.old found.new result }
+    ensures steps { handle.new.steps ≡ handle.old.steps }
 {
-    entries::replace(handle.owner_mut(), key, value, found, budget)
+    entries::replace(handle.owned.owner_mut(), key, value, found, budget)
 }
 
-/// Gives a key a value, whether it is there or not, as [`vbr_map_replace`] does: 1 if it was there, and the
+/// Gives a key a value, whether it is there or not, as [`vbr_map_replace_within`] does: 1 if it was there, and the
 /// value that it had is written; 0 if it was absent.
 ///
 /// ```c file=bindings/c/map_calls.c
-/// if (vbr_map_put(&map[1], 6, 60, NULL, 100000) == VBR_NO) added++; // 6 was absent; either way it has 60
+/// if (vbr_map_put(&map[1], 6, 60, NULL) == VBR_NO) added++; // 6 was absent; either way it has 60
 /// ```
 #[unsafe(no_mangle)]
-pub extern "C" fn vbr_map_put(
+pub extern "C" fn vbr_map_put_within(
     handle: &mut MapHandle,
     key: u64,
     value: u64,
     found: &mut u64,
     budget: u32,
 ) -> i32
-    ensures { TellsPut handle.old.member handle.new.member key value budget
+    ensures called { TellsPut handle.old.owned.member handle.new.owned.member key value budget
         found.old found.new result }
+    ensures steps { handle.new.steps ≡ handle.old.steps }
 {
-    entries::put(handle.owner_mut(), key, value, found, budget)
+    entries::put(handle.owned.owner_mut(), key, value, found, budget)
 }
 
-/// Gives a key that is absent a value, as [`vbr_map_insert`] does: 0; 1 if the key was there, and then the
-/// value that it has is written. The same budget is enough, and the refusals of [`vbr_map_replace`] come.
+/// Gives a key that is absent a value, as [`vbr_map_insert_within`] does: 0; 1 if the key was there, and then the
+/// value that it has is written. The same budget is enough, and the refusals of [`vbr_map_replace_within`] come.
 ///
 /// ```c file=bindings/c/map_calls.c
-/// if (vbr_map_get_or_insert(&map[0], 5, 1, &found, 100000) == VBR_YES) there++; // 5 had the value found, and keeps it
+/// if (vbr_map_get_or_insert(&map[0], 5, 1, &found) == VBR_YES) there++; // 5 had the value found, and keeps it
 /// ```
 #[unsafe(no_mangle)]
-pub extern "C" fn vbr_map_get_or_insert(
+pub extern "C" fn vbr_map_get_or_insert_within(
     handle: &mut MapHandle,
     key: u64,
     value: u64,
     found: &mut u64,
     budget: u32,
 ) -> i32
-    ensures { TellsGetOrInsert handle.old.member handle.new.member key value budget
-        found.old found.new result }
+    ensures called { TellsGetOrInsert handle.old.owned.member handle.new.owned.member
+        key value budget found.old found.new result }
+    ensures steps { handle.new.steps ≡ handle.old.steps }
 {
-    entries::get_or_insert(handle.owner_mut(), key, value, found, budget)
+    entries::get_or_insert(handle.owned.owner_mut(), key, value, found, budget)
 }
 
-/// Gives a key another value where it has the one that is expected, as [`vbr_map_replace`] does: 1; 2 if it has
+/// Gives a key another value where it has the one that is expected, as [`vbr_map_replace_within`] does: 1; 2 if it has
 /// another value, which stays; 0 if it is absent. With 1 and 2 the value that was there is written. Two steps
-/// more are enough, and the refusals of [`vbr_map_replace`] come.
+/// more are enough, and the refusals of [`vbr_map_replace_within`] come.
 ///
 /// ```c file=bindings/c/map_calls.c
-/// told = vbr_map_compare_exchange(&map[0], 5, seen, seen + 1, &seen, 100000);
+/// told = vbr_map_compare_exchange(&map[0], 5, seen, seen + 1, &seen);
 /// ```
 #[unsafe(no_mangle)]
-pub extern "C" fn vbr_map_compare_exchange(
+pub extern "C" fn vbr_map_compare_exchange_within(
     handle: &mut MapHandle,
     key: u64,
     expected: u64,
@@ -212,81 +231,96 @@ pub extern "C" fn vbr_map_compare_exchange(
     found: &mut u64,
     budget: u32,
 ) -> i32
-    ensures { TellsExchange handle.old.member handle.new.member key expected value budget
-        found.old found.new result }
+    ensures called { TellsExchange handle.old.owned.member handle.new.owned.member
+        key expected value budget found.old found.new result }
+    ensures steps { handle.new.steps ≡ handle.old.steps }
 {
-    entries::compare_exchange(handle.owner_mut(), key, expected, value, found, budget)
+    entries::compare_exchange(
+        handle.owned.owner_mut(),
+        key,
+        expected,
+        value,
+        found,
+        budget,
+    )
 }
 
-/// Takes a key out where it has the value that is expected, as [`vbr_map_remove`] does: 1; 2 if it has another
+/// Takes a key out where it has the value that is expected, as [`vbr_map_remove_within`] does: 1; 2 if it has another
 /// value, and then it stays; 0 if it is absent. With 1 and 2 the value that was there is written. The same
 /// budget is enough, and the same refusals come.
 ///
 /// ```c file=bindings/c/map_calls.c
-/// if (vbr_map_remove_if(&map[0], 6, 61, &found, 100000) == VBR_OTHER) kept++; // 6 has the value found, and is still there
+/// if (vbr_map_remove_if(&map[0], 6, 61, &found) == VBR_OTHER) kept++; // 6 has the value found, and is still there
 /// ```
 #[unsafe(no_mangle)]
-pub extern "C" fn vbr_map_remove_if(
+pub extern "C" fn vbr_map_remove_if_within(
     handle: &mut MapHandle,
     key: u64,
     expected: u64,
     found: &mut u64,
     budget: u32,
 ) -> i32
-    ensures { TellsRemoveIf handle.old.member handle.new.member key expected budget
-        found.old found.new result }
+    ensures called { TellsRemoveIf handle.old.owned.member handle.new.owned.member
+        key expected budget found.old found.new result }
+    ensures steps { handle.new.steps ≡ handle.old.steps }
 {
-    entries::remove_if(handle.owner_mut(), key, expected, found, budget)
+    entries::remove_if(handle.owned.owner_mut(), key, expected, found, budget)
 }
 
-/// Looks a key up, and asks for no value, as [`crate::set::vbr_has`] does: 1 if it is there, 0 if it is
+/// Looks a key up, and asks for no value, as [`crate::set::vbr_has_within`] does: 1 if it is there, 0 if it is
 /// absent.
 ///
 /// ```c file=bindings/c/map_calls.c
-/// if (vbr_map_has(&map[0], 5, 100000) == VBR_YES) there++; // 5 was there during the call
+/// if (vbr_map_has(&map[0], 5) == VBR_YES) there++; // 5 was there during the call
 /// ```
 #[unsafe(no_mangle)]
-pub extern "C" fn vbr_map_has(handle: &mut MapHandle, key: u64, budget: u32) -> i32
-    ensures { TellsCall Has handle.old.member handle.new.member key budget result }
+pub extern "C" fn vbr_map_has_within(handle: &mut MapHandle, key: u64, budget: u32) -> i32
+    ensures called { TellsCall Has handle.old.owned.member handle.new.owned.member
+        key budget result }
+    ensures steps { handle.new.steps ≡ handle.old.steps }
 {
-    numbers::has(handle.owner_mut(), key, budget)
+    numbers::has(handle.owned.owner_mut(), key, budget)
 }
 
-/// Looks keys up in their order, as [`crate::set::vbr_has_all`] does.
+/// Looks keys up in their order, as [`crate::set::vbr_has_all_within`] does.
 ///
 /// ```c file=bindings/c/map_calls.c
-/// vbr_map_has_all(&map[0], wanted, 3, answers, 100000); // answers[i] is that of wanted[i]
+/// vbr_map_has_all(&map[0], wanted, 3, answers); // answers[i] is that of wanted[i]
 /// ```
 #[unsafe(no_mangle)]
-pub extern "C" fn vbr_map_has_all(
+pub extern "C" fn vbr_map_has_all_within(
     handle: &mut MapHandle,
     keys: &[u64],
     answers: &mut [i32],
     budget: u32,
 )
     requires { length answers.old ≡ length keys.now }
-    ensures { TellsHasAll handle.old.member handle.new.member keys.now budget answers.new }
+    ensures called { TellsHasAll handle.old.owned.member handle.new.owned.member
+        keys.now budget answers.new }
+    ensures steps { handle.new.steps ≡ handle.old.steps }
 {
-    batches::has_all(handle.owner_mut(), keys, answers, budget);
+    batches::has_all(handle.owned.owner_mut(), keys, answers, budget);
 }
 
-/// The same with values: at the place of each key it writes what [`vbr_map_get`] answers to it, and the value
+/// The same with values: at the place of each key it writes what [`vbr_map_get_within`] answers to it, and the value
 /// that is stored with it, or 0 where the answer isn't 1.
 ///
 /// ```c file=bindings/c/map_calls.c
-/// vbr_map_get_all(&map[0], wanted, 3, given, 100000);
+/// vbr_map_get_all(&map[0], wanted, 3, given);
 /// ```
 #[unsafe(no_mangle)]
-pub extern "C" fn vbr_map_get_all(
+pub extern "C" fn vbr_map_get_all_within(
     handle: &mut MapHandle,
     keys: &[u64],
     found: &mut [Found],
     budget: u32,
 )
     requires { length found.old ≡ length keys.now }
-    ensures { TellsGetAll handle.old.member handle.new.member keys.now budget found.new }
+    ensures called { TellsGetAll handle.old.owned.member handle.new.owned.member
+        keys.now budget found.new }
+    ensures steps { handle.new.steps ≡ handle.old.steps }
 {
-    batches::get_all(handle.owner_mut(), keys, found, budget);
+    batches::get_all(handle.owned.owner_mut(), keys, found, budget);
 }
 
 /// The last epoch that the pass of the handle read in a call, as [`crate::set::vbr_epoch`] tells it.
@@ -296,47 +330,52 @@ pub extern "C" fn vbr_map_get_all(
 /// ```
 #[unsafe(no_mangle)]
 pub extern "C" fn vbr_map_epoch(handle: &mut MapHandle) -> u64
-    ensures same { handle.new.member ≡ handle.old.member }
-    ensures epoch { result ≡ epoch_of handle.old.member }
+    ensures same { handle.new.owned.member ≡ handle.old.owned.member }
+    ensures epoch { result ≡ epoch_of handle.old.owned.member }
+    ensures steps { handle.new.steps ≡ handle.old.steps }
 {
-    shown::epoch(handle.owner_mut())
+    shown::epoch(handle.owned.owner_mut())
 }
 
 /// The last epoch of the map of the handle, as it was opened; 0 where the handle is empty.
 #[unsafe(no_mangle)]
 pub extern "C" fn vbr_map_last_epoch(handle: &mut MapHandle) -> u64
-    ensures same { handle.new.member ≡ handle.old.member }
-    ensures last { result ≡ last_epoch_of handle.old.member }
+    ensures same { handle.new.owned.member ≡ handle.old.owned.member }
+    ensures last { result ≡ last_epoch_of handle.old.owned.member }
+    ensures steps { handle.new.steps ≡ handle.old.steps }
 {
-    shown::last_epoch(handle.owner_mut())
+    shown::last_epoch(handle.owned.owner_mut())
 }
 
 /// How many slots the map of the handle has, as it was opened; 0 where the handle is empty.
 #[unsafe(no_mangle)]
 pub extern "C" fn vbr_map_slots(handle: &mut MapHandle) -> u32
-    ensures same { handle.new.member ≡ handle.old.member }
-    ensures slots { result ≡ slots_of handle.old.member }
+    ensures same { handle.new.owned.member ≡ handle.old.owned.member }
+    ensures slots { result ≡ slots_of handle.old.owned.member }
+    ensures steps { handle.new.steps ≡ handle.old.steps }
 {
-    shown::slots(handle.owner_mut())
+    shown::slots(handle.owned.owner_mut())
 }
 
 /// How many buckets the map of the handle has, as it was opened; 0 where the handle is empty.
 #[unsafe(no_mangle)]
 pub extern "C" fn vbr_map_buckets(handle: &mut MapHandle) -> u32
-    ensures same { handle.new.member ≡ handle.old.member }
-    ensures buckets { result ≡ buckets_of handle.old.member }
+    ensures same { handle.new.owned.member ≡ handle.old.owned.member }
+    ensures buckets { result ≡ buckets_of handle.old.owned.member }
+    ensures steps { handle.new.steps ≡ handle.old.steps }
 {
-    shown::buckets(handle.owner_mut())
+    shown::buckets(handle.owned.owner_mut())
 }
 
 /// A seed that spreads keys as those of the map of the handle are spread, as [`crate::set::vbr_seed`] tells
 /// of a set.
 #[unsafe(no_mangle)]
 pub extern "C" fn vbr_map_seed(handle: &mut MapHandle) -> u64
-    ensures same { handle.new.member ≡ handle.old.member }
-    ensures seed { IsSeedOf handle.old.member result }
+    ensures same { handle.new.owned.member ≡ handle.old.owned.member }
+    ensures seed { IsSeedOf handle.old.owned.member result }
+    ensures steps { handle.new.steps ≡ handle.old.steps }
 {
-    shown::seed(handle.owner_mut())
+    shown::seed(handle.owned.owner_mut())
 }
 
 /// How many keys the calls of the handle have added, less those that they took out, as
@@ -347,10 +386,11 @@ pub extern "C" fn vbr_map_seed(handle: &mut MapHandle) -> u64
 /// ```
 #[unsafe(no_mangle)]
 pub extern "C" fn vbr_map_balance(handle: &mut MapHandle) -> i64
-    ensures same { handle.new.member ≡ handle.old.member }
-    ensures balance { result ≡ balance_shown handle.old.member }
+    ensures same { handle.new.owned.member ≡ handle.old.owned.member }
+    ensures balance { result ≡ balance_shown handle.old.owned.member }
+    ensures steps { handle.new.steps ≡ handle.old.steps }
 {
-    shown::balance(handle.owner_mut())
+    shown::balance(handle.owned.owner_mut())
 }
 
 /// Gives a pass back, as [`crate::set::vbr_close`] does. The last handle ends the map: 1, and it writes
@@ -366,10 +406,11 @@ pub extern "C" fn vbr_map_close(
     entries: &mut [Entry],
     report: &mut ReportNumbers,
 ) -> i32
-    ensures { ClosesMapHandle handle.old.member handle.new.member entries.old entries.new
-        report.old report.new result }
+    ensures closes { ClosesMapHandle handle.old.owned.member handle.new.owned.member
+        entries.old entries.new report.old report.new result }
+    ensures steps { handle.new.steps ≡ handle.old.steps }
 {
-    giving_back::close::<Entries, Entry>(alloc, handle.owner_mut(), entries, report)
+    giving_back::close::<Entries, Entry>(alloc, handle.owned.owner_mut(), entries, report)
 }
 
 /// Closes a map by all its handles at once, as [`crate::set::vbr_close_all`] closes a set: 1, and it writes
@@ -386,8 +427,9 @@ pub extern "C" fn vbr_map_close_all(
     report: &mut ReportNumbers,
 ) -> i32
     requires { AreOfOneSet (map_members_in handles.old) }
-    ensures { TellsMapCloseAll handles.old handles.new entries.old entries.new
+    ensures closes { TellsMapCloseAll handles.old handles.new entries.old entries.new
         report.old report.new result }
+    ensures steps { KeepMapSteps handles.old handles.new }
 {
     numbers::close_all::<Entries, Entry, MapHandle>(alloc, handles, entries, report)
 }
@@ -406,8 +448,9 @@ pub extern "C" fn vbr_map_report_all(
     report: &mut ReportNumbers,
 ) -> i32
     requires { AreOfOneSet (map_members_in handles.old) }
-    ensures { TellsMapReport handles.old handles.new entries.old entries.new
+    ensures reports { TellsMapReport handles.old handles.new entries.old entries.new
         report.old report.new result }
+    ensures steps { KeepMapSteps handles.old handles.new }
 {
     numbers::report_all::<Entries, Entry, MapHandle>(alloc, handles, entries, report)
 }
@@ -428,8 +471,9 @@ pub extern "C" fn vbr_map_renew_all_seeded(
     seed: u64,
 ) -> i32
     requires { AreOfOneSet (map_members_in handles.old) }
-    ensures { TellsMapRenewal handles.old handles.new
+    ensures renews { TellsMapRenewal handles.old handles.new
         (record { slots = slots; buckets = buckets; last_epoch = last_epoch; seed = seed }) result }
+    ensures steps { KeepMapSteps handles.old handles.new }
 {
     let numbers = ShapeNumbers {
         slots,
@@ -447,31 +491,46 @@ pub extern "C" fn vbr_map_renew_all_seeded(
 /// ```
 #[unsafe(no_mangle)]
 pub extern "C" fn vbr_map_drop(alloc: Global, handle: &mut MapHandle)
-    ensures { handle.new.member ≡ None }
+    ensures empty { handle.new.owned.member ≡ None }
+    ensures steps { handle.new.steps ≡ handle.old.steps }
 {
-    vbr_handles::abandon(alloc, handle.owner_mut());
+    vbr_handles::abandon(alloc, handle.owned.owner_mut());
 }
 
-/// Gives the next key of a walk with its value, as [`crate::set::vbr_next`] gives a key: 1, and the two are
-/// written, and were in the map together at a moment of the call; 0 at the end, where no key is left. The
-/// value takes two steps more. With any answer but 1 neither is written.
+/// Drops what all these handles have, and leaves them empty, as [`crate::set::vbr_end_all`] does.
+///
+/// ```c file=bindings/c/map_calls.c
+/// vbr_map_end_all(map, 2); // nothing is reported, and the memory of the map is freed
+/// ```
+#[unsafe(no_mangle)]
+pub extern "C" fn vbr_map_end_all(alloc: Global, handles: &mut [MapHandle])
+    ensures empty { AreEmpty (λ (handle : MapHandle). handle.owned.member) handles.new }
+    ensures steps { KeepMapSteps handles.old handles.new }
+{
+    vbr_handles::abandon_all::<Entries, MapHandle>(alloc, handles);
+}
+
+/// Gives the next key of a walk with its value, as [`crate::set::vbr_next_within`] gives a key: 1, and the entry is
+/// written, whose key and value were in the map together at a moment of the call; 0 at the end, where no key is left.
+/// The value takes two steps more. With any answer but 1 nothing is written.
 ///
 /// ```c file=bindings/c/map_calls.c
 /// do {
-///     told = vbr_map_next(&map[0], &cursor, 100000, &key, &value);
-///     if (told == VBR_YES) sum += value; // the key had this value during the call
+///     told = vbr_map_next(&map[0], &cursor, &entry);
+///     if (told == VBR_YES) sum += entry.value; // the key had this value during the call
 /// } while (told == VBR_YES || told == VBR_OUT_OF_STEPS); // at the end it is VBR_NO
 /// ```
 #[unsafe(no_mangle)]
-pub extern "C" fn vbr_map_next(
+pub extern "C" fn vbr_map_next_within(
     handle: &mut MapHandle,
     cursor: &mut Cursor,
+    entry: &mut Entry,
     budget: u32,
-    key: &mut u64,
-    value: &mut u64,
 ) -> i32
-    ensures { TellsNextEntry handle.old.member handle.new.member cursor.old cursor.new budget
-        (key.old, value.old) (key.new, value.new) result }
+    ensures next { TellsNextEntry handle.old.owned.member handle.new.owned.member
+        cursor.old cursor.new budget
+        (entry.old.key, entry.old.value) (entry.new.key, entry.new.value) result }
+    ensures steps { handle.new.steps ≡ handle.old.steps }
 {
-    iterating::next_entry(handle.owner_mut(), cursor, budget, key, value)
+    iterating::next_entry(handle.owned.owner_mut(), cursor, entry, budget)
 }

@@ -1,4 +1,5 @@
 //! The calls on the slots that a handle keeps to itself: of a set, and of a map.
+ghost use Rattle.std.specs.Prelude.{◌≡◌};
 ghost use Rattle.vbr_handles.specs.GivingBack.{TellsGivenBack};
 ghost use Rattle.vbr_handles.specs.Reserving.{TellsReserve};
 
@@ -15,17 +16,19 @@ use vbr_handles::{Handle, MapHandle};
 /// ```
 #[unsafe(no_mangle)]
 pub extern "C" fn vbr_spare(handle: &mut Handle) -> u32
-    ensures { TellsGivenBack handle.old.member handle.new.member result }
+    ensures given { TellsGivenBack handle.old.owned.member handle.new.owned.member result }
+    ensures steps { handle.new.steps ≡ handle.old.steps }
 {
-    giving_back::give_slots_back(handle.owner_mut())
+    giving_back::give_slots_back(handle.owned.owner_mut())
 }
 
 /// Does the same of the handle of a map.
 #[unsafe(no_mangle)]
 pub extern "C" fn vbr_map_spare(handle: &mut MapHandle) -> u32
-    ensures { TellsGivenBack handle.old.member handle.new.member result }
+    ensures given { TellsGivenBack handle.old.owned.member handle.new.owned.member result }
+    ensures steps { handle.new.steps ≡ handle.old.steps }
 {
-    giving_back::give_slots_back(handle.owner_mut())
+    giving_back::give_slots_back(handle.owned.owner_mut())
 }
 
 /// Takes slots out of the pool that all handles share until the handle keeps `wanted` to itself, or 63 if that is
@@ -38,15 +41,17 @@ pub extern "C" fn vbr_map_spare(handle: &mut MapHandle) -> u32
 /// ```
 #[unsafe(no_mangle)]
 pub extern "C" fn vbr_reserve(handle: &mut Handle, wanted: u32) -> u32
-    ensures { TellsReserve handle.old.member handle.new.member wanted result }
+    ensures took { TellsReserve handle.old.owned.member handle.new.owned.member wanted result }
+    ensures steps { handle.new.steps ≡ handle.old.steps }
 {
-    reserving::reserve(handle.owner_mut(), wanted)
+    reserving::reserve(handle.owned.owner_mut(), wanted)
 }
 
 /// Does the same of the handle of a map.
 #[unsafe(no_mangle)]
 pub extern "C" fn vbr_map_reserve(handle: &mut MapHandle, wanted: u32) -> u32
-    ensures { TellsReserve handle.old.member handle.new.member wanted result }
+    ensures took { TellsReserve handle.old.owned.member handle.new.owned.member wanted result }
+    ensures steps { handle.new.steps ≡ handle.old.steps }
 {
-    reserving::reserve(handle.owner_mut(), wanted)
+    reserving::reserve(handle.owned.owner_mut(), wanted)
 }

@@ -5,9 +5,9 @@ ghost use Rattle.vbr_handles.specs.Batches.{TellsHasAll};
 ghost use Rattle.vbr_handles.specs.Calls.{TellsCall};
 ghost use Rattle.vbr_handles.specs.GivingBack.{ClosesHandle};
 ghost use Rattle.vbr_handles.specs.Iterating.{TellsNext};
-ghost use Rattle.vbr_handles.specs.Opening.{spread_start};
+ghost use Rattle.vbr_handles.specs.Opening.{AreEmpty, spread_start};
 ghost use Rattle.vbr_handles.specs.OpeningCodes.{TellsOpeningMany, TellsOpeningWith};
-ghost use Rattle.vbr_handles.specs.AllHandles.{members_in};
+ghost use Rattle.vbr_handles.specs.AllHandles.{KeepSteps, members_in};
 ghost use Rattle.vbr_handles.specs.Renewals.{TellsRenewal};
 ghost use Rattle.vbr_handles.specs.Reports.{TellsCloseAll, TellsReport};
 ghost use Rattle.vbr_set.specs.AllMembers.{AreOfOneSet};
@@ -30,7 +30,7 @@ use vbr_words::Keys;
 /// ascend, or there are more than slots; -8, no memory.
 ///
 /// ```c file=bindings/c/seeds.c
-/// if (vbr_open_seeded(handle, 2, 1024 + 2 * 64, 1024, VBR_MAX_EPOCH, 7, some, 3) != VBR_NO) return 1;
+/// if (vbr_open_seeded(handle, 2, 1024 + 2 * 64, 1024, VBR_MAX_EPOCH, 7, some, 3) != VBR_OK) return 1;
 /// ```
 #[unsafe(no_mangle)]
 pub extern "C" fn vbr_open_seeded(
@@ -42,9 +42,10 @@ pub extern "C" fn vbr_open_seeded(
     seed: u64,
     keys: &[u64],
 ) -> i32
-    ensures { TellsOpeningWith handles.old handles.new (spread_start
+    ensures opens { TellsOpeningWith handles.old handles.new (spread_start
         (record { slots = slots; buckets = buckets; last_epoch = last_epoch; seed = seed })
         keys.now) result }
+    ensures steps { KeepSteps handles.old handles.new }
 {
     let numbers = ShapeNumbers {
         slots,
@@ -61,7 +62,7 @@ pub extern "C" fn vbr_open_seeded(
 /// The refusals are those of [`vbr_open_seeded`], in its order; -7, the number of handles is 0 or above 65,536.
 ///
 /// ```c file=bindings/c/seeds.c
-/// if (vbr_open_many_seeded(seeded, 1000, 1024 + 1000 * 64, 1024, VBR_MAX_EPOCH, 7, some, 3) != VBR_NO) return 1;
+/// if (vbr_open_many_seeded(seeded, 1000, 1024 + 1000 * 64, 1024, VBR_MAX_EPOCH, 7, some, 3) != VBR_OK) return 1;
 /// ```
 #[unsafe(no_mangle)]
 pub extern "C" fn vbr_open_many_seeded(
@@ -73,10 +74,11 @@ pub extern "C" fn vbr_open_many_seeded(
     seed: u64,
     keys: &[u64],
 ) -> i32
-    ensures { TellsOpeningMany handles.old handles.new
+    ensures opens { TellsOpeningMany handles.old handles.new
         (spread_start
         (record { slots = slots; buckets = buckets; last_epoch = last_epoch; seed = seed })
         keys.now) result }
+    ensures steps { KeepSteps handles.old handles.new }
 {
     let numbers = ShapeNumbers {
         slots,
@@ -95,13 +97,15 @@ pub extern "C" fn vbr_open_many_seeded(
 /// epoch is spent; -4, the handle is empty.
 ///
 /// ```c file=bindings/c/example.c
-/// vbr_answer added = vbr_insert(&handle[0], 5, 100000);       /* VBR_YES: 5 was absent */
+/// vbr_answer added = vbr_insert(&handle[0], 5);       /* VBR_YES: 5 was absent */
 /// ```
 #[unsafe(no_mangle)]
-pub extern "C" fn vbr_insert(handle: &mut Handle, key: u64, budget: u32) -> i32
-    ensures { TellsCall Insert handle.old.member handle.new.member key budget result }
+pub extern "C" fn vbr_insert_within(handle: &mut Handle, key: u64, budget: u32) -> i32
+    ensures called { TellsCall Insert handle.old.owned.member handle.new.owned.member
+        key budget result }
+    ensures steps { handle.new.steps ≡ handle.old.steps }
 {
-    numbers::insert(handle.owner_mut(), key, budget)
+    numbers::insert(handle.owned.owner_mut(), key, budget)
 }
 
 /// Takes a key out: 1 if it was there, 0 if it was absent. It makes at most `budget` steps. While the
@@ -111,13 +115,15 @@ pub extern "C" fn vbr_insert(handle: &mut Handle, key: u64, budget: u32) -> i32
 /// budget; -4, the handle is empty.
 ///
 /// ```c file=bindings/c/answers.c
-/// CHECK(vbr_remove(&one, 1, BUDGET) == VBR_YES);
+/// CHECK(vbr_remove(&one, 1) == VBR_YES);
 /// ```
 #[unsafe(no_mangle)]
-pub extern "C" fn vbr_remove(handle: &mut Handle, key: u64, budget: u32) -> i32
-    ensures { TellsCall Remove handle.old.member handle.new.member key budget result }
+pub extern "C" fn vbr_remove_within(handle: &mut Handle, key: u64, budget: u32) -> i32
+    ensures called { TellsCall Remove handle.old.owned.member handle.new.owned.member
+        key budget result }
+    ensures steps { handle.new.steps ≡ handle.old.steps }
 {
-    numbers::remove(handle.owner_mut(), key, budget)
+    numbers::remove(handle.owned.owner_mut(), key, budget)
 }
 
 /// Looks a key up: 1 if it is there, 0 if it is absent. It makes at most `budget` steps, all of them
@@ -127,16 +133,18 @@ pub extern "C" fn vbr_remove(handle: &mut Handle, key: u64, budget: u32) -> i32
 /// budget; -4, the handle is empty.
 ///
 /// ```c file=bindings/c/example.c
-/// vbr_answer there = vbr_has(&handle[1], 5, 100000);          /* VBR_YES, from another thread too */
+/// vbr_answer there = vbr_has(&handle[1], 5);          /* VBR_YES, from another thread too */
 /// ```
 #[unsafe(no_mangle)]
-pub extern "C" fn vbr_has(handle: &mut Handle, key: u64, budget: u32) -> i32
-    ensures { TellsCall Has handle.old.member handle.new.member key budget result }
+pub extern "C" fn vbr_has_within(handle: &mut Handle, key: u64, budget: u32) -> i32
+    ensures called { TellsCall Has handle.old.owned.member handle.new.owned.member
+        key budget result }
+    ensures steps { handle.new.steps ≡ handle.old.steps }
 {
-    numbers::has(handle.owner_mut(), key, budget)
+    numbers::has(handle.owned.owner_mut(), key, budget)
 }
 
-/// Looks keys up in their order, each in at most `budget` steps, and writes at the place of each what [`vbr_has`]
+/// Looks keys up in their order, each in at most `budget` steps, and writes at the place of each what [`vbr_has_within`]
 /// answers to it: 1, 0, or a refusal, which says nothing of the keys behind it. There are as many answers as
 /// keys. It is for many keys of a large set: what the look-ups begin with is loaded before, for several keys at
 /// once, by loads that are no steps.
@@ -145,14 +153,21 @@ pub extern "C" fn vbr_has(handle: &mut Handle, key: u64, budget: u32) -> i32
 /// export of that form.
 ///
 /// ```c file=bindings/c/calls.c
-/// vbr_has_all(&handle[0], wanted, 3, answers, 100000);
+/// vbr_has_all(&handle[0], wanted, 3, answers);
 /// ```
 #[unsafe(no_mangle)]
-pub extern "C" fn vbr_has_all(handle: &mut Handle, keys: &[u64], answers: &mut [i32], budget: u32)
+pub extern "C" fn vbr_has_all_within(
+    handle: &mut Handle,
+    keys: &[u64],
+    answers: &mut [i32],
+    budget: u32,
+)
     requires { length answers.old ≡ length keys.now }
-    ensures { TellsHasAll handle.old.member handle.new.member keys.now budget answers.new }
+    ensures called { TellsHasAll handle.old.owned.member handle.new.owned.member
+        keys.now budget answers.new }
+    ensures steps { handle.new.steps ≡ handle.old.steps }
 {
-    batches::has_all(handle.owner_mut(), keys, answers, budget);
+    batches::has_all(handle.owned.owner_mut(), keys, answers, budget);
 }
 
 /// The last epoch that the pass of the handle read in a call: 1 before its first, and 0 where the handle
@@ -164,37 +179,41 @@ pub extern "C" fn vbr_has_all(handle: &mut Handle, keys: &[u64], answers: &mut [
 /// ```
 #[unsafe(no_mangle)]
 pub extern "C" fn vbr_epoch(handle: &mut Handle) -> u64
-    ensures same { handle.new.member ≡ handle.old.member }
-    ensures epoch { result ≡ epoch_of handle.old.member }
+    ensures same { handle.new.owned.member ≡ handle.old.owned.member }
+    ensures epoch { result ≡ epoch_of handle.old.owned.member }
+    ensures steps { handle.new.steps ≡ handle.old.steps }
 {
-    shown::epoch(handle.owner_mut())
+    shown::epoch(handle.owned.owner_mut())
 }
 
 /// The last epoch of the set of the handle, as it was opened; 0 where the handle is empty.
 #[unsafe(no_mangle)]
 pub extern "C" fn vbr_last_epoch(handle: &mut Handle) -> u64
-    ensures same { handle.new.member ≡ handle.old.member }
-    ensures last { result ≡ last_epoch_of handle.old.member }
+    ensures same { handle.new.owned.member ≡ handle.old.owned.member }
+    ensures last { result ≡ last_epoch_of handle.old.owned.member }
+    ensures steps { handle.new.steps ≡ handle.old.steps }
 {
-    shown::last_epoch(handle.owner_mut())
+    shown::last_epoch(handle.owned.owner_mut())
 }
 
 /// How many slots the set of the handle has, as it was opened; 0 where the handle is empty.
 #[unsafe(no_mangle)]
 pub extern "C" fn vbr_slots(handle: &mut Handle) -> u32
-    ensures same { handle.new.member ≡ handle.old.member }
-    ensures slots { result ≡ slots_of handle.old.member }
+    ensures same { handle.new.owned.member ≡ handle.old.owned.member }
+    ensures slots { result ≡ slots_of handle.old.owned.member }
+    ensures steps { handle.new.steps ≡ handle.old.steps }
 {
-    shown::slots(handle.owner_mut())
+    shown::slots(handle.owned.owner_mut())
 }
 
 /// How many buckets the set of the handle has, as it was opened; 0 where the handle is empty.
 #[unsafe(no_mangle)]
 pub extern "C" fn vbr_buckets(handle: &mut Handle) -> u32
-    ensures same { handle.new.member ≡ handle.old.member }
-    ensures buckets { result ≡ buckets_of handle.old.member }
+    ensures same { handle.new.owned.member ≡ handle.old.owned.member }
+    ensures buckets { result ≡ buckets_of handle.old.owned.member }
+    ensures steps { handle.new.steps ≡ handle.old.steps }
 {
-    shown::buckets(handle.owner_mut())
+    shown::buckets(handle.owned.owner_mut())
 }
 
 /// A seed that spreads keys as those of the set of the handle are spread: the one that it was opened with,
@@ -205,10 +224,11 @@ pub extern "C" fn vbr_buckets(handle: &mut Handle) -> u32
 /// ```
 #[unsafe(no_mangle)]
 pub extern "C" fn vbr_seed(handle: &mut Handle) -> u64
-    ensures same { handle.new.member ≡ handle.old.member }
-    ensures seed { IsSeedOf handle.old.member result }
+    ensures same { handle.new.owned.member ≡ handle.old.owned.member }
+    ensures seed { IsSeedOf handle.old.owned.member result }
+    ensures steps { handle.new.steps ≡ handle.old.steps }
 {
-    shown::seed(handle.owner_mut())
+    shown::seed(handle.owned.owner_mut())
 }
 
 /// How many keys the calls of the handle have added, less those that they took out: its inserts that were
@@ -223,10 +243,11 @@ pub extern "C" fn vbr_seed(handle: &mut Handle) -> u64
 /// ```
 #[unsafe(no_mangle)]
 pub extern "C" fn vbr_balance(handle: &mut Handle) -> i64
-    ensures same { handle.new.member ≡ handle.old.member }
-    ensures balance { result ≡ balance_shown handle.old.member }
+    ensures same { handle.new.owned.member ≡ handle.old.owned.member }
+    ensures balance { result ≡ balance_shown handle.old.owned.member }
+    ensures steps { handle.new.steps ≡ handle.old.steps }
 {
-    shown::balance(handle.owner_mut())
+    shown::balance(handle.owned.owner_mut())
 }
 
 /// Gives the slots that the handle keeps to itself back, as `vbr_spare` does, and then its pass, and leaves the
@@ -250,10 +271,11 @@ pub extern "C" fn vbr_close(
     keys: &mut [u64],
     report: &mut ReportNumbers,
 ) -> i32
-    ensures { ClosesHandle handle.old.member handle.new.member keys.old keys.new
+    ensures closes { ClosesHandle handle.old.owned.member handle.new.owned.member keys.old keys.new
         report.old report.new result }
+    ensures steps { handle.new.steps ≡ handle.old.steps }
 {
-    giving_back::close::<Keys, u64>(alloc, handle.owner_mut(), keys, report)
+    giving_back::close::<Keys, u64>(alloc, handle.owned.owner_mut(), keys, report)
 }
 
 /// Closes a set by all its handles at once, in any order, and leaves them empty: 1, and it writes what the
@@ -277,7 +299,9 @@ pub extern "C" fn vbr_close_all(
     report: &mut ReportNumbers,
 ) -> i32
     requires { AreOfOneSet (members_in handles.old) }
-    ensures { TellsCloseAll handles.old handles.new keys.old keys.new report.old report.new result }
+    ensures closes { TellsCloseAll handles.old handles.new keys.old keys.new
+        report.old report.new result }
+    ensures steps { KeepSteps handles.old handles.new }
 {
     numbers::close_all::<Keys, u64, Handle>(alloc, handles, keys, report)
 }
@@ -299,7 +323,9 @@ pub extern "C" fn vbr_report_all(
     report: &mut ReportNumbers,
 ) -> i32
     requires { AreOfOneSet (members_in handles.old) }
-    ensures { TellsReport handles.old handles.new keys.old keys.new report.old report.new result }
+    ensures reports { TellsReport handles.old handles.new keys.old keys.new
+        report.old report.new result }
+    ensures steps { KeepSteps handles.old handles.new }
 {
     numbers::report_all::<Keys, u64, Handle>(alloc, handles, keys, report)
 }
@@ -328,8 +354,9 @@ pub extern "C" fn vbr_renew_all_seeded(
     seed: u64,
 ) -> i32
     requires { AreOfOneSet (members_in handles.old) }
-    ensures { TellsRenewal handles.old handles.new
+    ensures renews { TellsRenewal handles.old handles.new
         (record { slots = slots; buckets = buckets; last_epoch = last_epoch; seed = seed }) result }
+    ensures steps { KeepSteps handles.old handles.new }
 {
     let numbers = ShapeNumbers {
         slots,
@@ -349,9 +376,25 @@ pub extern "C" fn vbr_renew_all_seeded(
 /// ```
 #[unsafe(no_mangle)]
 pub extern "C" fn vbr_drop(alloc: Global, handle: &mut Handle)
-    ensures { handle.new.member ≡ None }
+    ensures empty { handle.new.owned.member ≡ None }
+    ensures steps { handle.new.steps ≡ handle.old.steps }
 {
-    vbr_handles::abandon(alloc, handle.owner_mut());
+    vbr_handles::abandon(alloc, handle.owned.owner_mut());
+}
+
+/// Drops what all these handles have, as [`vbr_drop`] does, of one set or of several, and leaves them empty: an end of a
+/// set without a report. With the last handle of a set its memory is freed. Those that are empty stay so. It needs no
+/// memory, and can't fail.
+///
+/// ```c file=bindings/c/calls.c
+/// vbr_end_all(handle, 2); // nothing is reported, and the memory of the set is freed
+/// ```
+#[unsafe(no_mangle)]
+pub extern "C" fn vbr_end_all(alloc: Global, handles: &mut [Handle])
+    ensures empty { AreEmpty (λ (handle : Handle). handle.owned.member) handles.new }
+    ensures steps { KeepSteps handles.old handles.new }
+{
+    vbr_handles::abandon_all::<Keys, Handle>(alloc, handles);
 }
 
 /// Gives the next key of a walk: 1, and the key is written and the cursor is after it; 0 at the end, where no
@@ -373,19 +416,20 @@ pub extern "C" fn vbr_drop(alloc: Global, handle: &mut Handle)
 ///
 /// ```c file=bindings/c/calls.c
 /// do {
-///     told = vbr_next(&handle[0], &cursor, 100000, &key);
+///     told = vbr_next(&handle[0], &cursor, &key);
 ///     if (told == VBR_YES) sum += key; // the key was there during the call
 /// } while (told == VBR_YES || told == VBR_OUT_OF_STEPS); // at the end it is VBR_NO
 /// ```
 #[unsafe(no_mangle)]
-pub extern "C" fn vbr_next(
+pub extern "C" fn vbr_next_within(
     handle: &mut Handle,
     cursor: &mut Cursor,
-    budget: u32,
     key: &mut u64,
+    budget: u32,
 ) -> i32
-    ensures { TellsNext handle.old.member handle.new.member cursor.old cursor.new budget
-        key.old key.new result }
+    ensures next { TellsNext handle.old.owned.member handle.new.owned.member
+        cursor.old cursor.new budget key.old key.new result }
+    ensures steps { handle.new.steps ≡ handle.old.steps }
 {
-    iterating::next_key(handle.owner_mut(), cursor, budget, key)
+    iterating::next_key(handle.owned.owner_mut(), cursor, key, budget)
 }

@@ -21,11 +21,18 @@ members_by member (h ∷ hs) = joined (member h) (members_by member hs)
 
 -- so it is of the handles of a set
 abbrev pub members_in : List Handle → List Member
-members_in = members_by (λ (handle : Handle). handle.member)
+members_in = members_by (λ (handle : Handle). handle.owned.member)
 
 -- and so of the handles of a map
 abbrev pub map_members_in : List MapHandle → List Member
-map_members_in = members_by (λ (handle : MapHandle). handle.member)
+map_members_in = members_by (λ (handle : MapHandle). handle.owned.member)
+
+-- the handles have the budgets that they had
+abbrev pub KeepSteps : List Handle → List Handle → Type 0
+KeepSteps before after = map (λ (handle : Handle). handle.steps) after ≡ map (λ (handle : Handle). handle.steps) before
+
+abbrev pub KeepMapSteps : List MapHandle → List MapHandle → Type 0
+KeepMapSteps before after = map (λ (handle : MapHandle). handle.steps) after ≡ map (λ (handle : MapHandle). handle.steps) before
 
 module _ {H : Type 0} (member : H → Option Member) where
   -- each handle has a member

@@ -17,15 +17,15 @@ pub record TellsOpeningBy {H : Type 0} (member : H → Option Member) (most : �
 
 -- so it is of the handles of a set
 abbrev pub TellsOpeningWith : List Handle → List Handle → Start → ℤ → Type 0
-TellsOpeningWith = TellsOpeningBy (λ (handle : Handle). handle.member) MAX_PASSES
+TellsOpeningWith = TellsOpeningBy (λ (handle : Handle). handle.owned.member) MAX_PASSES
 
 -- and of many handles
 abbrev pub TellsOpeningMany : List Handle → List Handle → Start → ℤ → Type 0
-TellsOpeningMany = TellsOpeningBy (λ (handle : Handle). handle.member) MAX_MANY_PASSES
+TellsOpeningMany = TellsOpeningBy (λ (handle : Handle). handle.owned.member) MAX_MANY_PASSES
 
 -- and so of the handles of a map
 abbrev pub TellsMapOpeningWith : List MapHandle → List MapHandle → Start → ℤ → Type 0
-TellsMapOpeningWith = TellsOpeningBy (λ (handle : MapHandle). handle.member) MAX_PASSES
+TellsMapOpeningWith = TellsOpeningBy (λ (handle : MapHandle). handle.owned.member) MAX_PASSES
 
 abbrev pub TellsMapOpeningMany : List MapHandle → List MapHandle → Start → ℤ → Type 0
-TellsMapOpeningMany = TellsOpeningBy (λ (handle : MapHandle). handle.member) MAX_MANY_PASSES
+TellsMapOpeningMany = TellsOpeningBy (λ (handle : MapHandle). handle.owned.member) MAX_MANY_PASSES

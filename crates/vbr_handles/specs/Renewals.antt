@@ -18,8 +18,8 @@ pub record TellsRenewalBy {Item R I H : Type 0} (kind : KindOf Item R) (L : List
 
 -- so it is of the handles of a set, whose keys go on
 abbrev pub TellsRenewal : List Handle → List Handle → ShapeNumbers → ℤ → Type 0
-TellsRenewal = TellsRenewalBy as_set as_keys (λ (handle : Handle). handle.member)
+TellsRenewal = TellsRenewalBy as_set as_keys (λ (handle : Handle). handle.owned.member)
 
 -- and so of those of a map, whose entries do
 abbrev pub TellsMapRenewal : List MapHandle → List MapHandle → ShapeNumbers → ℤ → Type 0
-TellsMapRenewal = TellsRenewalBy as_map as_entries (λ (handle : MapHandle). handle.member)
+TellsMapRenewal = TellsRenewalBy as_map as_entries (λ (handle : MapHandle). handle.owned.member)

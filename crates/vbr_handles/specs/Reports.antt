@@ -67,17 +67,17 @@ abbrev pub TellsClose : Option Member → Option Member → List ℕ → List �
 TellsClose = TellsCloseBy as_keys Closes
 
 abbrev pub TellsCloseAll : List Handle → List Handle → List ℕ → List ℕ → ReportNumbers → ReportNumbers → ℤ → Type 0
-TellsCloseAll = TellsCloseAllBy as_keys Closes (λ (handle : Handle). handle.member)
+TellsCloseAll = TellsCloseAllBy as_keys Closes (λ (handle : Handle). handle.owned.member)
 
 abbrev pub TellsReport : List Handle → List Handle → List ℕ → List ℕ → ReportNumbers → ReportNumbers → ℤ → Type 0
-TellsReport = TellsReportBy as_keys Closes (λ (handle : Handle). handle.member)
+TellsReport = TellsReportBy as_keys Closes (λ (handle : Handle). handle.owned.member)
 
 -- and so of a map, whose report lists entries
 abbrev pub TellsMapClose : Option Member → Option Member → List Entry → List Entry → ReportNumbers → ReportNumbers → ℤ → Type 0
 TellsMapClose = TellsCloseBy as_entries MapCloses
 
 abbrev pub TellsMapCloseAll : List MapHandle → List MapHandle → List Entry → List Entry → ReportNumbers → ReportNumbers → ℤ → Type 0
-TellsMapCloseAll = TellsCloseAllBy as_entries MapCloses (λ (handle : MapHandle). handle.member)
+TellsMapCloseAll = TellsCloseAllBy as_entries MapCloses (λ (handle : MapHandle). handle.owned.member)
 
 abbrev pub TellsMapReport : List MapHandle → List MapHandle → List Entry → List Entry → ReportNumbers → ReportNumbers → ℤ → Type 0
-TellsMapReport = TellsReportBy as_entries MapCloses (λ (handle : MapHandle). handle.member)
+TellsMapReport = TellsReportBy as_entries MapCloses (λ (handle : MapHandle). handle.owned.member)

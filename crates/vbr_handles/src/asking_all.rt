@@ -57,7 +57,8 @@ pub(crate) fn ask_all<N: Kind, H: HandleOf<N>>(
     question: Question,
 ) -> Result<Told<N::Report>, AskRefusal>
     requires { AreOfOneSet (members_by H.member handles.old) }
-    ensures { AsksAllOf N.kind H.member question handles.old handles.new result }
+    ensures asks { AsksAllOf N.kind H.member question handles.old handles.new result }
+    ensures steps { map H.steps handles.new ≡ map H.steps handles.old }
 {
     if !are_full::<N, H>(handles) {
         return Err(AskRefusal::Empty);
@@ -110,6 +111,7 @@ fn take_all_out<N: Nodes, H: HandleOf<N>>(
     ensures many { length result.0.items ≡ length handles.old }
     ensures blocks { length result.1.items ≡ length handles.old }
     ensures long { length handles.new ≡ length handles.old }
+    ensures steps { map H.steps handles.new ≡ map H.steps handles.old }
 {
     for i in 0..handles.len() {
         let Some((member, vacant)) = take_out::<N, H>(alloc, &mut handles[i]) else {
@@ -131,7 +133,8 @@ fn put_all_back<N: Nodes, H: HandleOf<N>>(
 )
     requires members { length members.items ≡ length handles.old }
     requires blocks { length blocks.items ≡ length handles.old }
-    ensures { map H.member handles.new ≡ map Some members.items }
+    ensures members { map H.member handles.new ≡ map Some members.items }
+    ensures steps { map H.steps handles.new ≡ map H.steps handles.old }
 {
     let mut members = members.into_iter();
     let mut blocks = blocks.into_iter();
@@ -206,6 +209,7 @@ fn take_out<N: Nodes, H: HandleOf<N>>(
     ensures is { IfSome result (λ r. H.member handle.old ≡ Some r.0) }
     ensures there { IsSome (H.member handle.old) → IsSome result }
     ensures left { H.member handle.new ≡ None }
+    ensures steps { H.steps handle.new ≡ H.steps handle.old }
 {
     let mut owner = Owner::empty(alloc);
     handle.swap(&mut owner);
@@ -220,7 +224,8 @@ fn put_back<N: Nodes, H: HandleOf<N>>(
     member: Member<N>,
     block: Vacant<Member<N>, Global>,
 )
-    ensures { H.member handle.new ≡ Some member }
+    ensures member { H.member handle.new ≡ Some member }
+    ensures steps { H.steps handle.new ≡ H.steps handle.old }
 {
     let mut owner = Owner::empty(alloc);
     owner.put_back(member, block);

@@ -1,5 +1,5 @@
 //! All handles of a set at once: their report, and their close.
-ghost use Rattle.std.specs.Prelude.{◌≡◌, None};
+ghost use Rattle.std.specs.Prelude.{◌≡◌, None, map};
 ghost use Rattle.vbr_set.specs.AllMembers.{AreOfOneSet};
 ghost use Rattle.vbr_set.specs.Closing.{ClosesBy};
 ghost use Rattle.vbr_handles.specs.AllHandles.{ClosesAll, ReportsAllOf, members_by};
@@ -40,8 +40,9 @@ pub fn report_all<N: Kind, I: Listed<N>, H: HandleOf<N>>(
     room: usize,
 ) -> Result<N::Report, CloseAllRefusal<N::Report>>
     requires { AreOfOneSet (members_by H.member handles.old) }
-    ensures { ReportsAllOf H.member (ClosesBy N.kind) I.listing
+    ensures reports { ReportsAllOf H.member (ClosesBy N.kind) I.listing
         handles.old handles.new room result }
+    ensures steps { map H.steps handles.new ≡ map H.steps handles.old }
 {
     let report = match ask_all::<N, H>(alloc, handles, Question::Report) {
         Ok(Told::Report(report)) => report,
@@ -67,16 +68,20 @@ pub fn close_all<N: Kind, I: Listed<N>, H: HandleOf<N>>(
     room: usize,
 ) -> Result<N::Report, CloseAllRefusal<N::Report>>
     requires { AreOfOneSet (members_by H.member handles.old) }
-    ensures { ClosesAll H.member (ClosesBy N.kind) I.listing handles.old handles.new room result }
+    ensures closes { ClosesAll H.member (ClosesBy N.kind) I.listing
+        handles.old handles.new room result }
+    ensures steps { map H.steps handles.new ≡ map H.steps handles.old }
 {
     let report = report_all::<N, I, H>(alloc, handles, room)?;
-    empty_all::<N, H>(alloc, handles);
+    abandon_all::<N, H>(alloc, handles);
     Ok(report)
 }
 
-// Drops what handles have, and leaves them empty.
-fn empty_all<N: Nodes, H: HandleOf<N>>(alloc: Global, handles: &mut [H])
-    ensures { AreEmpty H.member handles.new }
+/// Drops what handles have, of one set or of several, and leaves them empty. Their passes are given back, as
+/// [`crate::abandon`] gives that of one; with the last handle of a set its memory is freed. It needs no memory.
+pub fn abandon_all<N: Nodes, H: HandleOf<N>>(alloc: Global, handles: &mut [H])
+    ensures empty { AreEmpty H.member handles.new }
+    ensures steps { map H.steps handles.new ≡ map H.steps handles.old }
 {
     for i in 0..handles.len() {
         let mut owner = Owner::empty(alloc);

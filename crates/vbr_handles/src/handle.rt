@@ -1,4 +1,4 @@
-//! A handle as C has it: one pointer, which C never copies.
+//! A handle as C has it: the owner of a member, which C never copies, and the budget of its calls.
 ghost use Rattle.std.specs.Prelude.{Option};
 ghost use Rattle.vbr_set.specs.Members.{MemberView as Member};
 ghost use Rattle.vbr_handles.specs.MemberRows.{map_member_coded, map_row, member_coded, set_row};
@@ -7,31 +7,50 @@ ghost use Rattle.vbr_handles.specs.Owners.{owner_owns};
 use std::alloc::Global;
 use std::marker::Model;
 
-/// A handle to a set: an owner (`Owner`) of a member of a set. What crosses to C has no type parameters, so it
-/// is a type of its own.
+/// An owner (`Owner`) of a member of a set: one pointer, which is null where it has none. What crosses to C has
+/// no type parameters, so it is a type of its own.
 #[repr(C)]
-pub struct Handle {
+pub struct SetOwner {
     pub(crate) at: *mut u8,
     pub(crate) alloc: Global,
     pub ghost member: { Option Member } by { member_coded },
 }
 
-impl Model for Handle {
+impl Model for SetOwner {
     ghost also_owns = { λ h. owner_owns set_row h.alloc h.at h.member };
 }
 
-unsafe impl Send for Handle {}
+unsafe impl Send for SetOwner {}
 
-/// A handle to a map: an owner (`Owner`) of a member of a map.
+/// An owner (`Owner`) of a member of a map.
 #[repr(C)]
-pub struct MapHandle {
+pub struct MapOwner {
     pub(crate) at: *mut u8,
     pub(crate) alloc: Global,
     pub ghost member: { Option Member } by { map_member_coded },
 }
 
-impl Model for MapHandle {
+impl Model for MapOwner {
     ghost also_owns = { λ h. owner_owns map_row h.alloc h.at h.member };
 }
 
-unsafe impl Send for MapHandle {}
+unsafe impl Send for MapOwner {}
+
+/// A handle to a set.
+#[repr(C)]
+pub struct Handle {
+    /// The owner of its member.
+    pub owned: SetOwner,
+    /// The budget of its calls that are given none, or 0 for the ample one. It is the caller's: no call here reads
+    /// or writes it.
+    pub steps: u32,
+}
+
+/// A handle to a map.
+#[repr(C)]
+pub struct MapHandle {
+    /// The owner of its member.
+    pub owned: MapOwner,
+    /// The budget of its calls that are given none, as of a [`Handle`].
+    pub steps: u32,
+}

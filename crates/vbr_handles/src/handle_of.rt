@@ -1,5 +1,5 @@
 //! What a handle does, whether it is one of a set or of a map.
-ghost use Rattle.std.specs.Prelude.{◌≡◌, true, false, Option, None, IsSome};
+ghost use Rattle.std.specs.Prelude.{◌≡◌, true, false, ℕ, Option, None, IsSome};
 ghost use Rattle.vbr_set.specs.Members.{MemberView};
 
 use crate::handle::{Handle, MapHandle};
@@ -12,6 +12,8 @@ use vbr_words::{Entries, Keys, Nodes};
 pub trait HandleOf<N: Nodes>: Sized {
     ghost member: { Self → Option MemberView };
 
+    ghost steps: { Self → ℕ };
+
     /// Whether it is empty. It stays as it is.
     fn is_empty(&mut self) -> bool
         ensures { (result ≡ false → IsSome (member self.old))
@@ -23,42 +25,47 @@ pub trait HandleOf<N: Nodes>: Sized {
         requires other { IsSome (member other.old) }
         ensures { (self.new ≡ self.old) × (other.new ≡ other.old) };
 
-    /// Gives its member to an owner, and takes over what this has.
+    /// Gives its member to an owner, and takes over what this has. Its budget stays.
     fn swap(&mut self, owner: &mut Owner<Member<N>>)
         ensures given { owner.new.member ≡ member self.old }
-        ensures taken { member self.new ≡ owner.old.member };
+        ensures taken { member self.new ≡ owner.old.member }
+        ensures steps { steps self.new ≡ steps self.old };
 }
 
 impl HandleOf<Keys> for Handle {
-    ghost member = { λ h. h.member };
+    ghost member = { λ h. h.owned.member };
+
+    ghost steps = { λ h. h.steps };
 
     fn is_empty(&mut self) -> bool {
-        self.owner_mut().is_empty()
+        self.owned.owner_mut().is_empty()
     }
 
     fn is_beside(&mut self, other: &mut Handle) -> bool {
-        let one = self.owner_mut();
-        one.is_beside(other.owner_mut())
+        let one = self.owned.owner_mut();
+        one.is_beside(other.owned.owner_mut())
     }
 
     fn swap(&mut self, owner: &mut Owner<Member<Keys>>) {
-        swap(self.owner_mut(), owner);
+        swap(self.owned.owner_mut(), owner);
     }
 }
 
 impl HandleOf<Entries> for MapHandle {
-    ghost member = { λ h. h.member };
+    ghost member = { λ h. h.owned.member };
+
+    ghost steps = { λ h. h.steps };
 
     fn is_empty(&mut self) -> bool {
-        self.owner_mut().is_empty()
+        self.owned.owner_mut().is_empty()
     }
 
     fn is_beside(&mut self, other: &mut MapHandle) -> bool {
-        let one = self.owner_mut();
-        one.is_beside(other.owner_mut())
+        let one = self.owned.owner_mut();
+        one.is_beside(other.owned.owner_mut())
     }
 
     fn swap(&mut self, owner: &mut Owner<Member<Entries>>) {
-        swap(self.owner_mut(), owner);
+        swap(self.owned.owner_mut(), owner);
     }
 }

@@ -1,30 +1,30 @@
-//! The owner of a handle, lent out of it.
+//! The owner of a member of any type, lent out of that of a handle.
 ghost use Rattle.std.specs.Prelude.{◌≡◌};
 ghost use types.Logic.{sem};
-ghost use Rattle.vbr_handles.specs.Handles.{handle_follows, map_handle_follows, map_owner_of, owner_of};
+ghost use Rattle.vbr_handles.specs.Handles.{map_owner_follows, owner_of_map, owner_of_set, set_owner_follows};
 
-use crate::handle::{Handle, MapHandle};
+use crate::handle::{MapOwner, SetOwner};
 use crate::owner::Owner;
 use vbr_set::{MapMember, Member};
 
-impl Handle {
-    /// Its owner.
+impl SetOwner {
+    /// The same owner, of a member of any type.
     #[inline]
     pub fn owner_mut(&mut self) -> &mut Owner<Member>
-        ensures* writes_back { sem 𝓛 (handle_follows self.entry result) }
-        ensures value { result.now ≡ owner_of self.old }
+        ensures* writes_back { sem 𝓛 (set_owner_follows self.entry result) }
+        ensures value { result.now ≡ owner_of_set self.old }
     {
-        unsafe { &mut *(self as *mut Handle as *mut Owner<Member>) }
+        unsafe { &mut *(self as *mut SetOwner as *mut Owner<Member>) }
     }
 }
 
-impl MapHandle {
-    /// Its owner.
+impl MapOwner {
+    /// The same owner, of a member of any type.
     #[inline]
     pub fn owner_mut(&mut self) -> &mut Owner<MapMember>
-        ensures* writes_back { sem 𝓛 (map_handle_follows self.entry result) }
-        ensures value { result.now ≡ map_owner_of self.old }
+        ensures* writes_back { sem 𝓛 (map_owner_follows self.entry result) }
+        ensures value { result.now ≡ owner_of_map self.old }
     {
-        unsafe { &mut *(self as *mut MapHandle as *mut Owner<MapMember>) }
+        unsafe { &mut *(self as *mut MapOwner as *mut Owner<MapMember>) }
     }
 }

@@ -1,7 +1,8 @@
 //! Handles to a set or to a map, which cross to C: each thread has one.
 //!
-//! A [`Handle`] is one pointer to a member on the heap, and null while it is empty. A handle is moved
-//! and never copied, and one call at a time has it. A [`MapHandle`] is the same, with a member of a map.
+//! A [`Handle`] is one pointer to a member on the heap, and null while it is empty; beside it stands the budget of
+//! its calls, which is the caller's. A handle is moved and never copied, and one call at a time has it. A
+//! [`MapHandle`] is the same, with a member of a map.
 //! What both are, an [`Owner`] of a member of any type, makes the calls; what C gives and is told of keys
 //! ([`Listed`]) has entries in place of keys where it is a map.
 #![tactic(auto)]
@@ -28,7 +29,7 @@ pub mod shown;
 
 pub use asking_all::AskRefusal;
 pub use closing::{CloseRefusal, abandon, close};
-pub use closing_all::{CloseAllRefusal, close_all, report_all};
+pub use closing_all::{CloseAllRefusal, abandon_all, close_all, report_all};
 pub use entry::Entry;
 pub use found::Found;
 pub use handle::{Handle, MapHandle};

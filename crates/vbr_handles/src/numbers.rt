@@ -1,6 +1,6 @@
 //! The calls of handles with their answers as numbers, as they go to C: 1 is yes, 0 is no or done, 2 is that
 //! another value than the expected one was there, and each refusal has a number below 0.
-ghost use Rattle.std.specs.Prelude.{◌≡◌, ◌≤◌, length, IfOk};
+ghost use Rattle.std.specs.Prelude.{◌≡◌, ◌≤◌, length, map, IfOk};
 ghost use Rattle.vbr_machine.specs.declared.history.Op.TheVariants.{Insert, Remove, Has};
 ghost use Rattle.vbr_slots.specs.declared.opening.TheConstants.{MAX_MANY_PASSES, MAX_PASSES};
 ghost use Rattle.vbr_set.specs.AllMembers.{AreOfOneSet};
@@ -71,8 +71,9 @@ pub fn open_with<N: Kind, I: Listed<N>, H: HandleOf<N>>(
     numbers: ShapeNumbers,
     items: &[I],
 ) -> i32
-    ensures { TellsOpeningBy H.member MAX_PASSES handles.old handles.new
+    ensures opens { TellsOpeningBy H.member MAX_PASSES handles.old handles.new
         (listed_start I.listing numbers items.now) result }
+    ensures steps { map H.steps handles.new ≡ map H.steps handles.old }
 {
     open_code(crate::opening::open_with::<N, I, H>(alloc, handles, numbers, items))
 }
@@ -84,8 +85,9 @@ pub fn open_many<N: Kind, I: Listed<N>, H: HandleOf<N>>(
     numbers: ShapeNumbers,
     items: &[I],
 ) -> i32
-    ensures { TellsOpeningBy H.member MAX_MANY_PASSES handles.old handles.new
+    ensures opens { TellsOpeningBy H.member MAX_MANY_PASSES handles.old handles.new
         (listed_start I.listing numbers items.now) result }
+    ensures steps { map H.steps handles.new ≡ map H.steps handles.old }
 {
     open_code(crate::opening::open_many::<N, I, H>(alloc, handles, numbers, items))
 }
@@ -152,8 +154,9 @@ pub fn close_all<N: Kind, I: Listed<N>, H: HandleOf<N>>(
     told: &mut ReportNumbers,
 ) -> i32
     requires { AreOfOneSet (members_by H.member handles.old) }
-    ensures { TellsCloseAllBy I.listing (ClosesBy N.kind) H.member handles.old handles.new
+    ensures closes { TellsCloseAllBy I.listing (ClosesBy N.kind) H.member handles.old handles.new
         items.old items.new told.old told.new result }
+    ensures steps { map H.steps handles.new ≡ map H.steps handles.old }
 {
     let answer = crate::closing_all::close_all::<N, I, H>(alloc, handles, items.len());
     write_all::<N, I>(&answer, items, told);
@@ -169,8 +172,9 @@ pub fn report_all<N: Kind, I: Listed<N>, H: HandleOf<N>>(
     told: &mut ReportNumbers,
 ) -> i32
     requires { AreOfOneSet (members_by H.member handles.old) }
-    ensures { TellsReportBy I.listing (ClosesBy N.kind) H.member handles.old handles.new
+    ensures reports { TellsReportBy I.listing (ClosesBy N.kind) H.member handles.old handles.new
         items.old items.new told.old told.new result }
+    ensures steps { map H.steps handles.new ≡ map H.steps handles.old }
 {
     let answer = crate::closing_all::report_all::<N, I, H>(alloc, handles, items.len());
     write_all::<N, I>(&answer, items, told);
@@ -184,7 +188,9 @@ pub fn renew_all<N: Kind, I: Listed<N>, H: HandleOf<N>>(
     numbers: ShapeNumbers,
 ) -> i32
     requires { AreOfOneSet (members_by H.member handles.old) }
-    ensures { TellsRenewalBy N.kind I.listing H.member handles.old handles.new numbers result }
+    ensures renews { TellsRenewalBy N.kind I.listing H.member handles.old handles.new
+        numbers result }
+    ensures steps { map H.steps handles.new ≡ map H.steps handles.old }
 {
     renew_all_code(crate::renewing_all::renew_all::<N, I, H>(alloc, handles, numbers))
 }

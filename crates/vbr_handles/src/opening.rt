@@ -61,8 +61,9 @@ pub fn open_with<N: Kind, I: Listed<N>, H: HandleOf<N>>(
     numbers: ShapeNumbers,
     items: &[I],
 ) -> Result<(), OpenRefusal>
-    ensures { Opens H.member MAX_PASSES handles.old handles.new
+    ensures opens { Opens H.member MAX_PASSES handles.old handles.new
         (listed_start I.listing numbers items.now) result }
+    ensures steps { map H.steps handles.new ≡ map H.steps handles.old }
 {
     open_up_to::<N, I, H>(alloc, handles, MAX_PASSES, numbers, items)
 }
@@ -75,8 +76,9 @@ pub fn open_many<N: Kind, I: Listed<N>, H: HandleOf<N>>(
     numbers: ShapeNumbers,
     items: &[I],
 ) -> Result<(), OpenRefusal>
-    ensures { Opens H.member MAX_MANY_PASSES handles.old handles.new
+    ensures opens { Opens H.member MAX_MANY_PASSES handles.old handles.new
         (listed_start I.listing numbers items.now) result }
+    ensures steps { map H.steps handles.new ≡ map H.steps handles.old }
 {
     open_up_to::<N, I, H>(alloc, handles, MAX_MANY_PASSES, numbers, items)
 }
@@ -90,8 +92,9 @@ fn open_up_to<N: Kind, I: Listed<N>, H: HandleOf<N>>(
     items: &[I],
 ) -> Result<(), OpenRefusal>
     requires { most ≤ MAX_MANY_PASSES }
-    ensures { Opens H.member most handles.old handles.new
+    ensures opens { Opens H.member most handles.old handles.new
         (listed_start I.listing numbers items.now) result }
+    ensures steps { map H.steps handles.new ≡ map H.steps handles.old }
 {
     if !are_empty::<N, H>(handles) {
         return Err(OpenRefusal::InUse);
@@ -149,7 +152,8 @@ fn box_all<N: Nodes>(
 // Gives each handle what the owner at its place has.
 fn fill<N: Nodes, H: HandleOf<N>>(handles: &mut [H], owners: Vec<Owner<Member<N>>>)
     requires { length owners.items ≡ length handles.old }
-    ensures { map H.member handles.new ≡ map (λ o. o.member) owners.items }
+    ensures members { map H.member handles.new ≡ map (λ o. o.member) owners.items }
+    ensures steps { map H.steps handles.new ≡ map H.steps handles.old }
 {
     let mut owners = owners.into_iter();
     for i in 0..handles.len() {

@@ -1,4 +1,5 @@
 //! All handles of a set at once go on over a fresh one.
+ghost use Rattle.std.specs.Prelude.{◌≡◌, map};
 ghost use Rattle.vbr_set.specs.AllMembers.{AreOfOneSet};
 ghost use Rattle.vbr_handles.specs.AllHandles.{members_by};
 ghost use Rattle.vbr_handles.specs.RenewingAll.{RenewsAll};
@@ -38,7 +39,8 @@ pub fn renew_all<N: Kind, I: Listed<N>, H: HandleOf<N>>(
     numbers: ShapeNumbers,
 ) -> Result<(), RenewAllRefusal>
     requires { AreOfOneSet (members_by H.member handles.old) }
-    ensures { RenewsAll N.kind I.listing H.member handles.old handles.new numbers result }
+    ensures renews { RenewsAll N.kind I.listing H.member handles.old handles.new numbers result }
+    ensures steps { map H.steps handles.new ≡ map H.steps handles.old }
 {
     let Some(shape) = numbers.shape() else {
         return Err(RenewAllRefusal::Shape);

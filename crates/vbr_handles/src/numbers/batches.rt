@@ -36,7 +36,7 @@ impl LooksUp<Found> for Owner<MapMember> {
     #[inline(always)]
     fn look_up(&mut self, key: u64, budget: u32) -> Found {
         let mut value = 0;
-        let answer = entries::get(self, key, budget, &mut value);
+        let answer = entries::get(self, key, &mut value, budget);
         Found { value, answer }
     }
 }

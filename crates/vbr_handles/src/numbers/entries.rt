@@ -21,7 +21,7 @@ pub fn insert(owner: &mut Owner<MapMember>, key: u64, value: u64, budget: u32) -
 }
 
 /// Takes a key out by the member of a handle, and writes the value that was stored with it.
-pub fn remove(owner: &mut Owner<MapMember>, key: u64, budget: u32, value: &mut u64) -> i32
+pub fn remove(owner: &mut Owner<MapMember>, key: u64, value: &mut u64, budget: u32) -> i32
     ensures { TellsRemoveEntry owner.old.member owner.new.member key budget value.old value.new
         result }
 {
@@ -32,7 +32,7 @@ pub fn remove(owner: &mut Owner<MapMember>, key: u64, budget: u32, value: &mut u
 }
 
 /// Looks a key up by the member of a handle, and writes the value that is stored with it.
-pub fn get(owner: &mut Owner<MapMember>, key: u64, budget: u32, value: &mut u64) -> i32
+pub fn get(owner: &mut Owner<MapMember>, key: u64, value: &mut u64, budget: u32) -> i32
     ensures { TellsGetEntry owner.old.member owner.new.member key budget value.old value.new
         result }
 {

@@ -6,6 +6,7 @@ ghost use Rattle.vbr_handles.specs.Codes.{call_code};
 ghost use Rattle.vbr_handles.specs.Iterating.{TellsNext, TellsNextEntry};
 ghost use Rattle.vbr_handles.specs.ValueCalls.{WritesGiven};
 
+use crate::entry::Entry;
 use crate::numbers::entries::give;
 use crate::numbers::{EMPTY, NO, YES, call_code};
 use crate::owner::Owner;
@@ -17,8 +18,8 @@ use vbr_words::Nodes;
 pub fn next_key<N: Nodes>(
     owner: &mut Owner<Member<N>>,
     cursor: &mut Cursor,
-    budget: u32,
     key: &mut u64,
+    budget: u32,
 ) -> i32
     ensures { TellsNext owner.old.member owner.new.member cursor.old cursor.new budget
         key.old key.new result }
@@ -33,28 +34,27 @@ pub fn next_key<N: Nodes>(
 pub fn next_entry(
     owner: &mut Owner<MapMember>,
     cursor: &mut Cursor,
+    entry: &mut Entry,
     budget: u32,
-    key: &mut u64,
-    value: &mut u64,
 ) -> i32
     ensures { TellsNextEntry owner.old.member owner.new.member cursor.old cursor.new budget
-        (key.old, value.old) (key.new, value.new) result }
+        (entry.old.key, entry.old.value) (entry.new.key, entry.new.value) result }
 {
     if owner.is_empty() {
         return EMPTY;
     }
-    give_entry(owner.member_mut().next_entry(cursor, budget), key, value)
+    give_entry(owner.member_mut().next_entry(cursor, budget), entry)
 }
 
 // Writes the key and the value of an answer, where it gives an entry, and tells the number of the answer.
-fn give_entry(answer: Result<Option<(u64, u64)>, Refusal>, key: &mut u64, value: &mut u64) -> i32
+fn give_entry(answer: Result<Option<(u64, u64)>, Refusal>, entry: &mut Entry) -> i32
     ensures code { result ≡ call_code (is_yes answer) }
-    ensures writes { WritesGiven answer (key.old, value.old) (key.new, value.new) }
+    ensures writes { WritesGiven answer (entry.old.key, entry.old.value)
+        (entry.new.key, entry.new.value) }
 {
     match answer {
-        Ok(Some((given, stored))) => {
-            *key = given;
-            *value = stored;
+        Ok(Some((key, value))) => {
+            *entry = Entry { key, value };
             YES
         }
         Ok(None) => NO,

@@ -1,6 +1,7 @@
 use Rattle.std.proofs.Common.{ap, length, ◌∙◌, arith}
 use Rattle.std.specs.Prelude.{Some}
 use Rattle.std.proofs.lemmas.List.{length-set}
+use Rattle.std.proofs.Math.Seq.{map-set_same}
 use Rattle.vbr_handles.proofs.AllHandles.{one_more}
 use Rattle.vbr_handles.proofs.asking_all.put_all_back.Goals as goal
 
@@ -18,5 +19,6 @@ loop-i-preserved g c =
       long = kept ∙ long;
       left = omega arith;
       blocks = omega arith;
-      so_far = one_more g.H.HandleOf.member (λ m. Some m) c.loop-i.handles c.loop-i.i c.put_back.new.handle c.in-Some-Some.member _ _ _ (omega arith) c.in-Some-Some.ensures.items c.put_back.ensures i.so_far;
+      so_far = one_more g.H.HandleOf.member (λ m. Some m) c.loop-i.handles c.loop-i.i c.put_back.new.handle c.in-Some-Some.member _ _ _ (omega arith) c.in-Some-Some.ensures.items c.put_back.ensures.member i.so_far;
+      steps = map-set_same g.H.HandleOf.steps c.loop-i.handles c.loop-i.i c.put_back.new.handle c.index-handles-i.result c.put_back.ensures.steps ∙ i.steps;
     }

@@ -1,6 +1,7 @@
 use Rattle.std.proofs.Common.{◌∷◌, [], length, ap, ◌∙◌, arith}
 use Rattle.std.proofs.lemmas.Bool.{false≢true}
 use Rattle.std.proofs.lemmas.List.{length-append, length-set}
+use Rattle.std.proofs.Math.Seq.{map-set_same}
 use Rattle.vbr_handles.proofs.AskingAll.{here_full, one_out, still_full}
 use Rattle.vbr_handles.proofs.asking_all.take_all_out.Goals as goal
 
@@ -31,4 +32,5 @@ loop-i-preserved g c =
       blocks_room = omega arith;
       so_far = one_out g.H.HandleOf.member c.loop-i.members.items c.push.new.self.items _ c.in-Some.member c.loop-i.handles c.loop-i.i c.index-handles-i.result c.take_out.new.handle (omega arith) c.in-Some.ensures.is c.in-Ok-Ok.ensures.items i.so_far;
       full = still_full g.H.HandleOf.member c.loop-i.handles c.loop-i.i c.index-handles-i.result c.take_out.new.handle (omega arith) i.full;
+      steps = map-set_same g.H.HandleOf.steps c.loop-i.handles c.loop-i.i c.take_out.new.handle c.index-handles-i.result c.take_out.ensures.steps ∙ i.steps;
     }

@@ -1,9 +1,9 @@
-use Rattle.std.proofs.Common.{◌≡◌, ◌≤◌, ◌++◌, drop, length}
+use Rattle.std.proofs.Common.{◌≡◌, ◌≤◌, ◌++◌, map, drop, length}
 use Rattle.std.specs.Vec.{vec_capacity}
 use Rattle.vbr_handles.specs.AllHandles.{AreFull, members_by}
 use Rattle.vbr_handles.proofs.asking_all.take_all_out.Given as goal
 
--- those so far have given their members, and the others have theirs
+-- those so far have given their members, the others have theirs, and all have their budgets
 abbrev pub invariant-loop-i : goal.invariant-loop-i
 invariant-loop-i g l = record {
   long : length l.handles ≡ length l.initial.handles;
@@ -13,4 +13,5 @@ invariant-loop-i g l = record {
   blocks_room : length l.initial.handles ≤ vec_capacity l.blocks;
   so_far : l.members.items ++ members_by g.H.HandleOf.member (drop l.i l.handles) ≡ members_by g.H.HandleOf.member l.initial.handles;
   full : AreFull g.H.HandleOf.member (drop l.i l.handles);
+  steps : map g.H.HandleOf.steps l.handles ≡ map g.H.HandleOf.steps l.initial.handles;
 }

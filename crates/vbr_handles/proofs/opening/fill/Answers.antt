@@ -1,5 +1,6 @@
 use Rattle.std.proofs.Common.{ap, length, ◌∙◌, arith}
 use Rattle.std.proofs.lemmas.List.{length-set}
+use Rattle.std.proofs.Math.Seq.{map-set_same}
 use Rattle.vbr_handles.proofs.AllHandles.{one_more}
 use Rattle.vbr_handles.proofs.opening.fill.Goals as goal
 
@@ -15,4 +16,5 @@ loop-i-preserved g c =
       long = kept ∙ long;
       left = omega arith;
       so_far = one_more g.H.HandleOf.member (λ o. o.member) c.loop-i.handles c.loop-i.i c.swap.new.self c.in-Some.owner _ _ _ (omega arith) split c.swap.ensures.taken c.loop-i.invariant.so_far;
+      steps = map-set_same g.H.HandleOf.steps c.loop-i.handles c.loop-i.i c.swap.new.self c.index-handles-i.result c.swap.ensures.steps ∙ c.loop-i.invariant.steps;
     }

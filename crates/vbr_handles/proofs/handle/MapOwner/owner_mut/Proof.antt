@@ -1,0 +1,13 @@
+-- `owner_mut` lends the owner of a map as one of any type, which owns the same.
+use mathlib.Core.Path.{refl}
+use Rattle.vbr_handles.proofs.Recast.{recasts}
+use Rattle.vbr_handles.specs.Handles.{map_owner, owner_of_map}
+use Rattle.vbr_handles.specs.MemberRows.{map_row}
+use Rattle.vbr_handles.specs.contracts.handle.MapOwner.{the_row}
+use Rattle.vbr_handles.specs.contracts.handle.MapOwner.owner_mut.Key.{name}
+use Rattle.vbr_handles.specs.contracts.owner.Owner as Owner
+use Rattle.vbr_handles.proofs.handle.MapOwner.owner_mut.Statement.{statement}
+use Rattle.vbr_handles.proofs.handle.MapOwner.owner_mut.Code as code
+
+pub owner_mut_spec : {M : Type 1} → statement M
+owner_mut_spec 𝓤 𝓛 𝓜 𝓡 wired = recasts the_row (Owner.the_row map_row) tt tt owner_of_map map_owner 𝓛 𝓜 𝓡 refl (λ h vs. refl) (λ w vs. refl) name (code.unfolded 𝓤 𝓛.H 𝓜 𝓡 wired)

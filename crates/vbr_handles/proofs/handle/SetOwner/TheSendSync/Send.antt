@@ -1,0 +1,17 @@
+use denote.Struct.Struct.{exits_of}
+use denote.Struct.Owning.{shape, fields, to}
+use denote.Param.Send.{IsSend, AllSend, owning_send, struct_send, sendable}
+use Rattle.std_alloc.proofs.SendSync.{quiet}
+use Rattle.std_heap.proofs.Global.TheSendSync as heap
+use Rattle.vbr_words.specs.contracts.nodes.Keys as Keys
+use Rattle.vbr_words.specs.contracts.nodes.KeysNodes.TheImpl as kind
+use Rattle.vbr_set.proofs.member.Member.TheSendSync.{the_send as member}
+use Rattle.vbr_handles.specs.MemberRows.{set_row}
+use Rattle.vbr_handles.proofs.Owning.{owns_keyless}
+use Rattle.vbr_handles.specs.contracts.handle.SetOwner.{the_row, the_type}
+
+pub send : IsSend the_row
+send =
+    let all : AllSend (fields the_type) = (search sendable, (heap.the_field_send, tt)) in
+    owning_send the_type all (λ d. owns_keyless set_row (member Keys.the_row kind.ghosts) d.alloc d.at d.member)
+    (λ k. quiet (to the_type) (exits_of k (fields the_type)) ((struct_send (shape the_type) all).leaving k))

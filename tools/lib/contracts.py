@@ -1,0 +1,138 @@
+"""The form of contracts, and what the code does that contracts don't say. tools/docs-check reads both:
+
+- a function has at most eight clauses, and no line of a contract is over a hundred columns wide. So is no line of a view
+  or of an invariant (`ghost view`, `ghost invariant`). Crates that don't keep this yet are in OPEN, and leave it once they do;
+- on the words that threads share, each function of `vbr_slots` calls what ON_SHARED_WORDS says of it, and nothing else
+  does anything to them. A contract speaks of a step as an event: that a step which loads is a load in the code too is
+  seen here. An `|` with 0 in its place, say, would meet the same contract."""
+import re
+
+CLAUSES, COLUMNS = 8, 100
+# Crates whose contracts are still longer or wider.
+OPEN = []
+
+# What is called on the shared words, in its order: the calls of the kit's `atomic_table`. `split_seat` and `join_seat` are a
+# load each, by its README.
+ON_SHARED_WORDS = {
+    "stepping.rt": {
+        "load_at_as": "load",
+        "load_as": "load",
+        "read_epoch_as": "load",
+        "store_as": "store",
+        "exchange_as": "compare_exchange",
+        "fetch_or_as": "fetch_or",
+        "fetch_and_as": "fetch_and",
+        "meet_as": "split_seat join_seat load split_seat",
+        "note_runner": "split_seat",
+        "note_again": "split_seat",
+        "catch_up_as": "join_seat load",
+    },
+    "snapshot.rt": {
+        "snapshot": "load_new_seat split_seat",
+        "halt_all": "join_seat",
+        "read_all_as": "load",
+    },
+    "warming.rt": {"peek_head": "peek", "peek_node": "peek peek"},
+    "opening.rt": {"build": "split_seat"},
+    "closing.rt": {"close": "load_new_seat join_seat"},
+}
+SLOTS = "crates/vbr_slots/src/"
+
+FUNCTION = re.compile(r'\s*(?:pub(?:\([^)]*\))? )?(?:(?:const|unsafe|extern "C") )*fn (\w+)')
+CLAUSE = re.compile(r"\s*(?:requires|ensures)\b")
+STATED = re.compile(r"\s*(?:pub )?ghost (?!use\b)")
+
+
+def clause_end(lines, at):
+    """The number of the line at which the clause ends that begins in this one."""
+    depth = 0
+    while True:
+        depth += lines[at].count("{") - lines[at].count("}")
+        if depth <= 0 or at + 1 == len(lines):
+            return at
+        at += 1
+
+
+def form_faults(path, text):
+    """What is too long or too wide in a source file: (line, what is wrong)."""
+    lines, function, clauses, at = text.split("\n"), "", [], 0
+    while at < len(lines):
+        line = lines[at]
+        found = FUNCTION.match(line)
+        function = found.group(1) if found else function
+        if CLAUSE.match(line) or STATED.match(line):
+            end = clause_end(lines, at)
+            for number in range(at, end + 1):
+                if len(lines[number]) > COLUMNS:
+                    yield number + 1, f"a line of a contract has {len(lines[number])} columns, and may have {COLUMNS}: break it, or give what it says a name in specs/"
+            if CLAUSE.match(line):
+                clauses.append(at + 1)
+            at = end
+        elif line.strip() and not line.lstrip().startswith("//"):
+            if len(clauses) > CLAUSES:
+                yield clauses[0], f"{function} has {len(clauses)} clauses, and may have {CLAUSES}: put what belongs together into one record of specs/"
+            clauses = []
+        at += 1
+
+
+def check_form(texts):
+    """The faults of the crates that keep the form, and which others are open: ([(path, line, what)], [crate])."""
+    faults, wide = [], set()
+    for path, text in texts.items():
+        found = re.match(r"crates/([^/]+)/src/.*\.rt$", path)
+        for line, what in form_faults(path, text) if found else ():
+            wide.add(found.group(1))
+            if found.group(1) not in OPEN:
+                faults.append((path, line, what))
+    for crate in OPEN:
+        if crate not in wide:
+            faults.append(("tools/lib/contracts.py", 1, f"the contracts of {crate} keep the form now: take it out of OPEN"))
+    return faults, [it for it in OPEN if it in wide]
+
+
+def bodies(text):
+    """Each function of a source file, by the layout of `rt fmt`: (name, line, its text without contracts and comments)."""
+    lines, name, at = text.split("\n"), None, 0
+    while at < len(lines):
+        line, found = lines[at], FUNCTION.match(lines[at])
+        if name is None and found:
+            name, start, indent, kept = found.group(1), at + 1, line[: len(line) - len(line.lstrip())], []
+        if name is not None and CLAUSE.match(line):
+            at = clause_end(lines, at)
+        elif name is not None and not line.lstrip().startswith("//"):
+            kept.append(line)
+            if line.startswith(indent) and not line.startswith(indent + " ") and line.endswith((";", "}")):
+                yield name, start, "\n".join(kept)
+                name = None
+        at += 1
+
+
+def on_shared_words(body):
+    """What a function calls on the shared words, in its order; None where it hands them to something else."""
+    calls = []
+    for found in re.finditer(r"\bshared\b(?:\s*\.\s*(\w+)\s*(?:::<[^()]*>)?\()?", re.sub(r"let shared = &[\w.\s]*\.shared;", "", body)):
+        if not found.group(1):
+            return None
+        calls.append(found.group(1))
+    return calls
+
+
+def check_shared_words(texts):
+    """Where a function of vbr_slots does something else to the shared words than it should: [(path, line, what)]."""
+    faults, seen = [], set()
+    for path, text in texts.items():
+        if not path.startswith(SLOTS):
+            continue
+        known = ON_SHARED_WORDS.get(path[len(SLOTS) :], {})
+        for name, line, body in bodies(text):
+            calls = on_shared_words(body)
+            wanted = known.get(name, "").split()
+            seen |= {(path, name)} if wanted else set()
+            if calls != wanted:
+                does = "hands the shared words on" if calls is None else f"calls {', '.join(calls) or 'nothing'} on the shared words"
+                faults.append((path, line, f"{name} {does}, where tools/lib/contracts.py has {', '.join(wanted) or 'nothing'}: what is proved of look-ups is that their events are loads, and that these are loads in the code is seen here"))
+    for file, known in ON_SHARED_WORDS.items():
+        for name in known:
+            if (SLOTS + file, name) not in seen:
+                faults.append(("tools/lib/contracts.py", 1, f"ON_SHARED_WORDS has {name}, and {SLOTS}{file} has no such function"))
+    return faults
