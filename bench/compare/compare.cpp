@@ -11,6 +11,12 @@ namespace {
 
 using Count = unsigned long long;
 
+// Look-ups, inserts and removes of 100 calls, and replacements where there are any.
+std::string mix_of(const Workload &w) {
+    return std::to_string(w.has) + "/" + std::to_string(w.insert) + "/" + std::to_string(w.remove) +
+           (w.replace ? "/" + std::to_string(w.replace) : "");
+}
+
 struct Options {
     bool maps = false; // in place of sets
     bool only_checks = false;
@@ -20,9 +26,13 @@ struct Options {
     uint64_t fill = 1000000; // keys; 0: no fill
     uint64_t walk = 1000000; // keys; 0: no walks
     std::vector<uint64_t> ranges{100, 10000, 100000, 1000000};
-    std::vector<std::string> peers; // these alone; all where none is named
+    std::vector<std::string> peers, mixes; // these alone; all where none is named
 
-    bool wants(const Peer &peer) const { return peers.empty() || std::find(peers.begin(), peers.end(), peer.name) != peers.end(); }
+    static bool has(const std::vector<std::string> &names, const std::string &name) {
+        return names.empty() || std::find(names.begin(), names.end(), name) != names.end();
+    }
+    bool wants(const Peer &peer) const { return has(peers, peer.name); }
+    bool wants(const Workload &workload) const { return has(mixes, mix_of(workload)); }
 };
 
 // What is measured of one peer, and the runs that count.
@@ -41,8 +51,7 @@ struct Cell {
         if (walk) return "walk=" + std::to_string(w.range) + walk->by;
         if (w.is_fill()) return "fill=" + std::to_string(w.range);
         if (single) return "range=" + std::to_string(w.range) + " calls=" + single->calls;
-        return "range=" + std::to_string(w.range) + " mix=" + std::to_string(w.has) + "/" + std::to_string(w.insert) + "/" +
-               std::to_string(w.remove) + (w.replace ? "/" + std::to_string(w.replace) : "");
+        return "range=" + std::to_string(w.range) + " mix=" + mix_of(w);
     }
     uint64_t possible(uint64_t operations) const {
         if (walk) return Walk::possible(operations, workload.range);
@@ -176,6 +185,7 @@ std::vector<Cell> cells(const Options &options) {
         for (auto [has, insert, remove, replace] : mixes)
             for (unsigned threads : {1u, 2u, 4u}) {
                 Workload workload{range, has, insert, remove, threads, options.operations * threads, 0, replace};
+                if (!options.wants(workload)) continue;
                 for (const Peer &peer : peers_of(options))
                     if (options.wants(peer)) cells.push_back({&peer, workload, {}});
                 for (const Peer &peer : batches_of(options))
@@ -283,8 +293,8 @@ void warn(const std::vector<Cell> &cells) {
 }
 
 [[noreturn]] void usage() {
-    std::fputs("usage: compare [--sets | --maps] [--short] [--peers NAME,NAME] [--ranges N,N] [--fill N] [--walk N] [--repeats N]\n"
-               "               [--again N] [--milliseconds N] [--operations N] [--log FILE] [--check]\n", stderr);
+    std::fputs("usage: compare [--sets | --maps] [--short] [--peers NAME,NAME] [--mixes MIX,MIX] [--ranges N,N] [--fill N]\n"
+               "               [--walk N] [--repeats N] [--again N] [--milliseconds N] [--operations N] [--log FILE] [--check]\n", stderr);
     std::exit(2);
 }
 
@@ -324,6 +334,7 @@ Options read(int count, char **words) {
         } else if (word == "--check") options.only_checks = true;
         else if (word == "--short") options.ranges = {100, 10000}, options.fill = 0, options.walk = 10000, options.repeats = 3;
         else if (word == "--peers") options.peers = names(value());
+        else if (word == "--mixes") options.mixes = names(value());
         else if (word == "--ranges") options.ranges = numbers(value());
         else if (word == "--fill") options.fill = number(value(), 0);
         else if (word == "--walk") options.walk = number(value(), 0);

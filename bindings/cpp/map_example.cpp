@@ -85,6 +85,7 @@ static int calls() {
     CHECK(mine.has_within(2, vbr::steps{1}) == vbr::refusal::out_of_steps);
     CHECK(mine.insert_within(3, 30, vbr::steps{1}) == vbr::refusal::out_of_steps);
     CHECK(mine.remove_within(2, vbr::steps{1}) == vbr::refusal::out_of_steps);
+    CHECK(!mine.get_within(2, vbr::steps{1}).value_or(std::nullopt) && mine.get(2).value_or(std::nullopt) == 20u);
     std::optional<vbr::map_report> told = mine.close().value();
     for (vbr::entry each : told->entries) sum += each.value;
     CHECK(told->free == shape.slots - 2 && sum == 60 + 20 + 50);

@@ -1,5 +1,6 @@
 //! Handles on loan.
 use crate::all::All;
+use crate::boxed::boxed;
 use crate::reporting::Unreported;
 use crate::waiting::Waiters;
 use crate::{HandleOf, Keys, Kind, OpenError, PassOf, RenewError, Shape, Steps, Table};
@@ -16,9 +17,15 @@ pub(crate) struct Lender<T: Kind> {
     places: Box<[Place<T>]>,
     /// Of so many one may be lent: of all, and of none while they are renewed. It is never more than there are.
     lends: AtomicUsize,
+    waiters: Waiters,
+    /// Apart from what a borrower reads, so that a set is small enough for an error.
+    made: Box<Made>,
+}
+
+/// How the set is opened now, and how often it was renewed.
+struct Made {
     shape: SharedShape,
     renewals: AtomicUsize,
-    waiters: Waiters,
 }
 
 /// The shape of a set, with the seed and the budget that were asked for if they were; a renewal changes it while other threads read
@@ -67,14 +74,13 @@ impl<T: Kind> Lender<T> {
         Ok(Lender {
             lends: AtomicUsize::new(places.len()),
             places: places.into_boxed_slice(),
-            shape: SharedShape::of(shape),
-            renewals: AtomicUsize::new(0),
-            waiters: Waiters::default(),
+            waiters: Waiters::none().ok_or(OpenError::Memory)?,
+            made: boxed(Made { shape: SharedShape::of(shape), renewals: AtomicUsize::new(0) }).ok_or(OpenError::Memory)?,
         })
     }
 
     pub(crate) fn shape(&self) -> &SharedShape {
-        &self.shape
+        &self.made.shape
     }
 
     /// How many handles there are.
@@ -117,7 +123,7 @@ impl<T: Kind> Lender<T> {
     pub(crate) fn renew(&self, shape: Shape, deadline: Option<Instant>) -> Result<(), RenewError> {
         shape.check_numbers()?;
         let shape = shape.with_handles(self.count());
-        let before = self.renewals.load(Ordering::Relaxed);
+        let before = self.made.renewals.load(Ordering::Relaxed);
         let mut mine = Renewal { of: self, has_turn: false, taken: 0 };
         let is_to_be_made = self.waiters.wait_for_all(deadline, || {
             if self.is_renewed_since(before, shape) {
@@ -129,15 +135,15 @@ impl<T: Kind> Lender<T> {
             return Ok(()); // another thread's serves both
         }
         mine.renew(shape)?;
-        self.shape.set(shape);
-        self.renewals.fetch_add(1, Ordering::Relaxed);
+        self.made.shape.set(shape);
+        self.made.renewals.fetch_add(1, Ordering::Relaxed);
         Ok(())
     }
 
     /// Whether no renewal is under way, and one that came after so many has given the set this shape.
     fn is_renewed_since(&self, before: usize, shape: Shape) -> bool {
         let is_lending = self.lends.load(Ordering::Acquire) > 0;
-        is_lending && self.renewals.load(Ordering::Relaxed) != before && self.shape.get() == shape
+        is_lending && self.made.renewals.load(Ordering::Relaxed) != before && self.made.shape.get() == shape
     }
 }
 

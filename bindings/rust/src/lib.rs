@@ -27,10 +27,12 @@
 //!   handle keeps up to 64; [`MAX_HANDLES`] handles; memory that is taken at the opening, 8 × (2 + buckets + 4 × slots +
 //!   ⌈slots / 64⌉) bytes for a set, and 8 more for each slot of a map. A set doesn't grow by itself: [`Table::renew`] and
 //!   [`HandleOf::renew_all`] let it go on in another shape.
-//! - **An epoch ends.** Only calls that take a slot, for a key or a new value, advance the epoch, and few of them do where removes
-//!   come in between. The greatest last epoch, [`MAX_EPOCH`], lasts fifteen hours at ten million inserts a second that advance it,
-//!   and six days at a million. After it inserts are refused by [`Refusal::EpochSpent`] until the set is renewed; look-ups and
-//!   removes go on. So a program that runs for weeks renews its set by a clock (`examples/server.rs`).
+//! - **The epochs end.** Only calls that take a slot, for a key or a new value, advance the epoch, each by one at most: about six of
+//!   a hundred inserts where inserts and removes come at random, and nearly all in a full cache that takes a key out before each
+//!   that it puts in, or three once it has slots in reserve ([`PassOf::reserve`]). The greatest last epoch, [`MAX_EPOCH`], lasts
+//!   fifteen hours at ten million inserts a second that advance it, and six days at a million. After it inserts are refused by
+//!   [`Refusal::EpochSpent`] until the set is renewed; look-ups and removes go on. So a program that runs for weeks renews its set
+//!   by a clock (`examples/server.rs`).
 //! - **Progress.** Each call ends within its budget, answered or refused. Nobody holds it up: what others can cost it is bounded by
 //!   what they do, and while they stand still, wherever they do, a known budget suffices. Lock-freedom, by which some call is
 //!   always answered where all are busy, isn't claimed, and neither is fairness.
@@ -52,14 +54,15 @@
 //! `contains_key` of a map.
 //!
 //! A call that takes no slot (look-ups, removes, walks) is refused for one reason alone, so its error is [`OutOfSteps`]; `?` makes a
-//! [`Refusal`] of it. There is no `FromIterator` and no `Extend`, since each opening and each insert may be refused; a loop with `?`
-//! inserts what an iterator gives, and reports are iterators' sources.
+//! [`Refusal`] of it. There is no `FromIterator` and no `Extend`, since each opening and each insert may be refused: insert what an
+//! iterator gives by a loop with `?`, or by `try_for_each`. Handles, passes and reports are gone over by `for` loops.
 //!
 //! # Keys and values
 //!
 //! `Set` and `Map` are those of `u64` where a type is named. Where one is opened, its types are what its calls are given: integers
-//! (those without a type are `i32`, as everywhere), `char`, `bool`, `NonZero`, pairs of `u32`, [`ByBits`] for `f64`, and types of
-//! yours that say how they are made of bits ([`Bits`]). A key that comes out is one that was put in, of the same type.
+//! (literals without a type are `i32`, as everywhere), `char`, `bool`, `NonZero`, pairs of `u32`, [`ByBits`] for `f64`, and types of
+//! yours that say how they are made of bits ([`Bits`]). What comes out of a set was put in by calls of the same type, so its bits
+//! are always those of a value.
 //!
 //! ```
 //! use vbr::{Bits, Map, MapHandle, Shape};
@@ -202,6 +205,7 @@ extern crate alloc;
 
 mod all;
 mod bits;
+mod boxed;
 mod changing;
 mod entry;
 mod errors;

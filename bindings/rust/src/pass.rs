@@ -335,7 +335,7 @@ impl<T: Kind> PassOf<T> {
     /// ```
     #[inline]
     pub fn epoch(&self) -> u64 {
-        // SAFETY: as for `has`.
+        // SAFETY: as for `has_within`.
         unsafe { T::EPOCH(self.raw()) }
     }
 
@@ -349,7 +349,7 @@ impl<T: Kind> PassOf<T> {
     /// ```
     #[inline]
     pub fn last_epoch(&self) -> u64 {
-        // SAFETY: as for `has`.
+        // SAFETY: as for `has_within`.
         unsafe { T::LAST_EPOCH(self.raw()) }
     }
 
@@ -363,7 +363,7 @@ impl<T: Kind> PassOf<T> {
     /// ```
     #[inline]
     pub fn slots(&self) -> u32 {
-        // SAFETY: as for `has`.
+        // SAFETY: as for `has_within`.
         unsafe { T::SLOTS(self.raw()) }
     }
 
@@ -377,7 +377,7 @@ impl<T: Kind> PassOf<T> {
     /// ```
     #[inline]
     pub fn buckets(&self) -> u32 {
-        // SAFETY: as for `has`.
+        // SAFETY: as for `has_within`.
         unsafe { T::BUCKETS(self.raw()) }
     }
 
@@ -392,7 +392,7 @@ impl<T: Kind> PassOf<T> {
     /// ```
     #[inline]
     pub fn seed(&self) -> u64 {
-        // SAFETY: as for `has`.
+        // SAFETY: as for `has_within`.
         unsafe { T::SEED(self.raw()) }
     }
 
@@ -414,7 +414,7 @@ impl<T: Kind> PassOf<T> {
     /// ```
     #[inline]
     pub fn balance(&self) -> i64 {
-        // SAFETY: as for `has`.
+        // SAFETY: as for `has_within`.
         unsafe { T::BALANCE(self.raw()) }
     }
 
@@ -438,7 +438,7 @@ impl<T: Kind> PassOf<T> {
     /// [`Refusal::OutOfSteps`]: crate::Refusal::OutOfSteps
     #[inline]
     pub fn spare(&mut self) -> u32 {
-        // SAFETY: as for `has`.
+        // SAFETY: as for `has_within`.
         unsafe { T::SPARE(self.raw()) }
     }
 
@@ -462,7 +462,7 @@ impl<T: Kind> PassOf<T> {
     /// ```
     #[inline]
     pub fn reserve(&mut self, wanted: u32) -> u32 {
-        // SAFETY: as for `has`.
+        // SAFETY: as for `has_within`.
         unsafe { T::RESERVE(self.raw(), wanted) }
     }
 }

@@ -361,7 +361,6 @@ impl<T: Kind> Table<T> {
     /// # Errors
     ///
     /// [`CloseError::Memory`], with the set as it was, which lends all its handles again; and [`CloseError::Lost`].
-    #[allow(clippy::result_large_err, reason = "the set comes back within the error, where there is no memory for a box")]
     pub fn close(mut self) -> Result<T::Report, CloseError<Table<T>>> {
         self.lender.close().map_err(|why| match why {
             Unreported::Memory => CloseError::Memory(Unclosed(self)),

@@ -1,6 +1,6 @@
 //! All handles of a set or a map at once: their balances, their report and their renewal, and each refusal.
 #![allow(clippy::cast_possible_truncation, reason = "the numbers are small")]
-use vbr::{Handle, Map, MapHandle, RenewError, ReportError, Set, Shape, ShapeError, Steps};
+use vbr::{Handle, Map, MapHandle, RenewError, ReportError, Set, Shape, ShapeError, Steps, MAX_SLOTS};
 
 #[test]
 fn a_set_is_reported_and_renewed() {
@@ -72,4 +72,11 @@ fn a_thousand_handles() {
     let mut maps = Map::handles_with(shape.with_handles(65), &[(5, 50)]).expect("a map");
     assert_eq!(maps[64].put(5, 51), Ok(Some(50)));
     assert_eq!(MapHandle::report_all(&mut maps).expect("a report").entries, [(5, 51)]);
+}
+
+/// As many slots as there may be, of which its handle may keep 64.
+#[test]
+fn the_largest_set() {
+    let mut handle = Set::handles(Shape::for_keys(MAX_SLOTS, 1)).expect("a set").remove(0);
+    assert_eq!((handle.slots(), handle.insert(5_u64), handle.has(5)), (MAX_SLOTS, Ok(true), Ok(true)));
 }

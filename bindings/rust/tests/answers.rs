@@ -47,8 +47,6 @@ fn shapes() {
         assert_eq!(Shape::for_keys(keys, 1), Shape::new(MAX_SLOTS, MAX_BUCKETS, MAX_EPOCH));
     }
     assert_eq!(Shape::for_keys(MAX_SLOTS + 1, 1).check(), Err(ShapeError::Slots(MAX_SLOTS + 1 + 64)));
-    let largest = Set::handles(Shape::for_keys(MAX_SLOTS, 1)).expect("a set").remove(0);
-    assert_eq!(largest.has(5_u64), Ok(false));
 }
 
 fn openings<K: Both>() {

@@ -2,6 +2,7 @@
 use std::collections::HashSet;
 use std::fmt::Debug;
 use std::num::{NonZeroI32, NonZeroU64, NonZeroU8};
+use std::panic::{catch_unwind, AssertUnwindSafe};
 use std::thread;
 use vbr::{Bits, ByBits, Compared, Map, MapHandle, OpenError, Set, Shape};
 
@@ -133,4 +134,36 @@ fn reports_of_any_layout() {
     told::<u64, u64>(&[]);
     let keys = Set::open_with(Shape::for_keys(8, 1), &[false, true]).expect("a set").close().expect("a report");
     assert!(keys.iter().eq(&[false, true]) && (&keys).into_iter().eq(&[false, true]) && keys.into_iter().eq([false, true]));
+}
+
+/// One whose bits are given back by a panic: it is not the crate's fault, and nothing is freed twice or kept.
+#[derive(Clone, Copy, Debug, PartialEq, Eq)]
+struct Broken;
+
+impl Bits for Broken {
+    fn to_bits(self) -> u64 {
+        5
+    }
+
+    fn from_bits(_: u64) -> Broken {
+        panic!("a type that is wrong")
+    }
+}
+
+#[test]
+fn a_type_that_panics() {
+    fn panics<R>(call: impl FnOnce() -> R) {
+        assert!(catch_unwind(AssertUnwindSafe(call)).is_err());
+    }
+    let shape = Shape::for_keys(8, 2);
+    let set = Set::open(shape).expect("a set");
+    assert_eq!(set.lend_wait().insert(Broken), Ok(true));
+    panics(|| set.lend_wait().iter().count());
+    assert_eq!(set.lend_wait().has(Broken), Ok(true));
+    panics(|| set.close());
+    let mut handles: Vec<MapHandle<u64, Broken>> = Map::handles_with(shape, &[(5, Broken)]).expect("a map");
+    panics(|| MapHandle::report_all(&mut handles));
+    panics(|| handles[1].get(5));
+    assert_eq!((handles[0].has(5), handles[1].try_insert(6, Broken)), (Ok(true), Ok(true)));
+    panics(|| handles.into_iter().map(MapHandle::close).count());
 }
