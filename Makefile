@@ -1,7 +1,9 @@
 # The commands of this repository; `make` alone lists them, and what this machine lacks for them.
 RT ?= rt
 PREFIX ?= /usr/local
+LIBDIR ?= $(PREFIX)/lib
 TO := $(DESTDIR)$(PREFIX)
+LIB := $(DESTDIR)$(LIBDIR)
 PROGRAM := target/vbr_run
 LIBRARY := target/libvbr.a
 HEADER := bindings/include/vbr.h
@@ -19,7 +21,7 @@ PREBUILT ?=
 export RT
 
 .DEFAULT_GOAL := help
-.PHONY: help run build lib both install install-lib copy-lib man docs prebuilt prebuilt-check check test gate docs-check clients faults soak fuzz bench plot compare clean
+.PHONY: help run build lib both install install-lib copy-lib uninstall man docs prebuilt prebuilt-check check test gate docs-check clients faults soak fuzz bench plot compare clean
 
 help:
 	@echo 'make run                 play a script with three workers (before its proof; about a minute)'
@@ -27,7 +29,9 @@ help:
 	@echo 'make build               prove and build the program: $(PROGRAM)'
 	@echo 'make install-lib         the library with headers, pages, and what pkg-config and CMake need, below PREFIX=DIR (default: $(PREFIX))'
 	@echo 'make install             the same, and the program'
+	@echo '    LIBDIR=DIR           with either: the libraries go there (default: $(LIBDIR))'
 	@echo '    PREBUILT=1           with either: take the files of prebuilt/, and prove nothing'
+	@echo 'make uninstall           take away what these put below PREFIX and LIBDIR'
 	@echo 'make test                prove what library and program stand on, run all tests, clients, refused memory, kept inputs'
 	@echo 'make check               for daily work: what has changed, the tests, the programs, edits of changed crates'
 	@echo 'make gate                the whole: every proof from nothing, those of tests too, edits that must be refused, the second compiler'
@@ -102,21 +106,33 @@ install-lib: $(PROVED)
 # What is built already is put into place, and nothing is proved.
 copy-lib: man
 	@tools/package $(FROM)/libvbr.a
-	@install -d $(foreach it,include lib/pkgconfig lib/cmake/vbr share/man/man3,'$(TO)/$(it)')
-	@install -m 644 $(FROM)/libvbr.a '$(TO)/lib/libvbr.a'
-	@if [ -e target/$(SHARED) ]; then install -m 755 target/$(SHARED) '$(TO)/lib/$(SHARED)' && \
-	    ln -sf $(SHARED) '$(TO)/lib/libvbr.so.$(RELEASE)' && ln -sf libvbr.so.$(RELEASE) '$(TO)/lib/libvbr.so'; fi
+	@install -d '$(LIB)/pkgconfig' '$(LIB)/cmake/vbr' '$(TO)/include' '$(TO)/share/man/man3'
+	@install -m 644 $(FROM)/libvbr.a '$(LIB)/libvbr.a'
+	@if [ -e target/$(SHARED) ]; then install -m 755 target/$(SHARED) '$(LIB)/$(SHARED)' && \
+	    ln -sf $(SHARED) '$(LIB)/libvbr.so.$(RELEASE)' && ln -sf libvbr.so.$(RELEASE) '$(LIB)/libvbr.so'; fi
 	@install -m 644 bindings/include/* '$(TO)/include'
 	@install -m 644 target/man/man3/* '$(TO)/share/man/man3'
-	@sed 's|@PREFIX@|$(abspath $(PREFIX))|' bindings/vbr.pc.in > '$(TO)/lib/pkgconfig/vbr.pc'
-	@for it in vbrConfig vbrConfigVersion; do sed 's|@VERSION@|$(VERSION)|g; s|@RELEASE@|$(RELEASE)|g' bindings/cmake/$$it.cmake.in > '$(TO)/lib/cmake/vbr/'$$it.cmake; done
-	@echo 'installed in $(TO): the library in lib, headers in include, pages in share/man'
+	@for it in vbr:-lvbr vbr-static:-l:libvbr.a; do \
+	    sed "s|@PREFIX@|$(abspath $(PREFIX))|; s|@LIBDIR@|$(patsubst $(abspath $(PREFIX))/%,\$${prefix}/%,$(abspath $(LIBDIR)))|; s|@NAME@|$${it%%:*}|; s|@LINKS@|$${it#*:}|" \
+	    bindings/vbr.pc.in > '$(LIB)/pkgconfig/'$${it%%:*}.pc; done
+	@headers=$$(realpath -m --relative-to='$(LIBDIR)/cmake/vbr' '$(PREFIX)/include'); for it in vbrConfig vbrConfigVersion; do \
+	    sed "s|@VERSION@|$(VERSION)|g; s|@RELEASE@|$(RELEASE)|g; s|@HEADERS@|$$headers|" bindings/cmake/$$it.cmake.in > '$(LIB)/cmake/vbr/'$$it.cmake; done
+	@echo 'installed: the library in $(LIB), headers in $(TO)/include, pages in $(TO)/share/man'
 
 install: install-lib
 	@install -d '$(TO)/bin' '$(TO)/share/man/man1'
 	@install -m 755 $(FROM)/vbr_run '$(TO)/bin/vbr_run'
 	@install -m 644 target/man/man1/vbr_run.1 '$(TO)/share/man/man1'
 	@echo 'installed in $(TO): bin/vbr_run'
+
+# What install and install-lib put into place, by this version.
+uninstall: man
+	@rm -f '$(LIB)/libvbr.a' '$(LIB)/$(SHARED)' '$(LIB)/libvbr.so.$(RELEASE)' '$(LIB)/libvbr.so' '$(LIB)/pkgconfig/vbr.pc' '$(LIB)/pkgconfig/vbr-static.pc'
+	@rm -f '$(LIB)/cmake/vbr/vbrConfig.cmake' '$(LIB)/cmake/vbr/vbrConfigVersion.cmake' '$(TO)/bin/vbr_run' '$(TO)/share/man/man1/vbr_run.1'
+	@rm -f $(patsubst bindings/include/%,'$(TO)/include/%',$(wildcard bindings/include/*))
+	@cd target/man/man3 && for it in *; do rm -f '$(TO)/share/man/man3/'"$$it"; done
+	@[ ! -d '$(LIB)/cmake/vbr' ] || rmdir --ignore-fail-on-non-empty '$(LIB)/cmake/vbr'
+	@echo 'taken away from $(TO) and $(LIB): the library, its headers and pages, and bin/vbr_run'
 
 man:
 	@tools/needs man

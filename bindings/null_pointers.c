@@ -1,12 +1,12 @@
 /* Null pointers. Where a program gives a handle up: vbr_close answers as of an empty handle, and vbr_drop does nothing, as free
    does; vbr_map_close and vbr_map_drop are the same for the handle of a map. And where a call on a map would tell what was there,
-   and nobody asks. And where no key is looked up, keys and answers may be null. The proved exports are of a pointer that is there;
-   in the archive they have the names close_handle, drop_handle, map_close_handle, map_drop_handle, map_replace_found and so on,
-   and these stand before them. So do those of look-ups of several keys, has_all_keys, map_has_all_keys and map_get_all_keys,
-   which are told how many the answers are: they are as many as the keys.
+   or which value a key has, and nobody asks. And where no key is looked up, keys and answers may be null. The proved exports are of a
+   pointer that is there; in the archive they have the names close_handle, drop_handle, map_close_handle, map_drop_handle,
+   map_get_found, map_replace_found and so on, and these stand before them. So do those of look-ups of several keys, has_all_keys,
+   map_has_all_keys and map_get_all_keys, which are told how many the answers are: they are as many as the keys.
 
    It includes nothing, so that the kit's compiler makes the same bytes of it on every machine. */
-enum { VBR_EMPTY = -4 }; /* of vbr.h */
+enum { VBR_NO_HANDLE = -4 }; /* of vbr.h */
 
 typedef unsigned long word;
 
@@ -18,26 +18,30 @@ int map_close_handle(void *handle, void *entries, word room, void *report);
 int vbr_map_close(void *handle, void *entries, word room, void *report);
 void map_drop_handle(void *handle);
 void vbr_map_drop(void *handle);
-int map_replace_found(void *handle, word key, word value, word *found, unsigned budget);
-int vbr_map_replace(void *handle, word key, word value, word *found, unsigned budget);
-int map_put_found(void *handle, word key, word value, word *found, unsigned budget);
-int vbr_map_put(void *handle, word key, word value, word *found, unsigned budget);
-int map_get_or_insert_found(void *handle, word key, word value, word *found, unsigned budget);
-int vbr_map_get_or_insert(void *handle, word key, word value, word *found, unsigned budget);
-int map_compare_exchange_found(void *handle, word key, word expected, word value, word *found, unsigned budget);
-int vbr_map_compare_exchange(void *handle, word key, word expected, word value, word *found, unsigned budget);
-int map_remove_if_found(void *handle, word key, word expected, word *found, unsigned budget);
-int vbr_map_remove_if(void *handle, word key, word expected, word *found, unsigned budget);
-void has_all_keys(void *handle, const word *keys, word count, int *answers, word answer_count, unsigned budget);
-void vbr_has_all(void *handle, const word *keys, word count, int *answers, unsigned budget);
-void map_has_all_keys(void *handle, const word *keys, word count, int *answers, word answer_count, unsigned budget);
-void vbr_map_has_all(void *handle, const word *keys, word count, int *answers, unsigned budget);
-void map_get_all_keys(void *handle, const word *keys, word count, void *found, word found_count, unsigned budget);
-void vbr_map_get_all(void *handle, const word *keys, word count, void *found, unsigned budget);
+int map_get_found(void *handle, word key, word *value, unsigned steps);
+int vbr_map_get_within(void *handle, word key, word *value, unsigned steps);
+int map_remove_found(void *handle, word key, word *value, unsigned steps);
+int vbr_map_remove_within(void *handle, word key, word *value, unsigned steps);
+int map_replace_found(void *handle, word key, word value, word *found, unsigned steps);
+int vbr_map_replace_within(void *handle, word key, word value, word *found, unsigned steps);
+int map_put_found(void *handle, word key, word value, word *found, unsigned steps);
+int vbr_map_put_within(void *handle, word key, word value, word *found, unsigned steps);
+int map_get_or_insert_found(void *handle, word key, word value, word *found, unsigned steps);
+int vbr_map_get_or_insert_within(void *handle, word key, word value, word *found, unsigned steps);
+int map_compare_exchange_found(void *handle, word key, word expected, word value, word *found, unsigned steps);
+int vbr_map_compare_exchange_within(void *handle, word key, word expected, word value, word *found, unsigned steps);
+int map_remove_if_found(void *handle, word key, word expected, word *found, unsigned steps);
+int vbr_map_remove_if_within(void *handle, word key, word expected, word *found, unsigned steps);
+void has_all_keys(void *handle, const word *keys, word count, int *answers, word answer_count, unsigned steps);
+void vbr_has_all_within(void *handle, const word *keys, word count, int *answers, unsigned steps);
+void map_has_all_keys(void *handle, const word *keys, word count, int *answers, word answer_count, unsigned steps);
+void vbr_map_has_all_within(void *handle, const word *keys, word count, int *answers, unsigned steps);
+void map_get_all_keys(void *handle, const word *keys, word count, void *found, word found_count, unsigned steps);
+void vbr_map_get_all_within(void *handle, const word *keys, word count, void *found, unsigned steps);
 
 int vbr_close(void *handle, void *keys, word room, void *report)
 {
-    return handle ? close_handle(handle, keys, room, report) : VBR_EMPTY;
+    return handle ? close_handle(handle, keys, room, report) : VBR_NO_HANDLE;
 }
 
 void vbr_drop(void *handle)
@@ -47,7 +51,7 @@ void vbr_drop(void *handle)
 
 int vbr_map_close(void *handle, void *entries, word room, void *report)
 {
-    return handle ? map_close_handle(handle, entries, room, report) : VBR_EMPTY;
+    return handle ? map_close_handle(handle, entries, room, report) : VBR_NO_HANDLE;
 }
 
 void vbr_map_drop(void *handle)
@@ -55,42 +59,54 @@ void vbr_map_drop(void *handle)
     if (handle) map_drop_handle(handle);
 }
 
-int vbr_map_replace(void *handle, word key, word value, word *found, unsigned budget)
+int vbr_map_get_within(void *handle, word key, word *value, unsigned steps)
 {
-    return map_replace_found(handle, key, value, found ? found : &(word){0}, budget);
+    if (value) return map_get_found(handle, key, value, steps);
+    return map_get_found(handle, key, &(word){0}, steps);
 }
 
-int vbr_map_put(void *handle, word key, word value, word *found, unsigned budget)
+int vbr_map_remove_within(void *handle, word key, word *value, unsigned steps)
 {
-    return map_put_found(handle, key, value, found ? found : &(word){0}, budget);
+    if (value) return map_remove_found(handle, key, value, steps);
+    return map_remove_found(handle, key, &(word){0}, steps);
 }
 
-int vbr_map_get_or_insert(void *handle, word key, word value, word *found, unsigned budget)
+int vbr_map_replace_within(void *handle, word key, word value, word *found, unsigned steps)
 {
-    return map_get_or_insert_found(handle, key, value, found ? found : &(word){0}, budget);
+    return map_replace_found(handle, key, value, found ? found : &(word){0}, steps);
 }
 
-int vbr_map_compare_exchange(void *handle, word key, word expected, word value, word *found, unsigned budget)
+int vbr_map_put_within(void *handle, word key, word value, word *found, unsigned steps)
 {
-    return map_compare_exchange_found(handle, key, expected, value, found ? found : &(word){0}, budget);
+    return map_put_found(handle, key, value, found ? found : &(word){0}, steps);
 }
 
-int vbr_map_remove_if(void *handle, word key, word expected, word *found, unsigned budget)
+int vbr_map_get_or_insert_within(void *handle, word key, word value, word *found, unsigned steps)
 {
-    return map_remove_if_found(handle, key, expected, found ? found : &(word){0}, budget);
+    return map_get_or_insert_found(handle, key, value, found ? found : &(word){0}, steps);
 }
 
-void vbr_has_all(void *handle, const word *keys, word count, int *answers, unsigned budget)
+int vbr_map_compare_exchange_within(void *handle, word key, word expected, word value, word *found, unsigned steps)
 {
-    if (count) has_all_keys(handle, keys, count, answers, count, budget);
+    return map_compare_exchange_found(handle, key, expected, value, found ? found : &(word){0}, steps);
 }
 
-void vbr_map_has_all(void *handle, const word *keys, word count, int *answers, unsigned budget)
+int vbr_map_remove_if_within(void *handle, word key, word expected, word *found, unsigned steps)
 {
-    if (count) map_has_all_keys(handle, keys, count, answers, count, budget);
+    return map_remove_if_found(handle, key, expected, found ? found : &(word){0}, steps);
 }
 
-void vbr_map_get_all(void *handle, const word *keys, word count, void *found, unsigned budget)
+void vbr_has_all_within(void *handle, const word *keys, word count, int *answers, unsigned steps)
 {
-    if (count) map_get_all_keys(handle, keys, count, found, count, budget);
+    if (count) has_all_keys(handle, keys, count, answers, count, steps);
+}
+
+void vbr_map_has_all_within(void *handle, const word *keys, word count, int *answers, unsigned steps)
+{
+    if (count) map_has_all_keys(handle, keys, count, answers, count, steps);
+}
+
+void vbr_map_get_all_within(void *handle, const word *keys, word count, void *found, unsigned steps)
+{
+    if (count) map_get_all_keys(handle, keys, count, found, count, steps);
 }

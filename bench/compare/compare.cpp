@@ -11,6 +11,12 @@ namespace {
 
 using Count = unsigned long long;
 
+// Look-ups, inserts and removes of 100 calls, and replacements where there are any.
+std::string mix_of(const Workload &w) {
+    return std::to_string(w.has) + "/" + std::to_string(w.insert) + "/" + std::to_string(w.remove) +
+           (w.replace ? "/" + std::to_string(w.replace) : "");
+}
+
 struct Options {
     bool maps = false; // in place of sets
     bool only_checks = false;
@@ -20,6 +26,13 @@ struct Options {
     uint64_t fill = 1000000; // keys; 0: no fill
     uint64_t walk = 1000000; // keys; 0: no walks
     std::vector<uint64_t> ranges{100, 10000, 100000, 1000000};
+    std::vector<std::string> peers, mixes; // these alone; all where none is named
+
+    static bool has(const std::vector<std::string> &names, const std::string &name) {
+        return names.empty() || std::find(names.begin(), names.end(), name) != names.end();
+    }
+    bool wants(const Peer &peer) const { return has(peers, peer.name); }
+    bool wants(const Workload &workload) const { return has(mixes, mix_of(workload)); }
 };
 
 // What is measured of one peer, and the runs that count.
@@ -38,8 +51,7 @@ struct Cell {
         if (walk) return "walk=" + std::to_string(w.range) + walk->by;
         if (w.is_fill()) return "fill=" + std::to_string(w.range);
         if (single) return "range=" + std::to_string(w.range) + " calls=" + single->calls;
-        return "range=" + std::to_string(w.range) + " mix=" + std::to_string(w.has) + "/" + std::to_string(w.insert) + "/" +
-               std::to_string(w.remove) + (w.replace ? "/" + std::to_string(w.replace) : "");
+        return "range=" + std::to_string(w.range) + " mix=" + mix_of(w);
     }
     uint64_t possible(uint64_t operations) const {
         if (walk) return Walk::possible(operations, workload.range);
@@ -146,6 +158,7 @@ uint64_t fitting_operations(Cell &cell, uint64_t milliseconds) {
 void add_singles(std::vector<Cell> &cells, const Options &options) {
     for (uint64_t range : options.ranges)
         for (const Single &it : singles()) {
+            if (!options.wants(it.peer)) continue;
             uint64_t operations = it.possible(options.operations, range);
             cells.push_back({&it.peer, {range, it.has, it.insert, it.remove, 1, operations, 0, it.replace}, {}, 0, 0, &it});
         }
@@ -156,7 +169,7 @@ void add_walks(std::vector<Cell> &cells, const Options &options) {
     if (options.walk == 0) return;
     uint64_t keys = Walk::possible(options.operations, options.walk);
     for (const Walk &it : options.maps ? map_walks() : walks())
-        cells.push_back({&it.peer, {options.walk, 0, 0, 0, 1, keys, 0}, {}, 0, 0, nullptr, &it});
+        if (options.wants(it.peer)) cells.push_back({&it.peer, {options.walk, 0, 0, 0, 1, keys, 0}, {}, 0, 0, nullptr, &it});
 }
 
 std::vector<Peer> &peers_of(const Options &options) { return options.maps ? map_peers() : peers(); }
@@ -172,9 +185,11 @@ std::vector<Cell> cells(const Options &options) {
         for (auto [has, insert, remove, replace] : mixes)
             for (unsigned threads : {1u, 2u, 4u}) {
                 Workload workload{range, has, insert, remove, threads, options.operations * threads, 0, replace};
-                for (const Peer &peer : peers_of(options)) cells.push_back({&peer, workload, {}});
+                if (!options.wants(workload)) continue;
+                for (const Peer &peer : peers_of(options))
+                    if (options.wants(peer)) cells.push_back({&peer, workload, {}});
                 for (const Peer &peer : batches_of(options))
-                    if (has == 100) cells.push_back({&peer, workload, {}});
+                    if (has == 100 && options.wants(peer)) cells.push_back({&peer, workload, {}});
             }
     if (options.maps) add_singles(cells, options);
     add_walks(cells, options);
@@ -183,7 +198,7 @@ std::vector<Cell> cells(const Options &options) {
         if (options.operations == 0) cell.workload.operations = fitting_operations(cell, options.milliseconds);
     for (unsigned threads : {1u, 2u, 4u})
         for (const Peer &peer : peers_of(options))
-            if (options.fill) cells.push_back({&peer, {options.fill, 0, 0, 0, threads, options.fill, 0}, {}});
+            if (options.fill && options.wants(peer)) cells.push_back({&peer, {options.fill, 0, 0, 0, threads, options.fill, 0}, {}});
     return cells;
 }
 
@@ -278,8 +293,8 @@ void warn(const std::vector<Cell> &cells) {
 }
 
 [[noreturn]] void usage() {
-    std::fputs("usage: compare [--sets | --maps] [--short] [--ranges N,N] [--fill N] [--walk N] [--repeats N] [--again N]\n"
-               "               [--milliseconds N] [--operations N] [--log FILE] [--check]\n", stderr);
+    std::fputs("usage: compare [--sets | --maps] [--short] [--peers NAME,NAME] [--mixes MIX,MIX] [--ranges N,N] [--fill N]\n"
+               "               [--walk N] [--repeats N] [--again N] [--milliseconds N] [--operations N] [--log FILE] [--check]\n", stderr);
     std::exit(2);
 }
 
@@ -290,12 +305,19 @@ uint64_t number(const char *word, uint64_t least) {
     return number;
 }
 
-std::vector<uint64_t> numbers(const std::string &words) {
-    std::vector<uint64_t> numbers;
+// The words between commas.
+std::vector<std::string> names(const std::string &words) {
+    std::vector<std::string> names;
     for (size_t at = 0, end = 0; end != std::string::npos; at = end + 1) {
         end = words.find(',', at);
-        numbers.push_back(number(words.substr(at, end - at).c_str(), 1));
+        names.push_back(words.substr(at, end - at));
     }
+    return names;
+}
+
+std::vector<uint64_t> numbers(const std::string &words) {
+    std::vector<uint64_t> numbers;
+    for (const std::string &word : names(words)) numbers.push_back(number(word.c_str(), 1));
     return numbers;
 }
 
@@ -311,6 +333,8 @@ Options read(int count, char **words) {
             options.maps = word == "--maps";
         } else if (word == "--check") options.only_checks = true;
         else if (word == "--short") options.ranges = {100, 10000}, options.fill = 0, options.walk = 10000, options.repeats = 3;
+        else if (word == "--peers") options.peers = names(value());
+        else if (word == "--mixes") options.mixes = names(value());
         else if (word == "--ranges") options.ranges = numbers(value());
         else if (word == "--fill") options.fill = number(value(), 0);
         else if (word == "--walk") options.walk = number(value(), 0);
@@ -330,8 +354,10 @@ int main(int count, char **words) {
     Options options = read(count, words);
     std::vector<Peer> &all = peers_of(options);
     std::sort(all.begin(), all.end(), [](const Peer &a, const Peer &b) { return a.name < b.name; });
-    for (const Peer &peer : all) check(peer);
-    for (const Peer &peer : batches_of(options)) check(peer, {1000, 100, 0, 0, 4, 800000, 1});
+    for (const Peer &peer : all)
+        if (options.wants(peer)) check(peer);
+    for (const Peer &peer : batches_of(options))
+        if (options.wants(peer)) check(peer, {1000, 100, 0, 0, 4, 800000, 1});
     if (options.maps) check_singles();
     check_walks(options);
     if (options.only_checks) return 0;

@@ -53,15 +53,15 @@ struct Set {
 
     Set(uint32_t slots, uint32_t buckets, uint64_t last_epoch) {
         static constexpr uint64_t none = 0;
-        if (vbr_open_seeded(handles, 2, slots, buckets, last_epoch, 0, &none, 0) != VBR_NO) std::abort();
+        if (vbr_open_seeded(handles, 2, slots, buckets, last_epoch, 0, &none, 0) != VBR_OK) std::abort();
     }
     ~Set() {
         for (vbr_handle &handle : handles) vbr_drop(&handle);
     }
-    int insert(int by, uint64_t key, uint64_t, uint32_t budget) { return vbr_insert(&handles[by], key, budget); }
-    int remove(int by, uint64_t key, uint32_t budget, uint64_t &) { return vbr_remove(&handles[by], key, budget); }
+    int insert(int by, uint64_t key, uint64_t, uint32_t budget) { return vbr_insert_within(&handles[by], key, budget); }
+    int remove(int by, uint64_t key, uint32_t budget, uint64_t &) { return vbr_remove_within(&handles[by], key, budget); }
     int get(int by, uint64_t key, uint32_t budget, uint64_t &) { return has(by, key, budget); }
-    int has(int by, uint64_t key, uint32_t budget) { return vbr_has(&handles[by], key, budget); }
+    int has(int by, uint64_t key, uint32_t budget) { return vbr_has_within(&handles[by], key, budget); }
     uint64_t epoch(int by) { return vbr_epoch(&handles[by]); }
 };
 
@@ -72,29 +72,29 @@ struct Map {
 
     Map(uint32_t slots, uint32_t buckets, uint64_t last_epoch) {
         static constexpr vbr_entry none = {0, 0};
-        if (vbr_map_open_seeded(handles, 2, slots, buckets, last_epoch, 0, &none, 0) != VBR_NO) std::abort();
+        if (vbr_map_open_seeded(handles, 2, slots, buckets, last_epoch, 0, &none, 0) != VBR_OK) std::abort();
     }
     ~Map() {
         for (vbr_map_handle &handle : handles) vbr_map_drop(&handle);
     }
-    int insert(int by, uint64_t key, uint64_t value, uint32_t budget) { return vbr_map_insert(&handles[by], key, value, budget); }
-    int remove(int by, uint64_t key, uint32_t budget, uint64_t &value) { return vbr_map_remove(&handles[by], key, budget, &value); }
-    int get(int by, uint64_t key, uint32_t budget, uint64_t &value) { return vbr_map_get(&handles[by], key, budget, &value); }
-    int has(int by, uint64_t key, uint32_t budget) { return vbr_map_has(&handles[by], key, budget); }
+    int insert(int by, uint64_t key, uint64_t value, uint32_t budget) { return vbr_map_insert_within(&handles[by], key, value, budget); }
+    int remove(int by, uint64_t key, uint32_t budget, uint64_t &value) { return vbr_map_remove_within(&handles[by], key, &value, budget); }
+    int get(int by, uint64_t key, uint32_t budget, uint64_t &value) { return vbr_map_get_within(&handles[by], key, &value, budget); }
+    int has(int by, uint64_t key, uint32_t budget) { return vbr_map_has_within(&handles[by], key, budget); }
     int replace(int by, uint64_t key, uint64_t value, uint32_t budget, uint64_t &old) {
-        return vbr_map_replace(&handles[by], key, value, &old, budget);
+        return vbr_map_replace_within(&handles[by], key, value, &old, budget);
     }
     int put(int by, uint64_t key, uint64_t value, uint32_t budget, uint64_t &old) {
-        return vbr_map_put(&handles[by], key, value, &old, budget);
+        return vbr_map_put_within(&handles[by], key, value, &old, budget);
     }
     int get_or_insert(int by, uint64_t key, uint64_t value, uint32_t budget, uint64_t &old) {
-        return vbr_map_get_or_insert(&handles[by], key, value, &old, budget);
+        return vbr_map_get_or_insert_within(&handles[by], key, value, &old, budget);
     }
     int compare_exchange(int by, uint64_t key, uint64_t expected, uint64_t value, uint32_t budget, uint64_t &old) {
-        return vbr_map_compare_exchange(&handles[by], key, expected, value, &old, budget);
+        return vbr_map_compare_exchange_within(&handles[by], key, expected, value, &old, budget);
     }
     int remove_if(int by, uint64_t key, uint64_t expected, uint32_t budget, uint64_t &old) {
-        return vbr_map_remove_if(&handles[by], key, expected, &old, budget);
+        return vbr_map_remove_if_within(&handles[by], key, expected, &old, budget);
     }
     uint64_t epoch(int by) { return vbr_map_epoch(&handles[by]); }
 };

@@ -14,7 +14,7 @@
 
 #define CHECK(x) do { if (!(x)) { fprintf(stderr, "advances.c:%d: %s\n", __LINE__, #x); exit(1); } } while (0)
 
-enum { MAX_THREADS = 4, MOST = 1024, BUDGET = 1 << 20 };
+enum { MAX_THREADS = 4, MOST = 1024 };
 
 struct worker {
     vbr_handle handle;
@@ -44,12 +44,12 @@ static void *keep_newest(void *of) {
     uint32_t from = 0, filled = 0;
     while (w->inserts < w->wanted) {
         uint64_t key = next_key(w);
-        if (vbr_has(&w->handle, key, BUDGET) == VBR_YES) continue;
+        if (vbr_has(&w->handle, key) == VBR_YES) continue;
         for (uint32_t out = filled == w->kept ? w->batch : 0; out > 0; out--, filled--) {
-            CHECK(vbr_remove(&w->handle, w->oldest[from], BUDGET) >= 0);
+            CHECK(vbr_remove(&w->handle, w->oldest[from]) >= 0);
             from = (from + 1) % w->kept;
         }
-        count(w, vbr_insert(&w->handle, key, BUDGET));
+        count(w, vbr_insert(&w->handle, key));
         w->oldest[(from + filled++) % w->kept] = key;
         if (filled == w->kept && w->reserve > 0) {
             vbr_reserve(&w->handle, w->reserve);
@@ -63,8 +63,8 @@ static void *mix(void *of) {
     struct worker *w = of;
     while (w->inserts < w->wanted) {
         uint64_t key = next_key(w);
-        if (w->random >> 20 & 1) count(w, vbr_insert(&w->handle, key, BUDGET));
-        else CHECK(vbr_remove(&w->handle, key, BUDGET) >= 0);
+        if (w->random >> 20 & 1) count(w, vbr_insert(&w->handle, key));
+        else CHECK(vbr_remove(&w->handle, key) >= 0);
     }
     return NULL;
 }
@@ -74,10 +74,10 @@ static double share(const char *what, int threads, uint32_t kept, uint32_t batch
     vbr_handle handles[MAX_THREADS] = {{0}};
     pthread_t ids[MAX_THREADS];
     uint64_t none[1] = {0};
-    vbr_totals report = {0};
+    vbr_report report = {0};
     long made = 0;
     uint32_t keys = 4 * kept * (uint32_t)threads;
-    CHECK(vbr_open(handles, (size_t)threads, keys + 64 * (uint32_t)threads, 4096, VBR_MAX_EPOCH) == VBR_NO);
+    CHECK(vbr_open(handles, (size_t)threads, keys + 64 * (uint32_t)threads, 4096, VBR_MAX_EPOCH) == VBR_OK);
     for (int i = 0; i < threads; i++) {
         workers[i] = (struct worker){.handle = handles[i], .random = 88172645463325252u + (uint64_t)i, .kept = kept,
                                      .batch = batch, .keys = keys, .reserve = reserve, .wanted = inserts / threads};

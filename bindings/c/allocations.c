@@ -43,7 +43,7 @@ static int keyed;   /* whether the set is opened with its keys */
 static int at_once; /* whether it is closed by all its handles at once */
 static long failed_opens, failed_closes, failed_renewals;
 
-static int32_t close_rest(vbr_handle *handle, uint64_t *keys, vbr_totals *report) {
+static int32_t close_rest(vbr_handle *handle, uint64_t *keys, vbr_report *report) {
     return at_once ? vbr_close_all(handle, 3, keys, 8, report) : vbr_close(&handle[1], keys, 8, report);
 }
 
@@ -53,28 +53,28 @@ static int walked(vbr_handle *handle) {
     uint64_t key = 0;
     int count = 0;
     vbr_answer told;
-    while ((told = vbr_next(handle, &cursor, 1000, &key)) == VBR_YES) count++;
+    while ((told = vbr_next(handle, &cursor, &key)) == VBR_YES) count++;
     return told == VBR_NO ? count : -1;
 }
 
 /* A set is opened, used and closed while the nth allocation is refused. 1: none was, 0: one was. */
 static int round_with(long n, int *done) {
     vbr_handle handle[3] = {{0}};
-    vbr_totals report = {0, 0, 0, 0};
+    vbr_report report = {0, 0, 0, 0};
     static const uint64_t opening[2] = {6, 7};
     uint64_t keys[8] = {0};
     *done = 0;
     allowed = n;
     int32_t code = keyed ? vbr_open_with(handle, 3, 8, 2, 100, opening, 2) : vbr_open(handle, 3, 8, 2, 100);
-    if (code != VBR_NO) {
+    if (code != VBR_OK) {
         allowed = -1;
         CHECK(code == VBR_NO_MEMORY && blocks == 0);
-        for (int i = 0; i < 3; i++) CHECK(vbr_has(&handle[i], 7, 1000) == VBR_EMPTY);
+        for (int i = 0; i < 3; i++) CHECK(vbr_has(&handle[i], 7) == VBR_NO_HANDLE);
         failed_opens++;
         return 0;
     }
     int32_t added = keyed ? VBR_NO : VBR_YES;
-    CHECK(vbr_insert(&handle[1], 7, 1000) == added && vbr_insert(&handle[0], 6, 1000) == added);
+    CHECK(vbr_insert(&handle[1], 7) == added && vbr_insert(&handle[0], 6) == added);
     if (!at_once) {
         CHECK(vbr_close(&handle[0], keys, 8, &report) == VBR_NO);
         vbr_drop(&handle[2]);
@@ -84,9 +84,9 @@ static int round_with(long n, int *done) {
         failed_closes++;
         CHECK(keys[0] == 0 && close_rest(handle, keys, &report) == (stays_short ? VBR_NO_MEMORY : VBR_YES));
         if (stays_short) { /* the handles are full: they make calls, and are closed once there is memory */
-            CHECK(vbr_has(&handle[1], 7, 1000) == VBR_YES && vbr_remove(&handle[1], 6, 1000) == VBR_YES);
-            CHECK(!at_once || vbr_has(&handle[0], 6, 1000) == VBR_NO);
-            CHECK(walked(&handle[1]) == 1 && vbr_insert(&handle[1], 6, 1000) == VBR_YES && walked(&handle[1]) == 2);
+            CHECK(vbr_has(&handle[1], 7) == VBR_YES && vbr_remove(&handle[1], 6) == VBR_YES);
+            CHECK(!at_once || vbr_has(&handle[0], 6) == VBR_NO);
+            CHECK(walked(&handle[1]) == 1 && vbr_insert(&handle[1], 6) == VBR_YES && walked(&handle[1]) == 2);
             allowed = -1;
             CHECK(close_rest(handle, keys, &report) == VBR_YES);
         }
@@ -96,33 +96,46 @@ static int round_with(long n, int *done) {
     }
     allowed = -1;
     CHECK(report.live == 2 && keys[0] == 6 && keys[1] == 7 && blocks == 0);
-    CHECK(vbr_has(&handle[1], 7, 1000) == VBR_EMPTY);
+    CHECK(vbr_has(&handle[1], 7) == VBR_NO_HANDLE);
     return 0;
 }
 
 /* A set of two keys is reported and renewed by all its handles while the nth allocation is refused; they go on. */
 static int renewed_with(long n, int *done) {
     vbr_handle handle[2] = {{0}};
-    vbr_totals report = {0, 0, 0, 0};
+    vbr_report report = {0, 0, 0, 0};
     uint64_t keys[8] = {0};
-    CHECK(vbr_open(handle, 2, 8, 2, 100) == VBR_NO);
-    CHECK(vbr_insert(&handle[1], 7, 1000) == VBR_YES && vbr_insert(&handle[0], 6, 1000) == VBR_YES);
+    CHECK(vbr_open(handle, 2, 8, 2, 100) == VBR_OK);
+    CHECK(vbr_insert(&handle[1], 7) == VBR_YES && vbr_insert(&handle[0], 6) == VBR_YES);
     allowed = n;
     vbr_answer told = vbr_report_all(handle, 2, keys, 8, &report);
     CHECK(told == VBR_YES || (told == VBR_NO_MEMORY && report.live == 0 && keys[0] == 0));
     vbr_answer renewed = vbr_renew_all(handle, 2, 16, 4, 1000);
-    *done = renewed == VBR_NO && allowed >= 0;
-    CHECK(renewed == VBR_NO || (renewed == VBR_NO_MEMORY && vbr_slots(&handle[0]) == 8 && vbr_balance(&handle[1]) == 1));
-    if (told != VBR_YES || renewed != VBR_NO) failed_renewals++;
+    *done = renewed == VBR_OK && allowed >= 0;
+    CHECK(renewed == VBR_OK || (renewed == VBR_NO_MEMORY && vbr_slots(&handle[0]) == 8 && vbr_balance(&handle[1]) == 1));
+    if (told != VBR_YES || renewed != VBR_OK) failed_renewals++;
     allowed = -1;
-    CHECK(walked(&handle[0]) == 2 && vbr_remove(&handle[0], 7, 1000) == VBR_YES && vbr_insert(&handle[1], 5, 1000) == VBR_YES);
-    CHECK(vbr_balance(&handle[0]) + vbr_balance(&handle[1]) == 2 && vbr_renew_all(handle, 2, 16, 4, 1000) == VBR_NO);
-    CHECK(vbr_slots(&handle[1]) == 16 && vbr_balance(&handle[0]) == 2 && vbr_has(&handle[1], 6, 1000) == VBR_YES);
+    CHECK(walked(&handle[0]) == 2 && vbr_remove(&handle[0], 7) == VBR_YES && vbr_insert(&handle[1], 5) == VBR_YES);
+    CHECK(vbr_balance(&handle[0]) + vbr_balance(&handle[1]) == 2 && vbr_renew_all(handle, 2, 16, 4, 1000) == VBR_OK);
+    CHECK(vbr_slots(&handle[1]) == 16 && vbr_balance(&handle[0]) == 2 && vbr_has(&handle[1], 6) == VBR_YES);
     CHECK(vbr_close_all(handle, 2, keys, 8, &report) == VBR_YES && report.live == 2 && keys[0] == 5 && keys[1] == 6 && blocks == 0);
     return 0;
 }
 
+/* A set whose handles are given up asks for no memory, and frees all. */
+static int ended(void) {
+    vbr_handle handle[3] = {{0}};
+    static const uint64_t opening[2] = {6, 7};
+    CHECK(vbr_open_with(handle, 3, 8, 2, 100, opening, 2) == VBR_OK && blocks > 0);
+    allowed = 0, stays_short = 1;
+    vbr_end_all(handle, 3);
+    CHECK(allowed == 0 && blocks == 0);
+    allowed = -1;
+    return 0;
+}
+
 int main(void) {
+    if (ended()) return 1;
     for (stays_short = 0; stays_short < 2; stays_short++) {
         int done = 0;
         for (long n = 0; !done; n++)

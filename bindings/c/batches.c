@@ -6,7 +6,6 @@
 #include <stdatomic.h>
 #include <stdio.h>
 
-#define BUDGET 100000u
 #define CHECK(x) do { if (!(x)) { fprintf(stderr, "batches.c:%d: FAILED: %s\n", __LINE__, #x); return 1; } } while (0)
 
 enum { MANY = 100, THREADS = 4, RANGE = 4096, BATCHES = 20000 };
@@ -19,19 +18,19 @@ static vbr_found found[MANY];
 static int none(void) {
     vbr_handle empty = {0}, full = {0};
     vbr_map_handle empty_map = {0};
-    CHECK(vbr_open(&full, 1, 128, 16, 1000) == VBR_NO);
+    CHECK(vbr_open(&full, 1, 128, 16, 1000) == VBR_OK);
     for (int i = 0; i < 3; i++) answers[i] = VBR_YES, found[i] = (vbr_found){7, VBR_YES};
-    vbr_has_all(&full, NULL, 0, NULL, BUDGET);
-    vbr_has_all(&full, keys, 0, answers, BUDGET);
+    vbr_has_all(&full, NULL, 0, NULL);
+    vbr_has_all(&full, keys, 0, answers);
     CHECK(answers[0] == VBR_YES);
-    vbr_has_all(&empty, keys, 2, answers, BUDGET);
-    CHECK(answers[0] == VBR_EMPTY && answers[1] == VBR_EMPTY && answers[2] == VBR_YES);
-    vbr_map_has_all(&empty_map, NULL, 0, NULL, BUDGET);
-    vbr_map_has_all(&empty_map, keys, 3, answers, BUDGET);
-    CHECK(answers[2] == VBR_EMPTY);
-    vbr_map_get_all(&empty_map, NULL, 0, NULL, BUDGET);
-    vbr_map_get_all(&empty_map, keys, 2, found, BUDGET);
-    CHECK(found[0].answer == VBR_EMPTY && found[1].answer == VBR_EMPTY && found[1].value == 0 && found[2].value == 7);
+    vbr_has_all(&empty, keys, 2, answers);
+    CHECK(answers[0] == VBR_NO_HANDLE && answers[1] == VBR_NO_HANDLE && answers[2] == VBR_YES);
+    vbr_map_has_all(&empty_map, NULL, 0, NULL);
+    vbr_map_has_all(&empty_map, keys, 3, answers);
+    CHECK(answers[2] == VBR_NO_HANDLE);
+    vbr_map_get_all(&empty_map, NULL, 0, NULL);
+    vbr_map_get_all(&empty_map, keys, 2, found);
+    CHECK(found[0].answer == VBR_NO_HANDLE && found[1].answer == VBR_NO_HANDLE && found[1].value == 0 && found[2].value == 7);
     vbr_drop(&full);
     return 0;
 }
@@ -40,17 +39,17 @@ static int none(void) {
 static int odd_keys(size_t count) {
     vbr_handle set = {0};
     vbr_map_handle map = {0};
-    CHECK(vbr_open(&set, 1, 256, 64, 1000) == VBR_NO && vbr_map_open(&map, 1, 256, 64, 1000) == VBR_NO);
+    CHECK(vbr_open(&set, 1, 256, 64, 1000) == VBR_OK && vbr_map_open(&map, 1, 256, 64, 1000) == VBR_OK);
     for (size_t i = 0; i < MANY; i++) keys[i] = i, answers[i] = VBR_OTHER, found[i].answer = VBR_OTHER;
-    for (size_t i = 1; i < MANY; i += 2) CHECK(vbr_insert(&set, i, BUDGET) == VBR_YES && vbr_map_insert(&map, i, 10 * i, BUDGET) == VBR_YES);
-    vbr_has_all(&set, keys, count, answers, BUDGET);
+    for (size_t i = 1; i < MANY; i += 2) CHECK(vbr_insert(&set, i) == VBR_YES && vbr_map_insert(&map, i, 10 * i) == VBR_YES);
+    vbr_has_all(&set, keys, count, answers);
     for (size_t i = 0; i < MANY; i++) {
         CHECK(answers[i] == (i >= count ? VBR_OTHER : i % 2 ? VBR_YES : VBR_NO));
         answers[i] = VBR_OTHER;
     }
-    vbr_map_has_all(&map, keys, count, answers, BUDGET);
+    vbr_map_has_all(&map, keys, count, answers);
     for (size_t i = 0; i < MANY; i++) CHECK(answers[i] == (i >= count ? VBR_OTHER : i % 2 ? VBR_YES : VBR_NO));
-    vbr_map_get_all(&map, keys, count, found, BUDGET);
+    vbr_map_get_all(&map, keys, count, found);
     for (size_t i = 0; i < count; i++) CHECK(found[i].answer == (i % 2 ? VBR_YES : VBR_NO) && found[i].value == (i % 2 ? 10 * i : 0));
     for (size_t i = count; i < MANY; i++) CHECK(found[i].answer == VBR_OTHER);
     vbr_drop(&set);
@@ -65,12 +64,12 @@ static int refusals(void) {
     static const vbr_answer told[6] = {VBR_YES, VBR_OUT_OF_STEPS, VBR_NO, VBR_OUT_OF_STEPS, VBR_YES, VBR_YES};
     vbr_handle set = {0};
     vbr_map_handle map = {0};
-    CHECK(vbr_open(&set, 1, 128, 1, 1000) == VBR_NO && vbr_map_open(&map, 1, 128, 1, 1000) == VBR_NO);
-    for (uint64_t key = 1; key <= 3; key++) CHECK(vbr_insert(&set, key, BUDGET) == VBR_YES && vbr_map_insert(&map, key, 70 + key, BUDGET) == VBR_YES);
-    vbr_has_all(&set, asked, 6, answers, 20);
+    CHECK(vbr_open(&set, 1, 128, 1, 1000) == VBR_OK && vbr_map_open(&map, 1, 128, 1, 1000) == VBR_OK);
+    for (uint64_t key = 1; key <= 3; key++) CHECK(vbr_insert(&set, key) == VBR_YES && vbr_map_insert(&map, key, 70 + key) == VBR_YES);
+    vbr_has_all_within(&set, asked, 6, answers, 20);
     for (int i = 0; i < 6; i++) CHECK(answers[i] == told[i]);
-    vbr_map_has_all(&map, asked, 6, answers, 20);
-    vbr_map_get_all(&map, asked, 6, found, 20);
+    vbr_map_has_all_within(&map, asked, 6, answers, 20);
+    vbr_map_get_all_within(&map, asked, 6, found, 20);
     for (int i = 0; i < 6; i++) CHECK(answers[i] == told[i] && found[i].answer == told[i] && found[i].value == (told[i] == VBR_YES ? 71 : 0));
     vbr_drop(&set);
     vbr_map_drop(&map);
@@ -96,21 +95,21 @@ static int change_and_look(uint64_t who) {
         uint64_t key = THREADS * drawn(&state, RANGE / THREADS) + who;
         size_t count = (size_t)drawn(&state, MANY + 1);
         if (values[key]) {
-            CHECK(vbr_map_remove(&maps[who], key, BUDGET, &(uint64_t){0}) == VBR_YES);
+            CHECK(vbr_map_remove(&maps[who], key, &(uint64_t){0}) == VBR_YES);
             values[key] = 0;
         } else {
             values[key] = key + RANGE * (uint64_t)batch + 1;
-            CHECK(vbr_map_insert(&maps[who], key, values[key], BUDGET) == VBR_YES);
+            CHECK(vbr_map_insert(&maps[who], key, values[key]) == VBR_YES);
         }
         for (size_t i = 0; i < count; i++) mine[i] = drawn(&state, 4) ? drawn(&state, RANGE) : key;
-        vbr_map_has_all(&maps[who], mine, count, told, BUDGET);
-        vbr_map_get_all(&maps[who], mine, count, given, BUDGET);
+        vbr_map_has_all(&maps[who], mine, count, told);
+        vbr_map_get_all(&maps[who], mine, count, given);
         for (size_t i = 0; i < count; i++) {
             CHECK(told[i] >= 0 && given[i].answer >= 0 && (given[i].answer == VBR_YES || given[i].value == 0));
             CHECK(given[i].answer == VBR_NO || given[i].value % RANGE == (mine[i] + 1) % RANGE);
             if (mine[i] % THREADS != who) continue;
             CHECK(told[i] == given[i].answer && given[i].value == values[mine[i]]);
-            CHECK(vbr_map_has(&maps[who], mine[i], BUDGET) == told[i]);
+            CHECK(vbr_map_has(&maps[who], mine[i]) == told[i]);
         }
     }
     return 0;
@@ -124,7 +123,7 @@ static void *run(void *who) {
 
 static int threads(void) {
     pthread_t thread[THREADS];
-    CHECK(vbr_map_open(maps, THREADS, RANGE + 64 * THREADS, RANGE / 4, VBR_MAX_EPOCH) == VBR_NO);
+    CHECK(vbr_map_open(maps, THREADS, RANGE + 64 * THREADS, RANGE / 4, VBR_MAX_EPOCH) == VBR_OK);
     for (uintptr_t i = 0; i < THREADS; i++) CHECK(pthread_create(&thread[i], NULL, run, (void *)i) == 0);
     for (int i = 0; i < THREADS; i++) CHECK(pthread_join(thread[i], NULL) == 0);
     for (int i = 0; i < THREADS; i++) vbr_map_drop(&maps[i]);

@@ -1,4 +1,4 @@
-/* Threads that close or drop their own handles at the same time: each gives its pass back, and the last one that closes is told
+/* Threads that close, drop or end their own handles at the same time: each gives its pass back, and the last one that closes is told
    what the calls of all leave. The calls are made by pointers to them, as a table of calls has them.
 
        closings [ROUNDS [FAULT]]
@@ -19,17 +19,19 @@ enum { THREADS = 4, KEYS = 8 * THREADS, SLOTS = KEYS + 64 * THREADS };
 
 /* Its members are named as the calls are. */
 static const struct {
-    vbr_answer (*vbr_insert)(vbr_handle *handle, uint64_t key, uint32_t budget);
-    vbr_answer (*vbr_close)(vbr_handle *handle, uint64_t *keys, size_t room, vbr_totals *report);
+    vbr_answer (*vbr_insert)(vbr_handle *handle, uint64_t key);
+    vbr_answer (*vbr_insert_within)(vbr_handle *handle, uint64_t key, uint32_t steps);
+    vbr_answer (*vbr_close)(vbr_handle *handle, uint64_t *keys, size_t room, vbr_report *report);
     void (*vbr_drop)(vbr_handle *handle);
-} calls = {vbr_insert, vbr_close, vbr_drop};
+    void (*vbr_end_all)(vbr_handle *handles, size_t count);
+} calls = {vbr_insert, vbr_insert_within, vbr_close, vbr_drop, vbr_end_all};
 
 static struct worker {
     pthread_t thread;
     vbr_handle handle, *other;
     int number, drops;
     vbr_answer closed;
-    vbr_totals report;
+    vbr_report report;
     uint64_t keys[SLOTS];
 } workers[THREADS];
 static atomic_int ready, turn;
@@ -45,18 +47,19 @@ static void tell(atomic_int *number) { atomic_fetch_add_explicit(number, 1, memo
 
 static void *work(void *of) {
     struct worker *w = of;
-    for (int i = 0; i < KEYS / THREADS; i++) CHECK(calls.vbr_insert(&w->handle, (uint64_t)(w->number + i * THREADS), 100000) == VBR_YES);
+    for (int i = 0; i < KEYS / THREADS; i++) CHECK(calls.vbr_insert(&w->handle, (uint64_t)(w->number + i * THREADS)) == VBR_YES);
     if (fault && w->number == 0) { /* one after the other, and not ordered */
         tell(&turn);
         await(&turn, 2);
     } else if (fault && w->number == 1) {
         await(&turn, 1);
-        CHECK(calls.vbr_insert(w->other, 0, 100000) == VBR_NO);
+        CHECK(calls.vbr_insert_within(w->other, 0, 1000) == VBR_NO);
         tell(&turn);
     }
     tell(&ready);
     await(&ready, THREADS);
-    if (w->drops) calls.vbr_drop(&w->handle);
+    if (w->drops && w->number % 2) calls.vbr_drop(&w->handle);
+    else if (w->drops) calls.vbr_end_all(&w->handle, 1);
     else w->closed = calls.vbr_close(&w->handle, w->keys, SLOTS, &w->report);
     return NULL;
 }
@@ -65,7 +68,7 @@ static void *work(void *of) {
 static int play(long round) {
     vbr_handle handles[THREADS] = {{0}};
     int told = 0;
-    CHECK(vbr_open(handles, THREADS, SLOTS, KEYS, VBR_MAX_EPOCH) == VBR_NO);
+    CHECK(vbr_open(handles, THREADS, SLOTS, KEYS, VBR_MAX_EPOCH) == VBR_OK);
     atomic_store(&ready, 0);
     atomic_store(&turn, 0);
     for (int i = 0; i < THREADS; i++) workers[i] = (struct worker){.handle = handles[i], .number = i, .drops = round >> i & 1, .closed = VBR_NO};

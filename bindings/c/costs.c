@@ -1,7 +1,8 @@
-/* What it costs to open, close and renew a set, in seconds: costs [largest]
+/* What it costs to open, close, renew and end a set, in seconds: costs [largest]
    A set of a million keys; with `largest` also the greatest one there can be, empty and with sixteen million keys. A renewal by
    hand is a close of all handles and an opening with the keys of the report, and takes no longer than these two do; one by
-   vbr_renew_all takes no more processor time than one by hand. Both but for a margin for what else the machine does. */
+   vbr_renew_all takes no more processor time than one by hand. To give all handles up takes less than a close, which has a report.
+   All but for a margin for what else the machine does. */
 #include "vbr.h"
 
 #include <stdio.h>
@@ -22,32 +23,34 @@ static double now(void) {
 static double least(double a, double b) { return a < b ? a : b; }
 
 static void measure(const char *what, uint32_t slots, uint32_t buckets, uint32_t count) {
-    double opening = 1e9, closing = 1e9, renewal = 1e9, by_hand = 1e9, at_once = 1e9;
+    double opening = 1e9, closing = 1e9, renewal = 1e9, ending = 1e9, by_hand = 1e9, at_once = 1e9;
     uint64_t *keys = calloc(slots, sizeof *keys), step = UINT64_MAX / (count + 1);
     CHECK(keys);
     for (int round = 0; round < ROUNDS; round++) {
         vbr_handle handle[HANDLES] = {{0}};
-        vbr_totals report = {0};
+        vbr_report report = {0};
         for (uint64_t i = 0; i < count; i++) keys[i] = i * step + (i * 0x9E3779B97F4A7C15u >> 20) % step;
         double begun = now();
-        if (count) CHECK(vbr_open_with(handle, HANDLES, slots, buckets, VBR_MAX_EPOCH, keys, count) == VBR_NO);
-        else CHECK(vbr_open(handle, HANDLES, slots, buckets, VBR_MAX_EPOCH) == VBR_NO);
+        if (count) CHECK(vbr_open_with(handle, HANDLES, slots, buckets, VBR_MAX_EPOCH, keys, count) == VBR_OK);
+        else CHECK(vbr_open(handle, HANDLES, slots, buckets, VBR_MAX_EPOCH) == VBR_OK);
         double opened = now();
         clock_t hand_begun = clock();
         CHECK(vbr_close_all(handle, HANDLES, keys, slots, &report) == VBR_YES && report.live == count);
         double closed = now();
-        CHECK(vbr_open_with(handle, HANDLES, slots, buckets, VBR_MAX_EPOCH, keys, report.live) == VBR_NO);
+        CHECK(vbr_open_with(handle, HANDLES, slots, buckets, VBR_MAX_EPOCH, keys, report.live) == VBR_OK);
         double renewed = now();
         clock_t once_begun = clock();
-        CHECK(vbr_renew_all(handle, HANDLES, slots, buckets, VBR_MAX_EPOCH) == VBR_NO && vbr_balance(&handle[0]) == count);
+        CHECK(vbr_renew_all(handle, HANDLES, slots, buckets, VBR_MAX_EPOCH) == VBR_OK && vbr_balance(&handle[0]) == count);
         at_once = least(at_once, (double)(clock() - once_begun) / CLOCKS_PER_SEC);
         by_hand = least(by_hand, (double)(once_begun - hand_begun) / CLOCKS_PER_SEC);
-        for (int i = 0; i < HANDLES; i++) vbr_drop(&handle[i]);
+        double ends = now();
+        vbr_end_all(handle, HANDLES);
+        ending = least(ending, now() - ends);
         opening = least(opening, opened - begun), closing = least(closing, closed - opened), renewal = least(renewal, renewed - opened);
     }
     free(keys);
-    CHECK(renewal < 3 * (opening + closing) && at_once < 1.5 * by_hand);
-    printf("%-44s opening %6.3f, closing %6.3f, renewal %6.3f s; processor time of one by hand %6.3f, at once %6.3f s\n", what, opening, closing, renewal,
+    CHECK(renewal < 3 * (opening + closing) && at_once < 1.5 * by_hand && ending < 1.5 * closing);
+    printf("%-44s opening %6.3f, closing %6.3f, renewal %6.3f, ending %6.3f s; processor time of one by hand %6.3f, at once %6.3f s\n", what, opening, closing, renewal, ending,
            by_hand, at_once);
 }
 

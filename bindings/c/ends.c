@@ -14,14 +14,14 @@
 
 #define CHECK(x) do { if (!(x)) { fprintf(stderr, "ends.c:%d: %s\n", __LINE__, #x); exit(1); } } while (0)
 
-enum { KEYS = 64, SLOTS = KEYS + 2 * 64, BUDGET = VBR_AMPLE_BUDGET(SLOTS) };
+enum { KEYS = 64, SLOTS = KEYS + 2 * 64 };
 
 static uint64_t keys[KEYS];
-static vbr_totals report;
+static vbr_report report;
 
 static void open_two(vbr_handle *two) {
     two[0] = two[1] = (vbr_handle){0};
-    CHECK(vbr_open(two, 2, SLOTS, KEYS, VBR_MAX_EPOCH) == VBR_NO);
+    CHECK(vbr_open(two, 2, SLOTS, KEYS, VBR_MAX_EPOCH) == VBR_OK);
 }
 
 /* Closes both, and sees which keys are left. */
@@ -36,8 +36,8 @@ static void close_two(vbr_handle *two, const unsigned char *held) {
 /* Inserts or removes the key of the number `turn`, and notes it. */
 static void turn_of(vbr_handle *handle, unsigned char *held, long turn, int offset) {
     int i = (int)(turn * 2 % KEYS) + offset;
-    if (held[i]) CHECK(vbr_remove(handle, (uint64_t)i, BUDGET) == VBR_YES);
-    else CHECK(vbr_insert(handle, (uint64_t)i, BUDGET) == VBR_YES);
+    if (held[i]) CHECK(vbr_remove(handle, (uint64_t)i) == VBR_YES);
+    else CHECK(vbr_insert(handle, (uint64_t)i) == VBR_YES);
     held[i] = !held[i];
 }
 
@@ -64,7 +64,7 @@ static void ended_threads(void) {
         t.handle = &two[0];
         CHECK(!pthread_create(&id, NULL, ends, &t) && !pthread_join(id, NULL));
         for (long i = 0; i < 501; i++) turn_of(&two[0], t.held, i, 0);
-        for (int i = 0; i < KEYS; i++) CHECK(vbr_has(&two[again % 2], (uint64_t)i, BUDGET) == (t.held[i] ? VBR_YES : VBR_NO));
+        for (int i = 0; i < KEYS; i++) CHECK(vbr_has(&two[again % 2], (uint64_t)i) == (t.held[i] ? VBR_YES : VBR_NO));
         close_two(two, t.held);
     }
 }
@@ -108,7 +108,7 @@ static void walk(void) {
     vbr_answer told;
     int missing = 0;
     for (int i = 1; i < KEYS; i += 2) missing += held_by_both[i];
-    while ((told = vbr_next(of_handler, &cursor, BUDGET, &key)) == VBR_YES)
+    while ((told = vbr_next(of_handler, &cursor, &key)) == VBR_YES)
         if (key % 2) CHECK(held_by_both[key] && missing-- > 0);
     CHECK(told == VBR_NO && missing == 0);
 }

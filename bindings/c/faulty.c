@@ -38,39 +38,42 @@
 
 #include <sched.h>
 
-/* WITH names what only calls on maps have, and GIVE writes a value; LOOK_UP tells of a key, and in a map its value too. */
+/* WITH names what only calls on maps have, and GIVE writes a value; LOOK_UP tells of a key, and in a map its value too; KEY is that
+   of what a walk gives. */
 #ifdef OF_MAPS
 typedef vbr_map_handle a_handle;
 typedef vbr_entry an_item;
 #define REAL(call) __real_vbr_map_##call
 #define WRAP(call) __wrap_vbr_map_##call
-#define LOOK_UP __real_vbr_map_get
+#define LOOK_UP __real_vbr_map_get_within
 #define WITH(value) , value
-#define GIVE(to, value) (*(to) = (value))
-vbr_answer __real_vbr_map_get(vbr_map_handle *handle, uint64_t key, uint32_t budget, uint64_t *value);
-vbr_answer __real_vbr_map_get_or_insert(vbr_map_handle *handle, uint64_t key, uint64_t value, uint64_t *found, uint32_t budget);
-vbr_answer __real_vbr_map_remove_if(vbr_map_handle *handle, uint64_t key, uint64_t expected, uint64_t *found, uint32_t budget);
+#define GIVE(to, value) ((to) ? (void)(*(to) = (value)) : (void)0)
+#define KEY(item) (item).key
+vbr_answer __real_vbr_map_get_within(vbr_map_handle *handle, uint64_t key, uint64_t *value, uint32_t budget);
+vbr_answer __real_vbr_map_get_or_insert_within(vbr_map_handle *handle, uint64_t key, uint64_t value, uint64_t *found, uint32_t budget);
+vbr_answer __real_vbr_map_remove_if_within(vbr_map_handle *handle, uint64_t key, uint64_t expected, uint64_t *found, uint32_t budget);
 #else
 typedef vbr_handle a_handle;
 typedef uint64_t an_item;
 #define REAL(call) __real_vbr_##call
 #define WRAP(call) __wrap_vbr_##call
-#define LOOK_UP __real_vbr_has
+#define LOOK_UP __real_vbr_has_within
 #define WITH(value)
 #define GIVE(to, value) ((void)(value))
+#define KEY(item) (item)
 #endif
 
 vbr_answer REAL(open)(a_handle *handles, size_t count, uint32_t slots, uint32_t buckets, uint64_t last_epoch);
 vbr_answer REAL(open_with)(a_handle *handles, size_t count, uint32_t slots, uint32_t buckets, uint64_t last_epoch,
                            const an_item *items, size_t item_count);
-vbr_answer REAL(insert)(a_handle *handle, uint64_t key WITH(uint64_t value), uint32_t budget);
-vbr_answer REAL(remove)(a_handle *handle, uint64_t key, uint32_t budget WITH(uint64_t *value));
-vbr_answer REAL(has)(a_handle *handle, uint64_t key, uint32_t budget);
-vbr_answer REAL(next)(a_handle *handle, vbr_cursor *cursor, uint32_t budget, uint64_t *key WITH(uint64_t *value));
-vbr_answer REAL(close)(a_handle *handle, an_item *items, size_t room, vbr_totals *report);
-vbr_answer REAL(report_all)(a_handle *handles, size_t count, an_item *items, size_t room, vbr_totals *report);
+vbr_answer REAL(insert_within)(a_handle *handle, uint64_t key WITH(uint64_t value), uint32_t budget);
+vbr_answer REAL(remove_within)(a_handle *handle, uint64_t key WITH(uint64_t *value), uint32_t budget);
+vbr_answer REAL(has_within)(a_handle *handle, uint64_t key, uint32_t budget);
+vbr_answer REAL(next_within)(a_handle *handle, vbr_cursor *cursor, an_item *item, uint32_t budget);
+vbr_answer REAL(close)(a_handle *handle, an_item *items, size_t room, vbr_report *report);
+vbr_answer REAL(report_all)(a_handle *handles, size_t count, an_item *items, size_t room, vbr_report *report);
 vbr_answer REAL(renew_all)(a_handle *handles, size_t count, uint32_t slots, uint32_t buckets, uint64_t last_epoch);
-int64_t REAL(balance)(a_handle *handle);
+int64_t REAL(balance)(const a_handle *handle);
 
 /* The insert that this thread has still to make, for the twelfth fault. */
 static _Thread_local struct an_insert {
@@ -81,7 +84,7 @@ static _Thread_local struct an_insert {
 static void make_late(void) {
     if (!late.handle) return;
     sched_yield(); /* so that others look meanwhile, also where processors are few */
-    (void)!REAL(insert)(late.handle, late.key WITH(late.value), 1 << 20);
+    (void)!REAL(insert_within)(late.handle, late.key WITH(late.value), 1 << 20);
     late.handle = NULL;
 }
 
@@ -112,48 +115,48 @@ vbr_answer WRAP(open_with)(a_handle *handles, size_t count, uint32_t slots, uint
     return REAL(open_with)(handles, count, slots, buckets, last_epoch, items, item_count);
 }
 
-vbr_answer WRAP(insert)(a_handle *handle, uint64_t key WITH(uint64_t value), uint32_t budget) {
+vbr_answer WRAP(insert_within)(a_handle *handle, uint64_t key WITH(uint64_t value), uint32_t budget) {
     if (fault() == 8 && budget < 100 && budget >= 8 && handle->owned) return VBR_OUT_OF_STEPS;
     make_late();
     forget_look(key);
-    if (fault() == 12 && REAL(has)(handle, key, budget) == VBR_NO) {
+    if (fault() == 12 && REAL(has_within)(handle, key, budget) == VBR_NO) {
         late = (struct an_insert){handle, key WITH(value)};
         return VBR_YES;
     }
-    vbr_answer answer = REAL(insert)(handle, key WITH(value), now(21) ? budget / 3 : budget);
+    vbr_answer answer = REAL(insert_within)(handle, key WITH(value), now(21) ? budget / 3 : budget);
     if (answer == VBR_NO && now(1)) return VBR_YES;
-    if (answer == VBR_YES && now(3)) (void)!REAL(remove)(handle, key, budget WITH(&(uint64_t){0}));
+    if (answer == VBR_YES && now(3)) (void)!REAL(remove_within)(handle, key WITH(&(uint64_t){0}), budget);
     return answer;
 }
 
 /* Answers what a look-up does, and removes the key if it is there by then. */
-static vbr_answer remove_after_look_up(a_handle *handle, uint64_t key, uint32_t budget WITH(uint64_t *value)) {
+static vbr_answer remove_after_look_up(a_handle *handle, uint64_t key WITH(uint64_t *value), uint32_t budget) {
     uint64_t seen = 0;
-    vbr_answer answer = LOOK_UP(handle, key, budget WITH(&seen));
-    vbr_answer removed = REAL(remove)(handle, key, budget WITH(&(uint64_t){0}));
+    vbr_answer answer = LOOK_UP(handle, key WITH(&seen), budget);
+    vbr_answer removed = REAL(remove_within)(handle, key WITH(&(uint64_t){0}), budget);
     if (removed < 0) return removed;
     if (answer == VBR_YES) GIVE(value, seen);
     return answer;
 }
 
-vbr_answer WRAP(remove)(a_handle *handle, uint64_t key, uint32_t budget WITH(uint64_t *value)) {
+vbr_answer WRAP(remove_within)(a_handle *handle, uint64_t key WITH(uint64_t *value), uint32_t budget) {
     make_late();
     forget_look(key);
-    if (now(2)) return LOOK_UP(handle, key, budget WITH(value));
+    if (now(2)) return LOOK_UP(handle, key WITH(value), budget);
     if (now(13)) { /* the least budget that is answered leaves no step to unlink */
         for (uint32_t least = 0; least < budget; least++) {
-            vbr_answer answer = REAL(remove)(handle, key, least WITH(value));
+            vbr_answer answer = REAL(remove_within)(handle, key WITH(value), least);
             if (answer != VBR_OUT_OF_STEPS) return answer;
         }
     }
-    if (fault() == 7) return remove_after_look_up(handle, key, budget WITH(value));
-    return REAL(remove)(handle, key, now(20) ? budget / 2 : budget WITH(value));
+    if (fault() == 7) return remove_after_look_up(handle, key WITH(value), budget);
+    return REAL(remove_within)(handle, key WITH(value), now(20) ? budget / 2 : budget);
 }
 
-vbr_answer WRAP(has)(a_handle *handle, uint64_t key, uint32_t budget) {
+vbr_answer WRAP(has_within)(a_handle *handle, uint64_t key, uint32_t budget) {
     make_late();
     if (is_looked(handle, key) && now(22)) return looked.answer;
-    vbr_answer answer = REAL(has)(handle, key, now(19) ? budget / 2 : budget);
+    vbr_answer answer = REAL(has_within)(handle, key, now(19) ? budget / 2 : budget);
     looked.of = answer < 0 ? NULL : handle->owned;
     looked.key = key;
     looked.answer = answer;
@@ -161,28 +164,30 @@ vbr_answer WRAP(has)(a_handle *handle, uint64_t key, uint32_t budget) {
 }
 
 #ifdef OF_MAPS
-vbr_answer __wrap_vbr_map_get(vbr_map_handle *handle, uint64_t key, uint32_t budget, uint64_t *value) {
+vbr_answer __wrap_vbr_map_get_within(vbr_map_handle *handle, uint64_t key, uint64_t *value, uint32_t budget) {
+    uint64_t unasked = 0;
+    if (!value) value = &unasked;
     uint64_t old = *value;
     make_late();
-    vbr_answer answer = __real_vbr_map_get(handle, key, now(19) ? budget / 2 : budget, value);
+    vbr_answer answer = __real_vbr_map_get_within(handle, key, value, now(19) ? budget / 2 : budget);
     return answer == VBR_YES && now(4) ? *value = old, VBR_NO : answer;
 }
 
 /* It is an insert, too, for the twelfth fault, and a remove_if is the next call after one. */
-vbr_answer __wrap_vbr_map_get_or_insert(vbr_map_handle *handle, uint64_t key, uint64_t value, uint64_t *found, uint32_t budget) {
+vbr_answer __wrap_vbr_map_get_or_insert_within(vbr_map_handle *handle, uint64_t key, uint64_t value, uint64_t *found, uint32_t budget) {
     make_late();
     forget_look(key);
-    if (fault() == 12 && REAL(has)(handle, key, budget) == VBR_NO) {
+    if (fault() == 12 && REAL(has_within)(handle, key, budget) == VBR_NO) {
         late = (struct an_insert){handle, key, value};
         return VBR_NO;
     }
-    return __real_vbr_map_get_or_insert(handle, key, value, found, budget);
+    return __real_vbr_map_get_or_insert_within(handle, key, value, found, budget);
 }
 
-vbr_answer __wrap_vbr_map_remove_if(vbr_map_handle *handle, uint64_t key, uint64_t expected, uint64_t *found, uint32_t budget) {
+vbr_answer __wrap_vbr_map_remove_if_within(vbr_map_handle *handle, uint64_t key, uint64_t expected, uint64_t *found, uint32_t budget) {
     make_late();
     forget_look(key);
-    return __real_vbr_map_remove_if(handle, key, expected, found, budget);
+    return __real_vbr_map_remove_if_within(handle, key, expected, found, budget);
 }
 #endif
 
@@ -190,41 +195,39 @@ vbr_answer __wrap_vbr_map_remove_if(vbr_map_handle *handle, uint64_t key, uint64
 static _Thread_local struct {
     const vbr_cursor *of;
     vbr_cursor at, after;
-    uint64_t key, value; /* a set gives none */
+    an_item item;
 } ahead;
 
-static vbr_answer next_found_before(a_handle *handle, vbr_cursor *cursor, uint32_t budget, uint64_t *key WITH(uint64_t *value)) {
+static vbr_answer next_found_before(a_handle *handle, vbr_cursor *cursor, an_item *item, uint32_t budget) {
     vbr_answer answer = VBR_YES;
     if (ahead.of == cursor && ahead.at.bucket == cursor->bucket && ahead.at.from == cursor->from) {
-        *key = ahead.key, *cursor = ahead.after;
-        GIVE(value, ahead.value);
+        *item = ahead.item, *cursor = ahead.after;
     } else {
-        answer = REAL(next)(handle, cursor, budget, key WITH(value));
+        answer = REAL(next_within)(handle, cursor, item, budget);
     }
     ahead.at = ahead.after = *cursor;
     ahead.of = NULL;
-    if (answer == VBR_YES && REAL(next)(handle, &ahead.after, budget, &ahead.key WITH(&ahead.value)) == VBR_YES) ahead.of = cursor;
+    if (answer == VBR_YES && REAL(next_within)(handle, &ahead.after, &ahead.item, budget) == VBR_YES) ahead.of = cursor;
     return answer;
 }
 
-vbr_answer WRAP(next)(a_handle *handle, vbr_cursor *cursor, uint32_t budget, uint64_t *key WITH(uint64_t *value)) {
+vbr_answer WRAP(next_within)(a_handle *handle, vbr_cursor *cursor, an_item *item, uint32_t budget) {
     vbr_cursor before = *cursor;
-    uint64_t old[] = {*key WITH(*value)};
+    an_item old = *item;
     make_late();
-    if (fault() == 16) return next_found_before(handle, cursor, budget, key WITH(value));
-    vbr_answer answer = REAL(next)(handle, cursor, budget, key WITH(value));
+    if (fault() == 16) return next_found_before(handle, cursor, item, budget);
+    vbr_answer answer = REAL(next_within)(handle, cursor, item, budget);
     if (answer == VBR_YES && now(14)) {
-        *key = old[0];
-        GIVE(value, old[1]);
-        return REAL(next)(handle, cursor, budget, key WITH(value));
+        *item = old;
+        return REAL(next_within)(handle, cursor, item, budget);
     }
     if (answer == VBR_YES && now(15)) *cursor = before;
     if (answer == VBR_OUT_OF_STEPS && fault() == 17) cursor->bucket++, cursor->from = 0;
-    if (answer != VBR_YES && fault() == 18) *key = 1;
+    if (answer != VBR_YES && fault() == 18) KEY(*item) = 1;
     return answer;
 }
 
-vbr_answer WRAP(close)(a_handle *handle, an_item *items, size_t room, vbr_totals *report) {
+vbr_answer WRAP(close)(a_handle *handle, an_item *items, size_t room, vbr_report *report) {
     make_late();
     vbr_answer answer = REAL(close)(handle, items, room, report);
     if (answer == VBR_YES && fault() == 5 && report->live > 0) report->live--, report->free++;
@@ -232,7 +235,7 @@ vbr_answer WRAP(close)(a_handle *handle, an_item *items, size_t room, vbr_totals
     return answer;
 }
 
-vbr_answer WRAP(report_all)(a_handle *handles, size_t count, an_item *items, size_t room, vbr_totals *report) {
+vbr_answer WRAP(report_all)(a_handle *handles, size_t count, an_item *items, size_t room, vbr_report *report) {
     make_late();
     vbr_answer answer = REAL(report_all)(handles, count, items, room, report);
     if (answer == VBR_YES && fault() == 23 && report->live > 0) report->live--, report->free++;
@@ -241,15 +244,15 @@ vbr_answer WRAP(report_all)(a_handle *handles, size_t count, an_item *items, siz
 
 vbr_answer WRAP(renew_all)(a_handle *handles, size_t count, uint32_t slots, uint32_t buckets, uint64_t last_epoch) {
     vbr_cursor cursor = VBR_CURSOR_BEGIN;
-    uint64_t key = 0;
+    an_item first;
     make_late();
     vbr_answer answer = REAL(renew_all)(handles, count, slots, buckets, last_epoch);
-    if (answer == VBR_NO && fault() == 24 && REAL(next)(&handles[0], &cursor, UINT32_MAX, &key WITH(&(uint64_t){0})) == VBR_YES)
-        (void)!REAL(remove)(&handles[0], key, UINT32_MAX WITH(&(uint64_t){0}));
+    if (answer == VBR_OK && fault() == 24 && REAL(next_within)(&handles[0], &cursor, &first, UINT32_MAX) == VBR_YES)
+        (void)!REAL(remove_within)(&handles[0], KEY(first) WITH(&(uint64_t){0}), UINT32_MAX);
     return answer;
 }
 
-int64_t WRAP(balance)(a_handle *handle) {
+int64_t WRAP(balance)(const a_handle *handle) {
     make_late();
     return REAL(balance)(handle) + now(25);
 }

@@ -37,11 +37,10 @@ static void call(struct baton *b, int id) {
     b->random ^= b->random << 17;
     unsigned number = (unsigned)(b->random >> 32) % KEYS, kind = (unsigned)(b->random >> 40) % 3;
     uint64_t key = number * (uint64_t)HANDLES + (uint64_t)id;
-    uint32_t budget = VBR_AMPLE_BUDGET(SLOTS);
     int there = b->held[number];
-    if (kind == 0) CHECK(vbr_has(&b->handle, key, budget) == (there ? VBR_YES : VBR_NO));
-    if (kind == 1) CHECK(vbr_insert(&b->handle, key, budget) == (there ? VBR_NO : VBR_YES));
-    if (kind == 2) CHECK(vbr_remove(&b->handle, key, budget) == (there ? VBR_YES : VBR_NO));
+    if (kind == 0) CHECK(vbr_has(&b->handle, key) == (there ? VBR_YES : VBR_NO));
+    if (kind == 1) CHECK(vbr_insert(&b->handle, key) == (there ? VBR_NO : VBR_YES));
+    if (kind == 2) CHECK(vbr_remove(&b->handle, key) == (there ? VBR_YES : VBR_NO));
     if (kind > 0) b->held[number] = kind == 1;
     b->calls++;
 }
@@ -49,7 +48,7 @@ static void call(struct baton *b, int id) {
 static int walks(vbr_handle *handle) {
     vbr_cursor cursor = VBR_CURSOR_BEGIN;
     uint64_t key = 0;
-    return vbr_next(handle, &cursor, 8, &key) == VBR_YES;
+    return vbr_next_within(handle, &cursor, &key, 8) == VBR_YES;
 }
 
 static void *work(void *of) {
@@ -63,7 +62,7 @@ static void *work(void *of) {
                 if (turns % 64 == 63) sched_yield();
             call(b, h);
             atomic_store_explicit(&b->turn, next, releases);
-            if (fault == 2 && !vbr_has(&b->handle, 0, 8)) sched_yield();
+            if (fault == 2 && !vbr_has_within(&b->handle, 0, 8)) sched_yield();
             if (fault == 3 && !vbr_slots(&b->handle)) sched_yield();
             if (fault == 4 && !walks(&b->handle)) sched_yield();
         }
@@ -74,12 +73,12 @@ int main(int count, char **words) {
     vbr_handle handles[HANDLES] = {{0}};
     pthread_t threads[THREADS];
     int ids[THREADS];
-    vbr_totals report = {0};
+    vbr_report report = {0};
     uint64_t keys[HANDLES * KEYS] = {0};
     uint32_t want = 0;
     if (count > 1) rounds = atol(words[1]);
     if (count > 2) fault = atoi(words[2]);
-    CHECK(vbr_open(handles, HANDLES, SLOTS, HANDLES * KEYS, VBR_MAX_EPOCH) == VBR_NO);
+    CHECK(vbr_open(handles, HANDLES, SLOTS, HANDLES * KEYS, VBR_MAX_EPOCH) == VBR_OK);
     for (int h = 0; h < HANDLES; h++) {
         batons[h].handle = handles[h]; /* moved: the old place is not used again */
         batons[h].random = 88172645463325252u + (uint64_t)h;

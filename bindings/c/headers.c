@@ -6,7 +6,7 @@
 
 #define CHECK(x) do { if (!(x)) { fprintf(stderr, "headers.c:%d: %s\n", __LINE__, #x); return 1; } } while (0)
 
-enum { KEYS = 8, HANDLES = 2, SLOTS = KEYS + HANDLES * 64, BUDGET = VBR_AMPLE_BUDGET(SLOTS) };
+enum { KEYS = 8, HANDLES = 2, SLOTS = KEYS + HANDLES * 64 };
 
 /* Each answer once: a compiler that knows the enum tells where one is missing. */
 static const char *text_of(vbr_answer answer) {
@@ -17,7 +17,7 @@ static const char *text_of(vbr_answer answer) {
     case VBR_OUT_OF_STEPS: return "out of steps";
     case VBR_NO_SLOT: return "no slot";
     case VBR_EPOCH_SPENT: return "epoch spent";
-    case VBR_EMPTY: return "empty";
+    case VBR_NO_HANDLE: return "no handle";
     case VBR_IN_USE: return "in use";
     case VBR_BAD_SHAPE: return "bad shape";
     case VBR_BAD_COUNT: return "bad count";
@@ -36,40 +36,53 @@ static int check_maps(void) {
     vbr_entry entries[KEYS] = {{0, 0}};
 #ifdef __cplusplus
     vbr_map_handle map[HANDLES] = {}, none = {};
-    vbr_totals report = {};
+    vbr_report report = {};
     vbr_map_lender lender = {};
-    static_assert(noexcept(vbr_map_has(&none, 1, 8)) && noexcept(vbr_map_drop(&none)), "no call throws");
+    static_assert(noexcept(vbr_map_has_within(&none, 1, 8)) && noexcept(vbr_map_drop(&none)), "no call throws");
 #else
     vbr_map_handle map[HANDLES] = {{0}}, none = {0};
-    vbr_totals report = {0};
+    vbr_report report = {0};
     vbr_map_lender lender = {0};
 #endif
     vbr_cursor cursor = VBR_CURSOR_BEGIN;
-    uint64_t key = 0, value = 0;
-    CHECK(sizeof(vbr_map_handle) == sizeof(void *) && sizeof(vbr_entry) == 16);
-    CHECK(vbr_map_open(map, HANDLES, SLOTS, KEYS, VBR_MAX_EPOCH) == VBR_NO);
+    vbr_entry given = {0, 0};
+    uint64_t value = 0;
+    CHECK(sizeof(vbr_map_handle) == 16 && sizeof(vbr_entry) == 16);
+    CHECK(vbr_map_open(map, HANDLES, SLOTS, KEYS, VBR_MAX_EPOCH) == VBR_OK);
     CHECK(vbr_map_epoch(&map[0]) == 1 && vbr_map_last_epoch(&map[0]) == VBR_MAX_EPOCH);
     CHECK(vbr_map_slots(&map[0]) == SLOTS && vbr_map_buckets(&map[0]) == KEYS);
     CHECK(vbr_map_open_with(map, HANDLES, SLOTS, KEYS, VBR_MAX_EPOCH, opening, 2) == VBR_IN_USE);
     vbr_map_lender_init(&lender, map, HANDLES);
     vbr_map_handle *mine = vbr_map_lend(&lender);
     CHECK(mine == &map[0]);
-    vbr_answer added = vbr_map_insert(mine, 5, 50, BUDGET);
-    CHECK(added == VBR_YES && text_of(vbr_map_has(&none, 5, BUDGET))[0] == 'e');
+    vbr_answer added = vbr_map_insert(mine, 5, 50);
+    CHECK(added == VBR_YES && text_of(vbr_map_has(&none, 5))[3] == 'h');
     vbr_map_give_back(&lender, mine);
-    CHECK(vbr_map_has(&map[1], 5, BUDGET) == VBR_YES && vbr_map_get(&map[1], 5, BUDGET, &value) == VBR_YES && value == 50);
-    CHECK(vbr_map_remove(&map[1], 6, BUDGET, &value) == VBR_NO && value == 50);
-    CHECK(vbr_map_replace(&map[0], 5, 51, &value, BUDGET) == VBR_YES && value == 50);
-    CHECK(vbr_map_put(&map[0], 5, 52, &value, BUDGET) == VBR_YES && value == 51);
-    CHECK(vbr_map_get_or_insert(&map[0], 5, 53, &value, BUDGET) == VBR_YES && value == 52);
-    CHECK(text_of(vbr_map_remove_if(&map[0], 5, 53, &value, BUDGET))[1] == 't' && value == 52);
-    CHECK(vbr_map_compare_exchange(&map[0], 5, 52, 50, &value, BUDGET) == VBR_YES && value == 52);
-    CHECK(vbr_map_next(&map[1], &cursor, BUDGET, &key, &value) == VBR_YES && key == 5 && value == 50);
-    CHECK(vbr_map_next(&map[1], &cursor, BUDGET, &key, &value) == VBR_NO && vbr_map_next(&none, &cursor, BUDGET, &key, &value) == VBR_EMPTY);
+    CHECK(vbr_map_has(&map[1], 5) == VBR_YES && vbr_map_get(&map[1], 5, &value) == VBR_YES && value == 50);
+    CHECK(vbr_map_remove(&map[1], 6, &value) == VBR_NO && value == 50);
+    CHECK(vbr_map_replace(&map[0], 5, 51, &value) == VBR_YES && value == 50);
+    CHECK(vbr_map_put(&map[0], 5, 52, &value) == VBR_YES && value == 51);
+    CHECK(vbr_map_get_or_insert(&map[0], 5, 53, &value) == VBR_YES && value == 52);
+    CHECK(text_of(vbr_map_remove_if(&map[0], 5, 53, &value))[1] == 't' && value == 52);
+    CHECK(vbr_map_compare_exchange(&map[0], 5, 52, 50, &value) == VBR_YES && value == 52);
+    CHECK(vbr_map_next(&map[1], &cursor, &given) == VBR_YES && given.key == 5 && given.value == 50);
+    CHECK(vbr_map_next(&map[1], &cursor, &given) == VBR_NO && vbr_map_next(&none, &cursor, &given) == VBR_NO_HANDLE);
+    vbr_answer answers[1];
+    vbr_found found[1];
+    vbr_map_has_all(&map[0], &given.key, 1, answers), vbr_map_get_all(&map[0], &given.key, 1, found);
+    CHECK(answers[0] == VBR_YES && found[0].answer == VBR_YES && found[0].value == 50);
+    vbr_map_has_all_within(&map[0], &given.key, 1, answers, 8), vbr_map_get_all_within(&map[0], &given.key, 1, found, 8);
+    CHECK(answers[0] == VBR_OUT_OF_STEPS && found[0].answer == VBR_OUT_OF_STEPS && found[0].value == 0);
+    CHECK(vbr_map_insert_within(&map[0], 5, 1, 1000) == VBR_NO && vbr_map_has_within(&map[0], 5, 1000) == VBR_YES);
+    CHECK(vbr_map_get_within(&map[0], 5, NULL, 1000) == VBR_YES && vbr_map_remove_within(&map[0], 6, NULL, 1000) == VBR_NO);
+    CHECK(vbr_map_replace_within(&map[0], 6, 1, NULL, 1000) == VBR_NO && vbr_map_put_within(&map[0], 5, 50, NULL, 1000) == VBR_YES);
+    CHECK(vbr_map_get_or_insert_within(&map[0], 5, 1, &value, 1000) == VBR_YES && value == 50);
+    CHECK(vbr_map_compare_exchange_within(&map[0], 5, 1, 2, NULL, 1000) == VBR_OTHER && vbr_map_remove_if_within(&map[0], 6, 1, NULL, 1000) == VBR_NO);
+    CHECK(vbr_map_next_within(&map[1], &cursor, &given, 1000) == VBR_NO);
     CHECK(vbr_map_close_all(map, HANDLES, entries, 0, &report) == VBR_NO_ROOM && report.live == 1);
     CHECK(vbr_map_close(&map[0], entries, KEYS, &report) == VBR_NO && vbr_map_close(&map[1], entries, KEYS, &report) == VBR_YES);
     CHECK(report.live == 1 && entries[0].key == 5 && entries[0].value == 50);
-    vbr_map_drop(&none);
+    vbr_map_drop(&none), vbr_map_end_all(map, HANDLES);
     return 0;
 }
 
@@ -77,37 +90,44 @@ static int check(void) {
     static const uint64_t opening[2] = {3, 4};
 #ifdef __cplusplus
     vbr_handle handle[HANDLES] = {}, none = {};
-    vbr_totals report = {};
+    vbr_report report = {};
     vbr_lender lender = {};
-    static_assert(noexcept(vbr_has(&none, 1, 8)) && noexcept(vbr_drop(&none)), "no call throws");
+    static_assert(noexcept(vbr_has_within(&none, 1, 8)) && noexcept(vbr_drop(&none)), "no call throws");
 #else
     vbr_handle handle[HANDLES] = {{0}}, none = {0};
-    vbr_totals report = {0};
+    vbr_report report = {0};
     vbr_lender lender = {0};
 #endif
     vbr_cursor cursor = VBR_CURSOR_BEGIN;
     uint64_t keys[KEYS] = {0}, key = 0;
-    CHECK(sizeof(vbr_cursor) == 16 && sizeof(vbr_answer) == 4 && sizeof(vbr_handle) == sizeof(void *) && sizeof(vbr_totals) == 24);
+    CHECK(sizeof(vbr_cursor) == 16 && sizeof(vbr_answer) == 4 && sizeof(vbr_handle) == 16 && sizeof(vbr_report) == 24);
     CHECK(VBR_VERSION == 1000000 * VBR_VERSION_MAJOR + 1000 * VBR_VERSION_MINOR + VBR_VERSION_PATCH);
-    CHECK(VBR_AMPLE_BUDGET(64) == 100001 && VBR_AMPLE_BUDGET(VBR_MAX_SLOTS) >= 18 * 3 + VBR_MAX_SLOTS / 64 + 20);
+    CHECK(VBR_AMPLE_STEPS >= 100000 + VBR_MAX_SLOTS / 64 && VBR_AMPLE_STEPS >= 18 * 3 + VBR_MAX_SLOTS / 64 + 20);
     CHECK(VBR_MAX_HANDLES == 64 && VBR_MAX_BUCKETS == 16777216 && VBR_MAX_EPOCH == (UINT64_C(1) << 39) - 1);
-    CHECK(vbr_open(handle, HANDLES, SLOTS, KEYS, VBR_MAX_EPOCH) == VBR_NO);
+    CHECK(vbr_open(handle, HANDLES, SLOTS, KEYS, VBR_MAX_EPOCH) == VBR_OK);
     CHECK(vbr_version() == VBR_VERSION && vbr_epoch(&handle[0]) == 1 && vbr_last_epoch(&handle[0]) == VBR_MAX_EPOCH);
     CHECK(vbr_slots(&handle[0]) == SLOTS && vbr_buckets(&handle[0]) == KEYS);
     CHECK(vbr_open_with(handle, HANDLES, SLOTS, KEYS, VBR_MAX_EPOCH, opening, 2) == VBR_IN_USE);
     vbr_lender_init(&lender, handle, HANDLES);
     vbr_handle *mine = vbr_lend(&lender);
     CHECK(mine == &handle[0]);
-    vbr_answer added = vbr_insert(mine, 5, BUDGET);
-    CHECK(added == VBR_YES && text_of(added)[0] == 'y' && text_of(vbr_has(&none, 5, BUDGET))[0] == 'e');
+    vbr_answer added = vbr_insert(mine, 5);
+    CHECK(added == VBR_YES && text_of(added)[0] == 'y' && text_of(vbr_has(&none, 5))[3] == 'h');
     vbr_give_back(&lender, mine);
-    CHECK(vbr_has(&handle[1], 5, BUDGET) == VBR_YES && vbr_remove(&handle[1], 6, BUDGET) == VBR_NO);
-    CHECK(vbr_next(&handle[1], &cursor, BUDGET, &key) == VBR_YES && key == 5);
-    CHECK(vbr_next(&handle[1], &cursor, BUDGET, &key) == VBR_NO && vbr_next(&none, &cursor, BUDGET, &key) == VBR_EMPTY);
+    CHECK(vbr_has(&handle[1], 5) == VBR_YES && vbr_remove(&handle[1], 6) == VBR_NO);
+    CHECK(vbr_next(&handle[1], &cursor, &key) == VBR_YES && key == 5);
+    CHECK(vbr_next(&handle[1], &cursor, &key) == VBR_NO && vbr_next(&none, &cursor, &key) == VBR_NO_HANDLE);
+    vbr_answer answers[1];
+    vbr_has_all(&handle[0], &key, 1, answers);
+    CHECK(answers[0] == VBR_YES);
+    vbr_has_all_within(&handle[0], &key, 1, answers, 8);
+    CHECK(answers[0] == VBR_OUT_OF_STEPS && vbr_answer_text(answers[0])[0] == 'o' && vbr_steps_of(&handle[0]) == VBR_AMPLE_STEPS);
+    CHECK(vbr_insert_within(&handle[0], 5, 1000) == VBR_NO && vbr_has_within(&handle[0], 5, 1000) == VBR_YES);
+    CHECK(vbr_remove_within(&handle[0], 6, 1000) == VBR_NO && vbr_next_within(&handle[1], &cursor, &key, 1000) == VBR_NO);
     CHECK(vbr_close_all(handle, HANDLES, keys, 0, &report) == VBR_NO_ROOM && report.live == 1);
     CHECK(vbr_close(&handle[0], keys, KEYS, &report) == VBR_NO && vbr_close(&handle[1], keys, KEYS, &report) == VBR_YES);
     CHECK(report.live == 1 && keys[0] == 5);
-    vbr_drop(&none);
+    vbr_drop(&none), vbr_end_all(handle, HANDLES);
     return 0;
 }
 

@@ -44,9 +44,9 @@ static void wants(int is_so, const char *what)
 int main(void)
 {
     vbr_handle small = {0}, large = {0}, larger = {0};
-    wants(opens(1000, 1024, &small) == VBR_NO, "a small set doesn't open");
+    wants(opens(1000, 1024, &small) == VBR_OK, "a small set doesn't open");
     long before = advised();
-    wants(opens(1 << 20, 1 << 20, &large) == VBR_NO, "a large set doesn't open");
+    wants(opens(1 << 20, 1 << 20, &large) == VBR_OK, "a large set doesn't open");
     long after = advised();
     /* 40 bytes for each slot and its bucket: 40 MB, of which the first and the last page may be cut */
     if (before < 0) puts("skipped: large pages, which this system has none of or doesn't tell");
@@ -54,8 +54,8 @@ int main(void)
         wants(before == 0, "a small set is advised to lie in large pages");
         wants(after >= 36 * 1024, "a large set isn't advised to lie in large pages");
     }
-    for (uint64_t key = 0; key < 100000; key++) wants(vbr_insert(&large, key * 977, 1000) == VBR_YES, "an insert");
-    for (uint64_t key = 0; key < 100000; key++) wants(vbr_has(&large, key * 977, 1000) == VBR_YES, "a look-up");
+    for (uint64_t key = 0; key < 100000; key++) wants(vbr_insert(&large, key * 977) == VBR_YES, "an insert");
+    for (uint64_t key = 0; key < 100000; key++) wants(vbr_has(&large, key * 977) == VBR_YES, "a look-up");
 
     struct rlimit few = {.rlim_cur = 256u << 20, .rlim_max = 256u << 20};
     if (setrlimit(RLIMIT_AS, &few) == 0)

@@ -30,7 +30,6 @@ static int fault, is_renewed;
 
 static void *work(void *of) {
     struct worker *w = of;
-    const uint32_t budget = VBR_AMPLE_BUDGET(SLOTS);
     while (w->lent < rounds || !__atomic_load_n(&is_renewed, __ATOMIC_RELAXED)) {
         vbr_handle *mine = vbr_lend(&lender);
         if (!mine) {
@@ -43,13 +42,13 @@ static void *work(void *of) {
         w->random ^= w->random >> 7;
         w->random ^= w->random << 17;
         int key = (int)(w->random >> 32 & (KEYS - 1));
-        vbr_answer answer = w->random >> 40 & 1 ? vbr_insert(mine, (uint64_t)key, budget) : vbr_remove(mine, (uint64_t)key, budget);
+        vbr_answer answer = w->random >> 40 & 1 ? vbr_insert(mine, (uint64_t)key) : vbr_remove(mine, (uint64_t)key);
         CHECK(answer == VBR_YES || answer == VBR_NO);
         if (answer == VBR_YES) w->balance[key] += w->random >> 40 & 1 ? 1 : -1;
         used[mine - handles]++;
         vbr_give_back(&lender, mine);
         if (fault) {
-            (void)!vbr_has(mine, 0, 8);
+            (void)!vbr_has_within(mine, 0, 8);
             sched_yield();
         }
     }
@@ -64,7 +63,7 @@ static void renew_meanwhile(void) {
             CHECK(!vbr_lend(&lender));
             sched_yield();
         }
-        CHECK(renewed == VBR_NO);
+        CHECK(renewed == VBR_OK);
         sched_yield();
     }
 }
@@ -75,7 +74,7 @@ static void renewals(void) {
     CHECK(vbr_lender_renew(&none, SLOTS, KEYS, 1) == VBR_MISSING);
     CHECK(vbr_lender_renew(&lender, 0, KEYS, 1) == VBR_BAD_SHAPE);
     vbr_handle *mine = vbr_lend(&lender);
-    CHECK(mine && vbr_insert(mine, 1, VBR_AMPLE_BUDGET(SLOTS)) == VBR_YES && vbr_insert(mine, 2, VBR_AMPLE_BUDGET(SLOTS)) == VBR_YES);
+    CHECK(mine && vbr_insert(mine, 1) == VBR_YES && vbr_insert(mine, 2) == VBR_YES);
     CHECK(vbr_lender_renew(&lender, SLOTS, KEYS, 9) == VBR_IN_USE && !vbr_lend(&lender) && vbr_slots(mine) == SLOTS);
     CHECK(vbr_lender_renew(&lender, SLOTS, KEYS, 9) == VBR_IN_USE && !vbr_lend(&lender));
     vbr_lender_lend_on(&lender);
@@ -85,13 +84,13 @@ static void renewals(void) {
     CHECK(vbr_lender_renew(&lender, SLOTS, KEYS, 9) == VBR_IN_USE);
     vbr_give_back(&lender, mine);
     CHECK(!vbr_lend(&lender) && vbr_lender_renew(&lender, 1, KEYS, 9) == VBR_NO_ROOM);
-    CHECK((mine = vbr_lend(&lender)) && vbr_remove(mine, 2, VBR_AMPLE_BUDGET(SLOTS)) == VBR_YES);
+    CHECK((mine = vbr_lend(&lender)) && vbr_remove(mine, 2) == VBR_YES);
     vbr_give_back(&lender, mine);
-    CHECK(vbr_lender_renew(&lender, SLOTS, 1, 9) == VBR_NO);
+    CHECK(vbr_lender_renew(&lender, SLOTS, 1, 9) == VBR_OK);
     CHECK((mine = vbr_lend(&lender)) && vbr_buckets(mine) == 1 && vbr_last_epoch(mine) == 9 && vbr_epoch(mine) == 1);
-    CHECK(vbr_remove(mine, 1, VBR_AMPLE_BUDGET(SLOTS)) == VBR_YES);
+    CHECK(vbr_remove(mine, 1) == VBR_YES);
     vbr_give_back(&lender, mine);
-    CHECK(vbr_lender_renew(&lender, SLOTS, KEYS, VBR_MAX_EPOCH) == VBR_NO);
+    CHECK(vbr_lender_renew(&lender, SLOTS, KEYS, VBR_MAX_EPOCH) == VBR_OK);
 }
 
 static int none_is_left(void) {
@@ -124,13 +123,13 @@ static void as_many_as_there_are(void) {
 int main(int count, char **words) {
     pthread_t threads[THREADS];
     uint64_t keys[KEYS] = {0};
-    vbr_totals report = {0};
+    vbr_report report = {0};
     long calls = 0, lent = 0, refused = 0;
     uint32_t want = 0;
     if (count > 1) rounds = atol(words[1]);
     if (count > 2) fault = atoi(words[2]);
     as_many_as_there_are();
-    CHECK(vbr_open(handles, HANDLES, SLOTS, KEYS, VBR_MAX_EPOCH) == VBR_NO);
+    CHECK(vbr_open(handles, HANDLES, SLOTS, KEYS, VBR_MAX_EPOCH) == VBR_OK);
     vbr_lender_init(&lender, handles, HANDLES);
     CHECK(none_is_left());
     renewals();
@@ -150,7 +149,7 @@ int main(int count, char **words) {
         int sum = 0;
         for (int i = 0; i < THREADS; i++) sum += workers[i].balance[key];
         CHECK(sum == 0 || sum == 1);
-        CHECK(vbr_has(&handles[0], (uint64_t)key, VBR_AMPLE_BUDGET(SLOTS)) == (sum ? VBR_YES : VBR_NO));
+        CHECK(vbr_has(&handles[0], (uint64_t)key) == (sum ? VBR_YES : VBR_NO));
         want += (uint32_t)sum;
     }
     for (int i = 0; i < HANDLES; i++) CHECK(vbr_close(&handles[i], keys, KEYS, &report) == (i == HANDLES - 1 ? VBR_YES : VBR_NO));

@@ -14,13 +14,12 @@
 #define CHECK(x) do { if (!(x)) { fprintf(stderr, "many.c:%d: %s\n", __LINE__, #x); exit(1); } } while (0)
 
 enum { OPENING = 3, BUCKETS = 1024, STACK = 64 << 10, ROUNDS = 15 };
-enum { BUDGET = 1 << 20 };
 
 static const uint64_t opening[OPENING] = {1000000, 1000001, 1000002};
 static vbr_handle handle[VBR_MAX_MANY_HANDLES];
 static vbr_answer answer[VBR_MAX_MANY_HANDLES];
 static uint64_t keys[2 * VBR_MAX_MANY_HANDLES];
-static vbr_totals report;
+static vbr_report report;
 static size_t count = 1000;
 static uint32_t slots;
 static pthread_barrier_t together;
@@ -36,9 +35,9 @@ static void on_a_small_stack(void *(*body)(void *), void *of) {
 
 /* Each handle inserts the key of its number, and the next one finds it. */
 static void in_turn(uint64_t from) {
-    for (size_t i = 0; i < count; i++) CHECK(vbr_insert(&handle[i], from + i, BUDGET) == VBR_YES);
-    for (size_t i = 0; i < count; i++) CHECK(vbr_has(&handle[(i + 1) % count], from + i, BUDGET) == VBR_YES);
-    for (size_t i = 0; i < count; i++) CHECK(vbr_insert(&handle[(i + 1) % count], from + i, BUDGET) == VBR_NO);
+    for (size_t i = 0; i < count; i++) CHECK(vbr_insert(&handle[i], from + i) == VBR_YES);
+    for (size_t i = 0; i < count; i++) CHECK(vbr_has(&handle[(i + 1) % count], from + i) == VBR_YES);
+    for (size_t i = 0; i < count; i++) CHECK(vbr_insert(&handle[(i + 1) % count], from + i) == VBR_NO);
 }
 
 /* What is in the set: the opening keys, and these. */
@@ -52,22 +51,22 @@ static void holds(uint64_t from, uint64_t to) {
 static void *all_calls(void *of) {
     int64_t balance = 0;
     (void)of;
-    CHECK(vbr_open_many(handle, count, slots, BUCKETS, VBR_MAX_EPOCH, opening, OPENING) == VBR_NO);
+    CHECK(vbr_open_many(handle, count, slots, BUCKETS, VBR_MAX_EPOCH, opening, OPENING) == VBR_OK);
     in_turn(0);
     CHECK(vbr_report_all(handle, count, keys, 2 * VBR_MAX_MANY_HANDLES, &report) == VBR_YES);
     holds(0, count);
     for (size_t i = 0; i < count; i++) balance += vbr_balance(&handle[i]);
     CHECK(balance == (int64_t)(count + OPENING));
     if (count > 1) CHECK(vbr_renew_all(handle, count - 1, slots, BUCKETS, VBR_MAX_EPOCH) == VBR_MISSING);
-    CHECK(vbr_renew_all(handle, count, slots, 2 * BUCKETS, VBR_MAX_EPOCH) == VBR_NO);
-    for (size_t i = 0; i < count; i++) CHECK(vbr_has(&handle[i], i, BUDGET) == VBR_YES && vbr_buckets(&handle[i]) == 2 * BUCKETS);
+    CHECK(vbr_renew_all(handle, count, slots, 2 * BUCKETS, VBR_MAX_EPOCH) == VBR_OK);
+    for (size_t i = 0; i < count; i++) CHECK(vbr_has(&handle[i], i) == VBR_YES && vbr_buckets(&handle[i]) == 2 * BUCKETS);
     in_turn(count);
     if (count > 1) CHECK(vbr_close_all(handle, count - 1, keys, 2 * VBR_MAX_MANY_HANDLES, &report) == VBR_MISSING);
     CHECK(vbr_close_all(handle, count, keys, 2 * VBR_MAX_MANY_HANDLES, &report) == VBR_YES);
     holds(0, 2 * count);
-    CHECK(vbr_insert(&handle[count - 1], 5, BUDGET) == VBR_EMPTY);
+    CHECK(vbr_insert(&handle[count - 1], 5) == VBR_NO_HANDLE);
 
-    CHECK(vbr_open_many(handle, count, slots, BUCKETS, VBR_MAX_EPOCH, opening, OPENING) == VBR_NO);
+    CHECK(vbr_open_many(handle, count, slots, BUCKETS, VBR_MAX_EPOCH, opening, OPENING) == VBR_OK);
     in_turn(0);
     for (size_t i = 0; i + 1 < count; i++) CHECK(vbr_close(&handle[i], keys, 2 * VBR_MAX_MANY_HANDLES, &report) == VBR_NO);
     CHECK(vbr_close(&handle[count - 1], keys, 2 * VBR_MAX_MANY_HANDLES, &report) == VBR_YES);
@@ -80,9 +79,9 @@ static void *work(void *of) {
     vbr_handle *mine = of;
     uint64_t key = (uint64_t)(mine - handle);
     pthread_barrier_wait(&together);
-    answer[key] = vbr_insert(mine, key, BUDGET);
-    if (answer[key] == VBR_YES) answer[key] = vbr_insert(mine, count + key, BUDGET);
-    if (answer[key] == VBR_YES) answer[key] = vbr_remove(mine, count + key, BUDGET);
+    answer[key] = vbr_insert(mine, key);
+    if (answer[key] == VBR_YES) answer[key] = vbr_insert(mine, count + key);
+    if (answer[key] == VBR_YES) answer[key] = vbr_remove(mine, count + key);
     return NULL;
 }
 
@@ -91,7 +90,7 @@ static void in_threads(void) {
     pthread_t *threads = calloc(count, sizeof *threads);
     CHECK(threads && !pthread_attr_init(&small) && !pthread_attr_setstacksize(&small, STACK));
     CHECK(!pthread_barrier_init(&together, NULL, (unsigned)count));
-    CHECK(vbr_open_many(handle, count, slots, BUCKETS, VBR_MAX_EPOCH, opening, OPENING) == VBR_NO);
+    CHECK(vbr_open_many(handle, count, slots, BUCKETS, VBR_MAX_EPOCH, opening, OPENING) == VBR_OK);
     for (size_t i = 0; i < count; i++) CHECK(!pthread_create(&threads[i], &small, work, &handle[i]));
     for (size_t i = 0; i < count; i++) CHECK(!pthread_join(threads[i], NULL));
     for (size_t i = 0; i < count; i++) CHECK(answer[i] == VBR_YES);
@@ -108,17 +107,17 @@ static void *ends(void *of) {
     CHECK(vbr_open(handle, VBR_MAX_HANDLES + 1, slots, BUCKETS, VBR_MAX_EPOCH) == VBR_BAD_COUNT);
     CHECK(vbr_open_with(handle, VBR_MAX_HANDLES + 1, slots, BUCKETS, VBR_MAX_EPOCH, opening, OPENING) == VBR_BAD_COUNT);
     CHECK(vbr_open_many(handle, 0, slots, BUCKETS, VBR_MAX_EPOCH, opening, OPENING) == VBR_BAD_COUNT);
-    CHECK(vbr_open_many(handle, VBR_MAX_HANDLES + 1, slots, BUCKETS, VBR_MAX_EPOCH, keys + 1, 0) == VBR_NO);
-    CHECK(vbr_insert(&handle[VBR_MAX_HANDLES], 5, BUDGET) == VBR_YES && vbr_has(handle, 5, BUDGET) == VBR_YES);
+    CHECK(vbr_open_many(handle, VBR_MAX_HANDLES + 1, slots, BUCKETS, VBR_MAX_EPOCH, keys + 1, 0) == VBR_OK);
+    CHECK(vbr_insert(&handle[VBR_MAX_HANDLES], 5) == VBR_YES && vbr_has(handle, 5) == VBR_YES);
     CHECK(vbr_close_all(handle, VBR_MAX_HANDLES, keys, 8, &report) == VBR_MISSING);
     CHECK(vbr_close_all(handle, VBR_MAX_HANDLES + 1, keys, 8, &report) == VBR_YES && report.live == 1 && keys[0] == 5);
 
-    CHECK(vbr_open_many(handle, VBR_MAX_MANY_HANDLES, slots, BUCKETS, VBR_MAX_EPOCH, opening, OPENING) == VBR_NO);
-    CHECK(vbr_insert(&handle[VBR_MAX_MANY_HANDLES - 1], 5, BUDGET) == VBR_YES);
-    CHECK(vbr_has(&handle[VBR_MAX_MANY_HANDLES / 2], 5, BUDGET) == VBR_YES);
+    CHECK(vbr_open_many(handle, VBR_MAX_MANY_HANDLES, slots, BUCKETS, VBR_MAX_EPOCH, opening, OPENING) == VBR_OK);
+    CHECK(vbr_insert(&handle[VBR_MAX_MANY_HANDLES - 1], 5) == VBR_YES);
+    CHECK(vbr_has(&handle[VBR_MAX_MANY_HANDLES / 2], 5) == VBR_YES);
     CHECK(vbr_report_all(handle, VBR_MAX_MANY_HANDLES, keys, 8, &report) == VBR_YES && report.live == 1 + OPENING);
-    CHECK(vbr_renew_all(handle, VBR_MAX_MANY_HANDLES, slots, BUCKETS, VBR_MAX_EPOCH) == VBR_NO);
-    CHECK(vbr_remove(&handle[VBR_MAX_MANY_HANDLES - 1], 5, BUDGET) == VBR_YES);
+    CHECK(vbr_renew_all(handle, VBR_MAX_MANY_HANDLES, slots, BUCKETS, VBR_MAX_EPOCH) == VBR_OK);
+    CHECK(vbr_remove(&handle[VBR_MAX_MANY_HANDLES - 1], 5) == VBR_YES);
     CHECK(vbr_close_all(handle, VBR_MAX_MANY_HANDLES, keys, 8, &report) == VBR_YES && report.live == OPENING);
     return NULL;
 }
@@ -137,7 +136,7 @@ static double took(size_t handles, int one_by_one) {
     for (int round = 0; round < ROUNDS; round++) {
         struct timespec from, to;
         clock_gettime(CLOCK_MONOTONIC, &from);
-        CHECK(vbr_open_many(handle, handles, slots, BUCKETS, VBR_MAX_EPOCH, opening, OPENING) == VBR_NO);
+        CHECK(vbr_open_many(handle, handles, slots, BUCKETS, VBR_MAX_EPOCH, opening, OPENING) == VBR_OK);
         if (one_by_one) {
             for (size_t i = 0; i < handles; i++) CHECK(vbr_close(&handle[i], keys, 8, &report) == (i + 1 == handles ? VBR_YES : VBR_NO));
         } else {

@@ -34,16 +34,16 @@
 
 vbr_answer __real_vbr_map_open_with(vbr_map_handle *handles, size_t count, uint32_t slots, uint32_t buckets, uint64_t last_epoch,
                                     const vbr_entry *entries, size_t entry_count);
-vbr_answer __real_vbr_map_insert(vbr_map_handle *handle, uint64_t key, uint64_t value, uint32_t budget);
-vbr_answer __real_vbr_map_remove(vbr_map_handle *handle, uint64_t key, uint32_t budget, uint64_t *value);
-vbr_answer __real_vbr_map_get(vbr_map_handle *handle, uint64_t key, uint32_t budget, uint64_t *value);
-vbr_answer __real_vbr_map_replace(vbr_map_handle *handle, uint64_t key, uint64_t value, uint64_t *found, uint32_t budget);
-vbr_answer __real_vbr_map_put(vbr_map_handle *handle, uint64_t key, uint64_t value, uint64_t *found, uint32_t budget);
-vbr_answer __real_vbr_map_get_or_insert(vbr_map_handle *handle, uint64_t key, uint64_t value, uint64_t *found, uint32_t budget);
-vbr_answer __real_vbr_map_compare_exchange(vbr_map_handle *handle, uint64_t key, uint64_t expected, uint64_t value, uint64_t *found, uint32_t budget);
-vbr_answer __real_vbr_map_remove_if(vbr_map_handle *handle, uint64_t key, uint64_t expected, uint64_t *found, uint32_t budget);
-vbr_answer __real_vbr_map_next(vbr_map_handle *handle, vbr_cursor *cursor, uint32_t budget, uint64_t *key, uint64_t *value);
-vbr_answer __real_vbr_map_close(vbr_map_handle *handle, vbr_entry *entries, size_t room, vbr_totals *report);
+vbr_answer __real_vbr_map_insert_within(vbr_map_handle *handle, uint64_t key, uint64_t value, uint32_t budget);
+vbr_answer __real_vbr_map_remove_within(vbr_map_handle *handle, uint64_t key, uint64_t *value, uint32_t budget);
+vbr_answer __real_vbr_map_get_within(vbr_map_handle *handle, uint64_t key, uint64_t *value, uint32_t budget);
+vbr_answer __real_vbr_map_replace_within(vbr_map_handle *handle, uint64_t key, uint64_t value, uint64_t *found, uint32_t budget);
+vbr_answer __real_vbr_map_put_within(vbr_map_handle *handle, uint64_t key, uint64_t value, uint64_t *found, uint32_t budget);
+vbr_answer __real_vbr_map_get_or_insert_within(vbr_map_handle *handle, uint64_t key, uint64_t value, uint64_t *found, uint32_t budget);
+vbr_answer __real_vbr_map_compare_exchange_within(vbr_map_handle *handle, uint64_t key, uint64_t expected, uint64_t value, uint64_t *found, uint32_t budget);
+vbr_answer __real_vbr_map_remove_if_within(vbr_map_handle *handle, uint64_t key, uint64_t expected, uint64_t *found, uint32_t budget);
+vbr_answer __real_vbr_map_next_within(vbr_map_handle *handle, vbr_cursor *cursor, vbr_entry *entry, uint32_t budget);
+vbr_answer __real_vbr_map_close(vbr_map_handle *handle, vbr_entry *entries, size_t room, vbr_report *report);
 
 enum { KEPT = 1 << 16 };
 
@@ -67,11 +67,11 @@ static void give_kept(uint64_t key, uint64_t *value) {
 }
 
 /* Gives the value of another key, the first of a walk, if there is one. */
-static void give_other(vbr_map_handle *handle, uint64_t key, uint32_t budget, uint64_t *value) {
+static void give_other(vbr_map_handle *handle, uint64_t key, uint64_t *value, uint32_t budget) {
     vbr_cursor cursor = VBR_CURSOR_BEGIN;
-    uint64_t other = key, found = 0;
-    while (other == key && __real_vbr_map_next(handle, &cursor, budget, &other, &found) == VBR_YES) {}
-    if (other != key) *value = found;
+    vbr_entry other = {key, 0};
+    while (other.key == key && __real_vbr_map_next_within(handle, &cursor, &other, budget) == VBR_YES) {}
+    if (other.key != key) *value = other.value;
 }
 
 vbr_answer __wrap_vbr_map_open_with(vbr_map_handle *handles, size_t count, uint32_t slots, uint32_t buckets, uint64_t last_epoch,
@@ -86,38 +86,42 @@ vbr_answer __wrap_vbr_map_open_with(vbr_map_handle *handles, size_t count, uint3
     return answer;
 }
 
-vbr_answer __wrap_vbr_map_insert(vbr_map_handle *handle, uint64_t key, uint64_t value, uint32_t budget) {
+vbr_answer __wrap_vbr_map_insert_within(vbr_map_handle *handle, uint64_t key, uint64_t value, uint32_t budget) {
     uint64_t old = 0;
     if (now(6)) value &= UINT32_MAX;
     if (fault() == 2) keep(key, value);
-    vbr_answer answer = __real_vbr_map_insert(handle, key, value, budget);
-    if (answer == VBR_NO && now(5) && __real_vbr_map_remove(handle, key, budget, &old) == VBR_YES)
-        return __real_vbr_map_insert(handle, key, value, budget) == VBR_YES ? VBR_NO : VBR_EMPTY;
+    vbr_answer answer = __real_vbr_map_insert_within(handle, key, value, budget);
+    if (answer == VBR_NO && now(5) && __real_vbr_map_remove_within(handle, key, &old, budget) == VBR_YES)
+        return __real_vbr_map_insert_within(handle, key, value, budget) == VBR_YES ? VBR_NO : VBR_NO_HANDLE;
     return answer;
 }
 
-vbr_answer __wrap_vbr_map_remove(vbr_map_handle *handle, uint64_t key, uint32_t budget, uint64_t *value) {
-    vbr_answer answer = __real_vbr_map_remove(handle, key, budget, value);
+vbr_answer __wrap_vbr_map_remove_within(vbr_map_handle *handle, uint64_t key, uint64_t *value, uint32_t budget) {
+    uint64_t unasked = 0;
+    if (!value) value = &unasked;
+    vbr_answer answer = __real_vbr_map_remove_within(handle, key, value, budget);
     uint64_t removed = *value;
     if (answer == VBR_YES && now(4)) give_kept(key, value);
     if (answer == VBR_YES && (fault() == 1 || fault() == 4 || fault() == 10)) keep(key, removed);
     return answer;
 }
 
-vbr_answer __wrap_vbr_map_get(vbr_map_handle *handle, uint64_t key, uint32_t budget, uint64_t *value) {
-    vbr_answer answer = __real_vbr_map_get(handle, key, budget, value);
+vbr_answer __wrap_vbr_map_get_within(vbr_map_handle *handle, uint64_t key, uint64_t *value, uint32_t budget) {
+    uint64_t unasked = 0;
+    if (!value) value = &unasked;
+    vbr_answer answer = __real_vbr_map_get_within(handle, key, value, budget);
     if (answer == VBR_YES && (now(1) || now(2))) give_kept(key, value);
-    if (answer == VBR_YES && now(3)) give_other(handle, key, budget, value);
+    if (answer == VBR_YES && now(3)) give_other(handle, key, value, budget);
     if (answer != VBR_YES && fault() == 7) *value = 1;
     return answer;
 }
 
 /* A replacement with a step between, in which the key is absent. */
 static vbr_answer replace_in_two(vbr_map_handle *handle, uint64_t key, uint64_t value, uint64_t *found, uint32_t budget) {
-    vbr_answer answer = __real_vbr_map_remove(handle, key, budget, found);
+    vbr_answer answer = __real_vbr_map_remove_within(handle, key, found, budget);
     if (answer != VBR_YES) return answer;
     sched_yield();
-    answer = __real_vbr_map_insert(handle, key, value, budget);
+    answer = __real_vbr_map_insert_within(handle, key, value, budget);
     return answer < 0 ? answer : VBR_YES;
 }
 
@@ -130,61 +134,61 @@ static vbr_answer told(vbr_answer answer, uint64_t *found) {
 /* The least budget that is answered leaves no step to unlink the old node. */
 static vbr_answer replace_by_the_least(vbr_map_handle *handle, uint64_t key, uint64_t value, uint64_t *found, uint32_t budget) {
     for (uint32_t least = 0; least < budget; least++) {
-        vbr_answer answer = __real_vbr_map_replace(handle, key, value, found, least);
+        vbr_answer answer = __real_vbr_map_replace_within(handle, key, value, found, least);
         if (answer != VBR_OUT_OF_STEPS) return answer;
     }
-    return __real_vbr_map_replace(handle, key, value, found, budget);
+    return __real_vbr_map_replace_within(handle, key, value, found, budget);
 }
 
-vbr_answer __wrap_vbr_map_replace(vbr_map_handle *handle, uint64_t key, uint64_t value, uint64_t *found, uint32_t budget) {
+vbr_answer __wrap_vbr_map_replace_within(vbr_map_handle *handle, uint64_t key, uint64_t value, uint64_t *found, uint32_t budget) {
     if (now(13)) return replace_in_two(handle, key, value, found, budget);
     if (now(22)) return replace_by_the_least(handle, key, value, found, budget);
-    vbr_answer answer = now(21) ? __real_vbr_map_put(handle, key, value, found, budget) : __real_vbr_map_replace(handle, key, value, found, budget);
+    vbr_answer answer = now(21) ? __real_vbr_map_put_within(handle, key, value, found, budget) : __real_vbr_map_replace_within(handle, key, value, found, budget);
     if (answer == VBR_YES && fault() == 14) *found = value;
     return told(answer, found);
 }
 
-vbr_answer __wrap_vbr_map_put(vbr_map_handle *handle, uint64_t key, uint64_t value, uint64_t *found, uint32_t budget) {
-    if (now(20) && vbr_map_has(handle, key, budget) == VBR_YES) return replace_in_two(handle, key, value, found, budget);
-    if (now(18)) return __real_vbr_map_get_or_insert(handle, key, value, found, budget);
-    return told(__real_vbr_map_put(handle, key, value, found, budget), found);
+vbr_answer __wrap_vbr_map_put_within(vbr_map_handle *handle, uint64_t key, uint64_t value, uint64_t *found, uint32_t budget) {
+    if (now(20) && vbr_map_has_within(handle, key, budget) == VBR_YES) return replace_in_two(handle, key, value, found, budget);
+    if (now(18)) return __real_vbr_map_get_or_insert_within(handle, key, value, found, budget);
+    return told(__real_vbr_map_put_within(handle, key, value, found, budget), found);
 }
 
-vbr_answer __wrap_vbr_map_get_or_insert(vbr_map_handle *handle, uint64_t key, uint64_t value, uint64_t *found, uint32_t budget) {
-    vbr_answer answer = __real_vbr_map_get_or_insert(handle, key, value, found, budget);
+vbr_answer __wrap_vbr_map_get_or_insert_within(vbr_map_handle *handle, uint64_t key, uint64_t value, uint64_t *found, uint32_t budget) {
+    vbr_answer answer = __real_vbr_map_get_or_insert_within(handle, key, value, found, budget);
     if (answer == VBR_YES && fault() == 16) *found = value;
     return told(answer, found);
 }
 
-vbr_answer __wrap_vbr_map_compare_exchange(vbr_map_handle *handle, uint64_t key, uint64_t expected, uint64_t value, uint64_t *found, uint32_t budget) {
-    if (!now(15)) return told(__real_vbr_map_compare_exchange(handle, key, expected, value, found, budget), found);
+vbr_answer __wrap_vbr_map_compare_exchange_within(vbr_map_handle *handle, uint64_t key, uint64_t expected, uint64_t value, uint64_t *found, uint32_t budget) {
+    if (!now(15)) return told(__real_vbr_map_compare_exchange_within(handle, key, expected, value, found, budget), found);
     uint64_t other = 0;
-    vbr_answer answer = __real_vbr_map_replace(handle, key, value, &other, budget);
+    vbr_answer answer = __real_vbr_map_replace_within(handle, key, value, &other, budget);
     if (answer == VBR_YES) *found = expected;
     return answer;
 }
 
-vbr_answer __wrap_vbr_map_remove_if(vbr_map_handle *handle, uint64_t key, uint64_t expected, uint64_t *found, uint32_t budget) {
-    if (!now(17)) return told(__real_vbr_map_remove_if(handle, key, expected, found, budget), found);
+vbr_answer __wrap_vbr_map_remove_if_within(vbr_map_handle *handle, uint64_t key, uint64_t expected, uint64_t *found, uint32_t budget) {
+    if (!now(17)) return told(__real_vbr_map_remove_if_within(handle, key, expected, found, budget), found);
     uint64_t other = 0;
-    vbr_answer answer = __real_vbr_map_remove(handle, key, budget, &other);
+    vbr_answer answer = __real_vbr_map_remove_within(handle, key, &other, budget);
     if (answer == VBR_YES) *found = expected;
     return answer;
 }
 
-vbr_answer __wrap_vbr_map_next(vbr_map_handle *handle, vbr_cursor *cursor, uint32_t budget, uint64_t *key, uint64_t *value) {
-    vbr_answer answer = __real_vbr_map_next(handle, cursor, budget, key, value);
-    if (answer == VBR_YES && now(10)) give_kept(*key, value);
+vbr_answer __wrap_vbr_map_next_within(vbr_map_handle *handle, vbr_cursor *cursor, vbr_entry *entry, uint32_t budget) {
+    vbr_answer answer = __real_vbr_map_next_within(handle, cursor, entry, budget);
+    if (answer == VBR_YES && now(10)) give_kept(entry->key, &entry->value);
     if (answer == VBR_YES && now(11)) {
         vbr_cursor copy = *cursor;
-        uint64_t other = 0;
-        (void)!__real_vbr_map_next(handle, &copy, budget, &other, value);
+        vbr_entry other;
+        if (__real_vbr_map_next_within(handle, &copy, &other, budget) == VBR_YES) entry->value = other.value;
     }
-    if (answer != VBR_YES && fault() == 12) *value = 1;
+    if (answer != VBR_YES && fault() == 12) entry->value = 1;
     return answer;
 }
 
-vbr_answer __wrap_vbr_map_close(vbr_map_handle *handle, vbr_entry *entries, size_t room, vbr_totals *report) {
+vbr_answer __wrap_vbr_map_close(vbr_map_handle *handle, vbr_entry *entries, size_t room, vbr_report *report) {
     vbr_answer answer = __real_vbr_map_close(handle, entries, room, report);
     if (answer != VBR_YES || report->live < 2 || fault() != 8) return answer;
     uint64_t first = entries[0].value;

@@ -4,13 +4,13 @@
 
 #include <stdio.h>
 
-enum { HANDLES = 2, SLOTS = 8, BUCKETS = 4, LAST_EPOCH = 20, BUDGET = 1000 };
+enum { HANDLES = 2, SLOTS = 8, BUCKETS = 4, LAST_EPOCH = 20 };
 
 /* Here all threads stand still. All handles are closed at once. */
 static int renew(vbr_map_handle *map, vbr_entry *entries, int *renewals) {
-    vbr_totals report = {0};
+    vbr_report report = {0};
     if (vbr_map_close_all(map, HANDLES, entries, SLOTS, &report) != VBR_YES) return 1;
-    if (vbr_map_open_with(map, HANDLES, SLOTS, BUCKETS, LAST_EPOCH, entries, report.live) != VBR_NO) return 1;
+    if (vbr_map_open_with(map, HANDLES, SLOTS, BUCKETS, LAST_EPOCH, entries, report.live) != VBR_OK) return 1;
     ++*renewals;
     return 0;
 }
@@ -18,21 +18,21 @@ static int renew(vbr_map_handle *map, vbr_entry *entries, int *renewals) {
 /* Stores and takes out many keys, and renews the map in time, or once an insert is refused. */
 static int churn(int in_time) {
     vbr_map_handle map[HANDLES] = {{0}};
-    vbr_totals report = {0};
+    vbr_report report = {0};
     vbr_entry entries[SLOTS] = {{0}};
     uint64_t value = 0;
     int renewals = 0;
-    if (vbr_map_open(map, HANDLES, SLOTS, BUCKETS, LAST_EPOCH) != VBR_NO) return 1;
-    if (vbr_map_insert(&map[1], 5, 70, BUDGET) != VBR_YES || vbr_map_insert(&map[0], 6, 71, BUDGET) != VBR_YES) return 2;
+    if (vbr_map_open(map, HANDLES, SLOTS, BUCKETS, LAST_EPOCH) != VBR_OK) return 1;
+    if (vbr_map_insert(&map[1], 5, 70) != VBR_YES || vbr_map_insert(&map[0], 6, 71) != VBR_YES) return 2;
     for (uint64_t key = 100; key < 400; key++) {
         if (in_time && vbr_map_epoch(&map[0]) + 1 >= vbr_map_last_epoch(&map[0]) && renew(map, entries, &renewals)) return 3;
-        vbr_answer added = vbr_map_insert(&map[0], key, 3 * key, BUDGET);
+        vbr_answer added = vbr_map_insert(&map[0], key, 3 * key);
         if (added == VBR_EPOCH_SPENT) {
             if (in_time || renew(map, entries, &renewals)) return 4;
-            added = vbr_map_insert(&map[0], key, 3 * key, BUDGET);
+            added = vbr_map_insert(&map[0], key, 3 * key);
         }
-        if (added != VBR_YES || vbr_map_remove(&map[0], key, BUDGET, &value) != VBR_YES || value != 3 * key) return 5;
-        if (vbr_map_get(&map[1], 5, BUDGET, &value) != VBR_YES || value != 70) return 6;
+        if (added != VBR_YES || vbr_map_remove(&map[0], key, &value) != VBR_YES || value != 3 * key) return 5;
+        if (vbr_map_get(&map[1], 5, &value) != VBR_YES || value != 70) return 6;
     }
     if (renewals < 10) return 7;
     if (vbr_map_close_all(map, HANDLES, entries, SLOTS, &report) != VBR_YES || report.live != 2) return 8;

@@ -11,7 +11,7 @@
 
 #define CHECK(x) do { if (!(x)) { fprintf(stderr, "order.c:%d: %s\n", __LINE__, #x); exit(1); } } while (0)
 
-enum { THREADS = 4, BUDGET = 1 << 20, BEHIND = 8 };
+enum { THREADS = 4, BEHIND = 8 };
 
 /* How many keys of each thread are inserted, and below which of them the odd ones are removed. */
 struct known {
@@ -44,13 +44,13 @@ static void check(vbr_handle *handle, const struct known *known, int id, uint64_
     long there = known->inserted[id], gone = known->removed[id];
     if (there > 0) {
         long newest = there - 1 - (there - 1) % 2;
-        CHECK(vbr_has(handle, key_of(id, newest), BUDGET) == VBR_YES);
-        CHECK(vbr_insert(handle, key_of(id, (long)(random % (uint64_t)there) & ~1l), BUDGET) == VBR_NO);
+        CHECK(vbr_has(handle, key_of(id, newest)) == VBR_YES);
+        CHECK(vbr_insert(handle, key_of(id, (long)(random % (uint64_t)there) & ~1l)) == VBR_NO);
     }
     if (gone > 1) {
         long newest = gone - 1 - gone % 2;
-        CHECK(vbr_has(handle, key_of(id, newest), BUDGET) == VBR_NO);
-        CHECK(vbr_remove(handle, key_of(id, (long)(random % (uint64_t)(gone / 2)) * 2 + 1), BUDGET) == VBR_NO);
+        CHECK(vbr_has(handle, key_of(id, newest)) == VBR_NO);
+        CHECK(vbr_remove(handle, key_of(id, (long)(random % (uint64_t)(gone / 2)) * 2 + 1)) == VBR_NO);
     }
 }
 
@@ -58,11 +58,11 @@ static void *work(void *of) {
     struct worker *w = of, *before = &workers[(w->id + THREADS - 1) % THREADS], *far = &workers[(w->id + 2) % THREADS];
     uint64_t random = 88172645463325252u + (uint64_t)w->id;
     for (long n = 0; n < rounds; n++) {
-        CHECK(vbr_insert(&w->handle, key_of(w->id, n), BUDGET) == VBR_YES);
+        CHECK(vbr_insert(&w->handle, key_of(w->id, n)) == VBR_YES);
         w->known.inserted[w->id] = n + 1;
         atomic_store_explicit(&w->shown, n + 1, memory_order_release);
         if (n >= BEHIND && (n - BEHIND) % 2) {
-            CHECK(vbr_remove(&w->handle, key_of(w->id, n - BEHIND), BUDGET) == VBR_YES);
+            CHECK(vbr_remove(&w->handle, key_of(w->id, n - BEHIND)) == VBR_YES);
             w->known.removed[w->id] = n - BEHIND + 1;
         }
         CHECK(!pthread_mutex_lock(&w->lock));
@@ -87,11 +87,11 @@ static void *work(void *of) {
 int main(int count, char **words) {
     vbr_handle handles[THREADS] = {{0}};
     pthread_t threads[THREADS];
-    vbr_totals report = {0};
+    vbr_report report = {0};
     uint64_t first[1] = {0};
     if (count > 1) rounds = atol(words[1]);
     CHECK(rounds > BEHIND && rounds <= 1000000);
-    CHECK(vbr_open(handles, THREADS, (uint32_t)rounds * THREADS + 64 * THREADS, 16384, VBR_MAX_EPOCH) == VBR_NO);
+    CHECK(vbr_open(handles, THREADS, (uint32_t)rounds * THREADS + 64 * THREADS, 16384, VBR_MAX_EPOCH) == VBR_OK);
     for (int i = 0; i < THREADS; i++) {
         workers[i].handle = handles[i]; /* moved: the old place is not used again */
         workers[i].id = i;
@@ -104,7 +104,7 @@ int main(int count, char **words) {
         for (int of = 0; of < THREADS; of++)
             for (long n = of; n < rounds; n += THREADS) {
                 int there = n % 2 == 0 || n >= rounds - BEHIND;
-                CHECK(vbr_has(&workers[i].handle, key_of(of, n), BUDGET) == there);
+                CHECK(vbr_has(&workers[i].handle, key_of(of, n)) == there);
             }
     for (int i = 0; i < THREADS - 1; i++) CHECK(vbr_close(&workers[i].handle, first, 1, &report) == VBR_NO);
     /* the last one tells how many keys there are, and then the keys */

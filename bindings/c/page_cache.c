@@ -30,7 +30,7 @@
 #define CHECK(x) do { if (!(x)) { fprintf(stderr, "page_cache.c:%d: %s\n", __LINE__, #x); exit(1); } } while (0)
 
 enum { FRAMES = 4096, PAGES = 16384, WORDS = 64, MOST_THREADS = 4, CHECKPOINT = 4000 /* requests between two */ };
-enum { SLOTS = FRAMES + 64 * MOST_THREADS, FEW_SLOTS = FRAMES / 2, AMPLE = VBR_AMPLE_BUDGET(SLOTS) };
+enum { SLOTS = FRAMES + 64 * MOST_THREADS, FEW_SLOTS = FRAMES / 2, AMPLE = VBR_AMPLE_STEPS };
 
 #define NO_PAGE UINT64_MAX
 #define TAKEN UINT32_MAX
@@ -107,7 +107,7 @@ static int pin(struct frame *f, uint64_t page) {
 static struct frame *find(struct worker *w, uint64_t page) {
     uint64_t number = 0;
     for (uint32_t steps = budget;;) {
-        switch (vbr_map_get(w->map, page, steps, &number)) {
+        switch (vbr_map_get_within(w->map, page, &number, steps)) {
         case VBR_YES:
             if (pin(&frames[number], page)) return &frames[number];
             sched_yield(); /* the frame is taken: another page comes into it, or this one is just there */
@@ -130,7 +130,7 @@ static struct frame *evict(struct worker *w) {
         vbr_answer removed;
         uint32_t steps = AMPLE; /* with a small budget the node could stay in its list, and its slot with it */
         write_back(w, f); /* before it leaves: who misses it then reads it from disk */
-        while ((removed = vbr_map_remove_if(w->map, f->page, number_of(f), NULL, steps)) == VBR_OUT_OF_STEPS) steps = twice(w, steps);
+        while ((removed = vbr_map_remove_if_within(w->map, f->page, number_of(f), NULL, steps)) == VBR_OUT_OF_STEPS) steps = twice(w, steps);
         CHECK(removed == VBR_YES); /* who took the frame is alone in removing its page */
     }
     f->page = NO_PAGE;
@@ -158,7 +158,7 @@ static vbr_answer load(struct worker *w, uint64_t page, struct frame **pinned) {
     uint64_t number = 0;
     f->page = page;
     for (uint32_t steps = budget;;) {
-        vbr_answer there = vbr_map_get_or_insert(w->map, page, number_of(f), &number, steps);
+        vbr_answer there = vbr_map_get_or_insert_within(w->map, page, number_of(f), &number, steps);
         if (there == VBR_OUT_OF_STEPS) {
             steps = twice(w, steps);
         } else if (there == VBR_NO_SLOT) {
@@ -200,16 +200,16 @@ static int serve(struct worker *w, long request) {
 static void checkpoint(struct worker *w) {
     static uint64_t before[PAGES];
     vbr_cursor cursor = VBR_CURSOR_BEGIN;
-    uint64_t page = 0, number = 0;
     uint32_t steps = budget;
+    vbr_entry it = {0, 0};
     vbr_answer given;
     for (int i = 0; i < PAGES; i++) before[i] = atomic_load(&written[i]);
-    while ((given = vbr_map_next(w->map, &cursor, steps, &page, &number)) != VBR_NO) {
+    while ((given = vbr_map_next_within(w->map, &cursor, &it, steps)) != VBR_NO) {
         if (given == VBR_OUT_OF_STEPS) {
             steps = twice(w, steps); /* the cursor keeps how far the walk has come */
             continue;
         }
-        struct frame *f = pin(&frames[number], page) ? &frames[number] : find(w, page);
+        struct frame *f = pin(&frames[it.value], it.key) ? &frames[it.value] : find(w, it.key);
         if (!f) continue; /* it has left the map since, and was written back before */
         write_back(w, f);
         unpin(f);
@@ -231,9 +231,9 @@ static void *work(void *of) {
 /* Here all threads stand still. The pages of the old map, each with its frame, are those that the new one opens with. */
 static void renew(void) {
     static vbr_entry entries[FRAMES];
-    vbr_totals report = {0};
+    vbr_report report = {0};
     CHECK(vbr_map_close_all(handles, (size_t)threads, entries, FRAMES, &report) == VBR_YES);
-    CHECK(vbr_map_open_with(handles, (size_t)threads, slots, FRAMES, last_epoch, entries, report.live) == VBR_NO);
+    CHECK(vbr_map_open_with(handles, (size_t)threads, slots, FRAMES, last_epoch, entries, report.live) == VBR_OK);
     renewals++;
 }
 
@@ -249,7 +249,7 @@ static void work_all(void) {
    all writes are on disk. */
 static void close_cache(void) {
     static vbr_entry entries[FRAMES];
-    vbr_totals report = {0};
+    vbr_report report = {0};
     uint32_t has_page = 0;
     CHECK(vbr_map_close_all(handles, (size_t)threads, entries, FRAMES, &report) == VBR_YES);
     for (uint32_t i = 0; i < report.live; i++) CHECK(frames[entries[i].value].page == entries[i].key);
@@ -271,7 +271,7 @@ static long hits(long of_threads, uint32_t of_slots, uint64_t of_last_epoch, uin
     memset(written, 0, sizeof written);
     for (int i = 0; i < FRAMES; i++) frames[i].page = NO_PAGE;
     atomic_store(&hand, 0);
-    CHECK(vbr_map_open(handles, (size_t)threads, slots, FRAMES, last_epoch) == VBR_NO);
+    CHECK(vbr_map_open(handles, (size_t)threads, slots, FRAMES, last_epoch) == VBR_OK);
     for (long i = 0; i < threads; i++) workers[i] = (struct worker){.map = &handles[i], .next = i};
     for (work_all(); atomic_load(&renewal_is_due); work_all()) renew();
     for (long i = 0; i < threads; i++) {

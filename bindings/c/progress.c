@@ -118,17 +118,17 @@ static uint32_t most(enum kind kind) {
 static vbr_answer look_up(struct worker *w, uint64_t key, uint32_t budget) {
 #ifdef vbr_has /* over maps, by values.h: a get has the bound of a look-up */
     uint64_t value = 0;
-    return vbr_map_get(&w->handle, key, budget, &value);
+    return vbr_map_get_within(&w->handle, key, &value, budget);
 #else
-    return vbr_has(&w->handle, key, budget);
+    return vbr_has_within(&w->handle, key, budget);
 #endif
 }
 
 static vbr_answer call(struct worker *w, enum kind kind, uint64_t key, uint32_t budget) {
     switch (kind) {
     case LOOK_UP: return look_up(w, key, budget);
-    case REMOVE: return vbr_remove(&w->handle, key, budget);
-    default: return vbr_insert(&w->handle, key, budget);
+    case REMOVE: return vbr_remove_within(&w->handle, key, budget);
+    default: return vbr_insert_within(&w->handle, key, budget);
     }
 }
 
@@ -144,7 +144,7 @@ static void tell_end(struct told *told, vbr_answer answer) {
 }
 
 /* Takes what a call has marked out of its list. */
-static void sweep(struct worker *w) { CHECK(vbr_remove(&w->handle, last_key(), AMPLE) == VBR_NO); }
+static void sweep(struct worker *w) { CHECK(vbr_remove_within(&w->handle, last_key(), AMPLE) == VBR_NO); }
 
 /* Makes a call, which is told before and after it if it is an update. */
 static vbr_answer told_call(struct worker *w, enum kind kind, uint64_t key, uint32_t budget) {
@@ -208,13 +208,13 @@ static void open_set(void) {
     vbr_handle handles[THREADS] = {{0}};
     uint64_t keys[MOST_RESTING];
     for (uint64_t i = 0; i < resting; i++) keys[i] = 2 * i + 1;
-    CHECK(vbr_open_with(handles, THREADS, SLOTS, 1, VBR_MAX_EPOCH, keys, resting) == VBR_NO);
+    CHECK(vbr_open_with(handles, THREADS, SLOTS, 1, VBR_MAX_EPOCH, keys, resting) == VBR_OK);
     for (int i = 0; i < THREADS; i++) {
         struct worker *w = &workers[i];
         w->handle = handles[i];
         for (int kind = 0; kind < KINDS; kind++) w->told[kind] = (struct told){0};
-        for (uint64_t own = 0; own < PREPARED; own++) CHECK(vbr_insert(&w->handle, 1000 + own, AMPLE) == VBR_YES);
-        for (uint64_t own = 0; own < PREPARED; own++) CHECK(vbr_remove(&w->handle, 1000 + own, AMPLE) == VBR_YES);
+        for (uint64_t own = 0; own < PREPARED; own++) CHECK(vbr_insert_within(&w->handle, 1000 + own, AMPLE) == VBR_YES);
+        for (uint64_t own = 0; own < PREPARED; own++) CHECK(vbr_remove_within(&w->handle, 1000 + own, AMPLE) == VBR_YES);
     }
 }
 

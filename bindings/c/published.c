@@ -32,7 +32,6 @@ struct worker {
 
 static struct record records[RECORDS];
 static struct worker workers[THREADS];
-static const uint32_t budget = VBR_AMPLE_BUDGET(SLOTS);
 static long rounds = 100000;
 static int fault;
 static atomic_int read_early;
@@ -40,7 +39,7 @@ static atomic_int read_early;
 static void publish(struct worker *w) {
     for (uint64_t i = (uint64_t)w->id; i < RECORDS; i += 2) {
         records[i].value = 3 * i + 1;
-        CHECK(vbr_insert(&w->handle, i, budget) == VBR_YES);
+        CHECK(vbr_insert(&w->handle, i) == VBR_YES);
         if (fault == 3) records[i].value = 3 * i + 1;
     }
 }
@@ -48,7 +47,7 @@ static void publish(struct worker *w) {
 static void look_up_and_read(struct worker *w) {
     for (uint64_t i = 0; i < RECORDS; i++) {
         vbr_answer there;
-        while ((there = vbr_has(&w->handle, i, budget)) == VBR_NO) sched_yield();
+        while ((there = vbr_has(&w->handle, i)) == VBR_NO) sched_yield();
         CHECK(there == VBR_YES && records[i].value == 3 * i + 1);
     }
 }
@@ -58,7 +57,7 @@ static void walk_and_read(struct worker *w) {
         vbr_cursor cursor = VBR_CURSOR_BEGIN;
         uint64_t key = 0;
         vbr_answer told;
-        for (given = 0; (told = vbr_next(&w->handle, &cursor, budget, &key)) == VBR_YES; given++) CHECK(records[key].value == 3 * key + 1);
+        for (given = 0; (told = vbr_next(&w->handle, &cursor, &key)) == VBR_YES; given++) CHECK(records[key].value == 3 * key + 1);
         CHECK(told == VBR_NO);
     }
 }
@@ -67,12 +66,12 @@ static void walk_and_read(struct worker *w) {
 static void walk_together(struct worker *w) {
     static vbr_cursor shared = VBR_CURSOR_BEGIN;
     uint64_t key = 0;
-    for (int i = 0; i < RECORDS; i++) w->changed += vbr_next(&w->handle, &shared, budget, &key) == VBR_YES;
+    for (int i = 0; i < RECORDS; i++) w->changed += vbr_next(&w->handle, &shared, &key) == VBR_YES;
 }
 
 /* What nobody should do: it reads a record that isn't published yet, and only then lets the others begin. */
 static void read_too_early(struct worker *w) {
-    if (fault == 2) CHECK(vbr_has(&w->handle, RECORDS - 1, budget) == VBR_NO);
+    if (fault == 2) CHECK(vbr_has(&w->handle, RECORDS - 1) == VBR_NO);
     w->changed += records[RECORDS - 1].value;
     atomic_fetch_add_explicit(&read_early, 1, memory_order_relaxed);
 }
@@ -102,12 +101,12 @@ static void *take_and_give_back(void *of) {
         w->random ^= w->random >> 7;
         w->random ^= w->random << 17;
         uint64_t i = (w->random >> 32) % 64;
-        vbr_answer taken = vbr_remove(&w->handle, i, budget);
+        vbr_answer taken = vbr_remove(&w->handle, i);
         CHECK(taken == VBR_YES || taken == VBR_NO);
         if (taken == VBR_NO) continue;
         records[i].changes++;
         w->changed++;
-        CHECK(vbr_insert(&w->handle, i, budget) == VBR_YES);
+        CHECK(vbr_insert(&w->handle, i) == VBR_YES);
     }
     return NULL;
 }
@@ -121,11 +120,11 @@ static void run(void *(*what)(void *)) {
 int main(int count, char **words) {
     static uint64_t keys[RECORDS];
     vbr_handle handles[THREADS] = {{0}};
-    vbr_totals report = {0};
+    vbr_report report = {0};
     uint64_t changes = 0, changed = 0;
     if (count > 1) rounds = atol(words[1]);
     if (count > 2) fault = atoi(words[2]);
-    CHECK(vbr_open(handles, THREADS, SLOTS, RECORDS, VBR_MAX_EPOCH) == VBR_NO);
+    CHECK(vbr_open(handles, THREADS, SLOTS, RECORDS, VBR_MAX_EPOCH) == VBR_OK);
     for (int i = 0; i < THREADS; i++) {
         workers[i].handle = handles[i]; /* moved: the old place is not used again */
         workers[i].id = i;

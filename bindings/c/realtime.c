@@ -42,7 +42,7 @@ enum {
     ABSENT = 0,      /* in place of a value: the key isn't there */
     SHORT = 8,       /* the most calls of a short history */
     SHOWN = 12,      /* how many calls are told of that ended before the one that can't be explained */
-    AMPLE = 1 << 20, /* a budget that no call runs out of */
+    AMPLE = VBR_AMPLE_STEPS, /* no call runs out of it */
     WAYS = 1 << THREADS
 };
 
@@ -270,24 +270,24 @@ static void stand_still(int signal_number) {
 }
 
 static vbr_answer call_set(vbr_handle *handle, struct call *c) {
-    if (c->op == HAS) return vbr_has(handle, c->key, c->budget);
-    if (c->op == INSERT) return vbr_insert(handle, c->key, c->budget);
-    vbr_answer answer = vbr_remove(handle, c->key, c->budget);
+    if (c->op == HAS) return vbr_has_within(handle, c->key, c->budget);
+    if (c->op == INSERT) return vbr_insert_within(handle, c->key, c->budget);
+    vbr_answer answer = vbr_remove_within(handle, c->key, c->budget);
     if (answer == VBR_YES) c->found = value_of(1);
     return answer;
 }
 
 static vbr_answer call_map(vbr_map_handle *handle, struct call *c) {
     switch ((enum op)c->op) {
-    case INSERT: return vbr_map_insert(handle, c->key, c->value, c->budget);
-    case REMOVE: return vbr_map_remove(handle, c->key, c->budget, &c->found);
-    case GET: return vbr_map_get(handle, c->key, c->budget, &c->found);
-    case REPLACE: return vbr_map_replace(handle, c->key, c->value, &c->found, c->budget);
-    case PUT: return vbr_map_put(handle, c->key, c->value, &c->found, c->budget);
-    case GET_OR_INSERT: return vbr_map_get_or_insert(handle, c->key, c->value, &c->found, c->budget);
-    case COMPARE_EXCHANGE: return vbr_map_compare_exchange(handle, c->key, c->expected, c->value, &c->found, c->budget);
-    case REMOVE_IF: return vbr_map_remove_if(handle, c->key, c->expected, &c->found, c->budget);
-    default: return vbr_map_has(handle, c->key, c->budget);
+    case INSERT: return vbr_map_insert_within(handle, c->key, c->value, c->budget);
+    case REMOVE: return vbr_map_remove_within(handle, c->key, &c->found, c->budget);
+    case GET: return vbr_map_get_within(handle, c->key, &c->found, c->budget);
+    case REPLACE: return vbr_map_replace_within(handle, c->key, c->value, &c->found, c->budget);
+    case PUT: return vbr_map_put_within(handle, c->key, c->value, &c->found, c->budget);
+    case GET_OR_INSERT: return vbr_map_get_or_insert_within(handle, c->key, c->value, &c->found, c->budget);
+    case COMPARE_EXCHANGE: return vbr_map_compare_exchange_within(handle, c->key, c->expected, c->value, &c->found, c->budget);
+    case REMOVE_IF: return vbr_map_remove_if_within(handle, c->key, c->expected, &c->found, c->budget);
+    default: return vbr_map_has_within(handle, c->key, c->budget);
     }
 }
 
@@ -373,7 +373,7 @@ static vbr_answer open_handles(const struct round *r, union handle *handles) {
 
 /* Closes all handles: what each key has then, and whether the report could be told. */
 static int close_handles(union handle *handles, uint64_t *has) {
-    vbr_totals report = {0};
+    vbr_report report = {0};
     vbr_entry entries[MAX_KEYS] = {{0}};
     uint64_t keys[MAX_KEYS] = {0};
     vbr_answer answer = VBR_NO;
@@ -450,7 +450,7 @@ static int play(uint64_t *random) {
     uint64_t has[MAX_KEYS];
     struct round r = plan(random);
     rounds++;
-    if (open_handles(&r, handles) != VBR_NO) return failed("it could not be opened", 0);
+    if (open_handles(&r, handles) != VBR_OK) return failed("it could not be opened", 0);
     if (run(&r, handles, random)) return 1;
     const struct call *wrong = order_calls(&r);
     if (wrong) return failed("a call is refused for no reason", wrong->key);
@@ -485,7 +485,7 @@ static uint32_t draw_history(const struct round *r, uint64_t *random) {
     for (int turn = 0; turn < 2 * SHORT + THREADS; turn++) {
         int by = turn < 2 * SHORT ? (int)below(random, THREADS) : turn - 2 * SHORT, is_early = next(random) & 1;
         if (open[by]) {
-            if (open[by]->answer == VBR_EMPTY) has = answered(open[by], has);
+            if (open[by]->answer == VBR_NO_HANDLE) has = answered(open[by], has);
             open[by]->end = stamp;
             note_stamp(&stamp, open[by], 1);
             open[by] = NULL;
@@ -494,7 +494,7 @@ static uint32_t draw_history(const struct round *r, uint64_t *random) {
             *open[by] = drawn(&workers[by], 0);
             open[by]->expected = value_of(1 + below(random, 3));
             open[by]->begin = stamp;
-            open[by]->answer = VBR_EMPTY;
+            open[by]->answer = VBR_NO_HANDLE;
             note_stamp(&stamp, open[by], 0);
             if (is_early) has = answered(open[by], has);
         }

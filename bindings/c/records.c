@@ -22,7 +22,7 @@
 
 #define CHECK(x) do { if (!(x)) { fprintf(stderr, "records.c:%d: FAILED: %s\n", __LINE__, #x); exit(1); } } while (0)
 
-enum { THREADS = 4, KEYS = 16, RECORDS = KEYS + THREADS, SLOTS = KEYS + 64 * THREADS, BUDGET = VBR_AMPLE_BUDGET(SLOTS), TURNS = 100000 };
+enum { THREADS = 4, KEYS = 16, RECORDS = KEYS + THREADS, SLOTS = KEYS + 64 * THREADS, TURNS = 100000 };
 
 /* What an account has, as the program sees it; the last word is made of the others. */
 struct account {
@@ -80,7 +80,7 @@ static int read_account(uint64_t value, struct account *account) {
 /* The account of an owner, and the value that names it, if there is one. */
 static int find(vbr_map_handle *map, uint64_t owner, struct account *account, uint64_t *value) {
     for (;;) {
-        vbr_answer there = vbr_map_get(map, owner, BUDGET, value);
+        vbr_answer there = vbr_map_get(map, owner, value);
         CHECK(there >= 0);
         if (there == VBR_NO) return 0;
         if (read_account(*value, account)) return 1;
@@ -96,7 +96,7 @@ static void pay(vbr_map_handle *map, uint64_t owner, uint64_t amount) {
         account.paid += amount, account.payments++, account.last = amount;
         account.seal = seal_of(&account);
         uint64_t after = written(&account);
-        vbr_answer told = was_there ? vbr_map_compare_exchange(map, owner, before, after, NULL, BUDGET) : vbr_map_insert(map, owner, after, BUDGET);
+        vbr_answer told = was_there ? vbr_map_compare_exchange(map, owner, before, after, NULL) : vbr_map_insert(map, owner, after);
         CHECK(told >= 0);
         if (told == VBR_YES) {
             if (was_there) give_record((uint32_t)before);
@@ -111,7 +111,7 @@ static uint64_t end(vbr_map_handle *map, uint64_t owner) {
     struct account account = {0};
     uint64_t value = 0;
     while (find(map, owner, &account, &value)) {
-        vbr_answer told = vbr_map_remove_if(map, owner, value, NULL, BUDGET);
+        vbr_answer told = vbr_map_remove_if(map, owner, value, NULL);
         CHECK(told >= 0);
         if (told != VBR_YES) continue; /* it was paid into since, or is gone */
         give_record((uint32_t)value);
@@ -142,11 +142,11 @@ int main(int count, char **words) {
     pthread_t threads[THREADS];
     vbr_map_handle map[THREADS] = {{0}};
     vbr_entry entries[KEYS] = {{0, 0}};
-    vbr_totals report = {0};
+    vbr_report report = {0};
     uint64_t paid = 0, ended = 0, left = 0;
     is_careless = count > 1 && !strcmp(words[1], "careless");
     for (uint32_t i = 0; i < RECORDS; i++) give_record(i);
-    CHECK(vbr_map_open(map, THREADS, SLOTS, KEYS, VBR_MAX_EPOCH) == VBR_NO);
+    CHECK(vbr_map_open(map, THREADS, SLOTS, KEYS, VBR_MAX_EPOCH) == VBR_OK);
     for (int i = 0; i < THREADS; i++) {
         workers[i] = (struct worker){.map = map[i], .random = 88172645463325252u + (uint64_t)i};
         CHECK(!pthread_create(&threads[i], NULL, work, &workers[i]));

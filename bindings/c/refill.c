@@ -37,7 +37,7 @@ struct worker {
 
 static struct worker workers[THREADS];
 static uint64_t first[MAX_KEYS], ascending[MAX_KEYS], second[MAX_KEYS], left[MAX_KEYS];
-static uint32_t key_count = 1 << 18, budget;
+static uint32_t key_count = 1 << 18;
 static enum kind kind;
 static atomic_uint taken, arrived;
 
@@ -85,20 +85,19 @@ static void *remove_all(void *of) {
     struct worker *w = of;
     for (uint32_t step = 0; step < steps(); step++) {
         meet(step);
-        CHECK(vbr_remove(&w->handle, first[THREADS * step + (uint32_t)w->id], budget) == VBR_YES);
+        CHECK(vbr_remove(&w->handle, first[THREADS * step + (uint32_t)w->id]) == VBR_YES);
     }
     for (uint32_t place; (place = atomic_fetch_add(&taken, 1)) < key_count;)
-        CHECK(vbr_remove(&w->handle, first[place], budget) == VBR_YES);
+        CHECK(vbr_remove(&w->handle, first[place]) == VBR_YES);
     return NULL;
 }
 
 /* Fills, empties and fills a set: how many keys of the second filling found a slot, and the report. */
-static uint32_t play(vbr_totals *report) {
+static uint32_t play(vbr_report *report) {
     vbr_handle handles[THREADS] = {{0}};
     pthread_t threads[THREADS];
     uint32_t slots = key_count + 64 * THREADS, found = 0;
-    budget = VBR_AMPLE_BUDGET(slots);
-    CHECK(vbr_open_seeded(handles, THREADS, slots, key_count, VBR_MAX_EPOCH, 0, ascending, key_count) == VBR_NO);
+    CHECK(vbr_open_seeded(handles, THREADS, slots, key_count, VBR_MAX_EPOCH, 0, ascending, key_count) == VBR_OK);
     atomic_store(&taken, THREADS * steps());
     atomic_store(&arrived, 0);
     for (int i = 0; i < THREADS; i++) {
@@ -108,7 +107,7 @@ static uint32_t play(vbr_totals *report) {
     }
     for (int i = 0; i < THREADS; i++) CHECK(!pthread_join(threads[i], NULL));
     vbr_answer added = VBR_YES;
-    while (found < key_count && (added = vbr_insert(&workers[0].handle, second[found], budget)) == VBR_YES) found++;
+    while (found < key_count && (added = vbr_insert(&workers[0].handle, second[found])) == VBR_YES) found++;
     CHECK(added == VBR_YES || added == VBR_NO_SLOT);
     for (int i = 0; i < THREADS; i++)
         CHECK(vbr_close(&workers[i].handle, left, MAX_KEYS, report) == (i == THREADS - 1 ? VBR_YES : VBR_NO));
@@ -127,7 +126,7 @@ int main(int count, char **words) {
         uint32_t least = key_count, most_left = 0;
         long refused = 0, leaving = 0;
         for (long run = 0; run < runs; run++) {
-            vbr_totals report = {0};
+            vbr_report report = {0};
             choose_keys(&random);
             uint32_t found = play(&report);
             if (found < least) least = found;

@@ -17,7 +17,7 @@
 
 #define CHECK(x) do { if (!(x)) { fprintf(stderr, "replaced.c:%d: %s\n", __LINE__, #x); exit(1); } } while (0)
 
-enum { WRITERS = 2, THREADS = 2 * WRITERS, KEYS = 8, MOST = 1 << 20, SLOTS = KEYS + 64 * THREADS, BUDGET = VBR_AMPLE_BUDGET(SLOTS) };
+enum { WRITERS = 2, THREADS = 2 * WRITERS, KEYS = 8, MOST = 1 << 20, SLOTS = KEYS + 64 * THREADS };
 
 struct record {
     uint64_t key, number;
@@ -43,19 +43,19 @@ static void read_record(struct worker *w, uint64_t key, uint64_t number) {
 
 /* Gives a key a number that is computed by no other thread: whatever is there is exchanged. */
 static vbr_answer exchange(struct worker *w, uint64_t key, uint64_t number, uint64_t *before) {
-    vbr_answer told = vbr_map_get(w->map, key, BUDGET, before) == VBR_YES ? VBR_OTHER : VBR_NO;
-    while (told == VBR_OTHER) told = vbr_map_compare_exchange(w->map, key, *before, number, before, BUDGET);
+    vbr_answer told = vbr_map_get(w->map, key, before) == VBR_YES ? VBR_OTHER : VBR_NO;
+    while (told == VBR_OTHER) told = vbr_map_compare_exchange(w->map, key, *before, number, before);
     return told;
 }
 
 /* Gives a key the number of a record, by one call or another. The first number of a key may be another thread's. */
 static void publish(struct worker *w, uint64_t key, uint64_t number) {
     uint64_t before = 0;
-    vbr_answer there = vbr_map_get_or_insert(w->map, key, number, &before, BUDGET);
+    vbr_answer there = vbr_map_get_or_insert(w->map, key, number, &before);
     if (there == VBR_YES) {
         read_record(w, key, before);
-        there = number % 3 == 0   ? vbr_map_replace(w->map, key, number, &before, BUDGET)
-                : number % 3 == 1 ? vbr_map_put(w->map, key, number, &before, BUDGET)
+        there = number % 3 == 0   ? vbr_map_replace(w->map, key, number, &before)
+                : number % 3 == 1 ? vbr_map_put(w->map, key, number, &before)
                                   : exchange(w, key, number, &before);
         CHECK(there == VBR_YES);
         read_record(w, key, before);
@@ -76,7 +76,7 @@ static void write_records(struct worker *w) {
 static void read_records(struct worker *w) {
     for (uint64_t turn = 0; atomic_load_explicit(&writing, memory_order_relaxed) > 0; turn++) {
         uint64_t key = turn % KEYS, number = 0;
-        vbr_answer there = vbr_map_get(w->map, key, BUDGET, &number);
+        vbr_answer there = vbr_map_get(w->map, key, &number);
         if (there == VBR_YES) read_record(w, key, number);
         else sched_yield();
         if (fault == 1) w->read += records[turn % (uint64_t)count].number == turn; /* nobody told it this number */
@@ -92,13 +92,13 @@ static void *work(void *of) {
 
 int main(int words, char **word) {
     static vbr_entry entries[KEYS];
-    vbr_totals report = {0};
+    vbr_report report = {0};
     pthread_t threads[THREADS];
     uint64_t read = 0;
     if (words > 1) count = atol(word[1]);
     if (words > 2) fault = atoi(word[2]);
     CHECK(count >= WRITERS * KEYS && count <= MOST);
-    CHECK(vbr_map_open(handles, THREADS, SLOTS, KEYS, VBR_MAX_EPOCH) == VBR_NO);
+    CHECK(vbr_map_open(handles, THREADS, SLOTS, KEYS, VBR_MAX_EPOCH) == VBR_OK);
     for (int i = 0; i < THREADS; i++) {
         workers[i] = (struct worker){&handles[i], i, 0};
         CHECK(!pthread_create(&threads[i], NULL, work, &workers[i]));

@@ -11,7 +11,7 @@
 /* Seed 0 has keys multiplied by the first number; the second is its inverse. */
 static const uint64_t MIXER = 0x9E3779B97F4A7C15u, INVERSE = 0xF1DE83E19937733Du;
 
-enum { BUCKETS = 1 << 14, CHOSEN = 10209, SLOTS = BUCKETS + 64, ORDERED = 200 };
+enum { BUCKETS = 1 << 16, CHOSEN = 45000, SLOTS = BUCKETS + 64, ORDERED = 200 };
 
 static uint64_t chosen[CHOSEN + 1], ordered[ORDERED], given[ORDERED], others[ORDERED];
 
@@ -29,13 +29,13 @@ static int by_number(const void *a, const void *b) {
     return x < y ? -1 : x > y;
 }
 
-/* The keys whose products with the first number have no bit among the upper 14: one bucket of 2^14 has them all. */
+/* The keys whose products with the first number have no bit among the upper 16: one bucket of 2^16 has them all. */
 static int choose_keys(void) {
     uint64_t random = 88172645463325252u;
     CHECK(MIXER * INVERSE == 1);
     for (int i = 0; i <= CHOSEN; i++) {
         random ^= random << 13, random ^= random >> 7, random ^= random << 17;
-        chosen[i] = (random >> 14) * INVERSE;
+        chosen[i] = (random >> 16) * INVERSE;
     }
     qsort(chosen, CHOSEN + 1, sizeof chosen[0], by_number);
     for (int i = 0; i < CHOSEN; i++) CHECK(chosen[i] < chosen[i + 1]);
@@ -45,20 +45,20 @@ static int choose_keys(void) {
 /* With the known seed a look-up of the last key passes all others, five steps for each, and nothing more can be inserted there. */
 static int chosen_against_the_known_seed(void) {
     vbr_handle one = {0};
-    CHECK(vbr_open_seeded(&one, 1, SLOTS, BUCKETS, VBR_MAX_EPOCH, 0, chosen, CHOSEN) == VBR_NO);
-    CHECK(vbr_has(&one, chosen[CHOSEN - 1], 5 * (CHOSEN - 1)) == VBR_OUT_OF_STEPS);
-    CHECK(vbr_has(&one, chosen[CHOSEN - 1], 5 * CHOSEN + 11) == VBR_YES);
-    CHECK(vbr_insert(&one, chosen[CHOSEN], VBR_AMPLE_BUDGET(SLOTS)) == VBR_OUT_OF_STEPS);
+    CHECK(vbr_open_seeded(&one, 1, SLOTS, BUCKETS, VBR_MAX_EPOCH, 0, chosen, CHOSEN) == VBR_OK);
+    CHECK(vbr_has_within(&one, chosen[CHOSEN - 1], 5 * (CHOSEN - 1)) == VBR_OUT_OF_STEPS);
+    CHECK(vbr_has_within(&one, chosen[CHOSEN - 1], 5 * CHOSEN + 11) == VBR_YES);
+    CHECK(vbr_insert(&one, chosen[CHOSEN]) == VBR_OUT_OF_STEPS);
     vbr_drop(&one);
     return 0;
 }
 
-/* With a drawn one each key is found among few: 64 keys in one bucket of 2^14 are more than chance ever has. */
+/* With a drawn one each key is found among few: 64 keys in one bucket of 2^16 are more than chance ever has. */
 static int the_same_keys_with_a_drawn_seed(void) {
     vbr_handle one = {0};
-    CHECK(vbr_open_with(&one, 1, SLOTS, BUCKETS, VBR_MAX_EPOCH, chosen, CHOSEN) == VBR_NO);
-    for (int i = 0; i < CHOSEN; i++) CHECK(vbr_has(&one, chosen[i], 5 * 64 + 11) == VBR_YES);
-    CHECK(vbr_insert(&one, chosen[CHOSEN], VBR_AMPLE_BUDGET(SLOTS)) == VBR_YES);
+    CHECK(vbr_open_with(&one, 1, SLOTS, BUCKETS, VBR_MAX_EPOCH, chosen, CHOSEN) == VBR_OK);
+    for (int i = 0; i < CHOSEN; i++) CHECK(vbr_has_within(&one, chosen[i], 5 * 64 + 11) == VBR_YES);
+    CHECK(vbr_insert(&one, chosen[CHOSEN]) == VBR_YES);
     vbr_drop(&one);
     return 0;
 }
@@ -66,7 +66,7 @@ static int the_same_keys_with_a_drawn_seed(void) {
 /* The keys in the order of a walk: that of their buckets. */
 static int walk(vbr_handle *handle, uint64_t *to) {
     vbr_cursor cursor = VBR_CURSOR_BEGIN;
-    for (int i = 0; i < ORDERED; i++) CHECK(vbr_next(handle, &cursor, VBR_AMPLE_BUDGET(SLOTS), &to[i]) == VBR_YES);
+    for (int i = 0; i < ORDERED; i++) CHECK(vbr_next(handle, &cursor, &to[i]) == VBR_YES);
     return 0;
 }
 
@@ -91,12 +91,12 @@ static int given_seeds(void) {
     static const uint64_t seeds[] = {0, 1, 7, 1ull << 62, (1ull << 63) - 1, 1ull << 63, UINT64_MAX};
     for (size_t i = 0; i < sizeof seeds / sizeof seeds[0]; i++) {
         vbr_handle two[2] = {{0}};
-        CHECK(vbr_open_seeded(two, 2, SLOTS, 1000, VBR_MAX_EPOCH, seeds[i], ordered, ORDERED) == VBR_NO);
+        CHECK(vbr_open_seeded(two, 2, SLOTS, 1000, VBR_MAX_EPOCH, seeds[i], ordered, ORDERED) == VBR_OK);
         CHECK(vbr_seed(&two[0]) == seeds[i] % (1ull << 63) && vbr_seed(&two[1]) == vbr_seed(&two[0]));
         CHECK(!walk(&two[1], given) && are_spread_by(seeds[i], 1000, given));
-        CHECK(vbr_renew_all(two, 2, SLOTS, 500, VBR_MAX_EPOCH) == VBR_NO); /* it keeps its seed */
+        CHECK(vbr_renew_all(two, 2, SLOTS, 500, VBR_MAX_EPOCH) == VBR_OK); /* it keeps its seed */
         CHECK(vbr_seed(&two[0]) == seeds[i] % (1ull << 63) && !walk(&two[0], given) && are_spread_by(seeds[i], 500, given));
-        CHECK(vbr_renew_all_seeded(two, 2, SLOTS, 500, VBR_MAX_EPOCH, 12345) == VBR_NO);
+        CHECK(vbr_renew_all_seeded(two, 2, SLOTS, 500, VBR_MAX_EPOCH, 12345) == VBR_OK);
         CHECK(vbr_seed(&two[0]) == 12345 && !walk(&two[0], others) && are_spread_by(12345, 500, others) && !are_same(given, others));
         for (int h = 0; h < 2; h++) vbr_drop(&two[h]);
     }
@@ -112,11 +112,11 @@ static int refused(void) {
     CHECK(vbr_open_seeded(two, 0, 8, 8, 1000, 7, ordered, 3) == VBR_BAD_COUNT);
     CHECK(vbr_open_seeded(two, 2, 8, 8, 1000, 7, unsorted, 2) == VBR_BAD_KEYS);
     CHECK(vbr_open_seeded(two, 2, 2, 8, 1000, 7, ordered, 3) == VBR_BAD_KEYS);
-    CHECK(vbr_open_seeded(two, 2, 8, 8, 1000, 7, ordered, 3) == VBR_NO);
+    CHECK(vbr_open_seeded(two, 2, 8, 8, 1000, 7, ordered, 3) == VBR_OK);
     CHECK(vbr_open_seeded(two, 2, 8, 8, 1000, 9, ordered, 3) == VBR_IN_USE && vbr_seed(&two[0]) == 7);
     CHECK(vbr_renew_all_seeded(two, 2, 8, 0, 1000, 9) == VBR_BAD_SHAPE && vbr_renew_all_seeded(two, 1, 8, 8, 1000, 9) == VBR_MISSING);
     CHECK(vbr_renew_all_seeded(two, 2, 2, 8, 1000, 9) == VBR_NO_ROOM && vbr_renew_all(two, 0, 8, 8, 1000) == VBR_MISSING);
-    CHECK(vbr_seed(&two[1]) == 7 && vbr_has(&two[1], ordered[2], 1000) == VBR_YES);
+    CHECK(vbr_seed(&two[1]) == 7 && vbr_has(&two[1], ordered[2]) == VBR_YES);
     for (int i = 0; i < 2; i++) vbr_drop(&two[i]);
     return 0;
 }
@@ -125,13 +125,13 @@ static int refused(void) {
 static int drawn_seeds(void) {
     vbr_handle one = {0}, other = {0};
     draws = 0;
-    CHECK(vbr_open(&one, 1, SLOTS, 1000, VBR_MAX_EPOCH) == VBR_NO);
-    CHECK(vbr_open_with(&other, 1, SLOTS, 1000, VBR_MAX_EPOCH, ordered, ORDERED) == VBR_NO);
+    CHECK(vbr_open(&one, 1, SLOTS, 1000, VBR_MAX_EPOCH) == VBR_OK);
+    CHECK(vbr_open_with(&other, 1, SLOTS, 1000, VBR_MAX_EPOCH, ordered, ORDERED) == VBR_OK);
     CHECK(draws == 2 && vbr_seed(&one) != vbr_seed(&other));
     CHECK(!walk(&other, given) && are_spread_by(vbr_seed(&other), 1000, given));
     uint64_t seed = vbr_seed(&other);
-    CHECK(vbr_renew_all(&other, 1, SLOTS, 1000, VBR_MAX_EPOCH) == VBR_NO && draws == 2 && vbr_seed(&other) == seed);
-    CHECK(vbr_renew_all_seeded(&other, 1, SLOTS, 1000, VBR_MAX_EPOCH, vbr_random_seed()) == VBR_NO);
+    CHECK(vbr_renew_all(&other, 1, SLOTS, 1000, VBR_MAX_EPOCH) == VBR_OK && draws == 2 && vbr_seed(&other) == seed);
+    CHECK(vbr_renew_all_seeded(&other, 1, SLOTS, 1000, VBR_MAX_EPOCH, vbr_random_seed()) == VBR_OK);
     CHECK(draws == 3 && vbr_seed(&other) != seed && !walk(&other, others) && !are_same(given, others));
     vbr_drop(&one);
     vbr_drop(&other);
@@ -146,16 +146,16 @@ static int opened_alike(void) {
     vbr_map_handle map[2] = {{0}};
     uint64_t value = 0;
     {
-        if (vbr_open_seeded(handle, 2, 1024 + 2 * 64, 1024, VBR_MAX_EPOCH, 7, some, 3) != VBR_NO) return 1;
+        if (vbr_open_seeded(handle, 2, 1024 + 2 * 64, 1024, VBR_MAX_EPOCH, 7, some, 3) != VBR_OK) return 1;
         uint64_t seed = vbr_seed(&handle[0]); // opens a set whose keys have the same buckets
         vbr_answer renewed = vbr_renew_all_seeded(handle, 2, 2048 + 2 * 64, 2048, VBR_MAX_EPOCH, vbr_random_seed());
-        CHECK(seed == 7 && renewed == VBR_NO && vbr_has(&handle[1], 9, 1000) == VBR_YES);
+        CHECK(seed == 7 && renewed == VBR_OK && vbr_has(&handle[1], 9) == VBR_YES);
     }
     {
-        if (vbr_map_open_seeded(map, 2, 1024 + 2 * 64, 1024, VBR_MAX_EPOCH, 7, some_entries, 3) != VBR_NO) return 1;
+        if (vbr_map_open_seeded(map, 2, 1024 + 2 * 64, 1024, VBR_MAX_EPOCH, 7, some_entries, 3) != VBR_OK) return 1;
         uint64_t seed = vbr_map_seed(&map[0]); // opens a map whose keys have the same buckets
         vbr_answer renewed = vbr_map_renew_all_seeded(map, 2, 2048 + 2 * 64, 2048, VBR_MAX_EPOCH, vbr_random_seed());
-        CHECK(seed == 7 && renewed == VBR_NO && vbr_map_get(&map[1], 9, 1000, &value) == VBR_YES && value == 90);
+        CHECK(seed == 7 && renewed == VBR_OK && vbr_map_get(&map[1], 9, &value) == VBR_YES && value == 90);
     }
     for (int i = 0; i < 2; i++) vbr_drop(&handle[i]), vbr_map_drop(&map[i]);
     return 0;
@@ -168,14 +168,14 @@ static int many_alike(void) {
     static vbr_handle seeded[1000];
     static vbr_map_handle seeded_maps[1000];
     uint64_t value = 0;
-    if (vbr_open_many_seeded(seeded, 1000, 1024 + 1000 * 64, 1024, VBR_MAX_EPOCH, 7, some, 3) != VBR_NO) return 1;
-    if (vbr_map_open_many_seeded(seeded_maps, 1000, 1024 + 1000 * 64, 1024, VBR_MAX_EPOCH, 7, some_entries, 3) != VBR_NO) return 1;
-    CHECK(vbr_seed(&seeded[999]) == 7 && vbr_has(&seeded[999], 9, 1000) == VBR_YES);
-    CHECK(vbr_map_seed(&seeded_maps[64]) == 7 && vbr_map_get(&seeded_maps[64], 9, 1000, &value) == VBR_YES && value == 90);
+    if (vbr_open_many_seeded(seeded, 1000, 1024 + 1000 * 64, 1024, VBR_MAX_EPOCH, 7, some, 3) != VBR_OK) return 1;
+    if (vbr_map_open_many_seeded(seeded_maps, 1000, 1024 + 1000 * 64, 1024, VBR_MAX_EPOCH, 7, some_entries, 3) != VBR_OK) return 1;
+    CHECK(vbr_seed(&seeded[999]) == 7 && vbr_has(&seeded[999], 9) == VBR_YES);
+    CHECK(vbr_map_seed(&seeded_maps[64]) == 7 && vbr_map_get(&seeded_maps[64], 9, &value) == VBR_YES && value == 90);
     for (int i = 0; i < 1000; i++) vbr_drop(&seeded[i]), vbr_map_drop(&seeded_maps[i]);
     draws = 0;
-    CHECK(vbr_open_many(seeded, 100, 1024 + 100 * 64, 1024, VBR_MAX_EPOCH, some, 3) == VBR_NO);
-    CHECK(vbr_map_open_many(seeded_maps, 100, 1024 + 100 * 64, 1024, VBR_MAX_EPOCH, some_entries, 3) == VBR_NO && draws == 2);
+    CHECK(vbr_open_many(seeded, 100, 1024 + 100 * 64, 1024, VBR_MAX_EPOCH, some, 3) == VBR_OK);
+    CHECK(vbr_map_open_many(seeded_maps, 100, 1024 + 100 * 64, 1024, VBR_MAX_EPOCH, some_entries, 3) == VBR_OK && draws == 2);
     CHECK(vbr_seed(&seeded[0]) == vbr_seed(&seeded[99]) && vbr_seed(&seeded[0]) != vbr_map_seed(&seeded_maps[0]));
     for (int i = 0; i < 100; i++) vbr_drop(&seeded[i]), vbr_map_drop(&seeded_maps[i]);
     return 0;

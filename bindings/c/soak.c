@@ -33,7 +33,7 @@ enum {
     STILL = 2,         /* handles that take some slots, and then stand still for the whole round */
     MAX_KEYS = 16384,  /* how many keys that come and go a round has at most */
     MOST = MAX_KEYS + MAX_KEYS / 4, /* and with those that rest */
-    AMPLE = 1 << 20,   /* a budget that no call runs out of */
+    AMPLE = VBR_AMPLE_STEPS, /* no call runs out of it */
     SPENT_LIMIT = 2000 /* a thread ends its round after so many inserts that found the epoch spent */
 };
 
@@ -74,8 +74,8 @@ struct worker {
 /* A call. The last two give a key another value, if it is there, or in any case: in a set a look-up and an insert. */
 enum kind { LOOK_UP, INSERT, REMOVE, CHANGE, PUT };
 #ifndef OF_VALUES
-#define value_change vbr_has
-#define value_put vbr_insert
+#define value_change vbr_has_within
+#define value_put vbr_insert_within
 #endif
 
 static struct worker workers[THREADS];
@@ -124,16 +124,16 @@ static int adds(enum kind kind) { return kind == INSERT || kind == PUT; }
 static int32_t look_up(struct worker *w, uint64_t key, uint32_t budget) {
     vbr_answer answers[3];
     uint64_t keys[3] = {key + w->round->spread, key, key - w->round->spread};
-    if (w->made % 4) return vbr_has(&w->handle, key, budget);
-    vbr_has_all(&w->handle, keys, 3, answers, budget);
+    if (w->made % 4) return vbr_has_within(&w->handle, key, budget);
+    vbr_has_all_within(&w->handle, keys, 3, answers, budget);
     return answers[1];
 }
 
 static int32_t call(struct worker *w, enum kind kind, uint32_t number, uint32_t budget) {
     uint64_t key = key_of(w->round, number);
     int32_t answer = kind == LOOK_UP  ? look_up(w, key, budget)
-                     : kind == INSERT ? vbr_insert(&w->handle, key, budget)
-                     : kind == REMOVE ? vbr_remove(&w->handle, key, budget)
+                     : kind == INSERT ? vbr_insert_within(&w->handle, key, budget)
+                     : kind == REMOVE ? vbr_remove_within(&w->handle, key, budget)
                      : kind == CHANGE ? value_change(&w->handle, key, budget)
                                       : value_put(&w->handle, key, budget);
     if (answer == VBR_YES && adds(kind)) w->balance[number]++;
@@ -204,7 +204,7 @@ static const char *give(const struct round *r, struct walk *walk, uint64_t key) 
 static const char *walk_on(struct worker *w, uint32_t budget) {
     uint64_t key = 0;
     if (!w->walk.is_on) begin_walk(w);
-    vbr_answer answer = vbr_next(&w->handle, &w->walk.cursor, budget, &key);
+    vbr_answer answer = vbr_next_within(&w->handle, &w->walk.cursor, &key, budget);
     uint32_t number = (uint32_t)(key * w->round->unspread);
     w->made++;
     w->refused[1] += answer == VBR_OUT_OF_STEPS;
@@ -327,13 +327,13 @@ static int32_t open_set(const struct round *r, vbr_handle *handles, int count, i
    handles that stand still take slots. */
 static const char *begin(const struct round *r, vbr_handle *handles, int with_keys) {
     for (uint32_t i = 0; i < all_keys(r); i++)
-        if (held[i] && vbr_insert(&handles[0], key_of(r, i), AMPLE) != (with_keys ? VBR_NO : VBR_YES))
+        if (held[i] && vbr_insert_within(&handles[0], key_of(r, i), AMPLE) != (with_keys ? VBR_NO : VBR_YES))
             return "a key could not be carried over";
     for (int h = THREADS; r->with_still && h < THREADS + STILL; h++)
         for (uint32_t i = 0; i < 16 && i < r->keys; i++) {
             if (held[i]) continue;
-            int32_t added = vbr_insert(&handles[h], key_of(r, i), AMPLE);
-            if (added == VBR_YES && vbr_remove(&handles[h], key_of(r, i), AMPLE) != VBR_YES) return "a lost insert";
+            int32_t added = vbr_insert_within(&handles[h], key_of(r, i), AMPLE);
+            if (added == VBR_YES && vbr_remove_within(&handles[h], key_of(r, i), AMPLE) != VBR_YES) return "a lost insert";
         }
     return NULL;
 }
@@ -356,9 +356,9 @@ static const char *fill(const struct round *r, vbr_handle *handle) {
     uint32_t missing = r->keys;
     for (uint32_t i = 0; i < r->keys; i++) missing -= (uint32_t)is_in(i);
     for (uint32_t i = 0; i < missing; i++)
-        if (vbr_insert(handle, key_of(r, all_keys(r) + i), AMPLE) != VBR_YES) return "no slot in a set that is filled by the rule";
+        if (vbr_insert_within(handle, key_of(r, all_keys(r) + i), AMPLE) != VBR_YES) return "no slot in a set that is filled by the rule";
     for (uint32_t i = 0; i < missing; i++)
-        if (vbr_remove(handle, key_of(r, all_keys(r) + i), AMPLE) != VBR_YES) return "a key of the filling is lost";
+        if (vbr_remove_within(handle, key_of(r, all_keys(r) + i), AMPLE) != VBR_YES) return "a key of the filling is lost";
     filled++;
     return NULL;
 }
@@ -372,7 +372,7 @@ static const char *walk_at_rest(const struct round *r, vbr_handle *handle) {
     walk = begin;
     for (uint32_t i = 0; i < all_keys(r); i++) walk.due[i] = (unsigned char)is_in(i);
     vbr_answer answer;
-    while (!wrong && (answer = vbr_next(handle, &walk.cursor, AMPLE, &key)) == VBR_YES)
+    while (!wrong && (answer = vbr_next_within(handle, &walk.cursor, &key, AMPLE)) == VBR_YES)
         wrong = key * r->unspread < all_keys(r) && !walk.due[key * r->unspread] ? "a walk at rest gives a key that isn't there" : give(r, &walk, key);
     if (!wrong && answer != VBR_NO) return "the end of a walk at rest";
     for (uint32_t i = 0; i < all_keys(r) && !wrong; i++)
@@ -382,7 +382,7 @@ static const char *walk_at_rest(const struct round *r, vbr_handle *handle) {
 }
 
 /* Compares the report with the keys that the answers leave. */
-static int check_report(const struct round *r, const vbr_totals *report, const uint64_t *keys) {
+static int check_report(const struct round *r, const vbr_report *report, const uint64_t *keys) {
     static uint64_t want[MOST];
     uint32_t count = keys_in(r, is_in, want);
     if (report->live != count) return failed(r, sets, "the report has another number of keys", 0);
@@ -401,11 +401,11 @@ static int check_report(const struct round *r, const vbr_totals *report, const u
 /* Looks every key up, closes the set, and checks the report. */
 static int finish(const struct round *r, vbr_handle *handles, int count) {
     static uint64_t keys[MOST];
-    vbr_totals report = {0};
+    vbr_report report = {0};
     for (uint32_t i = 0; i < all_keys(r); i++) {
         int sum = is_in(i);
         if (sum != 0 && sum != 1) return failed(r, sets, "the answers do not balance", i);
-        if (vbr_has(&handles[i % (uint32_t)count], key_of(r, i), AMPLE) != sum)
+        if (vbr_has_within(&handles[i % (uint32_t)count], key_of(r, i), AMPLE) != sum)
             return failed(r, sets, "a look-up differs from the answers", i);
     }
     const char *wrong = walk_at_rest(r, &handles[sets % count]);
@@ -426,7 +426,7 @@ static int play(struct round *r, uint64_t *random, long *made) {
     pthread_t threads[THREADS];
     sets++;
     for (uint32_t i = 0; i < r->resting; i++) held[r->keys + i] = 1;
-    if (open_set(r, handles, count, with_keys) != VBR_NO) return failed(r, sets, "the set could not be opened", 0);
+    if (open_set(r, handles, count, with_keys) != VBR_OK) return failed(r, sets, "the set could not be opened", 0);
     r->multiplier = (2 * vbr_seed(&handles[0]) + 1) * 0x9e3779b97f4a7c15u;
     const char *wrong = begin(r, handles, with_keys);
     if (wrong) return failed(r, sets, wrong, 0);

@@ -6,18 +6,18 @@
 
 #define CHECK(x) do { if (!(x)) { fprintf(stderr, "spare.c:%d: %s\n", __LINE__, #x); exit(1); } } while (0)
 
-enum { SLOTS = 100, BUDGET = 100000 };
+enum { SLOTS = 100 };
 
 static vbr_handle handle[2];
 static uint64_t keys[SLOTS];
-static vbr_totals report;
+static vbr_report report;
 
 /* Puts keys in until there is no slot, and tells how many. */
 static uint32_t fill(vbr_handle *of) {
     uint32_t added = 0;
     vbr_answer answer = VBR_YES;
     while (answer == VBR_YES) {
-        answer = vbr_insert(of, added, BUDGET);
+        answer = vbr_insert(of, added);
         added += answer == VBR_YES;
     }
     CHECK(answer == VBR_NO_SLOT);
@@ -25,11 +25,11 @@ static uint32_t fill(vbr_handle *of) {
 }
 
 static void empty(vbr_handle *of, uint32_t count) {
-    for (uint64_t key = 0; key < count; key++) CHECK(vbr_remove(of, key, BUDGET) == VBR_YES);
+    for (uint64_t key = 0; key < count; key++) CHECK(vbr_remove(of, key) == VBR_YES);
 }
 
 static void open_two(void) {
-    CHECK(vbr_open(handle, 2, SLOTS, 16, VBR_MAX_EPOCH) == VBR_NO);
+    CHECK(vbr_open(handle, 2, SLOTS, 16, VBR_MAX_EPOCH) == VBR_OK);
 }
 
 /* The first handle has emptied the set, and keeps 63 slots: what is free else the other one finds, and once they are given back
@@ -44,7 +44,7 @@ static void give_back(void) {
     uint32_t given = vbr_spare(&handle[0]);                   /* the other handle can have them */
     CHECK(given == 63 && vbr_spare(&handle[0]) == 0);
     CHECK(fill(&handle[1]) == SLOTS);
-    CHECK(vbr_insert(&handle[0], SLOTS, BUDGET) == VBR_NO_SLOT);
+    CHECK(vbr_insert(&handle[0], SLOTS) == VBR_NO_SLOT);
     CHECK(vbr_close_all(handle, 2, keys, SLOTS, &report) == VBR_YES && report.live == SLOTS);
     CHECK(vbr_spare(&handle[0]) == 0); /* it is empty */
 }

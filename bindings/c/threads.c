@@ -7,7 +7,7 @@
 
 #define CHECK(x) do { if (!(x)) { fprintf(stderr, "threads.c:%d: %s\n", __LINE__, #x); return 1; } } while (0)
 
-enum { THREADS = 4, KEYS = 64, SLOTS = 512, BUDGET = 1 << 20 };
+enum { THREADS = 4, KEYS = 64, SLOTS = 512 };
 
 struct worker {
     vbr_handle handle;
@@ -25,9 +25,9 @@ static void *work(void *of) {
         w->random ^= w->random << 17;
         uint64_t key = (w->random >> 8) % KEYS;
         int kind = (int)(w->random % 3);
-        int32_t answer = kind == 0   ? vbr_insert(&w->handle, key, BUDGET)
-                         : kind == 1 ? vbr_remove(&w->handle, key, BUDGET)
-                                     : vbr_has(&w->handle, key, BUDGET);
+        int32_t answer = kind == 0   ? vbr_insert(&w->handle, key)
+                         : kind == 1 ? vbr_remove(&w->handle, key)
+                                     : vbr_has(&w->handle, key);
         if (answer < 0) w->refused++;
         else if (answer == VBR_YES && kind == 0) w->balance[key]++;
         else if (answer == VBR_YES && kind == 1) w->balance[key]--;
@@ -46,9 +46,9 @@ int main(int count, char **words) {
     vbr_handle handles[THREADS] = {{0}};
     pthread_t threads[THREADS];
     uint64_t keys[KEYS] = {0};
-    vbr_totals report = {0};
+    vbr_report report = {0};
     uint32_t want = 0;
-    CHECK(vbr_open(handles, THREADS, SLOTS, 16, VBR_MAX_EPOCH) == VBR_NO);
+    CHECK(vbr_open(handles, THREADS, SLOTS, 16, VBR_MAX_EPOCH) == VBR_OK);
     for (int i = 0; i < THREADS; i++) {
         workers[i].handle = handles[i]; /* moved: the old place is not used again */
         workers[i].random = 88172645463325252u + (uint64_t)i;
@@ -60,7 +60,7 @@ int main(int count, char **words) {
     for (int key = 0; key < KEYS; key++) {
         int sum = left(workers, key);
         CHECK(sum == 0 || sum == 1);
-        CHECK(vbr_has(&workers[key % THREADS].handle, (uint64_t)key, BUDGET) == sum);
+        CHECK(vbr_has(&workers[key % THREADS].handle, (uint64_t)key) == sum);
         want += (uint32_t)sum;
     }
     for (int i = 0; i < THREADS - 1; i++) CHECK(vbr_close(&workers[i].handle, keys, KEYS, &report) == VBR_NO);

@@ -133,7 +133,7 @@ static inline int value_takes_turns(uint32_t budget) {
 /* The value of a key, if it is there. */
 static inline vbr_answer value_get(vbr_map_handle *handle, uint64_t key, uint32_t budget, uint64_t *value) {
     uint64_t began = value_read(&value_time);
-    vbr_answer answer = vbr_map_get(handle, key, budget, value);
+    vbr_answer answer = vbr_map_get_within(handle, key, value, budget);
     if (answer == VBR_YES) value_is_found(key, *value, began);
     else if (*value) value_is_wrong("a get that isn't answered yes has written", key, *value);
     return answer;
@@ -153,15 +153,15 @@ static inline void value_is_changed(struct value_place *it, vbr_answer answer, u
 static inline vbr_answer value_get_or_insert(vbr_map_handle *handle, uint64_t key, uint32_t budget) {
     struct value_place *it = value_begins(key);
     uint64_t found = 0, began = value_read(&value_time);
-    vbr_answer answer = vbr_map_get_or_insert(handle, key, value_read(&it->value), &found, budget);
+    vbr_answer answer = vbr_map_get_or_insert_within(handle, key, value_read(&it->value), &found, budget);
     value_is_changed(it, answer, found, began, 0, answer == VBR_NO);
     return answer == VBR_NO ? VBR_YES : answer == VBR_YES ? VBR_NO : answer;
 }
 
-VBR_NODISCARD static inline vbr_answer value_insert(vbr_map_handle *handle, uint64_t key, uint32_t budget) {
+VBR_NODISCARD static inline vbr_answer value_insert_within(vbr_map_handle *handle, uint64_t key, uint32_t budget) {
     if (value_takes_turns(budget)) return value_get_or_insert(handle, key, budget);
     struct value_place *it = value_begins(key);
-    vbr_answer answer = vbr_map_insert(handle, key, value_read(&it->value), budget);
+    vbr_answer answer = vbr_map_insert_within(handle, key, value_read(&it->value), budget);
     value_ends(it, answer == VBR_YES);
     return answer;
 }
@@ -169,41 +169,41 @@ VBR_NODISCARD static inline vbr_answer value_insert(vbr_map_handle *handle, uint
 /* A key is taken out with the value that it was found to have; first not, with one that it doesn't have. */
 static inline vbr_answer value_remove_if(vbr_map_handle *handle, uint64_t key, uint32_t budget) {
     uint64_t expected = VALUE_MIXER, found = 0, began = value_read(&value_time); /* nobody stores the first of all numbers */
-    vbr_answer answer = vbr_map_remove_if(handle, key, expected, &found, budget);
+    vbr_answer answer = vbr_map_remove_if_within(handle, key, expected, &found, budget);
     if (answer == VBR_YES) value_is_wrong("a value is taken out that nobody expects", key, found);
     while (answer == VBR_OTHER) {
         if (found == expected) value_is_wrong("a value is told to be another one than it is", key, found);
         value_is_found(key, found, began);
         expected = found, found = 0, began = value_read(&value_time);
-        answer = vbr_map_remove_if(handle, key, expected, &found, budget);
+        answer = vbr_map_remove_if_within(handle, key, expected, &found, budget);
     }
     if (found != (answer == VBR_YES ? expected : 0)) value_is_wrong("what a remove of an expected value has written", key, found);
     if (answer == VBR_YES) value_is_taken(key, found, began);
     return answer;
 }
 
-VBR_NODISCARD static inline vbr_answer value_remove(vbr_map_handle *handle, uint64_t key, uint32_t budget) {
+VBR_NODISCARD static inline vbr_answer value_remove_within(vbr_map_handle *handle, uint64_t key, uint32_t budget) {
     if (value_takes_turns(budget)) return value_remove_if(handle, key, budget);
     uint64_t value = 0, began = value_read(&value_time);
-    vbr_answer answer = vbr_map_remove(handle, key, budget, &value);
+    vbr_answer answer = vbr_map_remove_within(handle, key, &value, budget);
     if (answer == VBR_YES) value_is_taken(key, value, began);
     else if (value) value_is_wrong("a remove that isn't answered yes has written", key, value);
     return answer;
 }
 
 /* Every other look-up is a get, where the budget is no matter of single steps. */
-VBR_NODISCARD static inline vbr_answer value_look_up(vbr_map_handle *handle, uint64_t key, uint32_t budget) {
-    if (!value_takes_turns(budget)) return vbr_map_has(handle, key, budget);
+VBR_NODISCARD static inline vbr_answer value_look_up_within(vbr_map_handle *handle, uint64_t key, uint32_t budget) {
+    if (!value_takes_turns(budget)) return vbr_map_has_within(handle, key, budget);
     return value_get(handle, key, budget, &(uint64_t){0});
 }
 
 /* Look-ups of several keys, which find their values too. */
-static inline void value_look_up_all(vbr_map_handle *handle, const uint64_t *keys, size_t count, vbr_answer *answers, uint32_t budget) {
+static inline void value_look_up_all_within(vbr_map_handle *handle, const uint64_t *keys, size_t count, vbr_answer *answers, uint32_t budget) {
     vbr_found found[64];
     for (size_t from = 0; from < count; from += 64) {
         size_t some = count - from < 64 ? count - from : 64;
         uint64_t began = value_read(&value_time);
-        vbr_map_get_all(handle, keys + from, some, found, budget);
+        vbr_map_get_all_within(handle, keys + from, some, found, budget);
         for (size_t i = 0; i < some; i++) {
             if (found[i].answer == VBR_YES) value_is_found(keys[from + i], found[i].value, began);
             else if (found[i].value) value_is_wrong("a get that isn't answered yes has a value", keys[from + i], found[i].value);
@@ -218,7 +218,7 @@ static inline vbr_answer value_exchange(vbr_map_handle *handle, uint64_t key, ui
     for (;;) {
         struct value_place *it = value_begins(key);
         uint64_t found = 0, began = value_read(&value_time);
-        vbr_answer answer = vbr_map_compare_exchange(handle, key, expected, value_read(&it->value), &found, budget);
+        vbr_answer answer = vbr_map_compare_exchange_within(handle, key, expected, value_read(&it->value), &found, budget);
         if (found && (answer == VBR_YES) != (found == expected)) value_is_wrong("a value is exchanged that isn't expected, or one that is isn't", key, found);
         if (expected == VALUE_MIXER && answer < VBR_OUT_OF_STEPS) value_is_wrong("an exchange of a value that isn't there wants a slot", key, expected);
         value_is_changed(it, answer, found, began, answer == VBR_YES, answer == VBR_YES);
@@ -232,7 +232,7 @@ VBR_NODISCARD static inline vbr_answer value_change(vbr_map_handle *handle, uint
     if (value_takes_turns(budget)) return value_exchange(handle, key, budget);
     struct value_place *it = value_begins(key);
     uint64_t found = 0, began = value_read(&value_time);
-    vbr_answer answer = vbr_map_replace(handle, key, value_read(&it->value), &found, budget);
+    vbr_answer answer = vbr_map_replace_within(handle, key, value_read(&it->value), &found, budget);
     value_is_changed(it, answer, found, began, 1, answer == VBR_YES);
     return answer;
 }
@@ -241,17 +241,19 @@ VBR_NODISCARD static inline vbr_answer value_change(vbr_map_handle *handle, uint
 VBR_NODISCARD static inline vbr_answer value_put(vbr_map_handle *handle, uint64_t key, uint32_t budget) {
     struct value_place *it = value_begins(key);
     uint64_t found = 0, began = value_read(&value_time);
-    vbr_answer answer = vbr_map_put(handle, key, value_read(&it->value), &found, budget);
+    vbr_answer answer = vbr_map_put_within(handle, key, value_read(&it->value), &found, budget);
     value_is_changed(it, answer, found, began, 1, answer >= 0);
     return answer == VBR_NO ? VBR_YES : answer == VBR_YES ? VBR_NO : answer;
 }
 
 /* A key that a walk gives has its value. */
-VBR_NODISCARD static inline vbr_answer value_next(vbr_map_handle *handle, vbr_cursor *cursor, uint32_t budget, uint64_t *key) {
-    uint64_t value = 0, before = *key, began = value_read(&value_time);
-    vbr_answer answer = vbr_map_next(handle, cursor, budget, key, &value);
-    if (answer == VBR_YES) value_is_found(*key, value, began);
-    if (answer != VBR_YES && (value || *key != before)) value_is_wrong("a walk that gives no key has written", *key, value);
+VBR_NODISCARD static inline vbr_answer value_next_within(vbr_map_handle *handle, vbr_cursor *cursor, uint64_t *key, uint32_t budget) {
+    vbr_entry given = {*key, 0};
+    uint64_t began = value_read(&value_time);
+    vbr_answer answer = vbr_map_next_within(handle, cursor, &given, budget);
+    if (answer == VBR_YES) value_is_found(given.key, given.value, began);
+    if (answer != VBR_YES && (given.value || given.key != *key)) value_is_wrong("a walk that gives no key has written", given.key, given.value);
+    *key = given.key;
     return answer;
 }
 
@@ -288,7 +290,7 @@ static inline void value_open_entries(const uint64_t *keys, size_t key_count) {
 }
 
 VBR_NODISCARD static inline vbr_answer value_opened(vbr_answer answer, size_t key_count) {
-    for (size_t i = 0; answer != VBR_NO && i < key_count; i++) value_write(&value_place(opening_entries[i].value)->stage, REFUSED);
+    for (size_t i = 0; answer != VBR_OK && i < key_count; i++) value_write(&value_place(opening_entries[i].value)->stage, REFUSED);
     return answer;
 }
 
@@ -326,20 +328,20 @@ static inline void value_report(uint64_t *keys, size_t count) {
     told_count = count;
 }
 
-VBR_NODISCARD static inline vbr_answer value_close(vbr_map_handle *handle, uint64_t *keys, size_t room, vbr_totals *report) {
+VBR_NODISCARD static inline vbr_answer value_close(vbr_map_handle *handle, uint64_t *keys, size_t room, vbr_report *report) {
     vbr_answer answer = vbr_map_close(handle, told_entries, room < MOST_ENTRIES ? room : MOST_ENTRIES, report);
     if (answer == VBR_YES) value_report(keys, report->live);
     return answer;
 }
 
-VBR_NODISCARD static inline vbr_answer value_close_all(vbr_map_handle *handles, size_t count, uint64_t *keys, size_t room, vbr_totals *report) {
+VBR_NODISCARD static inline vbr_answer value_close_all(vbr_map_handle *handles, size_t count, uint64_t *keys, size_t room, vbr_report *report) {
     vbr_answer answer = vbr_map_close_all(handles, count, told_entries, room < MOST_ENTRIES ? room : MOST_ENTRIES, report);
     if (answer == VBR_YES) value_report(keys, report->live);
     return answer;
 }
 
 /* The values of such a report stay where they are. */
-VBR_NODISCARD static inline vbr_answer value_report_all(vbr_map_handle *handles, size_t count, uint64_t *keys, size_t room, vbr_totals *report) {
+VBR_NODISCARD static inline vbr_answer value_report_all(vbr_map_handle *handles, size_t count, uint64_t *keys, size_t room, vbr_report *report) {
     uint64_t now = value_read(&value_time);
     vbr_answer answer = vbr_map_report_all(handles, count, told_entries, room < MOST_ENTRIES ? room : MOST_ENTRIES, report);
     told_count = answer == VBR_YES ? report->live : 0;
@@ -350,12 +352,33 @@ VBR_NODISCARD static inline vbr_answer value_report_all(vbr_map_handle *handles,
     return answer;
 }
 
+/* The calls without a budget, with that of the handle. */
+VBR_NODISCARD static inline vbr_answer value_insert(vbr_map_handle *handle, uint64_t key) {
+    return value_insert_within(handle, key, vbr_map_steps_of(handle));
+}
+
+VBR_NODISCARD static inline vbr_answer value_remove(vbr_map_handle *handle, uint64_t key) {
+    return value_remove_within(handle, key, vbr_map_steps_of(handle));
+}
+
+VBR_NODISCARD static inline vbr_answer value_look_up(vbr_map_handle *handle, uint64_t key) {
+    return value_look_up_within(handle, key, vbr_map_steps_of(handle));
+}
+
+static inline void value_look_up_all(vbr_map_handle *handle, const uint64_t *keys, size_t count, vbr_answer *answers) {
+    value_look_up_all_within(handle, keys, count, answers, vbr_map_steps_of(handle));
+}
+
+VBR_NODISCARD static inline vbr_answer value_next(vbr_map_handle *handle, vbr_cursor *cursor, uint64_t *key) {
+    return value_next_within(handle, cursor, key, vbr_map_steps_of(handle));
+}
+
 /* vbr_tsan.h has some of these too */
-#undef vbr_insert
-#undef vbr_remove
-#undef vbr_has
-#undef vbr_has_all
-#undef vbr_next
+#undef vbr_insert_within
+#undef vbr_remove_within
+#undef vbr_has_within
+#undef vbr_has_all_within
+#undef vbr_next_within
 #undef vbr_close
 #undef vbr_close_all
 #undef vbr_report_all
@@ -364,6 +387,7 @@ VBR_NODISCARD static inline vbr_answer value_report_all(vbr_map_handle *handles,
 #undef vbr_spare
 #undef vbr_reserve
 #undef vbr_drop
+#undef vbr_end_all
 #undef vbr_epoch
 #undef vbr_last_epoch
 #undef vbr_slots
@@ -379,18 +403,25 @@ VBR_NODISCARD static inline vbr_answer value_report_all(vbr_map_handle *handles,
 #define vbr_open_many value_open_many
 #define vbr_open_many_seeded value_open_many_seeded
 #define vbr_insert value_insert
+#define vbr_insert_within value_insert_within
 #define vbr_remove value_remove
+#define vbr_remove_within value_remove_within
 #define vbr_has value_look_up
+#define vbr_has_within value_look_up_within
 #define vbr_has_all value_look_up_all
+#define vbr_has_all_within value_look_up_all_within
 #define vbr_next value_next
+#define vbr_next_within value_next_within
 #define vbr_close value_close
 #define vbr_close_all value_close_all
 #define vbr_report_all value_report_all
 #define vbr_renew_all vbr_map_renew_all
 #define vbr_balance vbr_map_balance
 #define vbr_drop vbr_map_drop
+#define vbr_end_all vbr_map_end_all
 #define vbr_epoch vbr_map_epoch
 #define vbr_last_epoch vbr_map_last_epoch
+#define vbr_steps_of vbr_map_steps_of
 #define vbr_slots vbr_map_slots
 #define vbr_buckets vbr_map_buckets
 #define vbr_seed vbr_map_seed

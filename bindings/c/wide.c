@@ -3,21 +3,20 @@
 
 #include <stdio.h>
 
-#define BUDGET 100000u
 #define CHECK(x) do { if (!(x)) { fprintf(stderr, "wide.c:%d: %s\n", __LINE__, #x); return 1; } } while (0)
 
 static uint64_t keys[1000];
-static vbr_totals report;
+static vbr_report report;
 
 /* Each slot holds a key in the end, whatever was removed in between, and one key more finds none. */
 static int full_to_the_last_slot(void) {
     vbr_handle one = {0};
-    CHECK(vbr_open(&one, 1, 1000, 1u << 20, VBR_MAX_EPOCH) == VBR_NO);
-    for (uint64_t key = 0; key < 1000; key++) CHECK(vbr_insert(&one, 4096 * key, BUDGET) == VBR_YES);
-    for (int again = 0; again < 3; again++) CHECK(vbr_insert(&one, 7, BUDGET) == VBR_NO_SLOT);
-    for (uint64_t key = 0; key < 1000; key += 7) CHECK(vbr_remove(&one, 4096 * key, BUDGET) == VBR_YES);
-    for (uint64_t key = 0; key < 1000; key += 7) CHECK(vbr_insert(&one, 4096 * key + 1, BUDGET) == VBR_YES);
-    CHECK(vbr_insert(&one, 7, BUDGET) == VBR_NO_SLOT);
+    CHECK(vbr_open(&one, 1, 1000, 1u << 20, VBR_MAX_EPOCH) == VBR_OK);
+    for (uint64_t key = 0; key < 1000; key++) CHECK(vbr_insert(&one, 4096 * key) == VBR_YES);
+    for (int again = 0; again < 3; again++) CHECK(vbr_insert(&one, 7) == VBR_NO_SLOT);
+    for (uint64_t key = 0; key < 1000; key += 7) CHECK(vbr_remove(&one, 4096 * key) == VBR_YES);
+    for (uint64_t key = 0; key < 1000; key += 7) CHECK(vbr_insert(&one, 4096 * key + 1) == VBR_YES);
+    CHECK(vbr_insert(&one, 7) == VBR_NO_SLOT);
     CHECK(vbr_close(&one, keys, 1000, &report) == VBR_YES);
     CHECK(report.live == 1000 && report.free == 0);
     for (int i = 0; i < 1000; i++) CHECK(keys[i] == 4096 * (uint64_t)i + (i % 7 == 0));
@@ -27,14 +26,14 @@ static int full_to_the_last_slot(void) {
 /* A handle whose last look for a slot was far behind finds what another gave back to the first words. */
 static int given_back_ahead_of_the_search(void) {
     vbr_handle two[2] = {{0}};
-    CHECK(vbr_open(two, 2, 1000, 4, VBR_MAX_EPOCH) == VBR_NO);
-    for (uint64_t key = 0; key < 500; key++) CHECK(vbr_insert(&two[0], key, BUDGET) == VBR_YES);
-    for (uint64_t key = 500; key < 1000; key++) CHECK(vbr_insert(&two[1], key, BUDGET) == VBR_YES);
-    for (uint64_t key = 0; key < 500; key++) CHECK(vbr_remove(&two[0], key, BUDGET) == VBR_YES);
+    CHECK(vbr_open(two, 2, 1000, 4, VBR_MAX_EPOCH) == VBR_OK);
+    for (uint64_t key = 0; key < 500; key++) CHECK(vbr_insert(&two[0], key) == VBR_YES);
+    for (uint64_t key = 500; key < 1000; key++) CHECK(vbr_insert(&two[1], key) == VBR_YES);
+    for (uint64_t key = 0; key < 500; key++) CHECK(vbr_remove(&two[0], key) == VBR_YES);
     uint64_t found = 0;
-    while (vbr_insert(&two[1], 1000 + found, BUDGET) == VBR_YES) found++;
+    while (vbr_insert(&two[1], 1000 + found) == VBR_YES) found++;
     CHECK(found >= 500 - 64);
-    CHECK(vbr_insert(&two[1], 5000, BUDGET) == VBR_NO_SLOT);
+    CHECK(vbr_insert(&two[1], 5000) == VBR_NO_SLOT);
     CHECK(vbr_close(&two[0], keys, 0, &report) == VBR_NO);
     CHECK(vbr_close(&two[1], keys, 1000, &report) == VBR_YES && report.live == 500 + found);
     return 0;
@@ -44,13 +43,13 @@ static int given_back_ahead_of_the_search(void) {
 static int keys_of_one_bucket(void) {
     vbr_handle one = {0};
     uint64_t key = 0;
-    CHECK(vbr_open_seeded(&one, 1, 400, 2, VBR_MAX_EPOCH, 0, keys, 0) == VBR_NO);
+    CHECK(vbr_open_seeded(&one, 1, 400, 2, VBR_MAX_EPOCH, 0, keys, 0) == VBR_OK);
     for (int i = 0; i < 400; i++, key++) {
         while (key * 0x9E3779B97F4A7C15 >> 63) key++;
-        CHECK(vbr_insert(&one, key, BUDGET) == VBR_YES && vbr_insert(&one, key, BUDGET) == VBR_NO);
+        CHECK(vbr_insert(&one, key) == VBR_YES && vbr_insert(&one, key) == VBR_NO);
     }
-    CHECK(vbr_has(&one, key - 1, 1000) == VBR_OUT_OF_STEPS);
-    CHECK(vbr_has(&one, key - 1, 5 * 400 + 11) == VBR_YES);
+    CHECK(vbr_has_within(&one, key - 1, 1000) == VBR_OUT_OF_STEPS);
+    CHECK(vbr_has_within(&one, key - 1, 5 * 400 + 11) == VBR_YES);
     CHECK(vbr_close(&one, keys, 400, &report) == VBR_YES && report.live == 400);
     for (int i = 1; i < 400; i++) CHECK(keys[i - 1] < keys[i]);
     return 0;

@@ -1,4 +1,5 @@
-// The set in C++: the examples of vbr.hpp (bindings/headers sees that their lines are here), ranges of keys, walks, closes, ends of handles, exceptions, and loans.
+// The set in C++: the examples of vbr.hpp (bindings/headers sees that their lines are here), results, budgets, ranges of keys, walks,
+// closes, ends of handles, exceptions, and loans.
 #include "vbr.hpp"
 
 #include <cstdio>
@@ -17,142 +18,219 @@
 
 #define CHECK(x) do { if (!(x)) { std::fprintf(stderr, "example.cpp:%d: %s\n", __LINE__, #x); return 1; } } while (0)
 
-// What doesn't compile: a copy of a handle, an answer or a close as a bool, and a walk whose last answer is told to nobody.
+// What doesn't compile is seen by bindings/headers; here what a type doesn't do.
 static_assert(!std::is_copy_constructible_v<vbr::handle> && !std::is_copy_assignable_v<vbr::handle>);
 static_assert(std::is_nothrow_move_constructible_v<vbr::handle> && std::is_nothrow_move_assignable_v<vbr::handle>);
-static_assert(!std::is_constructible_v<bool, vbr::answer> && !std::is_constructible_v<bool, vbr::closed>);
-static_assert(!std::is_constructible_v<bool, vbr::open_answer> && !std::is_constructible_v<bool, vbr::opened>);
-static_assert(!std::is_convertible_v<vbr::answer, int> && !std::is_convertible_v<vbr::loan, bool>);
-static_assert(!std::is_constructible_v<bool, vbr::given<std::uint64_t>> && !std::is_invocable_v<decltype(&vbr::handle::next), vbr::handle &, vbr::cursor, std::uint32_t>);
-template <class Handle, class = void>
-inline constexpr bool walks_without_an_answer = false;
-template <class Handle>
-inline constexpr bool walks_without_an_answer<Handle, std::void_t<decltype(std::declval<Handle &>().keys(1000u))>> = true;
-static_assert(!walks_without_an_answer<vbr::handle>);
+static_assert(!std::is_constructible_v<bool, vbr::result<bool>> && !std::is_constructible_v<bool, vbr::result<std::optional<vbr::report>>>);
+static_assert(std::is_constructible_v<bool, vbr::result<std::vector<vbr::handle>>> && std::is_constructible_v<bool, vbr::result<void>>);
+static_assert(!std::is_convertible_v<vbr::result<void>, bool> && !std::is_convertible_v<vbr::result<bool>, int>);
+static_assert(!std::is_convertible_v<vbr::loan, bool>);
+static_assert(!std::is_convertible_v<std::uint32_t, vbr::steps> && !std::is_convertible_v<vbr::steps, std::uint64_t>);
 static_assert(vbr::shape::for_keys(1000, 2).slots == 1128 && vbr::shape::for_keys(1000, 2).buckets == 1024);
 static_assert(vbr::shape::for_keys(0, 1).buckets == 1 && vbr::shape::for_keys(~0u, 1).slots == vbr::max_slots + 1);
 
 static int example() {
-    auto [opened, handles] = vbr::open(vbr::shape::for_keys(1024, 2), 2);
-    if (opened != vbr::open_answer::done) return 1;
-    vbr::answer added = handles[0].insert(5, 100000);     // yes: 5 was absent
-    vbr::answer there = handles[1].has(5, 100000);        // yes, from another thread too
-    vbr::closed first = handles[0].close();               // others_are_open
-    vbr::closed last = handles[1].close();                // last: last.report->keys is {5}
-    CHECK(added == vbr::answer::yes && there == vbr::answer::yes);
-    CHECK(first.answer == vbr::close_answer::others_are_open && !first.report);
-    CHECK(last.answer == vbr::close_answer::last && last.report->keys == std::vector<std::uint64_t>{5});
-    CHECK(handles[0].has(5, 100000) == vbr::answer::empty && handles[1].close().answer == vbr::close_answer::empty);
+    std::vector<vbr::handle> handles = vbr::open(vbr::shape::for_keys(1024, 2), 2).value(); // or it throws vbr::refused
+    bool added = handles[0].insert(5).value(); // true: 5 was absent
+    bool there = false;
+    std::thread([&] { there = handles[1].has(5).value(); }).join(); // true, from another thread too
+    std::optional<vbr::report> first = handles[0].close().value();  // none: the other handle is open
+    std::optional<vbr::report> last = handles[1].close().value();   // the report: last->keys is {5}
+    CHECK(added && there && !first && last && last->keys == std::vector<std::uint64_t>{5});
+    CHECK(handles[0].has(5) == vbr::refusal::no_handle && handles[1].close() == vbr::refusal::no_handle);
     return 0;
 }
 
 // A function that takes the pass of a handle, or of one on loan.
-static int added(vbr::pass &mine, std::uint64_t key) { return mine.insert(key, 100000) == vbr::answer::yes; }
+static bool added(vbr::pass &mine, std::uint64_t key) { return mine.insert(key).value(); }
 
 // A call of each kind, as the comments of vbr.hpp have them.
 static int calls() {
     constexpr vbr::shape shape{1024 + 2 * 64, 1024, vbr::max_epoch};
-    constexpr std::uint32_t budget = vbr::ample_budget(shape.slots);
     const std::vector<std::uint64_t> want{2, 5};
-    vbr::opened some = vbr::open_with(shape, 1, want.data(), want.size());
-    CHECK(some.answer == vbr::open_answer::done);
-    vbr::handle mine = std::move(some.handles[0]);
-    int added = 0, taken = 0, there = 0;
+    auto some = vbr::open_with(shape, 1, want.data(), want.size());
+    std::vector<vbr::handle> handles = std::move(some).value();
+    vbr::handle mine = std::move(handles[0]); // handles are moved, and never copied
+    int count = 0, taken = 0, there = 0;
     if (!mine.is_open()) return 1; // it is empty: moved from, or closed
     if (mine.slots() != shape.slots || mine.buckets() != shape.buckets) return 1;
-    if (mine.insert(6, budget) == vbr::answer::yes) added++; // this call added 6
-    if (mine.remove(6, budget) == vbr::answer::yes) taken++; // this call took 6 out
+    if (mine.insert(6).value()) count++; // this call added 6
+    if (*mine.has(6)) there++; // `*` is the same
+    if (mine.remove(6).value()) taken++; // this call took 6 out
     std::uint32_t given = mine.spare(); // the other handles can have them now
     std::uint32_t reserved = mine.reserve(32); // for its inserts to come
-    if (vbr::is_refusal(mine.insert(7, budget))) return 1;
-    if (mine.has(7, budget) == vbr::answer::yes) there++; // 7 was there during the call
+    if (mine.insert(7).value()) count++;
+    if (*mine.has(7)) there++; // 7 was there during the call
     const std::vector<std::uint64_t> wanted{5, 8, 7};
-    std::vector<vbr::answer> answers(3);
-    mine.has_all(wanted.data(), wanted.size(), answers.data(), budget); // answers[i] is that of wanted[i]
-    CHECK((answers == std::vector{vbr::answer::yes, vbr::answer::no, vbr::answer::yes}));
-    const char *text = vbr::to_string(mine.has(8, 1)); // "out of steps": one is too few
+    std::vector<vbr::result<bool>> answers(3);
+    CHECK(answers[0] == vbr::refusal::no_handle);
+    mine.has_all(wanted.data(), wanted.size(), answers.data()); // answers[i] is that of wanted[i]
+    CHECK((answers == std::vector<vbr::result<bool>>{true, false, true}));
     bool is_near = mine.epoch() + 1000 >= mine.last_epoch(); // then renew the set
-    CHECK(added == 1 && taken == 1 && there == 1 && !is_near && given == 1 && reserved == 32 && std::string(text) == "out of steps");
-    vbr::closed told = mine.close(); // told.report is there where told.answer is last
-    if (told.answer == vbr::close_answer::no_memory) return 1; // the handle is as it was, and can be closed again
+    CHECK(count == 2 && taken == 1 && there == 2 && !is_near && given == 1 && reserved == 32);
+    std::optional<vbr::report> told = mine.close().value(); // the report of the last one
     std::uint64_t sum = 0;
-    for (std::uint64_t key : told.report->keys) sum += key;
-    CHECK(told.answer == vbr::close_answer::last && sum == 2 + 5 + 7);
+    for (std::uint64_t key : told->keys) sum += key;
+    CHECK(sum == 2 + 5 + 7 && told->free == shape.slots - 3);
+    return 0;
+}
+
+// What a result tells, and that nothing is undefined where there is no value.
+static int results() {
+    vbr::handle mine = std::move(vbr::open(vbr::shape::for_keys(8, 1), 1).value()[0]);
+    int count = 0, absent = 0, tired = 0;
+    vbr::result<bool> added = mine.insert_within(7, vbr::steps{5000});
+    if (!added.has_value()) return 1; // added.error() tells why
+    if (*added) count++; // this call added 7
+    CHECK(count == 1 && added == true && added != false && added.error() == vbr::refusal{} && added != vbr::refusal::no_slot);
+    if (vbr::is_refusal(mine.insert(9))) return 1;
+    if (mine.has(8) == false) absent++; // it was answered, and 8 is absent
+    if (mine.has_within(8, vbr::steps{1}) == vbr::refusal::out_of_steps) tired++;
+    CHECK(absent == 1 && tired == 1);
+    const char *text = vbr::to_string(vbr::refusal::out_of_steps); // "out of steps"
+    std::string why = vbr::to_string(mine.has_within(8, vbr::steps{1})); // "out of steps": one is too few
+    CHECK(why == text && why == "out of steps" && std::string(vbr::to_string(mine.has(8))) == "not refused");
+    bool there_or_refused = mine.has(6).value_or(true);
+    CHECK(!there_or_refused && mine.has_within(6, vbr::steps{1}).value_or(true));
+    vbr::refusal reason{};
+    try {
+        if (mine.has_within(6, vbr::steps{1}).value()) return 1;
+    } catch (const vbr::refused &refused) {
+        reason = refused.error();
+        CHECK(refused.what() == std::string("out of steps"));
+    }
+    CHECK(reason == vbr::refusal::out_of_steps);
+    int thrown = 0;
+    const auto none = vbr::open(vbr::shape{}, 1);
+    try {
+        thrown += static_cast<int>(none->size()) + 1;
+    } catch (const vbr::refused &refused) {
+        CHECK(refused.error() == vbr::refusal::bad_shape);
+        thrown++;
+    }
+    CHECK(thrown == 1 && !none && none == vbr::refusal::bad_shape);
+    return 0;
+}
+
+// Each refusal has words of its own.
+static int words() {
+    std::set<std::string> all;
+    for (int why = 0; why >= -13; why--) all.insert(vbr::to_string(static_cast<vbr::refusal>(why)));
+    CHECK(all.size() == 14 && std::string(vbr::to_string(vbr::refusal::on_loan)) == "a handle is on loan");
+    return 0;
+}
+
+// Budgets: the ample one, that of a shape, that of a handle, and that of a call; and one that is moved along, renewed and lent.
+static int budgets() {
+    static_assert(vbr::steps::ample() > vbr::steps{100000});
+    static_assert(vbr::steps{5} == vbr::steps{5} && vbr::steps{5} != vbr::steps{6} && vbr::steps{5} < vbr::steps{6});
+    static_assert(vbr::steps{6} >= vbr::steps{6} && vbr::steps{5} <= vbr::steps{6});
+    vbr::handle mine = std::move(vbr::open(vbr::shape::for_keys(8, 1), 1).value()[0]);
+    if (mine.steps() != vbr::steps::ample()) return 1; // it was given another
+    std::uint32_t number = mine.steps().count();
+    CHECK(number == 400000);
+    mine.set_steps(vbr::steps{5000});
+    CHECK(mine.steps() == vbr::steps{5000} && mine.insert(1) == true);
+    mine.set_steps(vbr::steps{1});
+    CHECK(mine.has(1) == vbr::refusal::out_of_steps && mine.has_within(1, vbr::steps{100}) == true);
+    mine.set_steps(vbr::steps{0});
+    CHECK(mine.has(1) == vbr::refusal::out_of_steps && mine.steps() == vbr::steps{1});
+    CHECK(mine.has_within(1, vbr::steps{0}) == vbr::refusal::out_of_steps);
+    vbr::shape hurried = vbr::shape::for_keys(1024, 2);
+    hurried.steps = vbr::steps{5000};
+    std::vector<vbr::handle> both = vbr::open(hurried, 2).value();
+    CHECK(both[0].steps() == vbr::steps{5000} && both[1].steps() == vbr::steps{5000});
+    both[1].set_steps(vbr::steps{70});
+    CHECK(vbr::handle::renew_all(both, vbr::shape::for_keys(1024, 2)) && both[0].steps() == vbr::steps{5000});
+    CHECK(both[1].steps() == vbr::steps{70}); // each keeps its own
+    CHECK(vbr::handle::renew_all(both, hurried) && both[1].steps() == vbr::steps{5000});
+    both[1].set_steps(vbr::steps{70});
+    vbr::handle moved = std::move(both[1]);
+    CHECK(moved.steps() == vbr::steps{70} && both[1].steps() == vbr::steps::ample());
+    both[1] = std::move(moved);
+    vbr::lender lender(std::move(both));
+    {
+        vbr::loan one = lender.lend(), other = lender.lend();
+        CHECK(one->steps().count() + other->steps().count() == 5070 && added(*one, 5) && *other->has(5));
+    }
+    CHECK(lender.renew(hurried) && lender.lend()->steps() == vbr::steps{5000});
     return 0;
 }
 
 // Look-ups of many keys: more than a batch, none, and with a budget that is too small for all.
 static int many_keys() {
-    vbr::opened all = vbr::open(vbr::shape::for_keys(200, 1), 1);
-    CHECK(all.answer == vbr::open_answer::done);
-    vbr::handle &mine = all.handles[0];
+    std::vector<vbr::handle> all = vbr::open(vbr::shape::for_keys(200, 1), 1).value();
+    vbr::handle &mine = all[0];
     std::vector<std::uint64_t> keys;
     for (std::uint64_t key = 0; key < 200; key++) keys.push_back(key);
-    for (std::uint64_t key = 1; key < 200; key += 2) CHECK(mine.insert(key, 100000) == vbr::answer::yes);
-    std::vector<vbr::answer> answers(200, vbr::answer::other);
-    mine.has_all(nullptr, 0, nullptr, 100000);
-    mine.has_all(keys.data(), 199, answers.data(), 100000);
-    for (std::size_t i = 0; i < 199; i++) CHECK(answers[i] == (i % 2 ? vbr::answer::yes : vbr::answer::no));
-    CHECK(answers[199] == vbr::answer::other);
-    mine.has_all(keys.data(), 200, answers.data(), 10);
-    for (vbr::answer told : answers) CHECK(told == vbr::answer::out_of_steps);
+    for (std::uint64_t key = 1; key < 200; key += 2) CHECK(mine.insert(key) == true);
+    std::vector<vbr::result<bool>> answers(200, vbr::refusal::mixed);
+    mine.has_all(nullptr, 0, nullptr);
+    mine.has_all(keys.data(), 199, answers.data());
+    for (std::size_t i = 0; i < 199; i++) CHECK(answers[i] == (i % 2 == 1));
+    CHECK(answers[199] == vbr::refusal::mixed);
+    mine.has_all_within(keys.data(), 200, answers.data(), vbr::steps{10});
+    for (const auto &told : answers) CHECK(told == vbr::refusal::out_of_steps);
     vbr::handle none;
-    none.has_all(keys.data(), 200, answers.data(), 100000);
-    for (vbr::answer told : answers) CHECK(told == vbr::answer::empty);
+    none.has_all(keys.data(), 200, answers.data());
+    for (const auto &told : answers) CHECK(told == vbr::refusal::no_handle);
     return 0;
 }
 
 // As many handles as a set can have, moved from a vector of them.
 static int the_most() {
-    vbr::opened most = vbr::open(vbr::shape::for_keys(1024, vbr::max_handles), vbr::max_handles);
-    CHECK(most.answer == vbr::open_answer::done && most.handles.size() == 64);
-    vbr::handle mine = std::move(most.handles[0]); // handles are moved, and never copied
-    most.handles.clear();
-    CHECK(mine.close().answer == vbr::close_answer::last);
+    auto most = vbr::open(vbr::shape::for_keys(1024, vbr::max_handles), vbr::max_handles);
+    CHECK(most && most->size() == 64);
+    vbr::handle mine = std::move(most->at(0));
+    most->clear();
+    CHECK(mine.close().value());
     return 0;
 }
 
 // A thousand callers in threads, all at once, and one after another; and the numbers that are refused.
 static int crowds() {
     static_assert(vbr::max_many_handles >= 1000);
-    vbr::opened crowd = vbr::open_many(vbr::shape::for_keys(1024, 1000), 1000);
-    CHECK(crowd.answer == vbr::open_answer::done && crowd.handles.size() == 1000);
-    std::vector<vbr::answer> added(crowd.handles.size());
+    std::vector<vbr::handle> crowd = vbr::open_many(vbr::shape::for_keys(1024, 1000), 1000).value();
+    CHECK(crowd.size() == 1000);
+    std::vector<vbr::result<bool>> told(crowd.size());
     std::vector<std::thread> threads;
-    for (std::size_t i = 0; i < added.size(); i++) threads.emplace_back([&, i] { added[i] = crowd.handles[i].insert(i, 100000); });
+    for (std::size_t i = 0; i < told.size(); i++) threads.emplace_back([&, i] { told[i] = crowd[i].insert(i); });
     for (std::thread &each : threads) each.join();
-    for (vbr::answer each : added) CHECK(each == vbr::answer::yes);
-    vbr::told now = vbr::handle::report_all(crowd.handles);
-    CHECK(now.report && now.report->keys.size() == 1000 && now.report->keys.back() == 999);
-    CHECK(vbr::handle::renew_all(crowd.handles, vbr::shape::for_keys(2048, 1000)) == vbr::all_answer::done);
-    for (std::size_t i = 0; i < added.size(); i++) CHECK(crowd.handles[i].has(999 - i, 100000) == vbr::answer::yes);
-    while (crowd.handles.size() > 1) crowd.handles.pop_back(); // which closes it
-    vbr::closed last = crowd.handles[0].close();
-    CHECK(last.answer == vbr::close_answer::last && last.report->keys.size() == 1000);
+    for (const auto &each : told) CHECK(each == true);
+    vbr::report now = vbr::handle::report_all(crowd).value();
+    CHECK(now.keys.size() == 1000 && now.keys.back() == 999);
+    CHECK(vbr::handle::renew_all(crowd, vbr::shape::for_keys(2048, 1000)));
+    for (std::size_t i = 0; i < told.size(); i++) CHECK(*crowd[i].has(999 - i));
+    while (crowd.size() > 1) crowd.pop_back(); // which closes it
+    CHECK(crowd[0].close().value()->keys.size() == 1000);
     const std::uint64_t some[] = {2, 5, 9};
-    CHECK(vbr::open_many(vbr::shape::for_keys(8, 65), 65, some, 3).handles.at(64).has(5, 1000) == vbr::answer::yes);
-    CHECK(vbr::open(vbr::shape::for_keys(8, 65), 65).answer == vbr::open_answer::bad_count);
-    CHECK(vbr::open_many(vbr::shape::for_keys(8, 1), 0).answer == vbr::open_answer::bad_count);
-    CHECK(vbr::open_many(vbr::shape::for_keys(8, 1), vbr::max_many_handles + 1).answer == vbr::open_answer::bad_count);
+    CHECK(*vbr::open_many(vbr::shape::for_keys(8, 65), 65, some, 3)->at(64).has(5));
+    CHECK(vbr::open(vbr::shape::for_keys(8, 65), 65) == vbr::refusal::bad_count);
+    CHECK(vbr::open_many(vbr::shape::for_keys(8, 1), 0) == vbr::refusal::bad_count);
+    CHECK(vbr::open_many(vbr::shape::for_keys(8, 1), vbr::max_many_handles + 1) == vbr::refusal::bad_count);
     return 0;
 }
 
 static int refusals() {
     vbr::shape small{2, 1, 1};
-    auto [opened, handles] = vbr::open(small, 1);
-    CHECK(opened == vbr::open_answer::done && handles.size() == 1);
+    std::vector<vbr::handle> handles = vbr::open(small, 1).value();
+    CHECK(handles.size() == 1);
     vbr::handle one = std::move(handles[0]);
     CHECK(one.is_open() && !handles[0].is_open());
     CHECK(one.epoch() == 1 && one.last_epoch() == 1 && one.slots() == 2 && one.buckets() == 1);
     CHECK(handles[0].epoch() == 0 && handles[0].slots() == 0);
-    CHECK(one.insert(1, 1000) == vbr::answer::yes && one.insert(2, 1000) == vbr::answer::yes);
-    vbr::answer full = one.insert(3, 1000);
-    CHECK(full == vbr::answer::no_slot && vbr::is_refusal(full) && !vbr::is_refusal(vbr::answer::no));
-    CHECK(one.remove(1, 1000) == vbr::answer::yes && one.insert(3, 1000) == vbr::answer::epoch_spent);
-    CHECK(one.has(2, 1) == vbr::answer::out_of_steps && vbr::to_string(full)[0] == 'n');
-    CHECK(vbr::open(vbr::shape{}, 1).answer == vbr::open_answer::bad_shape);
-    CHECK(vbr::open(small, 0).answer == vbr::open_answer::bad_count && vbr::open(small, 65).handles.empty());
-    CHECK(vbr::open_with(small, 1, {5, 5}).answer == vbr::open_answer::bad_keys);
+    CHECK(one.insert(1) == true && one.insert(2) == true && one.insert(3) == vbr::refusal::no_slot);
+    CHECK(one.remove(1) == true && one.insert(3) == vbr::refusal::epoch_spent && one.remove(1) == false);
+    CHECK(vbr::open(vbr::shape{}, 1) == vbr::refusal::bad_shape);
+    CHECK(vbr::open(small, 0) == vbr::refusal::bad_count && vbr::open(small, 65) == vbr::refusal::bad_count);
+    CHECK(vbr::open_with(small, 1, {5, 5}) == vbr::refusal::bad_keys);
+    std::vector<vbr::handle> both = vbr::open(vbr::shape{3, 1, vbr::max_epoch}, 2).value(); // one keeps the slots that the other wants
+    vbr::handle &mine = both[0], &other = both[1];
+    for (std::uint64_t key = 1; key < 4; key++) CHECK(*other.insert(key) && *other.remove(key));
+    CHECK(other.reserve(3) == 2);
+    vbr::result<bool> full = mine.insert(4);
+    if (full.error() == vbr::refusal::no_slot) other.spare(); // the other handle may keep free ones
+    CHECK(full == vbr::refusal::no_slot && mine.insert(4) == true);
     return 0;
 }
 
@@ -160,9 +238,7 @@ static int refusals() {
 template <class Keys>
 static std::vector<std::uint64_t> kept(const Keys &keys) {
     auto opened = vbr::open_with(vbr::shape::for_keys(8, 1), 1, keys);
-    if (opened.answer != vbr::open_answer::done) return {};
-    vbr::closed last = opened.handles[0].close();
-    return last.report ? last.report->keys : std::vector<std::uint64_t>{};
+    return opened->at(0).close().value()->keys;
 }
 
 static int ranges() {
@@ -173,170 +249,182 @@ static int ranges() {
 #if __cplusplus >= 202002L
     CHECK(kept(std::span(want)) == want && kept(std::span(array).first(0)).empty());
 #endif
-    auto opened = vbr::open_with(vbr::shape::for_keys(8, 1), 1, {2, 5, 9});
-    CHECK(opened.answer == vbr::open_answer::done && opened.handles[0].close().report->keys == want);
+    auto few = vbr::open_with(vbr::shape::for_keys(8, 1), 1, {2, 5, 9});
+    CHECK(few->at(0).close().value()->keys == want);
     return 0;
 }
 
 // A handle to a set of the keys 1 to 9 in four buckets. With seed 0 the bucket of a key is told by the part behind the point of its
 // product with 0.618034: below a quarter it is the first, and so on.
 static vbr::handle opened_with_nine() {
-    vbr::opened nine = vbr::open_with(vbr::shape{9 + 64, 4, vbr::max_epoch, 0}, 1, {1, 2, 3, 4, 5, 6, 7, 8, 9});
-    return nine.answer == vbr::open_answer::done ? std::move(nine.handles[0]) : vbr::handle();
+    return std::move(vbr::open_with(vbr::shape{9 + 64, 4, vbr::max_epoch, 0}, 1, {1, 2, 3, 4, 5, 6, 7, 8, 9}).value()[0]);
 }
 
 static const std::vector<std::uint64_t> nine_by_bucket{2, 5, 4, 7, 1, 6, 9, 3, 8};
 
 // All keys, and each bucket's in turn; from a cursor on; and with other calls of the handle in between.
 static int walks() {
-    constexpr std::uint32_t budget = 1000;
     vbr::handle mine = opened_with_nine();
     std::uint64_t sum = 0;
-    vbr::answer told{};
-    for (std::uint64_t key : mine.keys(budget, told)) sum += key;
-    if (vbr::is_refusal(told)) return 1; // the walk came to no end
-    CHECK(told == vbr::answer::no && sum == 45);
+    for (std::uint64_t key : mine.keys()) sum += key;
+    CHECK(sum == 45);
     vbr::cursor at; // before the first key
-    vbr::given<std::uint64_t> next = mine.next(at, budget);
-    if (next.item) sum += *next.item; // next.answer is yes
-    CHECK(next.answer == vbr::answer::yes && next.item == 2u && sum == 45 + 2);
-    for (std::uint64_t key : mine.keys(at, budget, told))
+    CHECK(mine.next(at).value() == 2u && mine.next_within(at, vbr::steps{1000}) == 5u);
+    for (std::uint64_t key : mine.keys(at))
         if (key == 7) break;
-    CHECK(told == vbr::answer::yes && mine.next(at, budget).item == 1u);
-    for (std::uint64_t key : mine.keys(at, 2 * budget, told)) sum += key;
-    CHECK(told == vbr::answer::no && sum == 47 + 6 + 9 + 3 + 8 && !mine.next(at, budget).item);
-    for (std::uint64_t key : mine.keys(budget, told)) CHECK(mine.remove(key, budget) == vbr::answer::yes);
-    CHECK(told == vbr::answer::no && mine.close().report->keys.empty());
+    CHECK(mine.next(at) == 1u);
+    for (std::uint64_t key : mine.keys(at)) sum += key;
+    CHECK(sum == 45 + 6 + 9 + 3 + 8 && mine.next(at) == std::nullopt);
+    at = vbr::cursor();
+    auto next = mine.next(at);
+    while (next == vbr::refusal::out_of_steps) next = mine.next(at); // from where it came to
+    if (*next) sum += **next;
+    CHECK(sum == 45 + 26 + 2);
+    while (std::optional<std::uint64_t> key = mine.next(at).value()) sum += *key;
+    CHECK(sum == 45 + 26 + 45);
+    for (std::uint64_t key : mine.keys_within(vbr::steps{1000})) CHECK(*mine.remove(key));
+    CHECK(mine.close().value()->keys.empty());
     return 0;
 }
 
 // A walk is an input range: of each version of C++ that has them.
 static int walked_by_iterators() {
-    using iterator = decltype(std::declval<vbr::handle &>().keys(0, std::declval<vbr::answer &>()).begin());
+    using iterator = decltype(std::declval<vbr::handle &>().keys().begin());
     static_assert(std::is_same_v<std::iterator_traits<iterator>::iterator_category, std::input_iterator_tag>);
     static_assert(std::is_same_v<std::iterator_traits<iterator>::value_type, std::uint64_t>);
     vbr::handle mine = opened_with_nine();
-    vbr::answer told{};
     std::uint64_t sum = 0;
     {
-        auto walk = mine.keys(1000, told);
+        auto walk = mine.keys();
         for (auto each = walk.begin(); each != walk.end(); ++each) sum += *each;
         CHECK(sum == 45 && walk.begin() == walk.end());
     }
     {
-        auto walk = mine.keys(1000, told);
+        auto walk = mine.keys();
         auto each = walk.begin(); // at the end already where there is no key
         auto before = each++;
-        CHECK(*before == 2 && *each == 5 && *each.operator->() == 5 && *each++ == 5 && *each == 4 && before != walk.end());
+        CHECK(*before == 2 && *each == 5 && *each.operator->().operator->() == 5 && *each++ == 5 && *each == 4 && before != walk.end());
     }
-    auto walk = mine.keys(1000, told);
-    CHECK(std::vector<std::uint64_t>(walk.begin(), walk.end()) == nine_by_bucket && told == vbr::answer::no);
+    auto walk = mine.keys();
+    CHECK(std::vector<std::uint64_t>(walk.begin(), walk.end()) == nine_by_bucket);
 #if __cplusplus >= 202002L
     static_assert(std::input_iterator<iterator> && std::ranges::input_range<decltype(walk)>);
-    auto again = mine.keys(1000, told);
+    auto again = mine.keys();
     CHECK(std::ranges::equal(again, nine_by_bucket));
 #endif
     return 0;
 }
 
+// The keys that a walk gives, and why it came to no end.
+template <class Walk>
+static vbr::refusal walked(Walk walk, std::vector<std::uint64_t> &given) {
+    try {
+        for (std::uint64_t key : walk) given.push_back(key);
+    } catch (const vbr::refused &refused) {
+        return refused.error();
+    }
+    return {};
+}
+
 // A range asks again while its cursor moves: eleven steps are enough for a key in a bucket of its own, among empty ones, and not
-// for the second key of a bucket. Then it ends, with the refusal, and goes on from there with more.
+// for the second key of a bucket. Then it throws the refusal, and goes on from there with more.
 static int refused_walks() {
-    vbr::opened wide = vbr::open_with(vbr::shape{1 + 64, 4096, vbr::max_epoch, 0}, 1, {7});
-    CHECK(wide.answer == vbr::open_answer::done);
-    vbr::answer told{};
+    vbr::handle wide = std::move(vbr::open_with(vbr::shape{1 + 64, 4096, vbr::max_epoch, 0}, 1, {7}).value()[0]);
     vbr::cursor at;
-    CHECK(wide.handles[0].next(at, 11).answer == vbr::answer::out_of_steps);
-    int count = 0;
-    for (std::uint64_t key : wide.handles[0].keys(11, told)) count += key == 7;
-    CHECK(count == 1 && told == vbr::answer::no);
+    CHECK(wide.next_within(at, vbr::steps{11}) == vbr::refusal::out_of_steps);
+    std::vector<std::uint64_t> given;
+    CHECK(walked(wide.keys_within(vbr::steps{11}), given) == vbr::refusal{} && given == std::vector<std::uint64_t>{7});
 
     vbr::handle mine = opened_with_nine();
     at = vbr::cursor();
-    std::vector<std::uint64_t> given;
-    for (std::uint64_t key : mine.keys(at, 11, told)) given.push_back(key);
-    CHECK(given == std::vector<std::uint64_t>{2} && told == vbr::answer::out_of_steps);
-    for (std::uint64_t key : mine.keys(at, 100, told)) given.push_back(key);
-    CHECK(given == nine_by_bucket && told == vbr::answer::no);
+    given.clear();
+    CHECK(walked(mine.keys_within(at, vbr::steps{11}), given) == vbr::refusal::out_of_steps && given == std::vector<std::uint64_t>{2});
+    CHECK(walked(mine.keys_within(at, vbr::steps{100}), given) == vbr::refusal{} && given == nine_by_bucket);
 
     vbr::handle none;
-    for (std::uint64_t key : none.keys(100, told)) count += key != 0;
-    CHECK(count == 1 && told == vbr::answer::empty && none.next(at, 100).answer == vbr::answer::empty);
+    CHECK(walked(none.keys(), given) == vbr::refusal::no_handle && given == nine_by_bucket && none.next(at) == vbr::refusal::no_handle);
     return 0;
 }
 
 // Handles whose life ends lose nothing: the last one is told all, whichever it is, and in whatever thread.
 static int ends() {
     for (std::size_t last = 0; last < 3; last++) {
-        auto opened = vbr::open(vbr::shape::for_keys(64, 3), 3);
-        CHECK(opened.answer == vbr::open_answer::done);
-        vbr::handle kept = std::move(opened.handles[last]);
+        std::vector<vbr::handle> handles = vbr::open(vbr::shape::for_keys(64, 3), 3).value();
+        vbr::handle kept = std::move(handles[last]);
         std::vector<std::thread> threads;
         for (std::size_t i = 0; i < 3; i++)
             if (i != last)
-                threads.emplace_back([mine = std::move(opened.handles[i]), i]() mutable {
+                threads.emplace_back([mine = std::move(handles[i]), i]() mutable {
                     for (std::uint64_t key = i; key < 60; key += 3)
-                        if (mine.insert(key, 100000) != vbr::answer::yes) return;
+                        if (mine.insert(key) != true) return;
                     if (i == 1) mine = vbr::handle();
                 });
         for (std::thread &thread : threads) thread.join();
         threads.clear();
-        vbr::closed closed = kept.close();
-        CHECK(closed.answer == vbr::close_answer::last && closed.report->keys.size() == 40 && closed.report->free == 64 + 3 * 64 - 40);
+        vbr::report told = kept.close().value().value();
+        CHECK(told.keys.size() == 40 && told.free == 64 + 3 * 64 - 40);
     }
+    return 0;
+}
+
+// Ends without a report: of all handles, of those that are left when others are closed, and of a lender.
+static int ends_of_all() {
+    std::vector<vbr::handle> handles = vbr::open(vbr::shape::for_keys(64, 3), 3).value();
+    CHECK(*handles[1].insert(5) && !handles[1].close().value());
+    vbr::handle::end_all(handles); // nobody wants to know what was in it
+    CHECK(handles.empty());
+    std::vector<vbr::handle> others = vbr::open(vbr::shape::for_keys(64, 2), 2).value();
+    vbr::handle kept = std::move(others[1]);
+    CHECK(*others[0].insert(6));
+    vbr::handle::end_all(others);
+    CHECK(kept.close().value()->keys == std::vector<std::uint64_t>{6}); // while one is kept nothing is lost
     return 0;
 }
 
 // Inserts a key by each of the handles that are open, and throws: it owns the handles, so they end.
 static void inserts_and_throws(std::vector<vbr::handle> owned) {
     for (std::size_t i = 0; i < owned.size(); i++)
-        if (owned[i].is_open() && vbr::is_refusal(owned[i].insert(i, 100000))) return;
+        if (owned[i].is_open() && vbr::is_refusal(owned[i].insert(i))) return;
     throw std::runtime_error("given up");
 }
 
 // An exception that ends handles loses nothing: the last close is told all, whichever handle is kept; and a loan is given back.
 static int exceptions() {
     for (std::size_t last = 0; last < 3; last++) {
-        auto opened = vbr::open(vbr::shape::for_keys(64, 3), 3);
-        CHECK(opened.answer == vbr::open_answer::done);
-        vbr::handle kept = std::move(opened.handles[last]);
+        std::vector<vbr::handle> handles = vbr::open(vbr::shape::for_keys(64, 3), 3).value();
+        vbr::handle kept = std::move(handles[last]);
         bool caught = false;
         try {
-            inserts_and_throws(std::move(opened.handles));
+            inserts_and_throws(std::move(handles));
         } catch (const std::runtime_error &) {
             caught = true;
         }
         CHECK(caught && added(kept, last));
-        vbr::closed closed = kept.close();
-        CHECK(closed.answer == vbr::close_answer::last && closed.report->keys == (std::vector<std::uint64_t>{0, 1, 2}));
+        CHECK(kept.close().value()->keys == (std::vector<std::uint64_t>{0, 1, 2}));
     }
-    auto opened = vbr::open(vbr::shape::for_keys(64, 1), 1);
-    CHECK(opened.answer == vbr::open_answer::done);
-    vbr::lender lender(std::move(opened.handles));
+    vbr::lender lender(vbr::open(vbr::shape::for_keys(64, 1), 1).value());
     try {
         vbr::loan mine = lender.lend();
-        CHECK(mine && mine->insert(5, 100000) == vbr::answer::yes && !lender.lend());
+        CHECK(mine && *mine->insert(5) && !lender.lend());
         throw std::runtime_error("given up");
     } catch (const std::runtime_error &) {
         CHECK(lender.lend());
     }
-    vbr::closed closed = lender.close();
-    CHECK(closed.answer == vbr::close_answer::last && closed.report->keys == std::vector<std::uint64_t>{5});
+    CHECK(lender.close().value()->keys == std::vector<std::uint64_t>{5});
     return 0;
 }
 
 // Closes at the same time: one of them, and one alone, is the last.
 static int closes_at_once() {
     for (int round = 0; round < 200; round++) {
-        auto opened = vbr::open_with(vbr::shape::for_keys(8, 4), 4, {1, 2, 3});
-        CHECK(opened.answer == vbr::open_answer::done);
+        std::vector<vbr::handle> handles = vbr::open_with(vbr::shape::for_keys(8, 4), 4, {1, 2, 3}).value();
         std::atomic<int> reports{0}, others{0};
         std::vector<std::thread> threads;
-        for (vbr::handle &each : opened.handles)
+        for (vbr::handle &each : handles)
             threads.emplace_back([&reports, &others, mine = std::move(each)]() mutable {
-                vbr::closed told = mine.close();
-                if (told.answer == vbr::close_answer::last && told.report->keys.size() == 3) reports++;
-                if (told.answer == vbr::close_answer::others_are_open) others++;
+                std::optional<vbr::report> told = mine.close().value();
+                if (told && told->keys.size() == 3) reports++;
+                if (!told) others++;
             });
         for (std::thread &thread : threads) thread.join();
         CHECK(reports == 1 && others == 3);
@@ -345,9 +433,8 @@ static int closes_at_once() {
 }
 
 static int loans() {
-    auto opened = vbr::open(vbr::shape::for_keys(1000, 2), 2);
-    CHECK(opened.answer == vbr::open_answer::done);
-    vbr::lender lender(std::move(opened.handles));
+    constexpr vbr::shape shape = vbr::shape::for_keys(1000, 2);
+    vbr::lender lender(vbr::open(shape, 2).value());
     {
         vbr::loan one = lender.lend(), two = lender.lend(), none = lender.lend();
         CHECK(one && two && !none && added(*one, 1000));
@@ -362,82 +449,78 @@ static int loans() {
                     std::this_thread::yield();
                     continue;
                 }
-                if (mine->insert(key, 100000) != vbr::answer::yes) wrong++;
+                if (mine->insert(key) != true) wrong++;
                 key += 6;
             }
         });
     for (std::thread &thread : threads) thread.join();
+    if (!lender.renew(shape)) return 1; // it was refused
     {
         vbr::loan mine = lender.lend();
-        vbr::answer told{};
         std::set<std::uint64_t> walked;
-        for (std::uint64_t key : mine->keys(100000, told)) CHECK(walked.insert(key).second);
-        CHECK(told == vbr::answer::no && walked.size() == 601 && *walked.rbegin() == 1000);
+        for (std::uint64_t key : mine->keys()) CHECK(walked.insert(key).second);
+        CHECK(walked.size() == 601 && *walked.rbegin() == 1000);
     }
-    vbr::closed closed = lender.close();
-    CHECK(wrong == 0 && closed.answer == vbr::close_answer::last && closed.report->keys.size() == 601);
+    CHECK(wrong == 0 && lender.close().value()->keys.size() == 601);
     return 0;
 }
 
 // A seed that is given, kept, drawn and told, and the order of a walk, which it tells.
 static int seeds() {
     const std::vector<std::uint64_t> keys{1, 2, 3, 4, 5, 6, 7, 8, 9};
-    auto walk = [](vbr::handle &mine) {
-        vbr::answer told{};
+    auto order = [](vbr::handle &mine) {
         std::vector<std::uint64_t> given;
-        for (std::uint64_t key : mine.keys(100000, told)) given.push_back(key);
+        for (std::uint64_t key : mine.keys()) given.push_back(key);
         return given;
     };
     vbr::shape seeded = vbr::shape::for_keys(1024, 2);
     seeded.seed = 7;
-    auto [opened, handles] = vbr::open_with(seeded, 2, keys);
-    CHECK(opened == vbr::open_answer::done);
+    std::vector<vbr::handle> handles = vbr::open_with(seeded, 2, keys).value();
     vbr::handle &mine = handles[1];
     CHECK(mine.seed() == 7 && handles[0].seed() == 7);
     vbr::shape again = vbr::shape::for_keys(1024, 1);
     again.seed = mine.seed(); // a shape whose sets have each key in the same bucket
     auto other = vbr::open_with(again, 1, keys);
-    CHECK(other.answer == vbr::open_answer::done && walk(other.handles[0]) == walk(mine) && walk(mine).size() == 9);
-    CHECK(vbr::handle::renew_all(handles, vbr::shape::for_keys(2048, 2)) == vbr::all_answer::done && mine.seed() == 7); // it is kept
+    CHECK(order(other->at(0)) == order(mine) && order(mine).size() == 9);
+    CHECK(vbr::handle::renew_all(handles, vbr::shape::for_keys(2048, 2)) && mine.seed() == 7); // it is kept
     seeded.seed = vbr::random_seed(); // a renewal by this shape has another seed
-    CHECK(vbr::handle::renew_all(handles, seeded) == vbr::all_answer::done && mine.seed() != 7 && walk(mine).size() == 9);
+    CHECK(vbr::handle::renew_all(handles, seeded) && mine.seed() != 7 && order(mine).size() == 9);
     auto drawn = vbr::open(vbr::shape::for_keys(8, 1), 1), next = vbr::open(vbr::shape::for_keys(8, 1), 1);
-    CHECK(drawn.handles[0].seed() != next.handles[0].seed());
+    CHECK(drawn->at(0).seed() != next->at(0).seed());
     vbr::shape with_seed = vbr::shape::for_keys(8, 1);
     with_seed.seed = std::uint64_t{1} << 63;
     auto map = vbr::open_map_with(with_seed, 1, {{5, 50}});
-    CHECK(map.answer == vbr::open_answer::done && map.handles[0].seed() == 0);
-    CHECK(vbr::map_handle::renew_all(map.handles, vbr::shape::for_keys(8, 1)) == vbr::all_answer::done && map.handles[0].seed() == 0);
+    CHECK(map->at(0).seed() == 0 && vbr::map_handle::renew_all(*map, vbr::shape::for_keys(8, 1)) && map->at(0).seed() == 0);
     return 0;
 }
 
 // Balances, and all handles at once: their report, and their renewal.
 static int all_handles() {
-    auto both = vbr::open_with(vbr::shape{4, 1, 100}, 2, {2, 5});
-    CHECK(both.answer == vbr::open_answer::done);
-    CHECK(both.handles[1].insert(7, 100000) == vbr::answer::yes && both.handles[0].remove(2, 100000) == vbr::answer::yes);
-    std::int64_t keys = both.handles[0].balance() + both.handles[1].balance(); // no call is under way
-    CHECK(keys == 2 && both.handles[1].balance() == 1);
-    vbr::told now = vbr::handle::report_all(both.handles); // now.report->keys is {5, 7}
-    CHECK(now.answer == vbr::all_answer::done && now.report->keys == std::vector<std::uint64_t>({5, 7}));
-    CHECK(vbr::handle::renew_all(both.handles, {0, 1, 100}) == vbr::all_answer::bad_shape);
-    CHECK(vbr::handle::renew_all(both.handles, {1, 1, 100}) == vbr::all_answer::no_room && both.handles[0].slots() == 4);
-    vbr::all_answer renewed = vbr::handle::renew_all(both.handles, vbr::shape::for_keys(4096, 2));
-    if (renewed == vbr::all_answer::no_room) return 1; // there are more keys than slots
-    CHECK(renewed == vbr::all_answer::done && both.handles[0].buckets() == 4096 && both.handles[0].balance() == 2);
-    auto other = vbr::open(vbr::shape::for_keys(8, 1), 1);
-    std::vector<vbr::handle> mixed(2), none;
-    CHECK(vbr::handle::report_all(none).answer == vbr::all_answer::missing && vbr::handle::report_all(mixed).answer == vbr::all_answer::empty);
-    mixed[0] = std::move(other.handles[0]), mixed[1] = std::move(both.handles[1]);
-    CHECK(vbr::handle::report_all(mixed).answer == vbr::all_answer::mixed && vbr::handle::report_all(both.handles).answer == vbr::all_answer::empty);
-    both.handles[1] = std::move(mixed[1]);
-    CHECK(vbr::handle::report_all(both.handles).report->keys.size() == 2);
-    CHECK(both.handles[0].close().answer == vbr::close_answer::others_are_open && both.handles[1].close().report->keys.size() == 2);
+    std::vector<vbr::handle> both = vbr::open_with(vbr::shape{4, 1, 100}, 2, {2, 5}).value();
+    CHECK(*both[1].insert(7) && *both[0].remove(2));
+    std::int64_t keys = both[0].balance() + both[1].balance(); // no call is under way
+    CHECK(keys == 2 && both[1].balance() == 1);
+    vbr::report now = vbr::handle::report_all(both).value(); // now.keys is {5, 7}
+    CHECK((now.keys == std::vector<std::uint64_t>{5, 7}));
+    CHECK(vbr::handle::renew_all(both, {0, 1, 100}) == vbr::refusal::bad_shape);
+    CHECK(vbr::handle::renew_all(both, {1, 1, 100}) == vbr::refusal::no_room && both[0].slots() == 4);
+    vbr::result<void> renewed = vbr::handle::renew_all(both, vbr::shape::for_keys(4096, 2));
+    if (!renewed) return 1; // renewed.error() tells why
+    CHECK(both[0].buckets() == 4096 && both[0].balance() == 2);
+    std::vector<vbr::handle> other = vbr::open(vbr::shape::for_keys(8, 1), 1).value(), mixed(2), none;
+    CHECK(vbr::handle::report_all(none) == vbr::refusal::missing && vbr::handle::report_all(mixed) == vbr::refusal::no_handle);
+    mixed[0] = std::move(other[0]), mixed[1] = std::move(both[1]);
+    CHECK(vbr::handle::report_all(mixed) == vbr::refusal::mixed && vbr::handle::report_all(both) == vbr::refusal::no_handle);
+    both[1] = std::move(mixed[1]);
+    CHECK(vbr::handle::report_all(both)->keys.size() == 2);
+    CHECK(!both[0].close().value() && both[1].close().value()->keys.size() == 2);
     return 0;
 }
 
 int main() {
-    if (example() || all_handles() || calls() || many_keys() || the_most() || crowds() || refusals() || ranges() || walks() || walked_by_iterators() || refused_walks() || ends() || exceptions() || closes_at_once() || loans() || seeds()) return 1;
+    if (example() || calls() || results() || words() || budgets() || all_handles() || many_keys() || the_most() || crowds()) return 1;
+    if (refusals() || ranges() || walks() || walked_by_iterators() || refused_walks() || ends() || ends_of_all()) return 1;
+    if (exceptions() || closes_at_once() || loans() || seeds()) return 1;
     std::puts("example in C++: passed");
     return 0;
 }

@@ -26,15 +26,11 @@ constexpr std::uint32_t LIMIT = 100;
 constexpr std::uint32_t WINDOW = 4096;     // of the time, which passes with each request
 constexpr std::uint32_t REQUESTS = 400000; // of all threads
 constexpr std::uint32_t WINDOWS = REQUESTS / WINDOW + 1;
-constexpr std::uint32_t BUDGET = 100000;
 
 // How many requests of a client were admitted in a window, which is the last one that it made any in.
 struct usage {
     std::uint32_t window;
     std::uint32_t count;
-
-    static usage of(std::uint64_t value) noexcept { return {static_cast<std::uint32_t>(value >> 32), static_cast<std::uint32_t>(value)}; }
-    std::uint64_t value() const noexcept { return std::uint64_t{window} << 32 | count; }
 
     // With one request more, which comes in this window, or is late for it; none if that is too many.
     std::optional<usage> with_one(std::uint32_t now) const noexcept {
@@ -43,6 +39,9 @@ struct usage {
         return usage{window, count + 1};
     }
 };
+
+// The value of a client is its usage, of 64 bits.
+using usages = vbr::map<std::uint64_t, usage>;
 
 // Whether a request is admitted, and the window in which it counts.
 struct verdict {
@@ -53,36 +52,33 @@ struct verdict {
 // The limiter, as one thread has it.
 class limiter {
 public:
-    explicit limiter(vbr::map_handle handle) noexcept : map(std::move(handle)) {}
+    explicit limiter(usages::handle handle) noexcept : map(std::move(handle)) {}
 
     verdict admit(std::uint64_t client, std::uint32_t now) {
         for (;;) {
             std::optional<verdict> told; // none where the client is absent
-            vbr::found before = map.fetch_update(client, [&](std::uint64_t value) { return counted(usage::of(value), now, told); }, BUDGET);
-            CHECK(!vbr::is_refusal(before.answer));
-            if (before.value || (told && !told->is_admitted)) return *told;
-            if (map.get_or_insert(client, usage{now, 1}.value(), BUDGET).answer == vbr::answer::no) return {true, now};
+            const auto counted = [&](usage there) {
+                std::optional<usage> next = there.with_one(now);
+                told = verdict{next.has_value(), next ? next->window : there.window};
+                return next;
+            };
+            std::optional<usage> before = map.fetch_update(client, counted).value();
+            if (before || (told && !told->is_admitted)) return *told;
+            if (!map.get_or_insert(client, usage{now, 1}).value()) return {true, now};
         }
     }
 
     // The same with a step between, in which another thread may count.
     verdict admit_carelessly(std::uint64_t client, std::uint32_t now) {
-        usage there = usage::of(map.get(client, BUDGET).value.value_or(0));
+        usage there = map.get(client).value().value_or(usage{0, 0});
         std::optional<usage> next = there.with_one(now);
         if (!next) return {false, there.window};
-        CHECK(!vbr::is_refusal(map.put(client, next->value(), BUDGET).answer));
+        CHECK(map.put(client, *next).has_value());
         return {true, next->window};
     }
 
 private:
-    // The value that counts one request more, if that may be admitted.
-    static std::optional<std::uint64_t> counted(usage there, std::uint32_t now, std::optional<verdict> &told) {
-        std::optional<usage> next = there.with_one(now);
-        told = verdict{next.has_value(), next ? next->window : there.window};
-        return next ? std::optional(next->value()) : std::nullopt;
-    }
-
-    vbr::map_handle map;
+    usages::handle map;
 };
 
 static std::atomic<std::uint32_t> requests{0};
@@ -104,10 +100,9 @@ static void serve(limiter &mine, bool is_careless) {
 
 int main(int count, char **words) {
     bool is_careless = count > 1 && std::string(words[1]) == "careless";
-    auto [opened, handles] = vbr::open_map(vbr::shape::for_keys(CLIENTS, THREADS), THREADS);
-    CHECK(opened == vbr::open_answer::done);
+    std::vector<usages::handle> handles = usages::open(vbr::shape::for_keys(CLIENTS, THREADS), THREADS).value();
     std::vector<std::thread> threads;
-    for (vbr::map_handle &each : handles)
+    for (usages::handle &each : handles)
         threads.emplace_back([mine = limiter(std::move(each)), is_careless]() mutable { serve(mine, is_careless); });
     for (std::thread &thread : threads) thread.join();
     std::uint64_t sum = 0, full = 0;
@@ -119,6 +114,7 @@ int main(int count, char **words) {
             full += refused[client][window] > 0;
         }
     CHECK(sum == REQUESTS && full > 0 && full < CLIENTS * WINDOWS);
-    std::printf("limiter in C++: passed, the limit was reached %llu times by %u clients in %u windows\n", static_cast<unsigned long long>(full), CLIENTS, WINDOWS);
+    std::printf("limiter in C++: passed, the limit was reached %llu times by %u clients in %u windows\n",
+                static_cast<unsigned long long>(full), CLIENTS, WINDOWS);
     return 0;
 }

@@ -11,8 +11,6 @@ using namespace std::chrono_literals;
 
 #define CHECK(x) do { if (!(x)) { std::fprintf(stderr, "loans.cpp:%d: %s\n", __LINE__, #x); return 1; } } while (0)
 
-static constexpr std::uint32_t budget = 100000;
-
 // What doesn't compile: another handle in the place of the one on loan, and a close by a loan.
 template <class Pass, class = void>
 inline constexpr bool closes = false;
@@ -23,37 +21,39 @@ static constexpr bool stays_in_its_set() {
     using loan = typename vbr::basic_lender<Handle>::loan_type;
     using pass = std::remove_reference_t<decltype(*std::declval<loan &>())>;
     return !std::is_swappable_v<pass> && !std::is_move_constructible_v<pass> && !std::is_assignable_v<pass &, Handle> &&
-           !std::is_constructible_v<Handle, pass> && !closes<pass> && closes<Handle> && std::is_swappable_v<loan> && !std::is_copy_constructible_v<loan>;
+           !std::is_constructible_v<Handle, pass> && !closes<pass> && closes<Handle> && std::is_swappable_v<loan> &&
+           !std::is_copy_constructible_v<loan>;
 }
 static_assert(stays_in_its_set<vbr::handle>() && stays_in_its_set<vbr::map_handle>());
-static_assert(!std::is_convertible_v<vbr::loan, bool> && !std::is_copy_constructible_v<vbr::lender> && !std::is_constructible_v<vbr::lender, std::vector<vbr::handle> &>);
+static_assert(!std::is_convertible_v<vbr::loan, bool> && !std::is_copy_constructible_v<vbr::lender>);
+static_assert(!std::is_constructible_v<vbr::lender, std::vector<vbr::handle> &>);
 static_assert(std::is_nothrow_move_assignable_v<vbr::lender> && std::is_nothrow_default_constructible_v<vbr::owned_loan>);
 
 struct of_sets {
     using lender = vbr::lender;
     using pass = vbr::pass;
-    static auto open(std::size_t handles) { return vbr::open(vbr::shape::for_keys(100, handles), handles); }
-    static bool adds(pass &mine, std::uint64_t key) { return mine.insert(key, budget) == vbr::answer::yes; }
-    static bool takes(pass &mine, std::uint64_t key) { return mine.remove(key, budget) == vbr::answer::yes; }
-    static std::vector<std::uint64_t> keys(const vbr::closed &told) { return told.report ? told.report->keys : std::vector<std::uint64_t>{999}; }
+    static auto open(std::size_t handles) { return vbr::open(vbr::shape::for_keys(100, handles), handles).value(); }
+    static bool adds(pass &mine, std::uint64_t key) { return *mine.insert(key); }
+    static bool takes(pass &mine, std::uint64_t key) { return *mine.remove(key); }
+    static std::vector<std::uint64_t> keys(const vbr::result<std::optional<vbr::report>> &told) { return told.value().value().keys; }
 };
 
 struct of_maps {
     using lender = vbr::map_lender;
     using pass = vbr::map_pass;
-    static auto open(std::size_t handles) { return vbr::open_map(vbr::shape::for_keys(100, handles), handles); }
-    static bool adds(pass &mine, std::uint64_t key) { return mine.insert(key, ~key, budget) == vbr::answer::yes; }
-    static bool takes(pass &mine, std::uint64_t key) { return mine.remove(key, budget).value == ~key; }
-    static std::vector<std::uint64_t> keys(const vbr::map_closed &told) {
+    static auto open(std::size_t handles) { return vbr::open_map(vbr::shape::for_keys(100, handles), handles).value(); }
+    static bool adds(pass &mine, std::uint64_t key) { return *mine.insert(key, ~key); }
+    static bool takes(pass &mine, std::uint64_t key) { return mine.remove(key) == ~key; }
+    static std::vector<std::uint64_t> keys(const vbr::result<std::optional<vbr::map_report>> &told) {
         std::vector<std::uint64_t> keys;
-        for (vbr::entry each : told.report ? told.report->entries : std::vector<vbr::entry>{{999, 0}}) keys.push_back(each.value == ~each.key ? each.key : 999);
+        for (vbr::entry each : told.value().value().entries) keys.push_back(each.value == ~each.key ? each.key : 999);
         return keys;
     }
 };
 
 template <class Of>
 static typename Of::lender lending(std::size_t handles) {
-    return typename Of::lender(Of::open(handles).handles);
+    return typename Of::lender(Of::open(handles));
 }
 
 using keys = std::vector<std::uint64_t>;
@@ -61,11 +61,10 @@ using keys = std::vector<std::uint64_t>;
 // The examples of vbr_lend.hpp.
 static int example() {
     auto shape = vbr::shape::for_keys(100, 3);
-    auto opened = vbr::open(shape, 3);
     vbr::lender later; // lends none until it is assigned
     CHECK(!later.lend() && !later.lend_wait() && !later.lend_for(1s) && !later.lend_owned() && later.handles() + later.slots() == 0);
-    CHECK(later.close().answer == vbr::close_answer::empty && later.last_epoch() == 0);
-    vbr::lender lender(std::move(opened.handles));
+    CHECK(later.close() == vbr::refusal::no_handle && later.end_all() == vbr::refusal::no_handle && later.last_epoch() == 0);
+    vbr::lender lender(vbr::open(shape, 3).value());
     std::vector<int> beside(lender.handles());
     if (lender.slots() != shape.slots || lender.buckets() != shape.buckets) return 1;
     CHECK(beside.size() == 3 && lender.last_epoch() == vbr::max_epoch);
@@ -74,17 +73,39 @@ static int example() {
         vbr::loan waited = lender.lend_wait();
         vbr::owned_loan task = lender.lend_owned_wait();
         vbr::loan in_time = lender.lend_for(10ms);
-        CHECK(mine && waited && task && !in_time && mine->insert(5, budget) == vbr::answer::yes && task->has(5, budget) == vbr::answer::yes);
+        CHECK(mine && waited && task && !in_time && *mine->insert(5) && *task->has(5));
         beside[mine.number()]++; // nobody else writes it meanwhile
         mine = vbr::loan(); // given back
         CHECK(!mine && lender.lend());
-        vbr::all_answer in_vain = lender.renew_for(shape, 10ms); // on_loan: a loan is still out
-        CHECK(in_vain == vbr::all_answer::on_loan && lender.lend());
+        vbr::result<void> in_vain = lender.renew_for(shape, 10ms); // refusal::on_loan: a loan is still out
+        CHECK(in_vain == vbr::refusal::on_loan && lender.lend());
     }
-    vbr::all_answer renewed = lender.renew(shape);
-    CHECK(renewed == vbr::all_answer::done && later.renew(shape) == vbr::all_answer::empty && later.renew_for(shape, 0s) == vbr::all_answer::empty);
-    vbr::closed closed = lender.close();
-    CHECK(closed.answer == vbr::close_answer::last && closed.report->keys == keys{5});
+    vbr::result<void> renewed = lender.renew(shape);
+    CHECK(renewed && later.renew(shape) == vbr::refusal::no_handle && later.renew_for(shape, 0s) == vbr::refusal::no_handle);
+    std::optional<vbr::report> report = lender.close().value();
+    CHECK(report->keys == keys{5});
+    vbr::map_lender sessions(vbr::open_map(shape, 3).value());
+    vbr::map_loan mine = sessions.lend();
+    CHECK(*mine->put(5, 70) == std::nullopt);
+    return 0;
+}
+
+// Handles that end without a report: all of them or, where one is on loan, none.
+template <class Of>
+static int ends_without_a_report() {
+    auto another = lending<Of>(3);
+    {
+        auto mine = another.lend();
+        CHECK(Of::adds(*mine, 1) && another.end_all() == vbr::refusal::on_loan && another.handles() == 3 && Of::adds(*mine, 2));
+    }
+    vbr::result<void> ended = another.end_all();
+    CHECK(ended && another.handles() == 0 && !another.lend() && !another.lend_wait() && another.end_all() == vbr::refusal::no_handle);
+    auto handles = Of::open(3);
+    auto kept = std::move(handles[1]);
+    typename Of::lender lender(std::move(handles));
+    CHECK(lender.handles() == 2 && Of::adds(*lender.lend(), 7));
+    CHECK(lender.end_all());
+    CHECK(Of::keys(kept.close()) == keys{7}); // while one is kept nothing is lost
     return 0;
 }
 
@@ -107,18 +128,18 @@ static int each_handle_once() {
 // A handle that is on loan keeps the lender open; one that is empty, or of another set, is not lent.
 template <class Of>
 static int closes_all_or_none() {
-    auto opened = Of::open(4), others = Of::open(2);
-    auto kept = std::move(opened.handles[3]);
-    opened.handles.push_back(std::move(others.handles[0]));
-    typename Of::lender lender(std::move(opened.handles));
-    CHECK(lender.handles() == 3 && opened.handles[4].is_open() && !opened.handles[3].is_open());
+    auto handles = Of::open(4), others = Of::open(2);
+    auto kept = std::move(handles[3]);
+    handles.push_back(std::move(others[0]));
+    typename Of::lender lender(std::move(handles));
+    CHECK(lender.handles() == 3 && handles[4].is_open() && !handles[3].is_open());
     {
         auto mine = lender.lend();
-        CHECK(Of::adds(*mine, 1) && lender.close().answer == vbr::close_answer::on_loan);
+        CHECK(Of::adds(*mine, 1) && lender.close() == vbr::refusal::on_loan);
         auto second = lender.lend(), third = lender.lend();
         CHECK(second && third && !lender.lend() && Of::adds(*third, 2));
     }
-    CHECK(lender.close().answer == vbr::close_answer::others_are_open && !lender.lend() && lender.close().answer == vbr::close_answer::empty);
+    CHECK(!lender.close().value() && !lender.lend() && lender.close() == vbr::refusal::no_handle);
     CHECK(Of::keys(kept.close()) == (keys{1, 2}));
     return 0;
 }
@@ -247,7 +268,7 @@ static int ends_of_waits() {
     CHECK(Of::adds(*kept, 3));
     kept = {};
     auto told = lender.close();
-    while (told.answer == vbr::close_answer::on_loan) told = lender.close();
+    while (told == vbr::refusal::on_loan) told = lender.close();
     outlives.join();
     CHECK(wrong == 0 && waiting == 0 && Of::keys(told) == keys{3});
     return 0;
@@ -267,9 +288,9 @@ static int tasks() {
         threads.clear(); // with the tasks their loans
         last = lender.lend_owned_for(1s);
         auto none = lender.lend_owned();
-        CHECK(last && none && lender.close().answer == vbr::close_answer::on_loan);
+        CHECK(last && none && lender.close() == vbr::refusal::on_loan);
     }
-    CHECK(made == 30 && last->has(29, budget) == vbr::answer::yes && Of::takes(*last, 0));
+    CHECK(made == 30 && last->has(29).value() && Of::takes(*last, 0));
     last = {};
     return 0;
 }
@@ -277,24 +298,25 @@ static int tasks() {
 // The set goes on with its keys, in another shape if wanted; unless it is done it is as it was, and all handles are lent again.
 template <class Of>
 static int renewals() {
-    auto opened = Of::open(3);
-    auto kept = std::move(opened.handles[2]);
-    typename Of::lender lender(std::move(opened.handles)), of_all = lending<Of>(2);
+    auto handles = Of::open(3);
+    auto kept = std::move(handles[2]);
+    typename Of::lender lender(std::move(handles)), of_all = lending<Of>(2);
     const vbr::shape small{2, 1, 100}, large = vbr::shape::for_keys(4000, 2);
     for (std::uint64_t key = 1; key < 4; key++) CHECK(Of::adds(*of_all.lend(), key) && Of::adds(*lender.lend(), key));
-    CHECK(lender.renew(large) == vbr::all_answer::missing && of_all.renew(small) == vbr::all_answer::no_room);
-    for (vbr::shape bad : {vbr::shape{0, 1, 1}, vbr::shape{1, vbr::max_buckets + 1, 1}, vbr::shape{1, 1, 0}}) CHECK(of_all.renew(bad) == vbr::all_answer::bad_shape);
+    CHECK(lender.renew(large) == vbr::refusal::missing && of_all.renew(small) == vbr::refusal::no_room);
+    for (vbr::shape bad : {vbr::shape{0, 1, 1}, vbr::shape{1, vbr::max_buckets + 1, 1}, vbr::shape{1, 1, 0}})
+        CHECK(of_all.renew(bad) == vbr::refusal::bad_shape);
     for (auto *each : {&lender, &of_all}) {
         auto one = each->lend(), other = each->lend();
-        CHECK(one && other && !each->lend() && each->slots() == one->slots() && one->has(3, budget) == vbr::answer::yes);
+        CHECK(one && other && !each->lend() && each->slots() == one->slots() && one->has(3).value());
     }
-    CHECK(of_all.renew(large) == vbr::all_answer::done && of_all.handles() == 2 && of_all.slots() == large.slots && of_all.buckets() == large.buckets);
+    CHECK(of_all.renew(large) && of_all.handles() == 2 && of_all.slots() == large.slots && of_all.buckets() == large.buckets);
     {
         auto one = of_all.lend(), other = of_all.lend();
         CHECK(one->slots() == large.slots && other->epoch() == 1 && one->balance() + other->balance() == 3 && Of::takes(*other, 2));
     }
-    CHECK(of_all.renew(small) == vbr::all_answer::done && of_all.last_epoch() == 100 && of_all.buckets() == 1);
-    CHECK(Of::keys(of_all.close()) == (keys{1, 3}) && of_all.renew(small) == vbr::all_answer::empty);
+    CHECK(of_all.renew(small) && of_all.last_epoch() == 100 && of_all.buckets() == 1);
+    CHECK(Of::keys(of_all.close()) == (keys{1, 3}) && of_all.renew(small) == vbr::refusal::no_handle);
     return 0;
 }
 
@@ -304,16 +326,16 @@ static int lends_none_meanwhile() {
     auto lender = lending<Of>(2);
     const vbr::shape wanted{300, 16, 1000};
     auto kept = lender.lend();
-    CHECK(Of::adds(*kept, 7) && lender.renew_for(wanted, 20ms) == vbr::all_answer::on_loan && lender.lend());
+    CHECK(Of::adds(*kept, 7) && lender.renew_for(wanted, 20ms) == vbr::refusal::on_loan && lender.lend());
     std::atomic<int> wrong{0};
-    std::thread renews([&] { wrong += lender.renew(wanted) != vbr::all_answer::done; });
+    std::thread renews([&] { wrong += !lender.renew(wanted); });
     while (lender.lend()) std::this_thread::yield(); // until it has begun
-    CHECK(!lender.lend() && !lender.lend_for(20ms) && lender.close().answer == vbr::close_answer::on_loan && lender.slots() != wanted.slots);
+    CHECK(!lender.lend() && !lender.lend_for(20ms) && lender.close() == vbr::refusal::on_loan && lender.slots() != wanted.slots);
     std::thread waits([&] {
         auto mine = lender.lend_wait();
-        wrong += !mine || mine->slots() != wanted.slots || mine->has(7, budget) != vbr::answer::yes;
+        wrong += !mine || mine->slots() != wanted.slots || mine->has(7) != true;
     });
-    CHECK(lender.renew_for(wanted, 5ms) == vbr::all_answer::on_loan && Of::adds(*kept, 8)); // another one is waiting
+    CHECK(lender.renew_for(wanted, 5ms) == vbr::refusal::on_loan && Of::adds(*kept, 8)); // another one is waiting
     std::thread([back = std::move(kept)] {}).join(); // given back by another thread
     renews.join();
     waits.join();
@@ -345,9 +367,10 @@ static int renewals_and_loans() {
     for (std::uint32_t i = 0; i < 2; i++)
         renew.emplace_back([&, i] {
             while (!ends) {
-                auto told = i ? lender.renew(vbr::shape::for_keys(100 + static_cast<std::uint32_t>(lent.load()) % 7, 3)) : lender.renew_for(vbr::shape::for_keys(200, 3), 1ms);
-                if (told == vbr::all_answer::done) renewed++;
-                else if (told != vbr::all_answer::on_loan || i) wrong++;
+                auto other = vbr::shape::for_keys(100 + static_cast<std::uint32_t>(lent.load()) % 7, 3);
+                auto told = i ? lender.renew(other) : lender.renew_for(vbr::shape::for_keys(200, 3), 1ms);
+                if (told) renewed++;
+                else if (told != vbr::refusal::on_loan || i) wrong++;
                 if (renewed % 4 == 0) std::this_thread::sleep_for(100us);
             }
         });
@@ -361,7 +384,8 @@ static int renewals_and_loans() {
 template <class Of>
 static int all() {
     if (renewals<Of>() || lends_none_meanwhile<Of>() || renewals_and_loans<Of>()) return 1;
-    return each_handle_once<Of>() || closes_all_or_none<Of>() || moved<Of>() || waits<Of>() || ends_of_waits<Of>() || tasks<Of>();
+    if (ends_without_a_report<Of>() || each_handle_once<Of>() || closes_all_or_none<Of>() || moved<Of>()) return 1;
+    return waits<Of>() || ends_of_waits<Of>() || tasks<Of>();
 }
 
 int main() {

@@ -28,7 +28,6 @@ constexpr std::uint32_t USERS = 1000;
 constexpr moment LIFE = 3000;          // how long a login lives after its last use
 constexpr long REQUESTS = 300000;      // of each worker
 constexpr vbr::shape SHAPE = vbr::shape::for_keys(USERS, WORKERS + 1);
-constexpr std::uint32_t BUDGET = vbr::ample_budget(SHAPE.slots);
 
 // The logins, as one thread has them.
 class logins {
@@ -38,43 +37,36 @@ public:
     // Logs a user in, at least until then.
     void log_in(std::uint64_t user, moment until) {
         for (;;) {
-            vbr::found had = map.get_or_insert(user, until, BUDGET);
-            CHECK(!vbr::is_refusal(had.answer));
-            if (!had.value || *had.value >= until) return;
-            if (map.compare_exchange(user, *had.value, until, BUDGET).answer == vbr::answer::yes) return;
+            std::optional<moment> had = map.get_or_insert(user, until).value();
+            if (!had || *had >= until) return;
+            if (map.compare_exchange(user, *had, until).value()) return;
         }
     }
 
     // Until when the login of a user lives, which is used now; none where it has expired. It gets more time where half is over.
     std::optional<moment> use(std::uint64_t user, moment now) {
-        vbr::found seen = map.get(user, BUDGET);
-        CHECK(!vbr::is_refusal(seen.answer));
-        if (!seen.value || *seen.value <= now) return std::nullopt;
-        if (*seen.value > now + LIFE / 2) return seen.value;
+        std::optional<moment> seen = map.get(user).value();
+        if (!seen || *seen <= now) return std::nullopt;
+        if (*seen > now + LIFE / 2) return seen;
         moment until = 0;
-        vbr::found before = map.fetch_update(user, [&](moment then) { return then > now ? std::optional(until = std::max(then, now + LIFE)) : std::nullopt; }, BUDGET);
-        CHECK(!vbr::is_refusal(before.answer));
-        return before.value ? std::optional(until) : std::nullopt;
+        const auto more = [&](moment then) { return then > now ? std::optional(until = std::max(then, now + LIFE)) : std::nullopt; };
+        return map.fetch_update(user, more).value() ? std::optional(until) : std::nullopt;
     }
 
     // What has expired.
     std::vector<vbr::entry> expired(moment now) {
         std::vector<vbr::entry> list;
-        vbr::answer told{};
-        for (vbr::entry each : map.entries(BUDGET, told))
+        for (vbr::entry each : map.entries())
             if (each.value <= now) list.push_back(each);
-        CHECK(told == vbr::answer::no);
         return list;
     }
 
     // Takes out a login that was seen to have expired; not if its user has logged in again since.
     bool sweep(vbr::entry seen, bool is_careless) {
-        vbr::answer told = is_careless ? map.remove(seen.key, BUDGET).answer : map.remove_if(seen.key, seen.value, BUDGET).answer;
-        CHECK(!vbr::is_refusal(told));
-        return told == vbr::answer::yes;
+        return is_careless ? map.remove(seen.key).value().has_value() : map.remove_if(seen.key, seen.value).value().is_done;
     }
 
-    vbr::map_closed close() { return map.close(); }
+    std::optional<vbr::map_report> close() { return map.close().value(); }
 
 private:
     vbr::map_handle map;
@@ -123,21 +115,20 @@ static void sweep_all(logins &mine, bool is_careless) {
 
 int main(int count, char **words) {
     bool is_careless = count > 1 && std::string(words[1]) == "careless";
-    auto [opened, handles] = vbr::open_map(SHAPE, WORKERS + 1);
-    CHECK(opened == vbr::open_answer::done);
     std::vector<logins> of;
-    for (vbr::map_handle &each : handles) of.emplace_back(std::move(each));
+    for (vbr::map_handle &each : vbr::open_map(SHAPE, WORKERS + 1).value()) of.emplace_back(std::move(each));
     std::vector<std::thread> threads;
     for (std::size_t i = 0; i < WORKERS; i++) threads.emplace_back([&mine = of[i], i] { work(mine, 88172645463325252u + i); });
     sweep_all(of[WORKERS], is_careless);
     for (std::thread &thread : threads) thread.join();
     for (vbr::entry each : of[WORKERS].expired(now)) CHECK(of[WORKERS].sweep(each, false));
-    vbr::map_closed last{};
+    std::optional<vbr::map_report> last;
     for (logins &each : of) last = each.close();
-    CHECK(last.answer == vbr::close_answer::last && logged_in > USERS && swept > 0);
+    CHECK(last && logged_in > USERS && swept > 0);
     std::uint64_t live = static_cast<std::uint64_t>(std::count_if(promised, promised + USERS, [](moment until) { return until > now; }));
-    for (vbr::entry each : last.report->entries) CHECK(each.value > now && each.value >= promised[each.key]);
-    CHECK(live == last.report->entries.size());
-    std::printf("logins in C++: passed, %ld logins, of which %ld were swept, and %ld were there again\n", logged_in.load(), swept.load(), kept.load());
+    for (vbr::entry each : last->entries) CHECK(each.value > now && each.value >= promised[each.key]);
+    CHECK(live == last->entries.size());
+    std::printf("logins in C++: passed, %ld logins, of which %ld were swept, and %ld were there again\n", logged_in.load(), swept.load(),
+                kept.load());
     return 0;
 }

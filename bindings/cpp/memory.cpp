@@ -43,13 +43,13 @@ vbr_answer __wrap_vbr_map_renew_all_seeded(vbr_map_handle *handles, std::size_t 
     renewals_made++;
     return __real_vbr_map_renew_all_seeded(handles, count, slots, buckets, last_epoch, seed);
 }
-vbr_answer __wrap_vbr_close(vbr_handle *handle, std::uint64_t *keys, std::size_t room, vbr_totals *report);
-vbr_answer __wrap_vbr_close(vbr_handle *, std::uint64_t *, std::size_t, vbr_totals *) {
+vbr_answer __wrap_vbr_close(vbr_handle *handle, std::uint64_t *keys, std::size_t room, vbr_report *report);
+vbr_answer __wrap_vbr_close(vbr_handle *, std::uint64_t *, std::size_t, vbr_report *) {
     closed_alone++;
     return VBR_LOST;
 }
-vbr_answer __wrap_vbr_map_close(vbr_map_handle *handle, vbr_entry *entries, std::size_t room, vbr_totals *report);
-vbr_answer __wrap_vbr_map_close(vbr_map_handle *, vbr_entry *, std::size_t, vbr_totals *) {
+vbr_answer __wrap_vbr_map_close(vbr_map_handle *handle, vbr_entry *entries, std::size_t room, vbr_report *report);
+vbr_answer __wrap_vbr_map_close(vbr_map_handle *, vbr_entry *, std::size_t, vbr_report *) {
     closed_alone++;
     return VBR_LOST;
 }
@@ -88,78 +88,95 @@ static int maps() {
     const vbr::shape shape = vbr::shape::for_keys(1000, 3);
     CHECK(throws([&] { static_cast<void>(vbr::open_map(shape, 3)); }));
     CHECK(throws([&] { static_cast<void>(vbr::open_map_with(shape, 3, {{5, 50}})); }));
-    auto [opened, handles] = vbr::open_map(shape, 3);
-    CHECK(opened == vbr::open_answer::done && handles[1].insert(5, 50, 100000) == vbr::answer::yes);
+    std::vector<vbr::map_handle> handles = vbr::open_map(shape, 3).value();
+    CHECK(*handles[1].insert(5, 50));
     long before = asked;
-    vbr::answer told{};
-    for (vbr::entry each : handles[0].entries(100000, told)) CHECK(each.key == 5 && each.value == 50);
-    CHECK(told == vbr::answer::no && handles[0].close().answer == vbr::close_answer::others_are_open);
+    for (vbr::entry each : handles[0].entries()) CHECK(each.key == 5 && each.value == 50);
+    CHECK(!handles[0].close().value());
     handles[1] = vbr::map_handle();
     CHECK(asked == before);
-    CHECK(throws([&handle = handles[2]] { static_cast<void>(handle.close()); }));
-    CHECK(handles[2].is_open() && handles[2].get(5, 100000).value == 50u);
+    CHECK(throws([&] { static_cast<void>(handles[2].close()); }));
+    CHECK(handles[2].is_open() && handles[2].get(5) == 50u);
     library_refuses = true;
-    vbr::map_closed refused = handles[2].close();
+    auto refused = handles[2].close();
     library_refuses = false;
-    CHECK(refused.answer == vbr::close_answer::no_memory && !refused.report && handles[2].is_open());
-    CHECK(handles[2].get(5, 100000).value == 50u && handles[2].insert(6, 60, 100000) == vbr::answer::yes);
-    vbr::map_closed last = handles[2].close();
-    CHECK(last.answer == vbr::close_answer::last && last.report->entries.size() == 2 && last.report->entries.capacity() == 2);
-    CHECK(last.report->entries[0].value == 50 && last.report->entries[1].value == 60 && last.report->free == shape.slots - 2);
+    CHECK(refused == vbr::refusal::no_memory && handles[2].is_open());
+    CHECK(handles[2].get(5) == 50u && *handles[2].insert(6, 60));
+    vbr::map_report last = handles[2].close().value().value();
+    CHECK(last.entries.size() == 2 && last.entries.capacity() == 2);
+    CHECK(last.entries[0].value == 50 && last.entries[1].value == 60 && last.free == shape.slots - 2);
+    return 0;
+}
+
+// Closes of a set of another type of keys, whose report takes memory twice: where either part is refused the handle stays as it was.
+static int typed() {
+    const vbr::shape shape = vbr::shape::for_keys(1000, 1);
+    auto handles = vbr::set<std::uint32_t>::open_with(shape, 1, {5, 7}).value();
+    for (granted = 0; granted < 2;) {
+        const long parts = granted;
+        bool thrown = false;
+        try {
+            static_cast<void>(handles[0].close());
+        } catch (const std::bad_alloc &) {
+            thrown = true;
+        }
+        granted = -1;
+        CHECK(thrown && handles[0].is_open() && *handles[0].has(7));
+        granted = parts + 1;
+    }
+    granted = -1;
+    long before = asked;
+    vbr::set<std::uint32_t>::handle::end_all(handles); // which asks for none
+    CHECK(asked == before && handles.empty());
     return 0;
 }
 
 static int sets() {
     const vbr::shape shape = vbr::shape::for_keys(1000, 3);
     CHECK(throws([&] { static_cast<void>(vbr::open(shape, 3)); }));
-    auto [opened, handles] = vbr::open(shape, 3);
-    CHECK(opened == vbr::open_answer::done && handles[1].insert(5, 100000) == vbr::answer::yes);
+    std::vector<vbr::handle> handles = vbr::open(shape, 3).value();
+    CHECK(*handles[1].insert(5));
     long before = asked;
-    vbr::answer told{};
-    for (std::uint64_t key : handles[0].keys(100000, told)) CHECK(key == 5);
-    CHECK(told == vbr::answer::no && handles[0].close().answer == vbr::close_answer::others_are_open);
+    for (std::uint64_t key : handles[0].keys()) CHECK(key == 5);
+    CHECK(!handles[0].close().value());
     handles[1] = vbr::handle();
     CHECK(asked == before);
-    CHECK(throws([&handle = handles[2]] { static_cast<void>(handle.close()); }));
-    CHECK(handles[2].is_open() && handles[2].has(5, 100000) == vbr::answer::yes);
-    CHECK(handles[2].insert(6, 100000) == vbr::answer::yes);
+    CHECK(throws([&] { static_cast<void>(handles[2].close()); }));
+    CHECK(handles[2].is_open() && *handles[2].has(5) && *handles[2].insert(6));
     for (std::uint64_t key = 7; key < 9; key++) {
         library_refuses = true;
-        vbr::closed refused = handles[2].close();
+        auto refused = handles[2].close();
         library_refuses = false;
-        CHECK(refused.answer == vbr::close_answer::no_memory && !refused.report && handles[2].is_open());
-        CHECK(handles[2].has(5, 100000) == vbr::answer::yes && handles[2].insert(key, 100000) == vbr::answer::yes);
+        CHECK(refused == vbr::refusal::no_memory && handles[2].is_open() && *handles[2].has(5) && *handles[2].insert(key));
     }
-    vbr::closed last = handles[2].close();
-    CHECK(last.answer == vbr::close_answer::last && last.report->keys == (std::vector<std::uint64_t>{5, 6, 7, 8}));
-    CHECK(last.report->keys.capacity() == 4 && last.report->free == shape.slots - 4);
+    vbr::report last = handles[2].close().value().value();
+    CHECK(last.keys == (std::vector<std::uint64_t>{5, 6, 7, 8}) && last.keys.capacity() == 4 && last.free == shape.slots - 4);
     {
-        auto other = vbr::open(shape, 3); // a close that is refused, and then no other: the set goes with the last handle
-        other.handles.pop_back();
-        vbr::handle kept = std::move(other.handles[0]);
-        other.handles.clear();
+        auto others = vbr::open(shape, 3).value(); // a close that is refused, and then no other: the set goes with the last handle
+        others.pop_back();
+        vbr::handle kept = std::move(others[0]);
+        others.clear();
         library_refuses = true;
-        vbr::closed refused = kept.close();
+        auto refused = kept.close();
         library_refuses = false;
-        CHECK(refused.answer == vbr::close_answer::no_memory && kept.is_open());
+        CHECK(refused == vbr::refusal::no_memory && kept.is_open());
     }
     {
-        auto other = vbr::open_with(shape, 1, {5, 7}); // memory for the report, and none to shorten it
+        auto others = vbr::open_with(shape, 1, {5, 7}).value(); // memory for the report, and none to shorten it
         granted = 1;
-        vbr::closed long_one = other.handles[0].close();
+        auto long_one = others[0].close();
         granted = -1;
-        CHECK(long_one.answer == vbr::close_answer::last && long_one.report->keys == (std::vector<std::uint64_t>{5, 7}));
-        CHECK(long_one.report->keys.capacity() == shape.slots);
+        CHECK(long_one.value()->keys == (std::vector<std::uint64_t>{5, 7}) && (*long_one)->keys.capacity() == shape.slots);
     }
     return 0;
 }
 
 // A lender that is refused memory: it leaves the handles where they were, and when it is closed it goes on to lend all of them.
-template <class Lender, class Opened, class Adds>
-static int lent(Opened opened, const Adds &adds) {
-    CHECK(throws([&] { Lender none(std::move(opened.handles)); }));
-    CHECK(opened.handles.size() == 3 && opened.handles[0].is_open() && opened.handles[2].is_open());
-    Lender lender(std::move(opened.handles));
+template <class Lender, class Handle, class Adds>
+static int lent(std::vector<Handle> handles, const Adds &adds) {
+    CHECK(throws([&] { Lender none(std::move(handles)); }));
+    CHECK(handles.size() == 3 && handles[0].is_open() && handles[2].is_open());
+    Lender lender(std::move(handles));
     for (std::uint64_t key = 5; key < 8; key++) {
         if (key == 7) {
             CHECK(throws([&] { static_cast<void>(lender.close()); }));
@@ -167,14 +184,13 @@ static int lent(Opened opened, const Adds &adds) {
             library_refuses = true;
             auto refused = lender.close();
             library_refuses = false;
-            CHECK(refused.answer == vbr::close_answer::no_memory && !refused.report);
+            CHECK(refused == vbr::refusal::no_memory);
         }
         auto first = lender.lend(), second = lender.lend(), third = lender.lend();
         CHECK(first && second && third && !lender.lend() && lender.handles() == 3);
-        CHECK(adds(*first, key) && second->has(key, 100000) == vbr::answer::yes && third->has(key, 100000) == vbr::answer::yes);
+        CHECK(adds(*first, key) && *second->has(key) && *third->has(key));
     }
-    auto last = lender.close();
-    CHECK(last.answer == vbr::close_answer::last && last.report->free == lender.slots() - 3 && !lender.lend());
+    CHECK(lender.close().value()->free == lender.slots() - 3 && !lender.lend());
     return 0;
 }
 
@@ -187,20 +203,19 @@ static int renewed(Lender lender, const Adds &adds) {
     long of_program = asked;
     for (long blocks = 0;; blocks++) {
         library_granted = blocks;
-        vbr::all_answer told = blocks % 2 ? lender.renew(wanted) : lender.renew_for(wanted, std::chrono::hours(1));
+        vbr::result<void> told = blocks % 2 ? lender.renew(wanted) : lender.renew_for(wanted, std::chrono::hours(1));
         library_granted = -1;
         auto first = lender.lend(), second = lender.lend(), third = lender.lend();
-        CHECK(first && second && third && !lender.lend() && first->has(5, 100000) == vbr::answer::yes);
+        CHECK(first && second && third && !lender.lend() && *first->has(5));
         CHECK(lender.slots() == first->slots() && lender.buckets() == second->buckets() && lender.last_epoch() == third->last_epoch());
-        if (told == vbr::all_answer::done) {
+        if (told) {
             CHECK(blocks >= 4 && lender.slots() == wanted.slots && lender.buckets() == wanted.buckets && third->epoch() == 1);
             break;
         }
-        CHECK(told == vbr::all_answer::no_memory && blocks < 1000 && lender.slots() == before.slots && lender.buckets() == before.buckets);
+        CHECK(told == vbr::refusal::no_memory && blocks < 1000 && lender.slots() == before.slots && lender.buckets() == before.buckets);
     }
     CHECK(asked == of_program);
-    auto last = lender.close();
-    CHECK(last.answer == vbr::close_answer::last && last.report->free == wanted.slots - 1);
+    CHECK(lender.close().value()->free == wanted.slots - 1);
     return 0;
 }
 
@@ -218,7 +233,7 @@ static int shared_renewals(Lender lender) {
         for (int i = 0; i < 3; i++)
             threads.emplace_back([&] {
                 begun++;
-                done += lender.renew(wanted) == vbr::all_answer::done;
+                done += lender.renew(wanted).has_value();
             });
         while (begun < 3 || lender.lend()) std::this_thread::yield();
         std::this_thread::sleep_for(std::chrono::milliseconds(20)); // so that all wait
@@ -227,24 +242,21 @@ static int shared_renewals(Lender lender) {
         CHECK(done == 3 && renewals_made > 0 && lender.slots() == wanted.slots);
         are_shared = renewals_made == 1;
     }
-    CHECK(are_shared && lender.renew(other) == vbr::all_answer::done && lender.slots() == other.slots);
+    CHECK(are_shared && lender.renew(other) && lender.slots() == other.slots);
     return 0;
 }
 
+static bool adds(vbr::pass &mine, std::uint64_t key) { return *mine.insert(key); }
+static bool adds_entry(vbr::map_pass &mine, std::uint64_t key) { return *mine.insert(key, ~key); }
+
 int main() {
-    if (sets() || maps()) return 1;
     const vbr::shape shape = vbr::shape::for_keys(1000, 3);
-    if (renewed(vbr::lender(vbr::open(shape, 3).handles), [](vbr::pass &mine, std::uint64_t key) { return mine.insert(key, 100000) == vbr::answer::yes; })) return 1;
-    if (renewed(vbr::map_lender(vbr::open_map(shape, 3).handles), [](vbr::map_pass &mine, std::uint64_t key) { return mine.insert(key, ~key, 100000) == vbr::answer::yes; })) return 1;
-    if (shared_renewals(vbr::lender(vbr::open(shape, 3).handles)) || shared_renewals(vbr::map_lender(vbr::open_map(shape, 3).handles))) return 1;
-    if (lent<vbr::lender>(vbr::open(vbr::shape::for_keys(1000, 3), 3), [](vbr::pass &mine, std::uint64_t key) {
-            return mine.insert(key, 100000) == vbr::answer::yes;
-        }))
-        return 1;
-    if (lent<vbr::map_lender>(vbr::open_map(vbr::shape::for_keys(1000, 3), 3), [](vbr::map_pass &mine, std::uint64_t key) {
-            return mine.insert(key, ~key, 100000) == vbr::answer::yes;
-        }))
-        return 1;
+    const auto set = [&] { return vbr::open(shape, 3).value(); };
+    const auto map = [&] { return vbr::open_map(shape, 3).value(); };
+    if (sets() || maps() || typed()) return 1;
+    if (renewed(vbr::lender(set()), adds) || renewed(vbr::map_lender(map()), adds_entry)) return 1;
+    if (shared_renewals(vbr::lender(set())) || shared_renewals(vbr::map_lender(map()))) return 1;
+    if (lent<vbr::lender>(set(), adds) || lent<vbr::map_lender>(map(), adds_entry)) return 1;
     CHECK(closed_alone == 0);
     std::puts("refused memory in C++: passed");
     return 0;

@@ -28,8 +28,14 @@
 constexpr std::size_t THREADS = 4;
 constexpr std::uint32_t KEYS = 16, RECORDS = KEYS + THREADS; // one for each key, and one for each thread
 constexpr vbr::shape SHAPE = vbr::shape::for_keys(KEYS, THREADS);
-constexpr std::uint32_t BUDGET = vbr::ample_budget(SHAPE.slots);
 constexpr long TURNS = 100000;
+
+// Where a record is, and of which generation: the value of a key.
+struct reference {
+    std::uint32_t index, generation;
+};
+
+using owners = vbr::map<std::uint64_t, reference>;
 
 // Records of a type that is copied byte by byte, in fixed memory.
 template <class Record>
@@ -43,30 +49,30 @@ public:
     }
 
     // Writes a record that is free, and gives the value that says where it is.
-    std::uint64_t write(const Record &record) noexcept {
+    reference write(const Record &record) noexcept {
         std::array<std::uint64_t, WORDS> words{};
         std::memcpy(words.data(), &record, sizeof record);
-        std::uint32_t index = take();
-        place &it = places[index];
+        std::uint32_t taken = take();
+        place &it = places[taken];
         std::uint32_t generation = it.generation.load(std::memory_order_relaxed) + 1;
         it.generation.store(generation, std::memory_order_relaxed);
         for (std::size_t i = 0; i < WORDS; i++) it.words[i].store(words[i], std::memory_order_release); // who reads one sees the generation
-        return std::uint64_t{generation} << 32 | index;
+        return {taken, generation};
     }
 
     // A copy of the record that a value names; none if it isn't that one any more.
-    std::optional<Record> read(std::uint64_t value, bool is_careless) const noexcept {
+    std::optional<Record> read(reference value, bool is_careless) const noexcept {
         std::array<std::uint64_t, WORDS> words{};
-        const place &it = places[static_cast<std::uint32_t>(value)];
+        const place &it = places[value.index];
         for (std::size_t i = 0; i < WORDS; i++) words[i] = it.words[i].load(std::memory_order_acquire);
-        if (!is_careless && it.generation.load(std::memory_order_relaxed) != value >> 32) return std::nullopt;
+        if (!is_careless && it.generation.load(std::memory_order_relaxed) != value.generation) return std::nullopt;
         Record record;
         std::memcpy(&record, words.data(), sizeof record);
         return record;
     }
 
     // Frees the record that a value names, which no other value does.
-    void free(std::uint64_t value) noexcept { give(static_cast<std::uint32_t>(value)); }
+    void free(reference value) noexcept { give(value.index); }
 
     std::size_t count_free() const noexcept {
         std::size_t count = 0;
@@ -80,10 +86,10 @@ private:
         std::array<std::atomic<std::uint64_t>, WORDS> words{};
     };
 
-    void give(std::uint32_t index) noexcept {
+    void give(std::uint32_t freed) noexcept {
         std::uint64_t before = first.load();
-        do places[index].next = static_cast<std::uint32_t>(before);
-        while (!first.compare_exchange_weak(before, ((before >> 32) + 1) << 32 | (index + 1)));
+        do places[freed].next = static_cast<std::uint32_t>(before);
+        while (!first.compare_exchange_weak(before, ((before >> 32) + 1) << 32 | (freed + 1)));
     }
 
     std::uint32_t take() noexcept {
@@ -109,22 +115,21 @@ static bool is_careless = false;
 // The accounts, as one thread has them.
 class accounts {
 public:
-    explicit accounts(vbr::map_handle handle) noexcept : map(std::move(handle)) {}
+    explicit accounts(owners::handle handle) noexcept : map(std::move(handle)) {}
 
     struct there {
         account seen;
-        std::uint64_t value; // which names it
+        reference value; // which names it
     };
 
     std::optional<there> find(std::uint64_t owner) noexcept {
         for (;;) {
-            vbr::found got = map.get(owner, BUDGET);
-            CHECK(!vbr::is_refusal(got.answer));
-            if (!got.value) return std::nullopt;
-            std::optional<account> copy = all.read(*got.value, is_careless);
+            std::optional<reference> got = map.get(owner).value();
+            if (!got) return std::nullopt;
+            std::optional<account> copy = all.read(*got, is_careless);
             if (!copy) continue;
             CHECK(copy->seal == copy->seal_of_it() && copy->owner == owner); // or it is a copy of two
-            return there{*copy, *got.value};
+            return there{*copy, *got};
         }
     }
 
@@ -135,10 +140,8 @@ public:
             account next = before ? before->seen : account{};
             next.owner = owner, next.paid += amount, next.payments++, next.last = amount;
             next.seal = next.seal_of_it();
-            std::uint64_t after = all.write(next);
-            vbr::answer told = before ? map.compare_exchange(owner, before->value, after, BUDGET).answer : map.insert(owner, after, BUDGET);
-            CHECK(!vbr::is_refusal(told));
-            bool is_done = told == vbr::answer::yes;
+            reference after = all.write(next);
+            bool is_done = before ? map.compare_exchange(owner, before->value, after)->is_done : *map.insert(owner, after);
             if (!is_done) all.free(after); // another thread was faster
             else if (before) all.free(before->value);
             if (is_done) return;
@@ -148,19 +151,17 @@ public:
     // Ends an account; what it had.
     std::uint64_t end(std::uint64_t owner) noexcept {
         while (std::optional<there> it = find(owner)) {
-            vbr::answer told = map.remove_if(owner, it->value, BUDGET).answer;
-            CHECK(!vbr::is_refusal(told));
-            if (told != vbr::answer::yes) continue; // it was paid into since, or is gone
+            if (!*map.remove_if(owner, it->value)) continue; // it was paid into since, or is gone
             all.free(it->value);
             return it->seen.paid;
         }
         return 0;
     }
 
-    vbr::map_closed close() { return map.close(); }
+    std::optional<owners::report> close() { return map.close().value(); }
 
 private:
-    vbr::map_handle map;
+    owners::handle map;
 };
 
 static std::atomic<std::uint64_t> paid{0}, ended{0};
@@ -177,18 +178,16 @@ static void work(accounts &mine, std::uint64_t random) {
 
 int main(int count, char **words) {
     is_careless = count > 1 && std::string(words[1]) == "careless";
-    auto [opened, handles] = vbr::open_map(SHAPE, THREADS);
-    CHECK(opened == vbr::open_answer::done);
     std::vector<accounts> of;
     std::vector<std::thread> threads;
-    for (vbr::map_handle &each : handles) of.emplace_back(std::move(each));
+    for (owners::handle &each : owners::open(SHAPE, THREADS).value()) of.emplace_back(std::move(each));
     for (std::size_t i = 0; i < THREADS; i++) threads.emplace_back([&mine = of[i], i] { work(mine, 88172645463325252u + i); });
     for (std::thread &thread : threads) thread.join();
     std::uint64_t left = 0;
-    vbr::map_closed last{};
+    std::optional<owners::report> last;
     for (accounts &each : of) last = each.close();
-    CHECK(last.answer == vbr::close_answer::last);
-    for (vbr::entry each : last.report->entries) {
+    CHECK(last);
+    for (owners::entry each : last->entries) {
         std::optional<account> copy = all.read(each.value, false);
         CHECK(copy && copy->owner == each.key);
         left += copy->paid;

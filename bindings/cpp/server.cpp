@@ -20,7 +20,6 @@
 constexpr std::size_t THREADS = 8, HANDLES = 4;
 constexpr std::uint32_t SESSIONS = 1000;
 constexpr vbr::shape SHAPE{SESSIONS + 64 * HANDLES, 1024, 500};
-constexpr std::uint32_t BUDGET = vbr::ample_budget(SHAPE.slots);
 constexpr std::chrono::milliseconds PERIOD{5};
 
 class server {
@@ -34,26 +33,25 @@ public:
 
     // Ends a session; how many requests it made.
     std::uint64_t end(std::uint64_t session) {
-        vbr::found had = map.lend_wait()->remove(session, BUDGET);
-        CHECK(!vbr::is_refusal(had.answer));
-        return had.value.value_or(0);
+        return map.lend_wait()->remove(session).value().value_or(0);
     }
 
     // Lets the map go on at epoch 1, as soon as no request is under way.
-    void renew() { CHECK(map.renew(SHAPE) == vbr::all_answer::done); }
+    void renew() { map.renew(SHAPE).value(); }
 
-    vbr::map_closed close() { return map.close(); }
+    vbr::map_report close() { return map.close().value().value(); }
 
 private:
     // Counts a request by a handle on loan, if the last epoch isn't spent.
     bool counts(std::uint64_t session) {
         vbr::map_loan mine = map.lend_wait();
         for (;;) {
-            vbr::answer told = mine->fetch_update(session, [](std::uint64_t count) { return std::optional(count + 1); }, BUDGET).answer;
-            if (told == vbr::answer::no) told = mine->insert(session, 1, BUDGET);
-            if (told == vbr::answer::epoch_spent) return false;
-            CHECK(!vbr::is_refusal(told));
-            if (told == vbr::answer::yes) return true;
+            auto before = mine->fetch_update(session, [](std::uint64_t count) { return count + 1; });
+            if (before == vbr::refusal::epoch_spent) return false;
+            if (before.value()) return true;
+            vbr::result<bool> begun = mine->insert(session, 1);
+            if (begun == vbr::refusal::epoch_spent) return false;
+            if (begun.value()) return true;
         }
     }
 
@@ -73,9 +71,7 @@ static std::uint64_t work(server &mine, std::uint64_t random, long requests) {
 
 int main() {
     constexpr long REQUESTS = 30000; // of each thread
-    auto [opened, handles] = vbr::open_map(SHAPE, HANDLES);
-    CHECK(opened == vbr::open_answer::done);
-    server mine(std::move(handles));
+    server mine(vbr::open_map(SHAPE, HANDLES).value());
     std::atomic<std::uint64_t> ended{0};
     std::atomic<bool> is_over{false};
     std::vector<std::thread> threads;
@@ -90,11 +86,12 @@ int main() {
     for (std::thread &thread : threads) thread.join();
     is_over = true;
     clock.join();
-    vbr::map_closed told = mine.close();
-    CHECK(told.answer == vbr::close_answer::last && told.report->epoch <= SHAPE.last_epoch && renewals > 0);
+    vbr::map_report told = mine.close();
+    CHECK(told.epoch <= SHAPE.last_epoch && renewals > 0);
     std::uint64_t sum = ended;
-    for (vbr::entry each : told.report->entries) sum += each.value;
+    for (vbr::entry each : told.entries) sum += each.value;
     CHECK(sum == THREADS * REQUESTS); // or a request is lost, or counted twice
-    std::printf("server in C++: passed, %llu requests, and the clock renewed the map %ld times\n", static_cast<unsigned long long>(sum), renewals);
+    std::printf("server in C++: passed, %llu requests, and the clock renewed the map %ld times\n", static_cast<unsigned long long>(sum),
+                renewals);
     return 0;
 }

@@ -1,36 +1,46 @@
-/* The set and the map of vbr.h for C++17 and later: handles that are moved and never copied, answers that aren't read as true
-   or false by mistake, openings that take any range of keys, and closes that give the keys as a vector.
+/* The set and the map of vbr.h for C++17 and later: handles that are moved and never copied, results that have to be asked, keys and
+   values of types of your own, openings that take any range of keys, and closes that give the keys as a vector.
 
-       auto [opened, handles] = vbr::open(vbr::shape::for_keys(1024, 2), 2);
-       if (opened != vbr::open_answer::done) return 1;
-       vbr::answer added = handles[0].insert(5, 100000);     // yes: 5 was absent
-       vbr::answer there = handles[1].has(5, 100000);        // yes, from another thread too
-       vbr::closed first = handles[0].close();               // others_are_open
-       vbr::closed last = handles[1].close();                // last: last.report->keys is {5}
+       std::vector<vbr::handle> handles = vbr::open(vbr::shape::for_keys(1024, 2), 2).value(); // or it throws vbr::refused
+       bool added = handles[0].insert(5).value(); // true: 5 was absent
+       bool there = false;
+       std::thread([&] { there = handles[1].has(5).value(); }).join(); // true, from another thread too
+       std::optional<vbr::report> first = handles[0].close().value();  // none: the other handle is open
+       std::optional<vbr::report> last = handles[1].close().value();   // the report: last->keys is {5}
 
    A map, which has a value beside each key:
 
-       auto [opened, handles] = vbr::open_map(vbr::shape::for_keys(1024, 2), 2);
-       if (opened != vbr::open_answer::done) return 1;
-       vbr::answer added = handles[0].insert(5, 70, 100000); // yes: 5 was absent, and now has the value 70
-       vbr::found there = handles[1].get(5, 100000);         // yes: there.value is 70
-       vbr::found was = handles[0].replace(5, 71, 100000);   // yes: was.value is 70, and 5 has 71
-       vbr::found taken = handles[1].remove(5, 100000);      // yes: taken.value is 71
+       std::vector<vbr::map_handle> handles = vbr::open_map(vbr::shape::for_keys(1024, 2), 2).value();
+       bool added = handles[0].insert(5, 70).value();                             // true: 5 was absent, and now has the value 70
+       std::optional<std::uint64_t> there = handles[1].get(5).value();            // 70
+       std::optional<std::uint64_t> was = handles[0].replace(5, 71).value();      // 70, and 5 has 71
+       std::optional<std::uint64_t> taken = handles[1].remove(5).value();         // 71
+       std::optional<std::uint64_t> absent = handles[1].get(5).value();           // none
 
-   All keys, one after another, while other threads make calls; vbr.h says under "Walks" which are given, and how often:
+   Each call gives a vbr::result: what it answers, or why it was refused. A refusal is no absence: it is asked for by has_value and
+   error, and where nobody asks, value throws it.
 
-       vbr::answer told{};
-       for (std::uint64_t key : handles[0].keys(100000, told)) sum += key;
-       if (vbr::is_refusal(told)) return 1; // the walk came to no end
+   All keys, one after another, while other threads make calls; vbr(3) says under "Going over all keys" which are given:
 
-   It is a header over the calls of vbr.h, which says what each asks and answers, and links with the same library. Only
-   openings and closes take memory; where a vector finds none they throw std::bad_alloc and leave all as it was. The
+       for (std::uint64_t key : handles[0].keys()) sum += key;
+
+   Keys and values of other types of at most 64 bits:
+
+       using ports = vbr::map<address, std::uint16_t>;
+       std::vector<ports::handle> of = ports::open(vbr::shape::for_keys(1024, 2), 2).value();
+
+   A handle has a budget, the ample one unless it is given another. Its calls make no more steps than that; those whose names end in
+   `_within` are given one of their own, the last of what they take. vbr(3) tells how many steps suffice.
+
+   It is a header over the calls of vbr.h, which says what each asks and answers; vbr(3) has what holds of all. Only
+   openings, closes and reports take memory; where a vector finds none they throw std::bad_alloc and leave all as it was. The
    balances of all handles, added up while no call is under way, are how many keys are in the set; so does a report tell it. What is
-   said of sets and keys holds of maps and entries, as in vbr.h.
+   said of sets and keys holds of maps and entries.
 
    A handle may go to another thread by whatever orders the two. Where a thread ends, or an exception leaves a function, the
-   handles that it owned end too, which closes them; nothing is lost. What vbr.h says of cancelled threads, signals and forks
-   holds here as well: a signal handler inserts, removes, changes values, looks up and walks, and opens, closes and ends no handle. */
+   handles that it owned end too, which closes them; nothing is lost. What vbr(3) says of cancelled threads, signals and forks
+   holds here as well: a signal handler inserts, removes, changes values, looks up and walks by `next`, asks results by has_value, and
+   opens, closes and ends no handle. */
 #ifndef VBR_HPP
 #define VBR_HPP
 
@@ -39,6 +49,9 @@
 #include <atomic>
 #include <cstddef>
 #include <cstdint>
+#include <cstdlib>
+#include <cstring>
+#include <exception>
 #include <initializer_list>
 #include <iterator>
 #include <memory>
@@ -51,7 +64,7 @@ namespace vbr {
 
 /* The most slots, buckets and handles of a set, and the greatest last epoch.
 
-       vbr::opened most = vbr::open(vbr::shape::for_keys(1024, vbr::max_handles), vbr::max_handles); */
+       auto most = vbr::open(vbr::shape::for_keys(1024, vbr::max_handles), vbr::max_handles); */
 inline constexpr std::uint32_t max_slots = VBR_MAX_SLOTS;
 inline constexpr std::uint32_t max_buckets = VBR_MAX_BUCKETS;
 inline constexpr std::uint64_t max_epoch = VBR_MAX_EPOCH;
@@ -62,10 +75,34 @@ inline constexpr std::size_t max_handles = VBR_MAX_HANDLES;
        static_assert(vbr::max_many_handles >= 1000); */
 inline constexpr std::size_t max_many_handles = VBR_MAX_MANY_HANDLES;
 
-/* A budget that no call runs out of in short buckets, in a set of so many slots.
+/* A budget: the most steps that a call makes, each one atomic operation. It is made of a number by name alone, so that no key and
+   no value is taken for one.
 
-       constexpr std::uint32_t budget = vbr::ample_budget(shape.slots); */
-constexpr std::uint32_t ample_budget(std::uint32_t slots) noexcept { return VBR_AMPLE_BUDGET(slots); }
+       vbr::result<bool> added = mine.insert_within(7, vbr::steps{5000}); */
+class steps {
+public:
+    explicit constexpr steps(std::uint32_t most) noexcept : number(most) {}
+
+    /* The budget of a handle that is given no other: no call runs out of it in short buckets, in the largest set too.
+
+           static_assert(vbr::steps::ample() > vbr::steps{100000}); */
+    static constexpr steps ample() noexcept { return steps(VBR_AMPLE_STEPS); }
+
+    /* How many they are.
+
+           std::uint32_t number = mine.steps().count(); */
+    constexpr std::uint32_t count() const noexcept { return number; }
+
+    friend constexpr bool operator==(steps one, steps other) noexcept { return one.number == other.number; }
+    friend constexpr bool operator!=(steps one, steps other) noexcept { return one.number != other.number; }
+    friend constexpr bool operator<(steps one, steps other) noexcept { return one.number < other.number; }
+    friend constexpr bool operator>(steps one, steps other) noexcept { return one.number > other.number; }
+    friend constexpr bool operator<=(steps one, steps other) noexcept { return one.number <= other.number; }
+    friend constexpr bool operator>=(steps one, steps other) noexcept { return one.number >= other.number; }
+
+private:
+    std::uint32_t number;
+};
 
 /* How many slots and buckets a set has, and its last epoch. Keys that are there at the start are best given to open_with,
    which lays them all in one go; by inserts a million took three times as long.
@@ -75,17 +112,22 @@ struct shape {
     std::uint32_t slots = 0;
     std::uint32_t buckets = 0;
     std::uint64_t last_epoch = max_epoch;
-    /* What keys are spread by, as vbr.h tells under "Seeds"; without one an opening draws it, and a renewal keeps that of its set.
+    /* What keys are spread by, as vbr(3) tells of seeds; without one an opening draws it, and a renewal keeps that of its set.
 
            vbr::shape seeded = vbr::shape::for_keys(1024, 2);
            seeded.seed = 7; */
     std::optional<std::uint64_t> seed = std::nullopt;
+    /* The budget of the handles; without one an opening gives the ample one, and a renewal leaves each handle its own.
+
+           vbr::shape hurried = vbr::shape::for_keys(1024, 2);
+           hurried.steps = vbr::steps{5000}; */
+    std::optional<vbr::steps> steps = std::nullopt;
 
     /* The shape for this many keys at one time and this many handles: a slot for each key and 64 for each handle, and the
-       least power of two that isn't below the number of keys for the buckets. vbr.h says under "Slots" what that is enough
-       for, and what to do at answer::no_slot.
+       least power of two that isn't below the number of keys for the buckets. vbr(3) says what that is enough
+       for, and what to do at refusal::no_slot.
 
-           auto [opened, handles] = vbr::open(vbr::shape::for_keys(1024, 2), 2); */
+           auto most = vbr::open(vbr::shape::for_keys(1024, vbr::max_handles), vbr::max_handles); */
     static constexpr shape for_keys(std::uint32_t keys, std::size_t handles) noexcept {
         shape made;
         std::uint64_t slots = std::uint64_t{keys} + 64 * (handles < max_many_handles ? handles : max_many_handles);
@@ -101,26 +143,310 @@ struct shape {
        seeded.seed = vbr::random_seed(); // a renewal by this shape has another seed */
 inline std::uint64_t random_seed() noexcept { return vbr_random_seed(); }
 
-/* What a call on a key answers. It is no bool, so it is compared.
+/* Why a call was refused. What each leaves is said at the call.
 
-       if (mine.insert(6, budget) == vbr::answer::yes) added++; // this call added 6 */
-enum class [[nodiscard]] answer : std::int32_t {
-    no = VBR_NO,
-    yes = VBR_YES,
-    other = VBR_OTHER,               /* compare_exchange, remove_if: the key is there with another value; nothing was changed */
-    out_of_steps = VBR_OUT_OF_STEPS, /* the budget is spent; no call was made; a greater budget may help; a cursor keeps how far it has come */
+       if (full.error() == vbr::refusal::no_slot) other.spare(); // the other handle may keep free ones */
+enum class [[nodiscard]] refusal : std::int32_t {
+    out_of_steps = VBR_OUT_OF_STEPS, /* the budget is spent; no call was made; a greater one may help; a cursor keeps how far it has come */
     no_slot = VBR_NO_SLOT,           /* the handle found no slot for a node; no call was made; insert, get_or_insert: the key is absent */
     epoch_spent = VBR_EPOCH_SPENT,   /* a node is wanted and the last epoch is spent; no call was made; renew the set */
-    empty = VBR_EMPTY                /* the handle is empty */
+    no_handle = VBR_NO_HANDLE,       /* the handle is empty; a lender has none */
+    on_loan = VBR_IN_USE,            /* of a lender: a handle is on loan, and all stays as it was */
+    bad_shape = VBR_BAD_SHAPE,       /* open, renew: a number of the shape is out of range */
+    bad_count = VBR_BAD_COUNT,       /* open: the number of handles is not from 1 to 64, of open_many to 65,536 */
+    no_memory = VBR_NO_MEMORY,       /* open: nothing was done; else all stays as it was */
+    lost = VBR_LOST,                 /* close: it was the last, and a pass is not there; no program is known to get it */
+    bad_keys = VBR_BAD_KEYS,         /* open_with: the keys do not ascend, or there are more than slots */
+    no_room = VBR_NO_ROOM,           /* renew: there are more keys than slots of the shape */
+    missing = VBR_MISSING,           /* of all handles: they are fewer than were opened with the set, or none */
+    mixed = VBR_MIXED                /* of all handles: two of them are of different sets */
 };
 
-/* What a call answers that gives the value of a key. It is no bool; its value is tested.
+/* A refusal in words.
 
-       vbr::found got = mine.get(6, budget);
-       if (got.value) sum += *got.value; // got.answer is yes */
-struct [[nodiscard]] found {
-    vbr::answer answer;
-    std::optional<std::uint64_t> value; /* there where the answer is yes or other: what the key had */
+       const char *text = vbr::to_string(vbr::refusal::out_of_steps); // "out of steps" */
+constexpr const char *to_string(refusal why) noexcept {
+    switch (why) {
+    case refusal::out_of_steps: return "out of steps";
+    case refusal::no_slot: return "no slot was found";
+    case refusal::epoch_spent: return "the last epoch is spent";
+    case refusal::no_handle: return "the handle is empty";
+    case refusal::on_loan: return "a handle is on loan";
+    case refusal::bad_shape: return "a number of the shape is out of range";
+    case refusal::bad_count: return "the number of handles is out of range";
+    case refusal::no_memory: return "there is no memory";
+    case refusal::lost: return "a pass is not there";
+    case refusal::bad_keys: return "the keys do not ascend, or are more than slots";
+    case refusal::no_room: return "there are more keys than slots";
+    case refusal::missing: return "handles are missing";
+    case refusal::mixed: return "handles are of different sets";
+    }
+    return "not refused";
+}
+
+/* What `value` of a result throws where there is none.
+
+       } catch (const vbr::refused &refused) {
+           reason = refused.error(); */
+class refused : public std::exception {
+public:
+    explicit refused(refusal reason) noexcept : why(reason) {}
+    refusal error() const noexcept { return why; }
+    const char *what() const noexcept override { return to_string(why); }
+
+private:
+    refusal why;
+};
+
+namespace detail {
+
+[[noreturn, gnu::cold, gnu::noinline]] inline void refuse([[maybe_unused]] refusal why) {
+#ifdef __cpp_exceptions
+    throw refused(why);
+#else
+    std::abort();
+#endif
+}
+
+} // namespace detail
+
+/* What a call answers, or why it was refused: as std::expected<T, vbr::refusal>, but that nothing is undefined. Where there is no
+   value `value`, `*` and `->` throw vbr::refused, or end a program that is compiled without exceptions.
+
+       vbr::result<bool> added = mine.insert_within(7, vbr::steps{5000});
+       if (!added.has_value()) return 1; // added.error() tells why
+       if (*added) count++; // this call added 7 */
+template <class T>
+class [[nodiscard]] result {
+public:
+    using value_type = T;
+    using error_type = refusal;
+
+    /* One that wasn't asked for yet is a refusal.
+
+           std::vector<vbr::result<bool>> answers(3); */
+    constexpr result() noexcept : why(refusal::no_handle) {}
+    constexpr result(refusal reason) noexcept : why(reason) {}
+    constexpr result(T value) noexcept(std::is_nothrow_move_constructible_v<T>) : kept(std::move(value)) {}
+
+    constexpr bool has_value() const noexcept { return why == refusal{}; }
+
+    /* Whether there is a value. Of results that are a yes or a no themselves, or may be absent, it has to be asked by has_value, since
+       `if (map.get(5))` would say nothing of 5.
+
+           if (!lender.renew(shape)) return 1; // it was refused */
+    template <class U = T, std::enable_if_t<!std::is_constructible_v<bool, const U &>, int> = 0>
+    explicit constexpr operator bool() const noexcept {
+        return has_value();
+    }
+
+    /* The value; where there is none it throws vbr::refused. Of a result that is about to end it is a value of its own, so that a loop may
+       go over it.
+
+           if (mine.insert(6).value()) count++; // this call added 6
+           if (*mine.has(6)) there++; // `*` is the same */
+    constexpr T &value() & { return asked(), kept; }
+    constexpr const T &value() const & { return asked(), kept; }
+    constexpr T value() && { return asked(), std::move(kept); }
+    constexpr T &operator*() & { return value(); }
+    constexpr const T &operator*() const & { return value(); }
+    constexpr T operator*() && { return std::move(*this).value(); }
+    constexpr T *operator->() { return &value(); }
+    constexpr const T *operator->() const { return &value(); }
+
+    /* The value, or this one where the call was refused.
+
+           bool there_or_refused = mine.has(6).value_or(true); */
+    template <class U>
+    constexpr T value_or(U &&other) const & {
+        return has_value() ? kept : static_cast<T>(std::forward<U>(other));
+    }
+    template <class U>
+    constexpr T value_or(U &&other) && {
+        return has_value() ? std::move(kept) : static_cast<T>(std::forward<U>(other));
+    }
+
+    /* Why the call was refused; refusal{} where it wasn't.
+
+           if (full.error() == vbr::refusal::no_slot) other.spare(); // the other handle may keep free ones */
+    constexpr refusal error() const noexcept { return why; }
+
+    /* Whether it is this value, or this refusal.
+
+           if (mine.has(8) == false) absent++; // it was answered, and 8 is absent
+           if (mine.has_within(8, vbr::steps{1}) == vbr::refusal::out_of_steps) tired++; */
+    friend constexpr bool operator==(const result &one, const T &other) { return one.has_value() && one.kept == other; }
+    friend constexpr bool operator==(const result &one, refusal other) noexcept { return !one.has_value() && one.why == other; }
+    friend constexpr bool operator==(const result &one, const result &other) {
+        return one.why == other.why && (!one.has_value() || one.kept == other.kept);
+    }
+    template <class U>
+    friend constexpr bool operator!=(const result &one, const U &other) {
+        return !(one == other);
+    }
+
+private:
+    constexpr void asked() const {
+        if (!has_value()) detail::refuse(why);
+    }
+
+    refusal why{};
+    T kept{};
+};
+
+/* That of a call which gives nothing but that it is done.
+
+       vbr::result<void> renewed = vbr::handle::renew_all(both, vbr::shape::for_keys(4096, 2));
+       if (!renewed) return 1; // renewed.error() tells why */
+template <>
+class [[nodiscard]] result<void> {
+public:
+    using value_type = void;
+    using error_type = refusal;
+
+    constexpr result(refusal reason) noexcept : why(reason) {}
+    explicit constexpr result(std::in_place_t) noexcept {}
+
+    constexpr bool has_value() const noexcept { return why == refusal{}; }
+    explicit constexpr operator bool() const noexcept { return has_value(); }
+    constexpr void value() const {
+        if (!has_value()) detail::refuse(why);
+    }
+    constexpr void operator*() const { value(); }
+    constexpr refusal error() const noexcept { return why; }
+    friend constexpr bool operator==(const result &one, const result &other) noexcept { return one.why == other.why; }
+    friend constexpr bool operator!=(const result &one, const result &other) noexcept { return one.why != other.why; }
+
+private:
+    refusal why{};
+};
+
+/* Whether a call was refused.
+
+       if (vbr::is_refusal(mine.insert(9))) return 1; */
+template <class T>
+constexpr bool is_refusal(const result<T> &told) noexcept {
+    return !told.has_value();
+}
+
+/* Why a call was refused, in words.
+
+       std::string why = vbr::to_string(mine.has_within(8, vbr::steps{1})); // "out of steps": one is too few */
+template <class T>
+constexpr const char *to_string(const result<T> &told) noexcept {
+    return to_string(told.error());
+}
+
+/* What a call answers that expects a value of a key: whether the key had it, and what it had. As a bool it is whether it is done.
+
+       if (*mine.compare_exchange(6, 61, 62)) changed++; // 6 had 61, and has 62 */
+template <class Value>
+struct [[nodiscard]] compared {
+    bool is_done = false;         /* the key had the value, and was changed or taken out; else nothing was changed */
+    std::optional<Value> found{}; /* what the key had; none where it is absent */
+
+    explicit constexpr operator bool() const noexcept { return is_done; }
+    friend constexpr bool operator==(const compared &one, const compared &other) {
+        return one.is_done == other.is_done && one.found == other.found;
+    }
+};
+
+/* Whether two values of a type are the same just where their bytes are. It is so of integers, enumerations, pointers, and structs of
+   such without padding; these may be keys and values. A program may say it of a type of its own, or of float or double as a key,
+   whose 0.0 and -0.0 are then two keys.
+
+       template <> inline constexpr bool vbr::is_by_bits<float> = true; // in place of a key that is told apart by == */
+template <class T>
+inline constexpr bool is_by_bits = std::has_unique_object_representations_v<T>;
+
+namespace detail {
+
+template <class T>
+constexpr bool is_plain = std::is_same_v<T, std::uint64_t>;
+
+/* What is asked of keys and of values. */
+template <class T>
+constexpr void fits_key() noexcept {
+    static_assert(std::is_trivially_copyable_v<T> && sizeof(T) <= 8, "a key or a value is trivially copyable, of at most 64 bits");
+    static_assert(is_by_bits<T>, "values with padding, or of floating point, may be equal and differ in bits: see vbr::is_by_bits");
+}
+
+template <class T>
+constexpr void fits_value() noexcept {
+    if constexpr (!std::is_same_v<T, float> && !std::is_same_v<T, double>) fits_key<T>();
+}
+
+/* A value as the library has it: its bytes, and zeros above. */
+template <class T>
+std::uint64_t word_of(const T &value) noexcept {
+    if constexpr (is_plain<T>) {
+        return value;
+    } else {
+        std::uint64_t word = 0;
+        std::memcpy(&word, std::addressof(value), sizeof value);
+        return word;
+    }
+}
+
+template <class T>
+T value_of(std::uint64_t word) noexcept {
+    if constexpr (is_plain<T>) {
+        return word;
+    } else {
+        union room { // of a type that may have no default
+            room() noexcept : none() {}
+            char none;
+            T value;
+        } made;
+        std::memcpy(static_cast<void *>(std::addressof(made.value)), &word, sizeof made.value);
+        return made.value;
+    }
+}
+
+} // namespace detail
+
+/* The order of keys in openings and reports: by their bits, as unsigned numbers. Of unsigned numbers it is `<`; of signed ones the
+   negative come last.
+
+       std::sort(keys.begin(), keys.end(), vbr::by_bits{}); // as open_with takes them */
+struct by_bits {
+    template <class T>
+    bool operator()(const T &one, const T &other) const noexcept {
+        return detail::word_of(one) < detail::word_of(other);
+    }
+};
+
+/* A key with its value; of plain numbers it is that of vbr.h.
+
+       for (vbr::entry each : told->entries) sum += each.value; */
+template <class Key, class Value>
+struct basic_entry {
+    Key key;
+    Value value;
+
+    friend constexpr bool operator==(const basic_entry &one, const basic_entry &other) {
+        return one.key == other.key && one.value == other.value;
+    }
+};
+using entry = vbr_entry;
+
+/* What a set held, or a map.
+
+       for (std::uint64_t key : told->keys) sum += key; */
+template <class Key>
+struct basic_report {
+    std::vector<Key> keys; /* ascending by their bits */
+    std::uint64_t epoch = 0;
+    std::uint32_t marked = 0; /* how many removed nodes were still in a list */
+    std::uint32_t free = 0;   /* how many slots had no node in a list */
+};
+
+template <class Entry>
+struct basic_map_report {
+    std::vector<Entry> entries; /* ascending by the bits of their keys */
+    std::uint64_t epoch = 0;
+    std::uint32_t marked = 0; /* how many removed nodes were still in a list */
+    std::uint32_t free = 0;   /* how many slots had no node in a list */
 };
 
 /* Where a walk stands: before the first key, or after the one that was given last. A copy keeps the place. With another handle, or
@@ -131,243 +457,208 @@ struct cursor {
     vbr_cursor raw = VBR_CURSOR_BEGIN;
 };
 
-/* What a call of a walk answers: yes with the next key, or of a map the next entry, and no at the end. It is no bool; its item
-   is tested.
-
-       vbr::given<std::uint64_t> next = mine.next(at, budget);
-       if (next.item) sum += *next.item; // next.answer is yes */
-template <class Item>
-struct [[nodiscard]] given {
-    vbr::answer answer;
-    std::optional<Item> item; /* there where the answer is yes */
-};
-
-/* What an opening answers.
-
-       if (opened != vbr::open_answer::done) return 1; */
-enum class [[nodiscard]] open_answer : std::int32_t {
-    done = VBR_NO,
-    bad_shape = VBR_BAD_SHAPE, /* a number of the shape is out of range */
-    bad_count = VBR_BAD_COUNT, /* the number of handles is not from 1 to 64, of open_many to 65,536 */
-    no_memory = VBR_NO_MEMORY,
-    bad_keys = VBR_BAD_KEYS /* the keys do not ascend, or there are more than slots */
-};
-
-/* What a close answers.
-
-       if (told.answer == vbr::close_answer::no_memory) return 1; // the handle is as it was, and can be closed again */
-enum class [[nodiscard]] close_answer : std::int32_t {
-    others_are_open = VBR_NO,
-    last = VBR_YES,            /* the set is closed, and there is a report */
-    empty = VBR_EMPTY,         /* the handle is empty */
-    no_memory = VBR_NO_MEMORY, /* it is the last, and stays as it was */
-    lost = VBR_LOST,           /* it was the last, and a pass is not there; no program is known to get it */
-    on_loan = 256              /* of a lender: a handle is on loan, and all stays as it was */
-};
-
-/* Whether a call was refused, so that none was made.
-
-       if (vbr::is_refusal(mine.insert(7, budget))) return 1; */
-constexpr bool is_refusal(answer told) noexcept { return static_cast<std::int32_t>(told) < 0; }
-
-/* An answer in words.
-
-       const char *text = vbr::to_string(mine.has(8, 1)); // "out of steps": one is too few */
-constexpr const char *to_string(answer told) noexcept {
-    switch (told) {
-    case answer::no: return "no";
-    case answer::yes: return "yes";
-    case answer::other: return "another value";
-    case answer::out_of_steps: return "out of steps";
-    case answer::no_slot: return "no slot was found";
-    case answer::epoch_spent: return "the last epoch is spent";
-    case answer::empty: return "the handle is empty";
-    }
-    return "unknown";
-}
-
-/* A key with its value, as vbr.h has it.
-
-       for (vbr::entry each : told.report->entries) sum += each.value; */
-using entry = vbr_entry;
-
-/* What a closed set held.
-
-       for (std::uint64_t key : told.report->keys) sum += key; */
-struct report {
-    std::vector<std::uint64_t> keys; /* ascending */
-    std::uint64_t epoch = 0;
-    std::uint32_t marked = 0; /* how many removed nodes were still in a list */
-    std::uint32_t free = 0;   /* how many slots had no node in a list */
-};
-
-/* What a close answers, with the report of the last one.
-
-       vbr::closed told = mine.close(); // told.report is there where told.answer is last */
-struct [[nodiscard]] closed {
-    close_answer answer;
-    std::optional<vbr::report> report;
-};
-
-/* What a closed map held.
-
-       for (vbr::entry each : told.report->entries) sum += each.value; */
-struct map_report {
-    std::vector<entry> entries; /* ascending by key */
-    std::uint64_t epoch = 0;
-    std::uint32_t marked = 0; /* how many removed nodes were still in a list */
-    std::uint32_t free = 0;   /* how many slots had no node in a list */
-};
-
-/* What a close of a map answers, with the report of the last one.
-
-       vbr::map_closed told = mine.close(); // told.report is there where told.answer is last */
-struct [[nodiscard]] map_closed {
-    close_answer answer;
-    std::optional<map_report> report;
-};
-
-/* What a call of all handles of a set answers. Unless it is done they are as they were, and go on.
-
-       if (renewed == vbr::all_answer::no_room) return 1; // there are more keys than slots */
-enum class [[nodiscard]] all_answer {
-    done,
-    empty,     /* one of the handles is empty */
-    mixed,     /* two of them are of different sets */
-    missing,   /* they are fewer than were opened with the set, or none */
-    bad_shape, /* renew_all: a number of the shape is out of range */
-    no_room,   /* renew_all: there are more keys than slots of the shape */
-    no_memory,
-    on_loan    /* renew_for of a lender: a handle was on loan until the time was over */
-};
-
-/* What a report by all handles of a set answers, and the report where it is done.
-
-       vbr::told now = vbr::handle::report_all(both.handles); // now.report->keys is {5, 7} */
-struct [[nodiscard]] told {
-    all_answer answer;
-    std::optional<vbr::report> report;
-};
-
-/* The same of a map.
-
-       vbr::map_told now = vbr::map_handle::report_all(both.handles); // now.report->entries is {{5, 70}} */
-struct [[nodiscard]] map_told {
-    all_answer answer;
-    std::optional<map_report> report;
-};
-
 namespace detail {
 
 /* The calls on sets, and those on maps. */
 struct set_calls {
     using raw = vbr_handle;
-    using item = std::uint64_t;
-    using report = vbr::report;
-    using closed = vbr::closed;
-    using told = vbr::told;
-    static vbr_answer has(raw *handle, std::uint64_t key, std::uint32_t budget) noexcept { return vbr_has(handle, key, budget); }
-    static void has_all(raw *handle, const std::uint64_t *keys, std::size_t count, vbr_answer *answers, std::uint32_t budget) noexcept {
-        vbr_has_all(handle, keys, count, answers, budget);
+    using words = std::uint64_t; /* an item as the library has it */
+    static std::uint32_t steps_of(const raw *handle) noexcept { return vbr_steps_of(handle); }
+    static vbr_answer has(raw *handle, std::uint64_t key, std::uint32_t steps) noexcept { return vbr_has_within(handle, key, steps); }
+    static void has_all(raw *handle, const std::uint64_t *keys, std::size_t count, vbr_answer *answers, std::uint32_t steps) noexcept {
+        vbr_has_all_within(handle, keys, count, answers, steps);
     }
-    static vbr_answer next(raw *handle, vbr_cursor *at, std::uint32_t budget, item *key) noexcept { return vbr_next(handle, at, budget, key); }
-    static std::uint64_t epoch(raw *handle) noexcept { return vbr_epoch(handle); }
-    static std::uint64_t last_epoch(raw *handle) noexcept { return vbr_last_epoch(handle); }
-    static std::uint32_t slots(raw *handle) noexcept { return vbr_slots(handle); }
-    static std::uint32_t buckets(raw *handle) noexcept { return vbr_buckets(handle); }
-    static std::uint64_t seed(raw *handle) noexcept { return vbr_seed(handle); }
-    static std::int64_t balance(raw *handle) noexcept { return vbr_balance(handle); }
+    static vbr_answer next(raw *handle, vbr_cursor *at, words *key, std::uint32_t steps) noexcept {
+        return vbr_next_within(handle, at, key, steps);
+    }
+    static std::uint64_t epoch(const raw *handle) noexcept { return vbr_epoch(handle); }
+    static std::uint64_t last_epoch(const raw *handle) noexcept { return vbr_last_epoch(handle); }
+    static std::uint32_t slots(const raw *handle) noexcept { return vbr_slots(handle); }
+    static std::uint32_t buckets(const raw *handle) noexcept { return vbr_buckets(handle); }
+    static std::uint64_t seed(const raw *handle) noexcept { return vbr_seed(handle); }
+    static std::int64_t balance(const raw *handle) noexcept { return vbr_balance(handle); }
     static std::uint32_t spare(raw *handle) noexcept { return vbr_spare(handle); }
     static std::uint32_t reserve(raw *handle, std::uint32_t wanted) noexcept { return vbr_reserve(handle, wanted); }
-    static vbr_answer report_all(raw *handles, std::size_t count, item *keys, std::size_t room, vbr_totals *totals) noexcept {
-        return vbr_report_all(handles, count, keys, room, totals);
+    static vbr_answer open(raw *handles, std::size_t count, const shape &wanted, std::uint64_t seed, const words *keys,
+                           std::size_t key_count) noexcept {
+        return vbr_open_seeded(handles, count, wanted.slots, wanted.buckets, wanted.last_epoch, seed, keys, key_count);
     }
-    static vbr_answer renew_all(raw *handles, std::size_t count, const shape &wanted) noexcept {
-        return vbr_renew_all_seeded(handles, count, wanted.slots, wanted.buckets, wanted.last_epoch, wanted.seed ? *wanted.seed : seed(handles));
+    static vbr_answer open_many(raw *handles, std::size_t count, const shape &wanted, std::uint64_t seed, const words *keys,
+                                std::size_t key_count) noexcept {
+        return vbr_open_many_seeded(handles, count, wanted.slots, wanted.buckets, wanted.last_epoch, seed, keys, key_count);
     }
-    static vbr_answer close_all(raw *handles, std::size_t count, item *keys, std::size_t room, vbr_totals *totals) noexcept {
-        return vbr_close_all(handles, count, keys, room, totals);
+    static vbr_answer report_all(raw *handles, std::size_t count, words *keys, std::size_t room, vbr_report *report) noexcept {
+        return vbr_report_all(handles, count, keys, room, report);
     }
-    static void drop(raw *handle) noexcept { vbr_drop(handle); }
+    static vbr_answer renew_all(raw *handles, std::size_t count, const shape &wanted, std::uint64_t seed) noexcept {
+        return vbr_renew_all_seeded(handles, count, wanted.slots, wanted.buckets, wanted.last_epoch, seed);
+    }
+    static vbr_answer close_all(raw *handles, std::size_t count, words *keys, std::size_t room, vbr_report *report) noexcept {
+        return vbr_close_all(handles, count, keys, room, report);
+    }
+    static void end_all(raw *handles, std::size_t count) noexcept { vbr_end_all(handles, count); }
 };
 
 struct map_calls {
     using raw = vbr_map_handle;
-    using item = entry;
-    using report = map_report;
-    using closed = map_closed;
-    using told = map_told;
-    static vbr_answer has(raw *handle, std::uint64_t key, std::uint32_t budget) noexcept { return vbr_map_has(handle, key, budget); }
-    static void has_all(raw *handle, const std::uint64_t *keys, std::size_t count, vbr_answer *answers, std::uint32_t budget) noexcept {
-        vbr_map_has_all(handle, keys, count, answers, budget);
+    using words = vbr_entry;
+    static std::uint32_t steps_of(const raw *handle) noexcept { return vbr_map_steps_of(handle); }
+    static vbr_answer has(raw *handle, std::uint64_t key, std::uint32_t steps) noexcept { return vbr_map_has_within(handle, key, steps); }
+    static void has_all(raw *handle, const std::uint64_t *keys, std::size_t count, vbr_answer *answers, std::uint32_t steps) noexcept {
+        vbr_map_has_all_within(handle, keys, count, answers, steps);
     }
-    static vbr_answer next(raw *handle, vbr_cursor *at, std::uint32_t budget, item *next) noexcept {
-        return vbr_map_next(handle, at, budget, &next->key, &next->value);
+    static vbr_answer next(raw *handle, vbr_cursor *at, words *entry, std::uint32_t steps) noexcept {
+        return vbr_map_next_within(handle, at, entry, steps);
     }
-    static std::uint64_t epoch(raw *handle) noexcept { return vbr_map_epoch(handle); }
-    static std::uint64_t last_epoch(raw *handle) noexcept { return vbr_map_last_epoch(handle); }
-    static std::uint32_t slots(raw *handle) noexcept { return vbr_map_slots(handle); }
-    static std::uint32_t buckets(raw *handle) noexcept { return vbr_map_buckets(handle); }
-    static std::uint64_t seed(raw *handle) noexcept { return vbr_map_seed(handle); }
-    static std::int64_t balance(raw *handle) noexcept { return vbr_map_balance(handle); }
+    static std::uint64_t epoch(const raw *handle) noexcept { return vbr_map_epoch(handle); }
+    static std::uint64_t last_epoch(const raw *handle) noexcept { return vbr_map_last_epoch(handle); }
+    static std::uint32_t slots(const raw *handle) noexcept { return vbr_map_slots(handle); }
+    static std::uint32_t buckets(const raw *handle) noexcept { return vbr_map_buckets(handle); }
+    static std::uint64_t seed(const raw *handle) noexcept { return vbr_map_seed(handle); }
+    static std::int64_t balance(const raw *handle) noexcept { return vbr_map_balance(handle); }
     static std::uint32_t spare(raw *handle) noexcept { return vbr_map_spare(handle); }
     static std::uint32_t reserve(raw *handle, std::uint32_t wanted) noexcept { return vbr_map_reserve(handle, wanted); }
-    static vbr_answer report_all(raw *handles, std::size_t count, item *entries, std::size_t room, vbr_totals *totals) noexcept {
-        return vbr_map_report_all(handles, count, entries, room, totals);
+    static vbr_answer open(raw *handles, std::size_t count, const shape &wanted, std::uint64_t seed, const words *entries,
+                           std::size_t entry_count) noexcept {
+        return vbr_map_open_seeded(handles, count, wanted.slots, wanted.buckets, wanted.last_epoch, seed, entries, entry_count);
     }
-    static vbr_answer renew_all(raw *handles, std::size_t count, const shape &wanted) noexcept {
-        return vbr_map_renew_all_seeded(handles, count, wanted.slots, wanted.buckets, wanted.last_epoch, wanted.seed ? *wanted.seed : seed(handles));
+    static vbr_answer open_many(raw *handles, std::size_t count, const shape &wanted, std::uint64_t seed, const words *entries,
+                                std::size_t entry_count) noexcept {
+        return vbr_map_open_many_seeded(handles, count, wanted.slots, wanted.buckets, wanted.last_epoch, seed, entries, entry_count);
     }
-    static vbr_answer close_all(raw *handles, std::size_t count, item *entries, std::size_t room, vbr_totals *totals) noexcept {
-        return vbr_map_close_all(handles, count, entries, room, totals);
+    static vbr_answer report_all(raw *handles, std::size_t count, words *entries, std::size_t room, vbr_report *report) noexcept {
+        return vbr_map_report_all(handles, count, entries, room, report);
     }
-    static void drop(raw *handle) noexcept { vbr_map_drop(handle); }
+    static vbr_answer renew_all(raw *handles, std::size_t count, const shape &wanted, std::uint64_t seed) noexcept {
+        return vbr_map_renew_all_seeded(handles, count, wanted.slots, wanted.buckets, wanted.last_epoch, seed);
+    }
+    static vbr_answer close_all(raw *handles, std::size_t count, words *entries, std::size_t room, vbr_report *report) noexcept {
+        return vbr_map_close_all(handles, count, entries, room, report);
+    }
+    static void end_all(raw *handles, std::size_t count) noexcept { vbr_map_end_all(handles, count); }
 };
 
+/* What is of sets of a type of keys, and of maps of a type of keys and one of values. */
+template <class Key>
+struct set_of : set_calls {
+    using key = Key;
+    using item = Key;
+    using report = basic_report<Key>;
+    static constexpr bool is_plain = detail::is_plain<Key>;
+    static item item_of(std::uint64_t word) noexcept { return value_of<Key>(word); }
+    static std::uint64_t words_of(const Key &item) noexcept { return word_of(item); }
+};
+
+template <class Key, class Value>
+struct map_of : map_calls {
+    static constexpr bool is_plain = detail::is_plain<Key> && detail::is_plain<Value>;
+    using key = Key;
+    using item = std::conditional_t<is_plain, vbr_entry, basic_entry<Key, Value>>;
+    using report = basic_map_report<item>;
+    static item item_of(const vbr_entry &words) noexcept { return {value_of<Key>(words.key), value_of<Value>(words.value)}; }
+    static vbr_entry words_of(const item &item) noexcept { return {word_of(item.key), word_of(item.value)}; }
+};
+
+/* What an answer of the library says. */
+inline result<bool> yes_or_no(vbr_answer told) noexcept {
+    if (told < 0) return refusal{told};
+    return told == VBR_YES;
+}
+
+template <class Value>
+result<std::optional<Value>> value_by(vbr_answer told, std::uint64_t word) noexcept {
+    if (told < 0) return refusal{told};
+    return told == VBR_NO ? std::nullopt : std::optional<Value>(value_of<Value>(word));
+}
+
+template <class Value>
+result<compared<Value>> compared_by(vbr_answer told, std::uint64_t word) noexcept {
+    if (told < 0) return refusal{told};
+    return compared<Value>{told == VBR_YES, told == VBR_NO ? std::nullopt : std::optional<Value>(value_of<Value>(word))};
+}
+
+inline result<void> done_by(vbr_answer told) noexcept {
+    return told == VBR_OK ? result<void>(std::in_place) : result<void>(refusal{told});
+}
+
 /* What the handles of a set or a map share: how many are open, of how many, and those that were closed, each at its number. */
-template <class Calls>
+template <class Kind>
 struct shared {
     std::atomic<std::size_t> open{0};
     std::size_t count = 0;
     std::uint32_t slots = 0;
-    std::vector<typename Calls::raw> parked; /* a place for each handle, empty while it is open */
+    std::vector<typename Kind::raw> parked; /* a place for each handle, empty while it is open */
+};
+
+/* The memory of a report, which is there before anything is closed. */
+template <class Kind>
+class report_room {
+public:
+    explicit report_room(std::uint32_t slots) : words(slots) {
+        if constexpr (!Kind::is_plain) items.reserve(slots);
+    }
+
+    /* Calls for a report, by where it is to be written. */
+    template <class Call>
+    vbr_answer fill(const Call &call) noexcept {
+        return call(words.data(), words.size(), &totals);
+    }
+
+    typename Kind::report report() {
+        if constexpr (Kind::is_plain) {
+            items = std::move(words);
+            items.resize(totals.live);
+        } else {
+            for (std::size_t i = 0; i < totals.live; i++) items.push_back(Kind::item_of(words[i]));
+        }
+        items.shrink_to_fit();
+        return {std::move(items), totals.epoch, totals.marked, totals.free};
+    }
+
+private:
+    std::vector<typename Kind::words> words;
+    std::vector<typename Kind::item> items;
+    vbr_report totals = {};
 };
 
 template <class Handle>
 class lending; /* vbr_lend.hpp */
 
+template <class Handle>
+struct openings;
+
 } // namespace detail
 
 /* All keys of a set, or all entries of a map, one after another: an input range, which a handle gives. It asks again by itself
-   where a call is refused for want of steps and its cursor has come further. It ends where no item is left, or where a call is
-   refused otherwise. What its last call answered is then in the variable that it was given: no at the end, the refusal, or yes
-   where the loop was left before. The handle stays where it is meanwhile, and may make other calls in between.
+   where a call is refused for want of steps and its cursor has come further. It ends where no item is left; where a call is
+   refused otherwise it throws vbr::refused, and a cursor that it was given keeps how far it has come. Whoever wants no exception
+   calls `next`. The handle stays where it is meanwhile, and may make other calls in between.
 
-       vbr::answer told{};
-       for (std::uint64_t key : mine.keys(budget, told)) sum += key;
-       if (vbr::is_refusal(told)) return 1; // the walk came to no end */
-template <class Calls>
+       for (std::uint64_t key : mine.keys()) sum += key; */
+template <class Kind>
 class [[nodiscard]] basic_walk {
 public:
     /* It keeps the item, so that of a copy stays as it is.
 
            for (auto each = walk.begin(); each != walk.end(); ++each) sum += *each; */
     class iterator {
+        struct arrow;
+
     public:
         using iterator_category = std::input_iterator_tag;
-        using value_type = typename Calls::item;
+        using value_type = typename Kind::item;
         using difference_type = std::ptrdiff_t;
-        using pointer = const value_type *;
-        using reference = const value_type &;
+        using pointer = arrow;
+        using reference = value_type;
 
         iterator() noexcept = default;
-        reference operator*() const noexcept { return item; }
-        pointer operator->() const noexcept { return &item; }
-        iterator &operator++() noexcept {
-            if (!walk->goes_on(item)) walk = nullptr;
+        reference operator*() const noexcept { return Kind::item_of(words); }
+        pointer operator->() const noexcept { return {**this}; }
+        iterator &operator++() {
+            if (!walk->goes_on(words)) walk = nullptr;
             return *this;
         }
-        iterator operator++(int) noexcept {
+        iterator operator++(int) {
             iterator before = *this;
             ++*this;
             return before;
@@ -377,15 +668,19 @@ public:
 
     private:
         friend class basic_walk;
+        struct arrow {
+            value_type item;
+            const value_type *operator->() const noexcept { return std::addressof(item); }
+        };
         explicit iterator(basic_walk *of) noexcept : walk(of) {}
-        basic_walk *walk = nullptr; /* none at the end */
-        value_type item = {};
+        basic_walk *walk = nullptr; // none at the end
+        typename Kind::words words = {};
     };
 
     /* It begins where the cursor is: at the first item, or after the one that was given last.
 
            auto each = walk.begin(); // at the end already where there is no key */
-    iterator begin() noexcept {
+    iterator begin() {
         iterator first(this);
         return ++first;
     }
@@ -394,32 +689,36 @@ public:
 private:
     template <class>
     friend class basic_pass;
-    basic_walk(typename Calls::raw *of, cursor *from, std::uint32_t steps, answer &last) noexcept : handle(of), kept(from), budget(steps), told(&last) {}
+    basic_walk(typename Kind::raw *of, cursor *from, vbr::steps steps) noexcept : handle(of), kept(from), budget(steps) {}
 
     /* Whether there is a next item. */
-    bool goes_on(typename Calls::item &next) noexcept {
+    bool goes_on(typename Kind::words &next) {
         vbr_cursor &at = kept ? kept->raw : own.raw, before;
+        vbr_answer told;
         do {
             before = at;
-            *told = answer{static_cast<std::int32_t>(Calls::next(handle, &at, budget, &next))};
-        } while (*told == answer::out_of_steps && (at.bucket != before.bucket || at.from != before.from));
-        return *told == answer::yes;
+            told = Kind::next(handle, &at, &next, budget.count());
+        } while (told == VBR_OUT_OF_STEPS && (at.bucket != before.bucket || at.from != before.from));
+        if (told < 0) detail::refuse(refusal{told});
+        return told == VBR_YES;
     }
 
-    typename Calls::raw *handle;
+    typename Kind::raw *handle;
     cursor *kept; /* that of the caller, or none */
     cursor own;
-    std::uint32_t budget;
-    answer *told;
+    vbr::steps budget;
 };
 
 /* The right of one thread at a time to make calls on a set or a map: what a handle owns and a loan lends, so a function that takes a
    pass takes either. It stays where it is: it is neither moved nor copied, and a call by it closes nothing.
 
-       static int added(vbr::pass &mine, std::uint64_t key) { return mine.insert(key, 100000) == vbr::answer::yes; } */
-template <class Calls>
+       static bool added(vbr::pass &mine, std::uint64_t key) { return mine.insert(key).value(); } */
+template <class Kind>
 class basic_pass {
 public:
+    using key_type = typename Kind::key;
+    using item_type = typename Kind::item;
+
     basic_pass(const basic_pass &) = delete;
     basic_pass &operator=(const basic_pass &) = delete;
 
@@ -428,248 +727,305 @@ public:
            if (!mine.is_open()) return 1; // it is empty: moved from, or closed */
     bool is_open() const noexcept { return raw.owned != nullptr; }
 
-    /* Whether a key is there: yes or no. It isn't const, since it changes what the handle owns.
+    /* The budget of its calls.
 
-           if (mine.has(7, budget) == vbr::answer::yes) there++; // 7 was there during the call */
-    answer has(std::uint64_t key, std::uint32_t budget) noexcept { return answer{static_cast<std::int32_t>(Calls::has(&raw, key, budget))}; }
+           if (mine.steps() != vbr::steps::ample()) return 1; // it was given another */
+    vbr::steps steps() const noexcept { return vbr::steps{Kind::steps_of(&raw)}; }
+
+    /* Whether a key is there. It isn't const, since it changes what the handle owns.
+
+           if (*mine.has(7)) there++; // 7 was there during the call */
+    result<bool> has(key_type key) noexcept { return has_within(key, steps()); }
+    result<bool> has_within(key_type key, vbr::steps budget) noexcept {
+        return detail::yes_or_no(Kind::has(&raw, detail::word_of(key), budget.count()));
+    }
 
     /* Whether each of some keys is there: answers[i] is what `has` tells of keys[i], with this budget. Each is a call of its own,
        and they are made in the order of the keys. It is for many keys of a set that is larger than the cache: their look-ups wait
        for memory together.
 
-           mine.has_all(wanted.data(), wanted.size(), answers.data(), budget); // answers[i] is that of wanted[i] */
-    void has_all(const std::uint64_t *keys, std::size_t count, answer *answers, std::uint32_t budget) noexcept {
-        vbr_answer told[64];
-        for (std::size_t from = 0, some; from < count; from += some) {
-            some = count - from < 64 ? count - from : 64;
-            Calls::has_all(&raw, keys + from, some, told, budget);
-            for (std::size_t i = 0; i < some; i++) answers[from + i] = answer{static_cast<std::int32_t>(told[i])};
-        }
+           mine.has_all(wanted.data(), wanted.size(), answers.data()); // answers[i] is that of wanted[i] */
+    void has_all(const key_type *keys, std::size_t count, result<bool> *answers) noexcept { has_all_within(keys, count, answers, steps()); }
+    void has_all_within(const key_type *keys, std::size_t count, result<bool> *answers, vbr::steps budget) noexcept {
+        in_parts(keys, count, [&](const std::uint64_t *words, std::size_t from, std::size_t some) {
+            vbr_answer told[part];
+            Kind::has_all(&raw, words, some, told, budget.count());
+            for (std::size_t i = 0; i < some; i++) answers[from + i] = detail::yes_or_no(told[i]);
+        });
     }
 
-    /* The next key of a walk, and of a map the next entry: yes with the item, or no at the end. The cursor is then after it; at
-       out_of_steps it keeps how far it has come.
+    /* The next key of a walk, and of a map the next entry; none at the end. The cursor is then after it; where the call is refused
+       for want of steps, as among very many empty buckets, it keeps how far it has come.
 
-           vbr::given<std::uint64_t> next = mine.next(at, budget); */
-    given<typename Calls::item> next(cursor &at, std::uint32_t budget) noexcept {
-        typename Calls::item item = {};
-        auto told = answer{static_cast<std::int32_t>(Calls::next(&raw, &at.raw, budget, &item))};
-        return {told, told == answer::yes ? std::optional(item) : std::nullopt};
+           auto next = mine.next(at);
+           while (next == vbr::refusal::out_of_steps) next = mine.next(at); // from where it came to
+           if (*next) sum += **next; */
+    result<std::optional<item_type>> next(cursor &at) noexcept { return next_within(at, steps()); }
+    result<std::optional<item_type>> next_within(cursor &at, vbr::steps budget) noexcept {
+        typename Kind::words words = {};
+        vbr_answer told = Kind::next(&raw, &at.raw, &words, budget.count());
+        if (told < 0) return refusal{told};
+        return told == VBR_NO ? std::nullopt : std::optional<item_type>(Kind::item_of(words));
     }
 
     /* The last epoch that the handle read in a call: 1 before its first, and 0 for an empty handle. Renew the set before it
        comes to last_epoch, by renew_all.
 
            bool is_near = mine.epoch() + 1000 >= mine.last_epoch(); // then renew the set */
-    std::uint64_t epoch() noexcept { return Calls::epoch(&raw); }
+    std::uint64_t epoch() const noexcept { return Kind::epoch(&raw); }
 
     /* What the set was opened with; 0 for an empty handle.
 
            if (mine.slots() != shape.slots || mine.buckets() != shape.buckets) return 1; */
-    std::uint64_t last_epoch() noexcept { return Calls::last_epoch(&raw); }
-    std::uint32_t slots() noexcept { return Calls::slots(&raw); }
-    std::uint32_t buckets() noexcept { return Calls::buckets(&raw); }
+    std::uint64_t last_epoch() const noexcept { return Kind::last_epoch(&raw); }
+    std::uint32_t slots() const noexcept { return Kind::slots(&raw); }
+    std::uint32_t buckets() const noexcept { return Kind::buckets(&raw); }
 
     /* The seed that spreads the keys of the set, as vbr_seed tells it.
 
            again.seed = mine.seed(); // a shape whose sets have each key in the same bucket */
-    std::uint64_t seed() noexcept { return Calls::seed(&raw); }
+    std::uint64_t seed() const noexcept { return Kind::seed(&raw); }
 
     /* How many keys the calls of the handle have added, less those that they took out. The first of the handles that were opened
        together begins with the keys that the set opened with, the others with 0. While no call is under way the balances of all
        handles of a set add up to the number of its keys; a handle takes its balance along when it is closed.
 
-           std::int64_t keys = both.handles[0].balance() + both.handles[1].balance(); // no call is under way */
-    std::int64_t balance() noexcept { return Calls::balance(&raw); }
+           std::int64_t keys = both[0].balance() + both[1].balance(); // no call is under way */
+    std::int64_t balance() const noexcept { return Kind::balance(&raw); }
 
     /* Puts the slots that the handle keeps to itself into the pool that all handles share, where any of them finds them: how
        many they were. Call it of a handle that inserts nothing for a time; one that is closed or ends does so by itself.
        vbr_spare says which slots stay.
 
            std::uint32_t given = mine.spare(); // the other handles can have them now */
-    std::uint32_t spare() noexcept { return Calls::spare(&raw); }
+    std::uint32_t spare() noexcept { return Kind::spare(&raw); }
 
     /* Takes slots out of the pool that all handles share until the handle keeps `wanted` to itself, or 63 if that is less, and
        returns how many it took: fewer only where it finds no more. Call it of a handle that from now on takes a key
        out before each that it puts in: vbr_reserve says what that is for, and spare gives the slots back.
 
            std::uint32_t reserved = mine.reserve(32); // for its inserts to come */
-    std::uint32_t reserve(std::uint32_t wanted) noexcept { return Calls::reserve(&raw, wanted); }
+    std::uint32_t reserve(std::uint32_t wanted) noexcept { return Kind::reserve(&raw, wanted); }
 
 protected:
-    using calls = Calls;
+    using kind = Kind;
+    static constexpr std::size_t part = 64; /* so many keys of a batch are looked up at once */
     basic_pass() noexcept = default;
     ~basic_pass() = default;
-    basic_walk<Calls> walk(cursor *at, std::uint32_t budget, answer &told) noexcept { return {&raw, at, budget, told}; }
+    basic_walk<Kind> walk(cursor *at, vbr::steps budget) noexcept { return {&raw, at, budget}; }
 
-    typename Calls::raw raw = {};
+    // Calls with some keys after others, each time with where they begin and how many they are.
+    template <class Call>
+    static void in_parts(const key_type *keys, std::size_t count, const Call &call) noexcept {
+        for (std::size_t from = 0, some; from < count; from += some) {
+            some = count - from < part ? count - from : part;
+            if constexpr (detail::is_plain<key_type>) {
+                call(keys + from, from, some);
+            } else {
+                std::uint64_t words[part];
+                for (std::size_t i = 0; i < some; i++) words[i] = detail::word_of(keys[from + i]);
+                call(words, from, some);
+            }
+        }
+    }
+
+    typename Kind::raw raw = {};
 };
 
 /* That of a handle to a set.
 
-       static int added(vbr::pass &mine, std::uint64_t key) { return mine.insert(key, 100000) == vbr::answer::yes; } */
-class pass : public basic_pass<detail::set_calls> {
+       static bool added(vbr::pass &mine, std::uint64_t key) { return mine.insert(key).value(); } */
+template <class Key>
+class basic_set_pass : public basic_pass<detail::set_of<Key>> {
+protected:
+    using kind = detail::set_of<Key>;
+
 public:
-    /* Adds a key: yes if it was absent.
+    /* Adds a key: true if it was absent.
 
-           if (mine.insert(6, budget) == vbr::answer::yes) added++; // this call added 6 */
-    answer insert(std::uint64_t key, std::uint32_t budget) noexcept { return answer{static_cast<std::int32_t>(vbr_insert(&raw, key, budget))}; }
+           if (mine.insert(6).value()) count++; // this call added 6 */
+    result<bool> insert(Key key) noexcept { return insert_within(key, this->steps()); }
+    result<bool> insert_within(Key key, vbr::steps budget) noexcept {
+        return detail::yes_or_no(vbr_insert_within(&this->raw, detail::word_of(key), budget.count()));
+    }
 
-    /* Takes a key out: yes if it was there.
+    /* Takes a key out: true if it was there.
 
-           if (mine.remove(6, budget) == vbr::answer::yes) taken++; // this call took 6 out */
-    answer remove(std::uint64_t key, std::uint32_t budget) noexcept { return answer{static_cast<std::int32_t>(vbr_remove(&raw, key, budget))}; }
+           if (mine.remove(6).value()) taken++; // this call took 6 out */
+    result<bool> remove(Key key) noexcept { return remove_within(key, this->steps()); }
+    result<bool> remove_within(Key key, vbr::steps budget) noexcept {
+        return detail::yes_or_no(vbr_remove_within(&this->raw, detail::word_of(key), budget.count()));
+    }
 
-    /* All keys, one after another, each call in at most `budget` steps. What the last call answered is then in `told`.
+    /* All keys, one after another.
 
-           for (std::uint64_t key : mine.keys(budget, told)) sum += key; */
-    basic_walk<detail::set_calls> keys(std::uint32_t budget, answer &told) noexcept { return walk(nullptr, budget, told); }
+           for (std::uint64_t key : mine.keys()) sum += key; */
+    basic_walk<kind> keys() noexcept { return this->walk(nullptr, this->steps()); }
+    basic_walk<kind> keys_within(vbr::steps budget) noexcept { return this->walk(nullptr, budget); }
 
     /* The same from a cursor on, which moves along: a walk that was left, or came to no end, goes on from there.
 
-           for (std::uint64_t key : mine.keys(at, 2 * budget, told)) sum += key; */
-    basic_walk<detail::set_calls> keys(cursor &at, std::uint32_t budget, answer &told) noexcept { return walk(&at, budget, told); }
+           for (std::uint64_t key : mine.keys(at)) sum += key; */
+    basic_walk<kind> keys(cursor &at) noexcept { return this->walk(&at, this->steps()); }
+    basic_walk<kind> keys_within(cursor &at, vbr::steps budget) noexcept { return this->walk(&at, budget); }
 };
 
 /* That of a handle to a map.
 
-       static std::uint64_t got(vbr::map_pass &mine, std::uint64_t key) { return mine.get(key, 100000).value.value_or(0); } */
-class map_pass : public basic_pass<detail::map_calls> {
+       static std::uint64_t got(vbr::map_pass &mine, std::uint64_t key) { return mine.get(key).value().value_or(0); } */
+template <class Key, class Value>
+class basic_map_pass : public basic_pass<detail::map_of<Key, Value>> {
+protected:
+    using kind = detail::map_of<Key, Value>;
+
 public:
-    /* Adds a key with its value: yes if the key was absent. If it was there, it keeps the value that it has.
+    using value_type = Value;
+    using found = result<std::optional<Value>>; /* the value of a key, or none where it is absent */
 
-           if (mine.insert(6, 60, budget) == vbr::answer::yes) added++; // this call stored 60 for 6 */
-    answer insert(std::uint64_t key, std::uint64_t value, std::uint32_t budget) noexcept {
-        return answer{static_cast<std::int32_t>(vbr_map_insert(&raw, key, value, budget))};
+    /* Adds a key with its value: true if the key was absent. If it was there, it keeps the value that it has.
+
+           if (mine.insert(6, 60).value()) added++; // this call stored 60 for 6 */
+    result<bool> insert(Key key, Value value) noexcept { return insert_within(key, value, this->steps()); }
+    result<bool> insert_within(Key key, Value value, vbr::steps budget) noexcept {
+        return detail::yes_or_no(vbr_map_insert_within(&this->raw, detail::word_of(key), detail::word_of(value), budget.count()));
     }
 
-    /* Takes a key out, and gives its value: yes if it was there.
+    /* Takes a key out, and gives its value.
 
-           vbr::found taken = mine.remove(6, budget); // taken.value is what 6 had */
-    found remove(std::uint64_t key, std::uint32_t budget) noexcept {
+           std::optional<std::uint64_t> taken = mine.remove(6).value(); // what 6 had */
+    found remove(Key key) noexcept { return remove_within(key, this->steps()); }
+    found remove_within(Key key, vbr::steps budget) noexcept {
         std::uint64_t value = 0;
-        vbr_answer told = vbr_map_remove(&raw, key, budget, &value);
-        return found_by(told, value);
+        vbr_answer told = vbr_map_remove_within(&this->raw, detail::word_of(key), &value, budget.count());
+        return detail::value_by<Value>(told, value);
     }
 
-    /* The value of a key: yes if it is there. As `has` it isn't const.
+    /* The value of a key. As `has` it isn't const.
 
-           vbr::found got = mine.get(6, budget); */
-    found get(std::uint64_t key, std::uint32_t budget) noexcept {
+           if (std::optional<std::uint64_t> got = mine.get(6).value()) sum += *got; */
+    found get(Key key) noexcept { return get_within(key, this->steps()); }
+    found get_within(Key key, vbr::steps budget) noexcept {
         std::uint64_t value = 0;
-        vbr_answer told = vbr_map_get(&raw, key, budget, &value);
-        return found_by(told, value);
+        vbr_answer told = vbr_map_get_within(&this->raw, detail::word_of(key), &value, budget.count());
+        return detail::value_by<Value>(told, value);
     }
 
     /* The value of each of some keys: values[i] is what `get` tells of keys[i], as `has_all` asks for keys alone.
 
-           mine.get_all(wanted.data(), wanted.size(), values.data(), budget); // values[i] is that of wanted[i] */
-    void get_all(const std::uint64_t *keys, std::size_t count, found *values, std::uint32_t budget) noexcept {
-        vbr_found told[64];
-        for (std::size_t from = 0, some; from < count; from += some) {
-            some = count - from < 64 ? count - from : 64;
-            vbr_map_get_all(&raw, keys + from, some, told, budget);
-            for (std::size_t i = 0; i < some; i++) values[from + i] = found_by(told[i].answer, told[i].value);
-        }
+           mine.get_all(wanted.data(), wanted.size(), values.data()); // values[i] is that of wanted[i] */
+    void get_all(const Key *keys, std::size_t count, found *values) noexcept { get_all_within(keys, count, values, this->steps()); }
+    void get_all_within(const Key *keys, std::size_t count, found *values, vbr::steps budget) noexcept {
+        this->in_parts(keys, count, [&](const std::uint64_t *words, std::size_t from, std::size_t some) {
+            vbr_found told[basic_map_pass::part];
+            vbr_map_get_all_within(&this->raw, words, some, told, budget.count());
+            for (std::size_t i = 0; i < some; i++) values[from + i] = detail::value_by<Value>(told[i].answer, told[i].value);
+        });
     }
 
-    /* Gives a key that is there another value: yes with the one that it had; no if it was absent, and then nothing was changed.
-       No call finds the key absent meanwhile.
+    /* Gives a key that is there another value, and tells the one that it had; if it was absent nothing is changed. No call finds
+       the key absent meanwhile.
 
-           vbr::found was = mine.replace(6, 61, budget); // yes: 6 had was.value, and has 61 */
-    found replace(std::uint64_t key, std::uint64_t value, std::uint32_t budget) noexcept {
+           std::optional<std::uint64_t> was = mine.replace(6, 61).value(); // 6 had it, and has 61 */
+    found replace(Key key, Value value) noexcept { return replace_within(key, value, this->steps()); }
+    found replace_within(Key key, Value value, vbr::steps budget) noexcept {
         std::uint64_t had = 0;
-        vbr_answer told = vbr_map_replace(&raw, key, value, &had, budget);
-        return found_by(told, had);
+        vbr_answer told = vbr_map_replace_within(&this->raw, detail::word_of(key), detail::word_of(value), &had, budget.count());
+        return detail::value_by<Value>(told, had);
     }
 
-    /* Gives a key this value: yes with the one that it had; no if it was absent, and it is then inserted.
+    /* Gives a key this value, and tells the one that it had; if it was absent it is inserted.
 
-           if (!vbr::is_refusal(mine.put(7, 70, budget).answer)) puts++; // 7 has 70, whether it was there or not */
-    found put(std::uint64_t key, std::uint64_t value, std::uint32_t budget) noexcept {
+           if (mine.put(7, 70).has_value()) puts++; // 7 has 70, whether it was there or not */
+    found put(Key key, Value value) noexcept { return put_within(key, value, this->steps()); }
+    found put_within(Key key, Value value, vbr::steps budget) noexcept {
         std::uint64_t had = 0;
-        vbr_answer told = vbr_map_put(&raw, key, value, &had, budget);
-        return found_by(told, had);
+        vbr_answer told = vbr_map_put_within(&this->raw, detail::word_of(key), detail::word_of(value), &had, budget.count());
+        return detail::value_by<Value>(told, had);
     }
 
-    /* The value of a key, which is inserted with this one where it is absent: yes with the value that it has; no if it was
-       absent, and it is then inserted.
+    /* The value of a key; if it was absent there is none, and it is inserted with this one.
 
-           std::uint64_t has = mine.get_or_insert(8, 80, budget).value.value_or(80); // but for a refusal */
-    found get_or_insert(std::uint64_t key, std::uint64_t value, std::uint32_t budget) noexcept {
+           std::uint64_t has = mine.get_or_insert(8, 80).value().value_or(80); */
+    found get_or_insert(Key key, Value value) noexcept { return get_or_insert_within(key, value, this->steps()); }
+    found get_or_insert_within(Key key, Value value, vbr::steps budget) noexcept {
         std::uint64_t has = 0;
-        vbr_answer told = vbr_map_get_or_insert(&raw, key, value, &has, budget);
-        return found_by(told, has);
+        vbr_answer told = vbr_map_get_or_insert_within(&this->raw, detail::word_of(key), detail::word_of(value), &has, budget.count());
+        return detail::value_by<Value>(told, has);
     }
 
-    /* Gives a key another value if it has the one that is expected: yes, with that one; other, with the one that it has; or no
-       if it is absent. But for yes nothing was changed.
+    /* Gives a key another value if it has the one that is expected, by its bits. Else nothing is changed.
 
-           if (mine.compare_exchange(6, 61, 62, budget).answer == vbr::answer::yes) changed++; // 6 had 61, and has 62 */
-    found compare_exchange(std::uint64_t key, std::uint64_t expected, std::uint64_t value, std::uint32_t budget) noexcept {
+           if (*mine.compare_exchange(6, 61, 62)) changed++; // 6 had 61, and has 62 */
+    result<compared<Value>> compare_exchange(Key key, Value expected, Value value) noexcept {
+        return compare_exchange_within(key, expected, value, this->steps());
+    }
+    result<compared<Value>> compare_exchange_within(Key key, Value expected, Value value, vbr::steps budget) noexcept {
         std::uint64_t had = 0;
-        vbr_answer told = vbr_map_compare_exchange(&raw, key, expected, value, &had, budget);
-        return found_by(told, had);
+        vbr_answer told = vbr_map_compare_exchange_within(&this->raw, detail::word_of(key), detail::word_of(expected),
+                                                          detail::word_of(value), &had, budget.count());
+        return detail::compared_by<Value>(told, had);
     }
 
-    /* Takes a key out if it has the value that is expected: yes, with that one; other, with the one that it has; or no if it is
-       absent. But for yes nothing was changed.
+    /* Takes a key out if it has the value that is expected, by its bits. Else nothing is changed.
 
-           vbr::found left = mine.remove_if(6, 60, budget); // other: 6 has left.value, and is still there */
-    found remove_if(std::uint64_t key, std::uint64_t expected, std::uint32_t budget) noexcept {
+           vbr::compared<std::uint64_t> left = mine.remove_if(6, 60).value(); // not done: 6 has *left.found, and is still there */
+    result<compared<Value>> remove_if(Key key, Value expected) noexcept { return remove_if_within(key, expected, this->steps()); }
+    result<compared<Value>> remove_if_within(Key key, Value expected, vbr::steps budget) noexcept {
         std::uint64_t had = 0;
-        vbr_answer told = vbr_map_remove_if(&raw, key, expected, &had, budget);
-        return found_by(told, had);
+        vbr_answer told = vbr_map_remove_if_within(&this->raw, detail::word_of(key), detail::word_of(expected), &had, budget.count());
+        return detail::compared_by<Value>(told, had);
     }
 
-    /* Gives a key the value that `update` makes of the one that it has, as std::optional<std::uint64_t>: yes with the value before;
-       no, and nothing is changed, if the key is absent or `update` makes none. No update of another thread is lost: where one comes
-       in between, `update` is asked again, with the value that it left. Each call that it takes has this budget.
+    /* Gives a key the value that `update` makes of the one that it has, and tells that one; none, and nothing is changed, if the key is
+       absent or `update` makes none. It returns a value, or an option. No update of another thread is lost: where one comes in
+       between, `update` is asked again, with the value that it left. Each call that it takes has this budget.
 
            auto half = [](std::uint64_t value) { return value % 2 ? std::nullopt : std::optional(value / 2); };
-           vbr::found before = mine.fetch_update(6, half, budget); // yes: 6 had before.value, and has half of it */
+           std::optional<std::uint64_t> before = mine.fetch_update(6, half).value(); // 6 had it, and has half of it */
     template <class Update>
-    found fetch_update(std::uint64_t key, Update &&update, std::uint32_t budget) {
-        found seen = get(key, budget);
-        while (seen.value) {
-            std::optional<std::uint64_t> next = update(*seen.value);
-            if (!next) return {answer::no, std::nullopt};
-            found told = compare_exchange(key, *seen.value, *next, budget);
-            if (told.answer != answer::other) return told;
-            seen = told;
+    found fetch_update(Key key, Update &&update) {
+        return fetch_update_within(key, update, this->steps());
+    }
+    template <class Update>
+    found fetch_update_within(Key key, Update &&update, vbr::steps budget) {
+        found got = get_within(key, budget);
+        if (!got.has_value()) return got;
+        for (std::optional<Value> seen = *got; seen;) {
+            std::optional<Value> next = update(*seen);
+            if (!next) break;
+            result<compared<Value>> told = compare_exchange_within(key, *seen, *next, budget);
+            if (!told.has_value()) return told.error();
+            if (told->is_done) return seen;
+            if (!told->found) break;
+            seen.emplace(*told->found);
         }
-        return seen;
+        return std::optional<Value>();
     }
 
-    /* All entries, one after another, each call in at most `budget` steps. What the last call answered is then in `told`.
+    /* All entries, one after another.
 
-           for (auto [key, value] : mine.entries(budget, told)) sum += key * value; */
-    basic_walk<detail::map_calls> entries(std::uint32_t budget, answer &told) noexcept { return walk(nullptr, budget, told); }
+           for (auto [key, value] : mine.entries()) sum += key * value; */
+    basic_walk<kind> entries() noexcept { return this->walk(nullptr, this->steps()); }
+    basic_walk<kind> entries_within(vbr::steps budget) noexcept { return this->walk(nullptr, budget); }
 
     /* The same from a cursor on, which moves along: a walk that was left, or came to no end, goes on from there.
 
-           for (auto [key, value] : mine.entries(at, 2 * budget, told)) sum += key * value; */
-    basic_walk<detail::map_calls> entries(cursor &at, std::uint32_t budget, answer &told) noexcept { return walk(&at, budget, told); }
-
-private:
-    static found found_by(vbr_answer told, std::uint64_t value) noexcept {
-        return {answer{static_cast<std::int32_t>(told)}, told > VBR_NO ? std::optional(value) : std::nullopt};
-    }
+           for (auto [key, value] : mine.entries(at)) sum += key * value; */
+    basic_walk<kind> entries(cursor &at) noexcept { return this->walk(&at, this->steps()); }
+    basic_walk<kind> entries_within(cursor &at, vbr::steps budget) noexcept { return this->walk(&at, budget); }
 };
 
 /* What a handle to a set and one to a map have in common; each may be empty. One thread at a time makes calls with it, by its pass. Its
    end closes it without a report, which takes no memory and loses nothing: the handle that is closed last is told the keys.
 
-       vbr::handle mine = std::move(most.handles[0]); // handles are moved, and never copied */
+       vbr::handle mine = std::move(handles[0]); // handles are moved, and never copied */
 template <class Pass>
 class basic_handle : public Pass {
-    using calls = typename Pass::calls;
-    using items = std::vector<typename calls::item>;
+    using kind = typename Pass::kind;
 
 public:
     using pass_type = Pass;
-    using closed_type = typename calls::closed;
-    using told_type = typename calls::told;
+    using report_type = typename kind::report;
 
     basic_handle() noexcept = default;
     basic_handle(basic_handle &&other) noexcept { takes(other); }
@@ -683,44 +1039,56 @@ public:
         return *this;
     }
 
-    /* Closes the handle, and leaves it empty. The last one of its set gives the report, whose keys take memory then and
-       only then; where there is none it stays open.
+    /* Gives it another budget for the calls to come; one of no steps is kept as one step, which is too few as well.
 
-           vbr::closed told = mine.close(); // told.report is there where told.answer is last */
-    closed_type close() {
-        if (!this->is_open()) return {close_answer::empty, std::nullopt};
-        if (!is_last()) return {close_answer::others_are_open, std::nullopt};
-        return close_last(items(shared->slots));
+           mine.set_steps(vbr::steps{5000}); */
+    void set_steps(vbr::steps budget) noexcept { this->raw.steps = budget.count() ? budget.count() : 1; }
+
+    /* Closes the handle, and leaves it empty. The last one of its set gives the report, whose keys take memory then and
+       only then; where there is none it stays open. The others give none.
+
+           std::optional<vbr::report> told = mine.close().value(); // the report of the last one */
+    result<std::optional<report_type>> close() {
+        if (!this->is_open()) return refusal::no_handle;
+        if (!is_last()) return std::optional<report_type>();
+        return close_last(detail::report_room<kind>(shared->slots));
     }
 
     /* Tells what is in a set or a map by all its handles, as the close of the last one does. No other thread is in a call of one of
        them. They stay as they are, and go on. It takes the memory of a close.
 
-           vbr::told now = vbr::handle::report_all(both.handles); // now.report->keys is {5, 7} */
-    static told_type report_all(std::vector<basic_handle> &handles) {
+           vbr::report now = vbr::handle::report_all(both).value(); // now.keys is {5, 7} */
+    static result<report_type> report_all(std::vector<basic_handle> &handles) {
         auto at = in_order(handles);
-        all_answer are = are_all(handles.size(), at);
-        if (are != all_answer::done) return {are, std::nullopt};
-        items room(handles.front().shared->slots);
-        vbr_totals totals = {};
-        vbr_answer code = with_all(handles.size(), at, [&](auto *all) { return calls::report_all(all, handles.size(), room.data(), room.size(), &totals); });
-        if (code != VBR_YES) return {all_answer::no_memory, std::nullopt};
-        room.resize(totals.live);
-        return {all_answer::done, typename calls::report{std::move(room), totals.epoch, totals.marked, totals.free}};
+        if (result<void> are = are_all(handles.size(), at); !are) return are.error();
+        detail::report_room<kind> room(handles.front().shared->slots);
+        vbr_answer code = with_all(handles.size(), at, [&](auto *all) {
+            return room.fill([&](auto *items, std::size_t size, vbr_report *totals) {
+                return kind::report_all(all, handles.size(), items, size, totals);
+            });
+        });
+        if (code != VBR_YES) return refusal{code};
+        return room.report();
     }
 
     /* Lets all handles of a set or a map go on over a fresh one of this shape, with the keys that were in it, or the entries: at
        epoch 1, and larger where there are to be more of them. No other thread is in a call of one of them. The balance of the first
        handle is the number of keys then, and that of the others is 0. The fresh set is opened before the other one is given up.
 
-           vbr::all_answer renewed = vbr::handle::renew_all(both.handles, vbr::shape::for_keys(4096, 2)); */
-    static all_answer renew_all(std::vector<basic_handle> &handles, const shape &wanted) noexcept {
+           vbr::result<void> renewed = vbr::handle::renew_all(both, vbr::shape::for_keys(4096, 2)); */
+    static result<void> renew_all(std::vector<basic_handle> &handles, const shape &wanted) noexcept {
         return renew_all(handles.size(), in_order(handles), wanted);
     }
 
+    /* Ends these handles without a report, and leaves none of them: with the last of a set its memory is freed. It takes no memory, and
+       no time for the keys.
+
+           vbr::handle::end_all(handles); // nobody wants to know what was in it */
+    static void end_all(std::vector<basic_handle> &handles) noexcept { handles.clear(); }
+
 private:
-    template <class Opened, class Open>
-    friend Opened open_by(const shape &, std::size_t, const Open &, std::size_t);
+    template <class Handle>
+    friend struct detail::openings;
     template <class Handle>
     friend class detail::lending;
 
@@ -731,13 +1099,13 @@ private:
 
     /* Whether these are all handles of one set; `at` gives each by its number. */
     template <class At>
-    static all_answer are_all(std::size_t count, const At &at) noexcept {
-        if (count == 0) return all_answer::missing;
+    static result<void> are_all(std::size_t count, const At &at) noexcept {
+        if (count == 0) return refusal::missing;
         for (std::size_t i = 0; i < count; i++)
-            if (!at(i).is_open()) return all_answer::empty;
+            if (!at(i).is_open()) return refusal::no_handle;
         for (std::size_t i = 0; i < count; i++)
-            if (at(i).shared != at(0).shared) return all_answer::mixed;
-        return at(0).shared->count == count ? all_answer::done : all_answer::missing;
+            if (at(i).shared != at(0).shared) return refusal::mixed;
+        return at(0).shared->count == count ? result<void>(std::in_place) : refusal::missing;
     }
 
     /* Makes a call with all of them side by side, and then each has what is at its place. */
@@ -751,15 +1119,13 @@ private:
     }
 
     template <class At>
-    static all_answer renew_all(std::size_t count, const At &at, const shape &wanted) noexcept {
-        all_answer are = are_all(count, at);
-        if (are != all_answer::done) return are;
-        vbr_answer code = with_all(count, at, [&](auto *all) { return calls::renew_all(all, count, wanted); });
-        if (code == VBR_BAD_SHAPE) return all_answer::bad_shape;
-        if (code == VBR_NO_ROOM) return all_answer::no_room;
-        if (code != VBR_NO) return all_answer::no_memory;
-        at(0).shared->slots = wanted.slots;
-        return all_answer::done;
+    static result<void> renew_all(std::size_t count, const At &at, const shape &wanted) noexcept {
+        if (result<void> are = are_all(count, at); !are) return are;
+        std::uint64_t seed = wanted.seed ? *wanted.seed : at(0).seed();
+        vbr_answer code = with_all(count, at, [&](auto *all) { return kind::renew_all(all, count, wanted, seed); });
+        if (code == VBR_OK) at(0).shared->slots = wanted.slots;
+        for (std::size_t i = 0; i < count && code == VBR_OK && wanted.steps; i++) at(i).set_steps(*wanted.steps);
+        return detail::done_by(code);
     }
 
     void takes(basic_handle &other) noexcept {
@@ -771,7 +1137,7 @@ private:
     /* Whether all others are closed. If not, this one is then closed too: it is parked for the last one. */
     bool is_last() noexcept {
         if (shared->open.load(std::memory_order_acquire) == 1) return true;
-        calls::spare(&raw); // those that are open can have its slots
+        this->spare(); // those that are open can have its slots
         shared->parked[number] = raw;
         if (shared->open.fetch_sub(1, std::memory_order_acq_rel) == 1) {
             shared->open.store(1, std::memory_order_relaxed);
@@ -785,13 +1151,13 @@ private:
 
     /* Closes handles of one set, which are open, all of them or none; `at` gives each by its number. */
     template <class At>
-    static closed_type close_all(std::size_t count, const At &at) {
+    static result<std::optional<report_type>> close_all(std::size_t count, const At &at) {
         basic_handle &last = at(count - 1);
-        items room(last.shared->slots);
+        detail::report_room<kind> room(last.shared->slots);
         for (std::size_t i = 0; i + 1 < count; i++) at(i).is_last(); // parked, since the last one is open
-        if (!last.is_last()) return {close_answer::others_are_open, std::nullopt};
-        closed_type told = last.close_last(std::move(room));
-        for (std::size_t i = 0; i + 1 < count && told.answer == close_answer::no_memory; i++) at(i).open_again(last);
+        if (!last.is_last()) return std::optional<report_type>();
+        auto told = last.close_last(std::move(room));
+        for (std::size_t i = 0; i + 1 < count && told == refusal::no_memory; i++) at(i).open_again(last);
         return told;
     }
 
@@ -803,170 +1169,238 @@ private:
     }
 
     /* Closes all handles of the set at once. Where it is refused memory they stay as they were. */
-    closed_type close_last(items room) {
-        vbr_totals totals = {};
+    result<std::optional<report_type>> close_last(detail::report_room<kind> room) {
         std::swap(shared->parked[number], raw);
-        vbr_answer code = calls::close_all(shared->parked.data(), shared->count, room.data(), room.size(), &totals);
+        vbr_answer code = room.fill([&](auto *items, std::size_t size, vbr_report *totals) {
+            return kind::close_all(shared->parked.data(), shared->count, items, size, totals);
+        });
         std::swap(shared->parked[number], raw);
-        if (code == VBR_NO_MEMORY) return {close_answer::no_memory, std::nullopt};
+        if (code == VBR_NO_MEMORY) return refusal::no_memory;
         end_last();
-        if (code != VBR_YES) return {close_answer::lost, std::nullopt};
-        room.resize(totals.live);
-        room.shrink_to_fit();
-        return {close_answer::last, typename calls::report{std::move(room), totals.epoch, totals.marked, totals.free}};
+        if (code != VBR_YES) return refusal::lost;
+        return std::optional(room.report());
     }
 
     void end() noexcept {
         if (this->is_open() && is_last()) end_last();
     }
 
-    /* Drops all handles, empty ones too, which takes no memory. */
+    /* Gives up all handles, empty ones too, which takes no memory. */
     void end_last() noexcept {
-        for (typename calls::raw &other : shared->parked) calls::drop(&other);
-        calls::drop(&raw);
+        std::swap(shared->parked[number], raw);
+        kind::end_all(shared->parked.data(), shared->parked.size());
+        raw = {};
         shared.reset();
     }
 
     using Pass::raw;
     std::size_t number = 0;
-    std::shared_ptr<detail::shared<calls>> shared;
+    std::shared_ptr<detail::shared<kind>> shared;
 };
 
-/* A handle to a set, or an empty one.
-
-       vbr::handle mine = std::move(most.handles[0]); // handles are moved, and never copied */
-using handle = basic_handle<pass>;
-
-/* A handle to a map, or an empty one.
-
-       vbr::map_handle mine = std::move(some.handles[0]); // handles are moved, and never copied */
-using map_handle = basic_handle<map_pass>;
-
-/* What an opening answers, with as many handles as were asked for if it is done, and none otherwise.
-
-       auto [opened, handles] = vbr::open(vbr::shape::for_keys(1024, 2), 2); */
-struct [[nodiscard]] opened {
-    open_answer answer;
-    std::vector<handle> handles;
-};
-
-/* The same of a map.
-
-       vbr::map_opened some = vbr::open_map_with(shape, 1, want.data(), want.size()); */
-struct [[nodiscard]] map_opened {
-    open_answer answer;
-    std::vector<map_handle> handles;
-};
-
-/* What all openings do, by the call of vbr.h that they are given. It is no part of the interface. */
-template <class Opened, class Open>
-Opened open_by(const shape &wanted, std::size_t count, const Open &call, std::size_t most = max_handles) {
-    using handle_type = typename decltype(Opened::handles)::value_type;
-    using calls = typename handle_type::calls;
-    auto shared = std::make_shared<detail::shared<calls>>();
-    std::vector<handle_type> handles(count <= most ? count : 0);
-    shared->parked.resize(handles.size());
-    std::vector<typename calls::raw> raw(handles.empty() ? 1 : handles.size());
-    auto answer = open_answer{static_cast<std::int32_t>(call(raw.data(), handles.size()))};
-    if (answer != open_answer::done) return {answer, {}};
-    shared->open.store(count, std::memory_order_relaxed);
-    shared->count = count;
-    shared->slots = wanted.slots;
-    for (std::size_t i = 0; i < count; i++) {
-        handles[i].raw = raw[i];
-        handles[i].number = i;
-        handles[i].shared = shared;
-    }
-    return {answer, std::move(handles)};
-}
-
-/* Opens a set of these keys, which ascend, each above the one before.
-
-       vbr::opened some = vbr::open_with(shape, 1, want.data(), want.size()); */
-inline opened open_with(const shape &wanted, std::size_t count, const std::uint64_t *keys, std::size_t key_count) {
-    static constexpr std::uint64_t no_key = 0;
-    return open_by<opened>(wanted, count, [&](vbr_handle *handles, std::size_t number) {
-        std::uint64_t seed = wanted.seed ? *wanted.seed : random_seed();
-        return vbr_open_seeded(handles, number, wanted.slots, wanted.buckets, wanted.last_epoch, seed, key_count ? keys : &no_key, key_count);
-    });
-}
-
-/* Opens an empty set with `count` handles, from 1 to 64.
-
-       auto [opened, handles] = vbr::open(vbr::shape::for_keys(1024, 2), 2); */
-inline opened open(const shape &wanted, std::size_t count) { return open_with(wanted, count, nullptr, 0); }
-
-/* The same with a list of keys.
-
-       auto opened = vbr::open_with(vbr::shape::for_keys(8, 1), 1, {2, 5, 9}); */
-inline opened open_with(const shape &wanted, std::size_t count, std::initializer_list<std::uint64_t> keys) {
-    return open_with(wanted, count, keys.begin(), keys.size());
-}
+// vbr_lend.hpp has these.
+template <class Handle>
+class basic_lender;
+template <class Handle, class Owner = detail::lending<Handle> *>
+class basic_loan;
 
 namespace detail {
 
-template <class Item, class Range, class = void>
-struct is_array_of : std::false_type {};
+template <class Items, class = void>
+struct array_of {
+    using type = void;
+};
 
-template <class Item, class Range>
-struct is_array_of<Item, Range, std::void_t<decltype(std::data(std::declval<const Range &>())), decltype(std::size(std::declval<const Range &>()))>>
-    : std::is_convertible<decltype(std::data(std::declval<const Range &>())), const Item *> {};
+template <class Items>
+struct array_of<Items, std::void_t<decltype(std::data(std::declval<const Items &>())),
+                                   decltype(std::size(std::declval<const Items &>()))>> {
+    using type = std::remove_cv_t<std::remove_pointer_t<decltype(std::data(std::declval<const Items &>()))>>;
+};
 
-template <class Number>
-inline constexpr bool is_number = std::is_unsigned_v<Number> && !std::is_same_v<Number, bool>;
+/* Whether a value of one type stands for one of another without doubt: it is of that type, or an unsigned number that isn't wider. */
+template <class From, class To>
+inline constexpr bool stands_for =
+    std::is_same_v<From, To> || (std::is_unsigned_v<From> && std::is_unsigned_v<To> && sizeof(From) <= sizeof(To) &&
+                                 !std::is_same_v<From, bool> && !std::is_same_v<To, bool>);
+
+/* An item of a range, as a key or an entry. */
+template <class Key>
+Key taken_as(const set_of<Key> *, const Key &key) noexcept {
+    return key;
+}
+
+template <class Key, class From>
+Key taken_as(const set_of<Key> *, const From &key) noexcept {
+    static_assert(stands_for<From, Key>, "keys are of the set's type, or unsigned numbers that it has room for");
+    return static_cast<Key>(key);
+}
+
+template <class Key, class Value, class From>
+typename map_of<Key, Value>::item taken_as(const map_of<Key, Value> *, const From &from) noexcept {
+    const auto &[key, value] = from;
+    static_assert(stands_for<std::decay_t<decltype(key)>, Key>, "keys are of the map's type, or unsigned numbers that it has room for");
+    static_assert(stands_for<std::decay_t<decltype(value)>, Value>, "values are of the map's type, or unsigned numbers that have room");
+    return {static_cast<Key>(key), static_cast<Value>(value)};
+}
+
+/* The openings of sets, and those of maps; vbr::set and vbr::map have them. */
+template <class Handle>
+struct openings {
+private:
+    using kind = typename Handle::kind;
+    using item = typename Handle::item_type;
+
+public:
+    using handle = Handle;
+    using pass = typename Handle::pass_type;
+    using report = typename Handle::report_type;
+    using loan = basic_loan<Handle>;
+    using owned_loan = basic_loan<Handle, std::shared_ptr<lending<Handle>>>;
+    using lender = basic_lender<Handle>;
+
+    static result<std::vector<Handle>> open(const shape &wanted, std::size_t count) { return open_with(wanted, count, nullptr, 0); }
+    static result<std::vector<Handle>> open_with(const shape &wanted, std::size_t count, const item *items, std::size_t item_count) {
+        return opened(kind::open, wanted, count, max_handles, items, item_count);
+    }
+    static result<std::vector<Handle>> open_with(const shape &wanted, std::size_t count, std::initializer_list<item> items) {
+        return open_with(wanted, count, items.begin(), items.size());
+    }
+    template <class Items>
+    static result<std::vector<Handle>> open_with(const shape &wanted, std::size_t count, const Items &items) {
+        if constexpr (std::is_same_v<typename array_of<Items>::type, item>) {
+            return open_with(wanted, count, std::data(items), std::size(items));
+        } else {
+            std::vector<item> copy;
+            for (const auto &each : items) copy.push_back(taken_as(static_cast<const kind *>(nullptr), each));
+            return open_with(wanted, count, copy.data(), copy.size());
+        }
+    }
+    static result<std::vector<Handle>> open_many(const shape &wanted, std::size_t count, const item *items = nullptr,
+                                                 std::size_t item_count = 0) {
+        return opened(kind::open_many, wanted, count, max_many_handles, items, item_count);
+    }
+
+private:
+    template <class Call>
+    static result<std::vector<Handle>> opened(const Call &call, const shape &wanted, std::size_t count, std::size_t most, const item *items,
+                                              std::size_t item_count) {
+        static constexpr typename kind::words none = {};
+        std::vector<typename kind::words> copy;
+        const typename kind::words *words = &none;
+        if constexpr (kind::is_plain) {
+            if (item_count) words = items;
+        } else {
+            for (std::size_t i = 0; i < item_count; i++) copy.push_back(kind::words_of(items[i]));
+            if (item_count) words = copy.data();
+        }
+        auto shared = std::make_shared<detail::shared<kind>>();
+        std::vector<Handle> handles(count <= most ? count : 0);
+        shared->parked.resize(handles.size());
+        std::vector<typename kind::raw> raw(handles.empty() ? 1 : handles.size());
+        vbr_answer code = call(raw.data(), handles.size(), wanted, wanted.seed ? *wanted.seed : random_seed(), words, item_count);
+        if (code != VBR_OK) return refusal{code};
+        shared->open.store(count, std::memory_order_relaxed);
+        shared->count = count;
+        shared->slots = wanted.slots;
+        for (std::size_t i = 0; i < count; i++) {
+            handles[i].raw = raw[i];
+            handles[i].number = i;
+            handles[i].shared = shared;
+            if (wanted.steps) handles[i].set_steps(*wanted.steps);
+        }
+        return handles;
+    }
+};
 
 } // namespace detail
+
+/* The sets of a type of keys: what opens them, and the types of their handles, passes, reports, lenders and loans. A key is trivially
+   copyable, of at most 64 bits, and told apart by its bits (is_by_bits).
+
+       using colours = vbr::set<colour>;
+       colours::handle mine = std::move(colours::open(vbr::shape::for_keys(8, 1), 1)->front()); */
+template <class Key = std::uint64_t>
+struct set : detail::openings<basic_handle<basic_set_pass<Key>>> {
+    static_assert((detail::fits_key<Key>(), true));
+    using key_type = Key;
+};
+
+/* The maps of a type of keys and one of values, likewise. Values are compared by their bits; they may be float or double too.
+
+       using ports = vbr::map<address, std::uint16_t>;
+       std::vector<ports::handle> of = ports::open(vbr::shape::for_keys(1024, 2), 2).value(); */
+template <class Key = std::uint64_t, class Value = std::uint64_t>
+struct map : detail::openings<basic_handle<basic_map_pass<Key, Value>>> {
+    static_assert((detail::fits_key<Key>(), detail::fits_value<Value>(), true));
+    using key_type = Key;
+    using value_type = Value;
+    using entry = typename detail::map_of<Key, Value>::item;
+};
+
+/* Those of plain numbers.
+
+       vbr::handle mine = std::move(handles[0]); // handles are moved, and never copied */
+using pass = set<>::pass;
+using handle = set<>::handle;
+using report = set<>::report;
+using map_pass = map<>::pass;
+using map_handle = map<>::handle;
+using map_report = map<>::report;
+
+/* Opens an empty set with `count` handles, from 1 to 64.
+
+       std::vector<vbr::handle> handles = vbr::open(vbr::shape::for_keys(1024, 2), 2).value(); // or it throws vbr::refused */
+inline result<std::vector<handle>> open(const shape &wanted, std::size_t count) { return set<>::open(wanted, count); }
+
+/* Opens a set of these keys, which ascend, each above the one before.
+
+       auto some = vbr::open_with(shape, 1, want.data(), want.size()); */
+inline result<std::vector<handle>> open_with(const shape &wanted, std::size_t count, const std::uint64_t *keys, std::size_t key_count) {
+    return set<>::open_with(wanted, count, keys, key_count);
+}
+
+/* The same with a list of keys.
+
+       auto few = vbr::open_with(vbr::shape::for_keys(8, 1), 1, {2, 5, 9}); */
+inline result<std::vector<handle>> open_with(const shape &wanted, std::size_t count, std::initializer_list<std::uint64_t> keys) {
+    return set<>::open_with(wanted, count, keys);
+}
 
 /* The same with any range of unsigned numbers: an array or a vector of std::uint64_t is read where it is, and others, as a
    std::set, are copied first.
 
        auto opened = vbr::open_with(vbr::shape::for_keys(8, 1), 1, keys); */
 template <class Keys>
-opened open_with(const shape &wanted, std::size_t count, const Keys &keys) {
-    using key = std::decay_t<decltype(*std::begin(keys))>;
-    static_assert(detail::is_number<key>, "keys are unsigned numbers");
-    if constexpr (detail::is_array_of<std::uint64_t, Keys>::value) {
-        return open_with(wanted, count, std::data(keys), std::size(keys));
-    } else {
-        std::vector<std::uint64_t> copy;
-        for (key each : keys) copy.push_back(each);
-        return open_with(wanted, count, copy.data(), copy.size());
-    }
+result<std::vector<handle>> open_with(const shape &wanted, std::size_t count, const Keys &keys) {
+    return set<>::open_with(wanted, count, keys);
 }
 
 /* Opens a set of these keys, which ascend and may be none, with `count` handles, from 1 to max_many_handles.
 
-       vbr::opened crowd = vbr::open_many(vbr::shape::for_keys(1024, 1000), 1000); */
-inline opened open_many(const shape &wanted, std::size_t count, const std::uint64_t *keys = nullptr, std::size_t key_count = 0) {
-    static constexpr std::uint64_t no_key = 0;
-    const auto call = [&](vbr_handle *handles, std::size_t number) {
-        std::uint64_t seed = wanted.seed ? *wanted.seed : random_seed();
-        return vbr_open_many_seeded(handles, number, wanted.slots, wanted.buckets, wanted.last_epoch, seed, key_count ? keys : &no_key, key_count);
-    };
-    return open_by<opened>(wanted, count, call, max_many_handles);
-}
-
-/* Opens a map of these entries, whose keys ascend, each above the one before.
-
-       vbr::map_opened some = vbr::open_map_with(shape, 1, want.data(), want.size()); */
-inline map_opened open_map_with(const shape &wanted, std::size_t count, const entry *entries, std::size_t entry_count) {
-    static constexpr entry no_entry = {0, 0};
-    return open_by<map_opened>(wanted, count, [&](vbr_map_handle *handles, std::size_t number) {
-        std::uint64_t seed = wanted.seed ? *wanted.seed : random_seed();
-        return vbr_map_open_seeded(handles, number, wanted.slots, wanted.buckets, wanted.last_epoch, seed, entry_count ? entries : &no_entry, entry_count);
-    });
+       std::vector<vbr::handle> crowd = vbr::open_many(vbr::shape::for_keys(1024, 1000), 1000).value(); */
+inline result<std::vector<handle>> open_many(const shape &wanted, std::size_t count, const std::uint64_t *keys = nullptr,
+                                             std::size_t key_count = 0) {
+    return set<>::open_many(wanted, count, keys, key_count);
 }
 
 /* Opens an empty map with `count` handles, from 1 to 64.
 
-       auto [opened, handles] = vbr::open_map(vbr::shape::for_keys(1024, 2), 2); */
-inline map_opened open_map(const shape &wanted, std::size_t count) { return open_map_with(wanted, count, nullptr, 0); }
+       std::vector<vbr::map_handle> handles = vbr::open_map(vbr::shape::for_keys(1024, 2), 2).value(); */
+inline result<std::vector<map_handle>> open_map(const shape &wanted, std::size_t count) { return map<>::open(wanted, count); }
+
+/* Opens a map of these entries, whose keys ascend, each above the one before.
+
+       auto some = vbr::open_map_with(shape, 1, want.data(), want.size()); */
+inline result<std::vector<map_handle>> open_map_with(const shape &wanted, std::size_t count, const entry *entries,
+                                                     std::size_t entry_count) {
+    return map<>::open_with(wanted, count, entries, entry_count);
+}
 
 /* The same with a list of entries.
 
-       auto opened = vbr::open_map_with(vbr::shape::for_keys(8, 1), 1, {{2, 20}, {5, 50}, {9, 90}}); */
-inline map_opened open_map_with(const shape &wanted, std::size_t count, std::initializer_list<entry> entries) {
-    return open_map_with(wanted, count, entries.begin(), entries.size());
+       auto few = vbr::open_map_with(vbr::shape::for_keys(8, 1), 1, {{2, 20}, {5, 50}, {9, 90}}); */
+inline result<std::vector<map_handle>> open_map_with(const shape &wanted, std::size_t count, std::initializer_list<entry> entries) {
+    return map<>::open_with(wanted, count, entries);
 }
 
 /* The same with any range of entries, or of pairs of unsigned numbers: an array or a vector of vbr::entry is read where it is,
@@ -974,30 +1408,16 @@ inline map_opened open_map_with(const shape &wanted, std::size_t count, std::ini
 
        auto opened = vbr::open_map_with(vbr::shape::for_keys(8, 1), 1, entries); */
 template <class Entries>
-map_opened open_map_with(const shape &wanted, std::size_t count, const Entries &entries) {
-    if constexpr (detail::is_array_of<entry, Entries>::value) {
-        return open_map_with(wanted, count, std::data(entries), std::size(entries));
-    } else {
-        std::vector<entry> copy;
-        for (const auto &[key, value] : entries) {
-            static_assert(detail::is_number<std::decay_t<decltype(key)>>, "keys are unsigned numbers");
-            static_assert(detail::is_number<std::decay_t<decltype(value)>>, "values are unsigned numbers");
-            copy.push_back({key, value});
-        }
-        return open_map_with(wanted, count, copy.data(), copy.size());
-    }
+result<std::vector<map_handle>> open_map_with(const shape &wanted, std::size_t count, const Entries &entries) {
+    return map<>::open_with(wanted, count, entries);
 }
 
 /* Opens a map of these entries, whose keys ascend, and which may be none, with `count` handles, from 1 to max_many_handles.
 
-       vbr::map_opened crowd = vbr::open_map_many(vbr::shape::for_keys(1024, 1000), 1000); */
-inline map_opened open_map_many(const shape &wanted, std::size_t count, const entry *entries = nullptr, std::size_t entry_count = 0) {
-    static constexpr entry no_entry = {0, 0};
-    const auto call = [&](vbr_map_handle *handles, std::size_t number) {
-        std::uint64_t seed = wanted.seed ? *wanted.seed : random_seed();
-        return vbr_map_open_many_seeded(handles, number, wanted.slots, wanted.buckets, wanted.last_epoch, seed, entry_count ? entries : &no_entry, entry_count);
-    };
-    return open_by<map_opened>(wanted, count, call, max_many_handles);
+       std::vector<vbr::map_handle> crowd = vbr::open_map_many(vbr::shape::for_keys(1024, 1000), 1000).value(); */
+inline result<std::vector<map_handle>> open_map_many(const shape &wanted, std::size_t count, const entry *entries = nullptr,
+                                                     std::size_t entry_count = 0) {
+    return map<>::open_many(wanted, count, entries, entry_count);
 }
 
 } // namespace vbr

@@ -3,12 +3,12 @@
 
        vbr_handle handle[8] = {{0}};
        vbr_lender lender = {0};
-       if (vbr_open(handle, 8, 1024 + 8 * 64, 1024, VBR_MAX_EPOCH) != VBR_NO) return 1;
+       if (vbr_open(handle, 8, 1024 + 8 * 64, 1024, VBR_MAX_EPOCH) != VBR_OK) return 1;
        vbr_lender_init(&lender, handle, 8);
 
        vbr_handle *mine = vbr_lend(&lender);        // in any thread; NULL: all eight are lent
        if (mine) {
-           vbr_answer added = vbr_insert(mine, 5, VBR_AMPLE_BUDGET(1024 + 8 * 64));
+           vbr_answer added = vbr_insert(mine, 5);
            vbr_give_back(&lender, mine);
        }
 
@@ -29,9 +29,9 @@
 #include "vbr.h"
 
 #ifdef __cplusplus
-#define VBR_NO_HANDLE nullptr
+#define VBR_LENDS_NONE nullptr
 #else
-#define VBR_NO_HANDLE NULL
+#define VBR_LENDS_NONE NULL
 #endif
 
 /* What both lenders do has a word for each handle: whether it is lent. No two words share a cache line, wherever they lie. It is no
@@ -113,7 +113,7 @@ VBR_NONNULL static inline void vbr_lender_init(vbr_lender *lender, vbr_handle *h
        vbr_handle *mine = vbr_lend(&lender); // NULL: both are lent */
 VBR_NODISCARD VBR_NONNULL static inline vbr_handle *vbr_lend(vbr_lender *lender) VBR_NOEXCEPT {
     size_t number = vbr_lend_number(lender->words, &lender->lends);
-    return number == SIZE_MAX ? VBR_NO_HANDLE : &lender->handles[number];
+    return number == SIZE_MAX ? VBR_LENDS_NONE : &lender->handles[number];
 }
 
 /* Gives back a handle that was lent by this lender, and isn't in a call.
@@ -160,7 +160,7 @@ VBR_NONNULL static inline void vbr_map_lender_init(vbr_map_lender *lender, vbr_m
        vbr_map_handle *mine = vbr_map_lend(&lender); // NULL: both are lent */
 VBR_NODISCARD VBR_NONNULL static inline vbr_map_handle *vbr_map_lend(vbr_map_lender *lender) VBR_NOEXCEPT {
     size_t number = vbr_lend_number(lender->words, &lender->lends);
-    return number == SIZE_MAX ? VBR_NO_HANDLE : &lender->handles[number];
+    return number == SIZE_MAX ? VBR_LENDS_NONE : &lender->handles[number];
 }
 
 /* Gives back a handle to a map that was lent by this lender, and isn't in a call.
@@ -190,6 +190,6 @@ VBR_NONNULL static inline void vbr_map_lender_lend_on(vbr_map_lender *lender) VB
     __atomic_store_n(&lender->lends, lender->count, __ATOMIC_RELAXED);
 }
 
-#undef VBR_NO_HANDLE
+#undef VBR_LENDS_NONE
 
 #endif

@@ -1,13 +1,13 @@
 /* Handles that are lent, for C++17 and later: for programs whose threads come and go, or are more than the handles of a set. vbr.hpp
    includes it. A lender has up to 64 handles. Whoever wants to make calls borrows one, and its loan's end gives it back.
 
-       vbr::lender lender(std::move(opened.handles));
+       vbr::lender lender(vbr::open(shape, 3).value());
        vbr::loan mine = lender.lend();                        // in any thread; none: all are lent at the moment
        vbr::loan waited = lender.lend_wait();                 // as soon as one is free
        vbr::loan in_time = lender.lend_for(10ms);             // none: all were lent until the time was over
        vbr::owned_loan task = lender.lend_owned_wait();       // for a task that may outlive the lender
-       vbr::all_answer renewed = lender.renew(shape);         // as soon as all loans are back
-       vbr::closed closed = lender.close();                   // all handles or none
+       vbr::result<void> renewed = lender.renew(shape);       // as soon as all loans are back
+       auto closed = lender.close();                          // all handles or none: the report is **closed
 
    A thread is lent the handle that it had last, where that is free: a loan and its return are then one atomic exchange on a word
    that other threads don't write. What is done with a handle before it is given back comes before what the next borrower does.
@@ -126,7 +126,7 @@ constexpr bool is_in_range(const shape &it) noexcept {
    handles come to have one each, and no two write the same cache line. */
 inline thread_local std::size_t lent_last = 0;
 
-/* The shape of a set, with the seed that was asked for if one was; a renewal changes it while other threads read it. */
+/* The shape of a set, with the seed and the budget that were asked for if any were; a renewal changes it while other threads read it. */
 class shared_shape {
 public:
     void set(const shape &to) noexcept {
@@ -135,22 +135,31 @@ public:
         of_epoch.store(to.last_epoch, std::memory_order_relaxed);
         is_seeded.store(to.seed.has_value(), std::memory_order_relaxed);
         of_seed.store(to.seed.value_or(0), std::memory_order_relaxed);
+        is_budgeted.store(to.steps.has_value(), std::memory_order_relaxed);
+        of_steps.store(to.steps ? to.steps->count() : 0, std::memory_order_relaxed);
     }
     std::uint32_t slots() const noexcept { return of_slots.load(std::memory_order_relaxed); }
     std::uint32_t buckets() const noexcept { return of_buckets.load(std::memory_order_relaxed); }
     std::uint64_t last_epoch() const noexcept { return of_epoch.load(std::memory_order_relaxed); }
     bool is(const shape &other) const noexcept {
-        return slots() == other.slots && buckets() == other.buckets && last_epoch() == other.last_epoch && has_seed_of(other);
+        return slots() == other.slots && buckets() == other.buckets && last_epoch() == other.last_epoch && has_seed_of(other) &&
+               has_steps_of(other);
     }
 
 private:
     bool has_seed_of(const shape &other) const noexcept {
-        return is_seeded.load(std::memory_order_relaxed) == other.seed.has_value() && of_seed.load(std::memory_order_relaxed) == other.seed.value_or(0);
+        return is_seeded.load(std::memory_order_relaxed) == other.seed.has_value() &&
+               of_seed.load(std::memory_order_relaxed) == other.seed.value_or(0);
     }
 
-    std::atomic<std::uint32_t> of_slots{0}, of_buckets{0};
+    bool has_steps_of(const shape &other) const noexcept {
+        return is_budgeted.load(std::memory_order_relaxed) == other.steps.has_value() &&
+               of_steps.load(std::memory_order_relaxed) == (other.steps ? other.steps->count() : 0);
+    }
+
+    std::atomic<std::uint32_t> of_slots{0}, of_buckets{0}, of_steps{0};
     std::atomic<std::uint64_t> of_epoch{0}, of_seed{0};
-    std::atomic<bool> is_seeded{false};
+    std::atomic<bool> is_seeded{false}, is_budgeted{false};
 };
 
 /* A handle, and whether it is lent, on cache lines of their own. */
@@ -204,19 +213,30 @@ public:
     }
 
     /* Closes all handles or none of them. */
-    typename Handle::closed_type close() {
+    result<std::optional<typename Handle::report_type>> close() {
         const std::size_t all = handles();
-        if (all == 0) return {close_answer::empty, std::nullopt};
+        if (all == 0) return refusal::no_handle;
         all_taken taken(*this, all);
-        if (taken.count < all) return {close_answer::on_loan, std::nullopt};
+        if (taken.count < all) return refusal::on_loan;
         auto told = Handle::close_all(all, [this](std::size_t number) -> Handle & { return places[number].handle; });
-        if (told.answer != close_answer::no_memory) end();
+        if (told != refusal::no_memory) end();
         return told;
     }
 
+    /* Ends all handles or none of them. */
+    result<void> end_all() noexcept {
+        const std::size_t all = handles();
+        if (all == 0) return refusal::no_handle;
+        all_taken taken(*this, all);
+        if (taken.count < all) return refusal::on_loan;
+        for (std::size_t i = 0; i < all; i++) places[i].handle = Handle();
+        end();
+        return result<void>(std::in_place);
+    }
+
     /* Lets the handles go on over a fresh set of this shape, once all loans are back, if they are before the time is over. */
-    all_answer renew(const shape &wanted, const deadline &until) {
-        if (!is_in_range(wanted)) return all_answer::bad_shape;
+    result<void> renew(const shape &wanted, const deadline &until) {
+        if (!is_in_range(wanted)) return refusal::bad_shape;
         renewal mine(*this);
         const std::size_t before = renewals.load(std::memory_order_relaxed);
         bool is_done_by_another = false;
@@ -225,11 +245,11 @@ public:
             is_done_by_another = no_other_has_its_turn && renewals.load(std::memory_order_relaxed) != before && opened.is(wanted);
             return is_done_by_another || handles() == 0 || mine.takes_all();
         });
-        if (is_done_by_another) return all_answer::done;
-        if (handles() == 0) return all_answer::empty;
-        if (!mine.has_all()) return all_answer::on_loan;
-        all_answer told = Handle::renew_all(handles(), [this](std::size_t number) -> Handle & { return places[number].handle; }, wanted);
-        if (told == all_answer::done) {
+        if (is_done_by_another) return result<void>(std::in_place);
+        if (handles() == 0) return refusal::no_handle;
+        if (!mine.has_all()) return refusal::on_loan;
+        result<void> told = Handle::renew_all(handles(), [this](std::size_t number) -> Handle & { return places[number].handle; }, wanted);
+        if (told) {
             opened.set(wanted);
             renewals.fetch_add(1, std::memory_order_relaxed);
         }
@@ -311,7 +331,7 @@ private:
 
        vbr::loan mine = lender.lend();
        if (!mine) { // all are lent at the moment */
-template <class Handle, class Owner = detail::lending<Handle> *>
+template <class Handle, class Owner>
 class [[nodiscard]] basic_loan {
 public:
     using pass_type = typename Handle::pass_type;
@@ -345,7 +365,8 @@ public:
 private:
     template <class>
     friend class basic_lender;
-    basic_loan(Owner from, typename detail::lending<Handle>::place_type *which) noexcept : owner(which ? std::move(from) : Owner()), at(which) {}
+    basic_loan(Owner from, typename detail::lending<Handle>::place_type *which) noexcept
+        : owner(which ? std::move(from) : Owner()), at(which) {}
 
     void give_back() noexcept {
         if (at) owner->give_back(*std::exchange(at, nullptr));
@@ -355,9 +376,9 @@ private:
     typename detail::lending<Handle>::place_type *at = nullptr;
 };
 
-/* Lends handles of a set or a map, up to 64, to threads that come and go.
+/* Lends handles of a set or a map, up to 64, to threads that come and go. A call by a loan has the budget of its handle.
 
-       vbr::lender lender(std::move(opened.handles)); */
+       vbr::lender lender(vbr::open(shape, 3).value()); */
 template <class Handle>
 class basic_lender {
     using lending = detail::lending<Handle>;
@@ -376,7 +397,7 @@ public:
 
     /* Keeps open handles of one set. Where there is no memory for the lender they stay where they are.
 
-           vbr::lender lender(std::move(opened.handles)); */
+           vbr::lender lender(vbr::open(shape, 3).value()); */
     explicit basic_lender(std::vector<Handle> &&handles) : all(std::make_shared<lending>()) { all->keep(handles); }
 
     /* A free handle, or none where each was lent at a moment of the call, or the set is being renewed. It tries each handle at most
@@ -426,25 +447,30 @@ public:
        waits for ever. The fresh set is opened before the other one is given up. Unless it is done all is as it was, and it lends
        again. Where another thread renews to the same shape while this one waits, one renewal serves both.
 
-           vbr::all_answer renewed = lender.renew(shape); */
-    all_answer renew(const shape &wanted) { return all ? all->renew(wanted, std::nullopt) : all_answer::empty; }
+           vbr::result<void> renewed = lender.renew(shape); */
+    result<void> renew(const shape &wanted) { return all ? all->renew(wanted, std::nullopt) : refusal::no_handle; }
 
-    /* The same, or on_loan where not all loans were back until the time was over.
+    /* The same, or refused with on_loan where not all loans were back until the time was over.
 
-           vbr::all_answer in_vain = lender.renew_for(shape, 10ms); // on_loan: a loan is still out */
+           vbr::result<void> in_vain = lender.renew_for(shape, 10ms); // refusal::on_loan: a loan is still out */
     template <class Rep, class Period>
-    all_answer renew_for(const shape &wanted, const std::chrono::duration<Rep, Period> &limit) {
-        return all ? all->renew(wanted, detail::after(limit)) : all_answer::empty;
+    result<void> renew_for(const shape &wanted, const std::chrono::duration<Rep, Period> &limit) {
+        return all ? all->renew(wanted, detail::after(limit)) : refusal::no_handle;
     }
 
-    /* Closes all handles and gives the report, or none: where one is on loan or they are being renewed, and where there is no memory
-       for the report, it lends on.
+    /* Closes all handles and gives the report, or none of them: where one is on loan or they are being renewed, and where there is no
+       memory for the report, it lends on. There is no report where handles of the set that it wasn't given are open.
 
-           vbr::closed closed = lender.close(); */
-    typename Handle::closed_type close() {
-        if (!all) return {close_answer::empty, std::nullopt};
+           std::optional<vbr::report> report = lender.close().value(); */
+    result<std::optional<typename Handle::report_type>> close() {
+        if (!all) return refusal::no_handle;
         return all->close();
     }
+
+    /* Ends all handles without a report, or none of them, likewise. It takes no memory, and no time for the keys.
+
+           vbr::result<void> ended = another.end_all(); */
+    result<void> end_all() noexcept { return all ? all->end_all() : refusal::no_handle; }
 
 private:
     using place_type = typename lending::place_type;
@@ -464,20 +490,16 @@ private:
     shared_lending all;
 };
 
-/* Those of a set.
+/* Those of plain numbers: of a set, and of a map.
 
-       vbr::lender lender(std::move(opened.handles)); */
-using lender = basic_lender<handle>;
-using loan = lender::loan_type;
-using owned_loan = lender::owned_loan_type;
-
-/* Those of a map.
-
-       vbr::map_lender lender(std::move(opened.handles));
-       vbr::map_loan mine = lender.lend(); */
-using map_lender = basic_lender<map_handle>;
-using map_loan = map_lender::loan_type;
-using owned_map_loan = map_lender::owned_loan_type;
+       vbr::lender lender(vbr::open(shape, 3).value());
+       vbr::map_loan mine = sessions.lend(); */
+using lender = set<>::lender;
+using loan = set<>::loan;
+using owned_loan = set<>::owned_loan;
+using map_lender = map<>::lender;
+using map_loan = map<>::loan;
+using owned_map_loan = map<>::owned_loan;
 
 } // namespace vbr
 

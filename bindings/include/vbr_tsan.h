@@ -2,20 +2,20 @@
    with -fsanitize=thread, in C and C++; a program needs no line for it.
 
    The calls go through functions that tell it
-   - that a handle is used: two threads that use one, with no order between them, are reported;
+   - that a handle is used: two threads that use one, with no order between them, are reported, unless both ask for a number of it;
    - that what a thread did before it inserted a key comes before what a thread does that then finds it, and what it did
      before it removed one before what a thread does that then finds it absent;
    - that what was done before a handle was closed comes before what the last close tells, and that this one writes the report.
 
    Of maps it is told the same, where a get is a look-up, and besides that a value was written. A call that may give a key
    another value is told as a remove and an insert. A call of a walk is told to write its cursor, and one that gives a key finds
-   it, and writes it. So a right program is silent,
-   and one that reads what it didn't look up, or what is absent, is reported. What the library itself copies and frees while it closes,
-   drops, reports and renews isn't told, since the sanitizer doesn't see the steps that order it: threads may close and drop handles
-   of their own at the same time. The names of the calls stand for the functions, so pointers to calls go through them too, and
-   members of these names keep one name. The sanitizer has a place for each of 16,384
-   groups of keys, whatever the set, and takes a call that would have changed something, and is answered otherwise or refused,
-   for one that has: where keys of a group meet, or after such an answer, it may miss a race. */
+   it, and writes it. So a right program is silent, and one that reads what it didn't look up, or what is absent, is reported.
+   What the library itself copies and frees while it closes, drops, reports and renews isn't told, since the sanitizer doesn't
+   see the steps that order it: threads may close and drop handles of their own at the same time. The names of the calls within
+   steps and of the others stand for the functions, and those without a budget call these; so pointers to calls go through them
+   too, and members of these names keep one name. The sanitizer has a place for each of 16,384 groups of keys, whatever the set,
+   and takes a call that would have changed something, and is answered otherwise or refused, for one that has: where keys of a
+   group meet, or after such an answer, it may miss a race. */
 #ifndef VBR_TSAN_H
 #define VBR_TSAN_H
 
@@ -27,6 +27,7 @@ extern "C" {
 
 void __tsan_acquire(void *address);
 void __tsan_release(void *address);
+void __tsan_read8(void *address);
 void __tsan_write8(void *address);
 void __tsan_write4(void *address);
 void __tsan_write_range(void *address, unsigned long size);
@@ -53,17 +54,17 @@ static inline void *vbr_tsan_closed(void) {
     return &vbr_tsan_places[2 * VBR_TSAN_GROUPS];
 }
 
-/* A call on a handle writes what the handle owns. */
-static inline void vbr_tsan_owned(void *owned) {
-    if (owned) __tsan_write8(owned);
-}
-
+/* A call on a handle writes what the handle owns, and one that shows a number reads it. */
 static inline void vbr_tsan_uses(const vbr_handle *handle) {
-    if (handle) vbr_tsan_owned(handle->owned);
+    if (handle && handle->owned) __tsan_write8(handle->owned);
 }
 
 static inline void vbr_tsan_map_uses(const vbr_map_handle *handle) {
-    if (handle) vbr_tsan_owned(handle->owned);
+    if (handle && handle->owned) __tsan_write8(handle->owned);
+}
+
+static inline void vbr_tsan_reads(void *owned) {
+    if (owned) __tsan_read8(owned);
 }
 
 /* What comes before the answer of an insert. */
@@ -104,108 +105,108 @@ static inline vbr_answer vbr_tsan_walked(vbr_cursor *cursor, uint64_t *key, vbr_
     return answer == VBR_YES ? vbr_tsan_found(*key, vbr_tsan_given(key, answer)) : answer;
 }
 
-VBR_NODISCARD static inline vbr_answer vbr_tsan_insert(vbr_handle *handle, uint64_t key, uint32_t budget) VBR_NOEXCEPT {
+VBR_NODISCARD static inline vbr_answer vbr_tsan_insert_within(vbr_handle *handle, uint64_t key, uint32_t steps) VBR_NOEXCEPT {
     vbr_tsan_uses(handle);
     __tsan_release(vbr_tsan_there(key));
-    return vbr_tsan_added(key, vbr_insert(handle, key, budget));
+    return vbr_tsan_added(key, vbr_insert_within(handle, key, steps));
 }
 
-VBR_NODISCARD static inline vbr_answer vbr_tsan_remove(vbr_handle *handle, uint64_t key, uint32_t budget) VBR_NOEXCEPT {
+VBR_NODISCARD static inline vbr_answer vbr_tsan_remove_within(vbr_handle *handle, uint64_t key, uint32_t steps) VBR_NOEXCEPT {
     vbr_tsan_uses(handle);
     __tsan_release(vbr_tsan_gone(key));
-    return vbr_tsan_found(key, vbr_remove(handle, key, budget));
+    return vbr_tsan_found(key, vbr_remove_within(handle, key, steps));
 }
 
-VBR_NODISCARD static inline vbr_answer vbr_tsan_has(vbr_handle *handle, uint64_t key, uint32_t budget) VBR_NOEXCEPT {
+VBR_NODISCARD static inline vbr_answer vbr_tsan_has_within(vbr_handle *handle, uint64_t key, uint32_t steps) VBR_NOEXCEPT {
     vbr_tsan_uses(handle);
-    return vbr_tsan_found(key, vbr_has(handle, key, budget));
+    return vbr_tsan_found(key, vbr_has_within(handle, key, steps));
 }
 
-static inline void vbr_tsan_has_all(vbr_handle *handle, const uint64_t *keys, size_t count, vbr_answer *answers, uint32_t budget) VBR_NOEXCEPT {
+static inline void vbr_tsan_has_all_within(vbr_handle *handle, const uint64_t *keys, size_t count, vbr_answer *answers, uint32_t steps) VBR_NOEXCEPT {
     vbr_tsan_uses(handle);
-    vbr_has_all(handle, keys, count, answers, budget);
+    vbr_has_all_within(handle, keys, count, answers, steps);
     for (size_t i = 0; i < count; i++) vbr_tsan_told(keys[i], &answers[i]);
 }
 
-VBR_NODISCARD static inline vbr_answer vbr_tsan_next(vbr_handle *handle, vbr_cursor *cursor, uint32_t budget, uint64_t *key) VBR_NOEXCEPT {
+VBR_NODISCARD static inline vbr_answer vbr_tsan_next_within(vbr_handle *handle, vbr_cursor *cursor, uint64_t *key, uint32_t steps) VBR_NOEXCEPT {
     vbr_tsan_uses(handle);
-    return vbr_tsan_walked(cursor, key, vbr_next(handle, cursor, budget, key));
+    return vbr_tsan_walked(cursor, key, vbr_next_within(handle, cursor, key, steps));
 }
 
-VBR_NODISCARD static inline vbr_answer vbr_tsan_map_insert(vbr_map_handle *handle, uint64_t key, uint64_t value, uint32_t budget) VBR_NOEXCEPT {
+VBR_NODISCARD static inline vbr_answer vbr_tsan_map_insert_within(vbr_map_handle *handle, uint64_t key, uint64_t value, uint32_t steps) VBR_NOEXCEPT {
     vbr_tsan_map_uses(handle);
     __tsan_release(vbr_tsan_there(key));
-    return vbr_tsan_added(key, vbr_map_insert(handle, key, value, budget));
+    return vbr_tsan_added(key, vbr_map_insert_within(handle, key, value, steps));
 }
 
-VBR_NODISCARD static inline vbr_answer vbr_tsan_map_remove(vbr_map_handle *handle, uint64_t key, uint32_t budget, uint64_t *value) VBR_NOEXCEPT {
+VBR_NODISCARD static inline vbr_answer vbr_tsan_map_remove_within(vbr_map_handle *handle, uint64_t key, uint64_t *value, uint32_t steps) VBR_NOEXCEPT {
     vbr_tsan_map_uses(handle);
     __tsan_release(vbr_tsan_gone(key));
-    return vbr_tsan_given(value, vbr_tsan_found(key, vbr_map_remove(handle, key, budget, value)));
+    return vbr_tsan_given(value, vbr_tsan_found(key, vbr_map_remove_within(handle, key, value, steps)));
 }
 
-VBR_NODISCARD static inline vbr_answer vbr_tsan_map_get(vbr_map_handle *handle, uint64_t key, uint32_t budget, uint64_t *value) VBR_NOEXCEPT {
+VBR_NODISCARD static inline vbr_answer vbr_tsan_map_get_within(vbr_map_handle *handle, uint64_t key, uint64_t *value, uint32_t steps) VBR_NOEXCEPT {
     vbr_tsan_map_uses(handle);
-    return vbr_tsan_given(value, vbr_tsan_found(key, vbr_map_get(handle, key, budget, value)));
+    return vbr_tsan_given(value, vbr_tsan_found(key, vbr_map_get_within(handle, key, value, steps)));
 }
 
-VBR_NODISCARD static inline vbr_answer vbr_tsan_map_replace(vbr_map_handle *handle, uint64_t key, uint64_t value, uint64_t *found, uint32_t budget) VBR_NOEXCEPT {
-    vbr_tsan_map_uses(handle);
-    vbr_tsan_changes(key);
-    return vbr_tsan_given(found, vbr_tsan_found(key, vbr_map_replace(handle, key, value, found, budget)));
-}
-
-VBR_NODISCARD static inline vbr_answer vbr_tsan_map_put(vbr_map_handle *handle, uint64_t key, uint64_t value, uint64_t *found, uint32_t budget) VBR_NOEXCEPT {
+VBR_NODISCARD static inline vbr_answer vbr_tsan_map_replace_within(vbr_map_handle *handle, uint64_t key, uint64_t value, uint64_t *found, uint32_t steps) VBR_NOEXCEPT {
     vbr_tsan_map_uses(handle);
     vbr_tsan_changes(key);
-    return vbr_tsan_given(found, vbr_tsan_found(key, vbr_map_put(handle, key, value, found, budget)));
+    return vbr_tsan_given(found, vbr_tsan_found(key, vbr_map_replace_within(handle, key, value, found, steps)));
 }
 
-VBR_NODISCARD static inline vbr_answer vbr_tsan_map_get_or_insert(vbr_map_handle *handle, uint64_t key, uint64_t value, uint64_t *found, uint32_t budget) VBR_NOEXCEPT {
+VBR_NODISCARD static inline vbr_answer vbr_tsan_map_put_within(vbr_map_handle *handle, uint64_t key, uint64_t value, uint64_t *found, uint32_t steps) VBR_NOEXCEPT {
+    vbr_tsan_map_uses(handle);
+    vbr_tsan_changes(key);
+    return vbr_tsan_given(found, vbr_tsan_found(key, vbr_map_put_within(handle, key, value, found, steps)));
+}
+
+VBR_NODISCARD static inline vbr_answer vbr_tsan_map_get_or_insert_within(vbr_map_handle *handle, uint64_t key, uint64_t value, uint64_t *found, uint32_t steps) VBR_NOEXCEPT {
     vbr_tsan_map_uses(handle);
     __tsan_release(vbr_tsan_there(key));
-    return vbr_tsan_given(found, vbr_tsan_found(key, vbr_map_get_or_insert(handle, key, value, found, budget)));
+    return vbr_tsan_given(found, vbr_tsan_found(key, vbr_map_get_or_insert_within(handle, key, value, found, steps)));
 }
 
-VBR_NODISCARD static inline vbr_answer vbr_tsan_map_compare_exchange(vbr_map_handle *handle, uint64_t key, uint64_t expected, uint64_t value, uint64_t *found, uint32_t budget) VBR_NOEXCEPT {
+VBR_NODISCARD static inline vbr_answer vbr_tsan_map_compare_exchange_within(vbr_map_handle *handle, uint64_t key, uint64_t expected, uint64_t value, uint64_t *found, uint32_t steps) VBR_NOEXCEPT {
     vbr_tsan_map_uses(handle);
     vbr_tsan_changes(key);
-    return vbr_tsan_given(found, vbr_tsan_found(key, vbr_map_compare_exchange(handle, key, expected, value, found, budget)));
+    return vbr_tsan_given(found, vbr_tsan_found(key, vbr_map_compare_exchange_within(handle, key, expected, value, found, steps)));
 }
 
-VBR_NODISCARD static inline vbr_answer vbr_tsan_map_remove_if(vbr_map_handle *handle, uint64_t key, uint64_t expected, uint64_t *found, uint32_t budget) VBR_NOEXCEPT {
+VBR_NODISCARD static inline vbr_answer vbr_tsan_map_remove_if_within(vbr_map_handle *handle, uint64_t key, uint64_t expected, uint64_t *found, uint32_t steps) VBR_NOEXCEPT {
     vbr_tsan_map_uses(handle);
     __tsan_release(vbr_tsan_gone(key));
-    return vbr_tsan_given(found, vbr_tsan_found(key, vbr_map_remove_if(handle, key, expected, found, budget)));
+    return vbr_tsan_given(found, vbr_tsan_found(key, vbr_map_remove_if_within(handle, key, expected, found, steps)));
 }
 
-VBR_NODISCARD static inline vbr_answer vbr_tsan_map_has(vbr_map_handle *handle, uint64_t key, uint32_t budget) VBR_NOEXCEPT {
+VBR_NODISCARD static inline vbr_answer vbr_tsan_map_has_within(vbr_map_handle *handle, uint64_t key, uint32_t steps) VBR_NOEXCEPT {
     vbr_tsan_map_uses(handle);
-    return vbr_tsan_found(key, vbr_map_has(handle, key, budget));
+    return vbr_tsan_found(key, vbr_map_has_within(handle, key, steps));
 }
 
-static inline void vbr_tsan_map_has_all(vbr_map_handle *handle, const uint64_t *keys, size_t count, vbr_answer *answers, uint32_t budget) VBR_NOEXCEPT {
+static inline void vbr_tsan_map_has_all_within(vbr_map_handle *handle, const uint64_t *keys, size_t count, vbr_answer *answers, uint32_t steps) VBR_NOEXCEPT {
     vbr_tsan_map_uses(handle);
-    vbr_map_has_all(handle, keys, count, answers, budget);
+    vbr_map_has_all_within(handle, keys, count, answers, steps);
     for (size_t i = 0; i < count; i++) vbr_tsan_told(keys[i], &answers[i]);
 }
 
-static inline void vbr_tsan_map_get_all(vbr_map_handle *handle, const uint64_t *keys, size_t count, vbr_found *found, uint32_t budget) VBR_NOEXCEPT {
+static inline void vbr_tsan_map_get_all_within(vbr_map_handle *handle, const uint64_t *keys, size_t count, vbr_found *found, uint32_t steps) VBR_NOEXCEPT {
     vbr_tsan_map_uses(handle);
-    vbr_map_get_all(handle, keys, count, found, budget);
+    vbr_map_get_all_within(handle, keys, count, found, steps);
     for (size_t i = 0; i < count; i++) {
         __tsan_write8(&found[i].value);
         vbr_tsan_told(keys[i], &found[i].answer);
     }
 }
 
-VBR_NODISCARD static inline vbr_answer vbr_tsan_map_next(vbr_map_handle *handle, vbr_cursor *cursor, uint32_t budget, uint64_t *key, uint64_t *value) VBR_NOEXCEPT {
+VBR_NODISCARD static inline vbr_answer vbr_tsan_map_next_within(vbr_map_handle *handle, vbr_cursor *cursor, vbr_entry *entry, uint32_t steps) VBR_NOEXCEPT {
     vbr_tsan_map_uses(handle);
-    return vbr_tsan_given(value, vbr_tsan_walked(cursor, key, vbr_map_next(handle, cursor, budget, key, value)));
+    return vbr_tsan_given(&entry->value, vbr_tsan_walked(cursor, &entry->key, vbr_map_next_within(handle, cursor, entry, steps)));
 }
 
 /* What a call writes that may tell a report, whose items take so many bytes each. */
-static inline vbr_answer vbr_tsan_reported(void *items, size_t size, vbr_totals *report, vbr_answer answer) {
+static inline vbr_answer vbr_tsan_reported(void *items, size_t size, vbr_report *report, vbr_answer answer) {
     if (answer == VBR_YES || answer == VBR_NO_ROOM) __tsan_write_range(report, sizeof *report);
     if (answer == VBR_YES && report->live > 0) __tsan_write_range(items, report->live * size);
     return answer;
@@ -214,7 +215,7 @@ static inline vbr_answer vbr_tsan_reported(void *items, size_t size, vbr_totals 
 /* The calls that sets and maps have alike: FOR is nothing for a set and map_ for a map, and `item` is what a report has. */
 #define VBR_TSAN_CALLS(FOR, item) \
     VBR_NODISCARD static inline vbr_answer vbr_tsan_##FOR##close(vbr_##FOR##handle *handle, item *items, size_t room, \
-                                                                 vbr_totals *report) VBR_NOEXCEPT { \
+                                                                 vbr_report *report) VBR_NOEXCEPT { \
         vbr_tsan_##FOR##uses(handle); \
         __tsan_release(vbr_tsan_closed()); \
         __tsan_ignore_thread_begin(); \
@@ -224,7 +225,7 @@ static inline vbr_answer vbr_tsan_reported(void *items, size_t size, vbr_totals 
         return vbr_tsan_reported(items, sizeof *items, report, answer); \
     } \
     VBR_NODISCARD static inline vbr_answer vbr_tsan_##FOR##close_all(vbr_##FOR##handle *handles, size_t count, item *items, \
-                                                                     size_t room, vbr_totals *report) VBR_NOEXCEPT { \
+                                                                     size_t room, vbr_report *report) VBR_NOEXCEPT { \
         for (size_t i = 0; i < count; i++) vbr_tsan_##FOR##uses(&handles[i]); \
         __tsan_release(vbr_tsan_closed()); \
         __tsan_ignore_thread_begin(); \
@@ -234,7 +235,7 @@ static inline vbr_answer vbr_tsan_reported(void *items, size_t size, vbr_totals 
         return vbr_tsan_reported(items, sizeof *items, report, answer); \
     } \
     VBR_NODISCARD static inline vbr_answer vbr_tsan_##FOR##report_all(vbr_##FOR##handle *handles, size_t count, item *items, \
-                                                                      size_t room, vbr_totals *report) VBR_NOEXCEPT { \
+                                                                      size_t room, vbr_report *report) VBR_NOEXCEPT { \
         for (size_t i = 0; i < count; i++) vbr_tsan_##FOR##uses(&handles[i]); \
         __tsan_ignore_thread_begin(); \
         vbr_answer answer = vbr_##FOR##report_all(handles, count, items, room, report); \
@@ -265,6 +266,13 @@ static inline vbr_answer vbr_tsan_reported(void *items, size_t size, vbr_totals 
         vbr_##FOR##drop(handle); \
         __tsan_ignore_thread_end(); \
     } \
+    static inline void vbr_tsan_##FOR##end_all(vbr_##FOR##handle *handles, size_t count) VBR_NOEXCEPT { \
+        for (size_t i = 0; i < count; i++) vbr_tsan_##FOR##uses(&handles[i]); \
+        __tsan_release(vbr_tsan_closed()); \
+        __tsan_ignore_thread_begin(); \
+        vbr_##FOR##end_all(handles, count); \
+        __tsan_ignore_thread_end(); \
+    } \
     VBR_TSAN_NUMBER(FOR, uint64_t, epoch) \
     VBR_TSAN_NUMBER(FOR, uint64_t, last_epoch) \
     VBR_TSAN_NUMBER(FOR, uint32_t, slots) \
@@ -274,8 +282,8 @@ static inline vbr_answer vbr_tsan_reported(void *items, size_t size, vbr_totals 
 
 /* A call that shows a number. */
 #define VBR_TSAN_NUMBER(FOR, type, call) \
-    VBR_NODISCARD static inline type vbr_tsan_##FOR##call(vbr_##FOR##handle *handle) VBR_NOEXCEPT { \
-        vbr_tsan_##FOR##uses(handle); \
+    VBR_NODISCARD static inline type vbr_tsan_##FOR##call(const vbr_##FOR##handle *handle) VBR_NOEXCEPT { \
+        vbr_tsan_reads(handle->owned); \
         return vbr_##FOR##call(handle); \
     }
 
@@ -290,11 +298,11 @@ VBR_TSAN_CALLS(map_, vbr_entry)
 #define vbr_slots vbr_tsan_slots
 #define vbr_buckets vbr_tsan_buckets
 #define vbr_seed vbr_tsan_seed
-#define vbr_insert vbr_tsan_insert
-#define vbr_remove vbr_tsan_remove
-#define vbr_has vbr_tsan_has
-#define vbr_has_all vbr_tsan_has_all
-#define vbr_next vbr_tsan_next
+#define vbr_insert_within vbr_tsan_insert_within
+#define vbr_remove_within vbr_tsan_remove_within
+#define vbr_has_within vbr_tsan_has_within
+#define vbr_has_all_within vbr_tsan_has_all_within
+#define vbr_next_within vbr_tsan_next_within
 #define vbr_close vbr_tsan_close
 #define vbr_close_all vbr_tsan_close_all
 #define vbr_report_all vbr_tsan_report_all
@@ -302,23 +310,24 @@ VBR_TSAN_CALLS(map_, vbr_entry)
 #define vbr_renew_all_seeded vbr_tsan_renew_all_seeded
 #define vbr_balance vbr_tsan_balance
 #define vbr_drop vbr_tsan_drop
+#define vbr_end_all vbr_tsan_end_all
 #define vbr_map_epoch vbr_tsan_map_epoch
 #define vbr_map_last_epoch vbr_tsan_map_last_epoch
 #define vbr_map_slots vbr_tsan_map_slots
 #define vbr_map_buckets vbr_tsan_map_buckets
 #define vbr_map_seed vbr_tsan_map_seed
-#define vbr_map_insert vbr_tsan_map_insert
-#define vbr_map_remove vbr_tsan_map_remove
-#define vbr_map_get vbr_tsan_map_get
-#define vbr_map_replace vbr_tsan_map_replace
-#define vbr_map_put vbr_tsan_map_put
-#define vbr_map_get_or_insert vbr_tsan_map_get_or_insert
-#define vbr_map_compare_exchange vbr_tsan_map_compare_exchange
-#define vbr_map_remove_if vbr_tsan_map_remove_if
-#define vbr_map_has vbr_tsan_map_has
-#define vbr_map_has_all vbr_tsan_map_has_all
-#define vbr_map_get_all vbr_tsan_map_get_all
-#define vbr_map_next vbr_tsan_map_next
+#define vbr_map_insert_within vbr_tsan_map_insert_within
+#define vbr_map_remove_within vbr_tsan_map_remove_within
+#define vbr_map_get_within vbr_tsan_map_get_within
+#define vbr_map_replace_within vbr_tsan_map_replace_within
+#define vbr_map_put_within vbr_tsan_map_put_within
+#define vbr_map_get_or_insert_within vbr_tsan_map_get_or_insert_within
+#define vbr_map_compare_exchange_within vbr_tsan_map_compare_exchange_within
+#define vbr_map_remove_if_within vbr_tsan_map_remove_if_within
+#define vbr_map_has_within vbr_tsan_map_has_within
+#define vbr_map_has_all_within vbr_tsan_map_has_all_within
+#define vbr_map_get_all_within vbr_tsan_map_get_all_within
+#define vbr_map_next_within vbr_tsan_map_next_within
 #define vbr_map_close vbr_tsan_map_close
 #define vbr_map_close_all vbr_tsan_map_close_all
 #define vbr_map_report_all vbr_tsan_map_report_all
@@ -326,5 +335,6 @@ VBR_TSAN_CALLS(map_, vbr_entry)
 #define vbr_map_renew_all_seeded vbr_tsan_map_renew_all_seeded
 #define vbr_map_balance vbr_tsan_map_balance
 #define vbr_map_drop vbr_tsan_map_drop
+#define vbr_map_end_all vbr_tsan_map_end_all
 
 #endif

@@ -13,12 +13,11 @@ fn main() {
     if env::var_os("DOCS_RS").is_some() {
         return;
     }
-    let target = ["ARCH", "OS"].map(|it| env::var(format!("CARGO_CFG_TARGET_{it}")).unwrap_or_default());
+    let [arch, width, os] =
+        ["ARCH", "POINTER_WIDTH", "OS"].map(|it| env::var(format!("CARGO_CFG_TARGET_{it}")).unwrap_or_default());
     assert!(
-        target == ["x86_64", "linux"],
-        "libvbr.a is for x86-64 under Linux, and the target is {} under {}",
-        target[0],
-        target[1]
+        [&arch, &width, &os] == ["x86_64", "64", "linux"],
+        "libvbr.a is for x86-64 under Linux, and the target is {arch} under {os}, of pointers of {width} bits"
     );
     let dir = found().unwrap_or_else(|why| panic!("{why}"));
     println!("cargo:rerun-if-changed={dir}/libvbr.a");
@@ -28,11 +27,10 @@ fn main() {
 
 /// The directory of the library, or why there is none. Where nobody named it, a warning of cargo tells which it is.
 fn found() -> Result<String, String> {
-    if let Ok(dir) = env::var("VBR_LIB_DIR") {
-        return if has_library(Path::new(&dir)) {
-            Ok(dir)
-        } else {
-            Err(format!("VBR_LIB_DIR is {dir}, and there is no libvbr.a"))
+    if let Some(named) = env::var_os("VBR_LIB_DIR") {
+        return match named.to_str() {
+            Some(dir) if has_library(Path::new(dir)) => Ok(dir.to_owned()),
+            _ => Err(format!("VBR_LIB_DIR is {}, and there is no libvbr.a", named.to_string_lossy())),
         };
     }
     let installed = installed();

@@ -100,11 +100,16 @@ struct Sets {
     static constexpr auto epoch = vbr_epoch;
     static constexpr auto drop = vbr_drop;
     static int call(const Request &it, Handle *handle, uint32_t budget, uint64_t *) {
-        return it.kind == INSERT   ? vbr_insert(handle, it.key, budget)
-               : it.kind == REMOVE ? vbr_remove(handle, it.key, budget)
-                                   : vbr_has(handle, it.key, budget);
+        return it.kind == INSERT   ? vbr_insert_within(handle, it.key, budget)
+               : it.kind == REMOVE ? vbr_remove_within(handle, it.key, budget)
+                                   : vbr_has_within(handle, it.key, budget);
     }
-    static int next(Handle *handle, vbr_cursor *cursor, uint32_t budget, uint64_t *key, uint64_t *) { return vbr_next(handle, cursor, budget, key); }
+    static int call(const Request &it, Handle *handle, uint64_t *) {
+        return it.kind == INSERT ? vbr_insert(handle, it.key) : it.kind == REMOVE ? vbr_remove(handle, it.key) : vbr_has(handle, it.key);
+    }
+    static int next(Handle *handle, vbr_cursor *cursor, uint32_t budget, uint64_t *key, uint64_t *) {
+        return vbr_next_within(handle, cursor, key, budget);
+    }
 };
 
 // A map: some calls store the value that they are given, and some tell the one that is there, or was.
@@ -126,19 +131,38 @@ struct Maps {
     static constexpr auto drop = vbr_map_drop;
     static int call(const Request &it, Handle *handle, uint32_t budget, uint64_t *found) {
         switch (it.kind) {
-            case INSERT: return vbr_map_insert(handle, it.key, it.value, budget);
-            case REMOVE: return vbr_map_remove(handle, it.key, budget, found);
-            case HAS: return vbr_map_has(handle, it.key, budget);
-            case GET: return vbr_map_get(handle, it.key, budget, found);
-            case REPLACE: return vbr_map_replace(handle, it.key, it.value, found, budget);
-            case PUT: return vbr_map_put(handle, it.key, it.value, found, budget);
-            case GET_OR_INSERT: return vbr_map_get_or_insert(handle, it.key, it.value, found, budget);
-            case COMPARE_EXCHANGE: return vbr_map_compare_exchange(handle, it.key, it.expected, it.value, found, budget);
-            case REMOVE_IF: return vbr_map_remove_if(handle, it.key, it.expected, found, budget);
+            case INSERT: return vbr_map_insert_within(handle, it.key, it.value, budget);
+            case REMOVE: return vbr_map_remove_within(handle, it.key, found, budget);
+            case HAS: return vbr_map_has_within(handle, it.key, budget);
+            case GET: return vbr_map_get_within(handle, it.key, found, budget);
+            case REPLACE: return vbr_map_replace_within(handle, it.key, it.value, found, budget);
+            case PUT: return vbr_map_put_within(handle, it.key, it.value, found, budget);
+            case GET_OR_INSERT: return vbr_map_get_or_insert_within(handle, it.key, it.value, found, budget);
+            case COMPARE_EXCHANGE: return vbr_map_compare_exchange_within(handle, it.key, it.expected, it.value, found, budget);
+            case REMOVE_IF: return vbr_map_remove_if_within(handle, it.key, it.expected, found, budget);
         }
-        return VBR_EMPTY;
+        return VBR_NO_HANDLE;
     }
-    static constexpr auto next = vbr_map_next;
+    static int call(const Request &it, Handle *handle, uint64_t *found) {
+        switch (it.kind) {
+            case INSERT: return vbr_map_insert(handle, it.key, it.value);
+            case REMOVE: return vbr_map_remove(handle, it.key, found);
+            case HAS: return vbr_map_has(handle, it.key);
+            case GET: return vbr_map_get(handle, it.key, found);
+            case REPLACE: return vbr_map_replace(handle, it.key, it.value, found);
+            case PUT: return vbr_map_put(handle, it.key, it.value, found);
+            case GET_OR_INSERT: return vbr_map_get_or_insert(handle, it.key, it.value, found);
+            case COMPARE_EXCHANGE: return vbr_map_compare_exchange(handle, it.key, it.expected, it.value, found);
+            case REMOVE_IF: return vbr_map_remove_if(handle, it.key, it.expected, found);
+        }
+        return VBR_NO_HANDLE;
+    }
+    static int next(Handle *handle, vbr_cursor *cursor, uint32_t budget, uint64_t *key, uint64_t *value) {
+        vbr_entry entry = {*key, *value};
+        int answer = vbr_map_next_within(handle, cursor, &entry, budget);
+        *key = entry.key, *value = entry.value;
+        return answer;
+    }
 };
 
 static bool operator==(const vbr_entry &a, const vbr_entry &b) { return a.key == b.key && a.value == b.value; }
@@ -287,6 +311,7 @@ private:
     typename Of::Handle cells[CELLS] = {};
     std::shared_ptr<Model> models[CELLS];
     int64_t balances[CELLS] = {};
+    uint32_t budgets[CELLS] = {};  // what the program wrote into each handle, which no call changes
     vbr_cursor cursors[CELLS] = {};  // of each cell's walk, which goes on when another set is in the cell
 
     uint8_t byte() { return at < input.size() ? static_cast<uint8_t>(input[at++]) : 0; }
@@ -418,8 +443,10 @@ private:
     }
 
     void check_balances(size_t from, size_t count) {
-        for (size_t i = from; i < from + count; i++)
+        for (size_t i = from; i < from + count; i++) {
             if (Of::balance(&cells[i]) != (models[i] ? balances[i] : 0)) fail("a balance");
+            if (cells[i].steps != budgets[i]) fail("a call wrote the budget of a handle");
+        }
     }
 
     // The steps that are promised to be enough.
@@ -447,10 +474,11 @@ private:
 
     static int what(Kind kind) { return kind < GET ? 2 + kind : kind == GET ? 8 : 7 + kind; }
 
-    // A call, which is not always told where to write what it finds, where it may be told nowhere.
+    // A call, which is not always told where to write what it finds. Odd budgets are those of the handle.
     int make(const Request &it, size_t cell, uint32_t budget, uint64_t *found) {
-        bool is_told = it.kind < REPLACE || values % 8 != 7;
-        int answer = Of::call(it, &cells[cell], budget, is_told ? found : nullptr);
+        bool is_told = !Of::HAS_VALUES || !gives(it.kind) || values % 8 != 7;
+        if (budget % 2) cells[cell].steps = budgets[cell] = budget;
+        int answer = budget % 2 ? Of::call(it, &cells[cell], is_told ? found : nullptr) : Of::call(it, &cells[cell], budget, is_told ? found : nullptr);
         if (!is_told && models[cell] && (answer == VBR_YES || answer == VBR_OTHER)) *found = models[cell]->keys.at(it.key);
         return answer;
     }
@@ -459,7 +487,7 @@ private:
         uint64_t found = NO_VALUE;
         if (!models[cell]) {
             int answer = make({kind, key, 0, 0}, cell, byte(), &found);
-            if (answer != VBR_EMPTY || found != NO_VALUE) fail("a call of an empty handle");
+            if (answer != VBR_NO_HANDLE || found != NO_VALUE) fail("a call of an empty handle");
             return saw(what(kind), answer, 0);
         }
         Model &m = *models[cell];
@@ -540,7 +568,7 @@ private:
         uint64_t key = NO_VALUE, value = NO_VALUE;
         if (!models[cell]) {
             int answer = Of::next(&cells[cell], &cursors[cell], byte(), &key, &value);
-            if (answer != VBR_EMPTY || key != NO_VALUE || value != NO_VALUE || !same(before, cursors[cell])) fail("a walk of an empty handle");
+            if (answer != VBR_NO_HANDLE || key != NO_VALUE || value != NO_VALUE || !same(before, cursors[cell])) fail("a walk of an empty handle");
             return saw(9, answer, 0);
         }
         const Model &m = *models[cell];
@@ -600,9 +628,9 @@ private:
     void close(size_t cell, size_t room) {
         typename Of::Item items[MOST_KEYS + 1];
         std::fill(std::begin(items), std::end(items), Of::item(NO_VALUE, NO_VALUE));
-        vbr_totals report = {77, 77, 77, 77};
+        vbr_report report = {77, 77, 77, 77};
         std::shared_ptr<Model> m = models[cell];
-        int want = !m ? VBR_EMPTY : m->open > 1 ? VBR_NO : m->keys.size() > room ? VBR_NO_ROOM : VBR_YES;
+        int want = !m ? VBR_NO_HANDLE : m->open > 1 ? VBR_NO : m->keys.size() > room ? VBR_NO_ROOM : VBR_YES;
         refused_one = false;
         int answer = Of::close(&cells[cell], items, room, &report);
         allowed = -1;
@@ -616,6 +644,7 @@ private:
         if (told) check_report(*m, report);
         if (answer == VBR_YES) check_items(*m, items);
         if (m && !short_of && answer != VBR_NO_ROOM) m->open--, models[cell] = nullptr;
+        check_balances(cell, 1);
     }
 
     // The cells of a set, by whose handles a call of all of them is made, mostly all; and what it answers for that, or VBR_NO.
@@ -636,7 +665,7 @@ private:
         std::sort(sorted.begin(), sorted.end());
         if (std::adjacent_find(sorted.begin(), sorted.end()) != sorted.end()) all.clear();  // no handle is there twice
         *told = all.empty()                                 ? VBR_MISSING
-                : are_empty                                 ? VBR_EMPTY
+                : are_empty                                 ? VBR_NO_HANDLE
                 : are_mixed                                 ? VBR_MIXED
                 : all.size() < models[all[0]]->handles      ? VBR_MISSING
                                                             : VBR_NO;
@@ -668,7 +697,7 @@ private:
     int report(const std::shared_ptr<Model> &m, typename Of::Handle *all, size_t count, int told) {
         typename Of::Item items[MOST_KEYS + 1];
         std::fill(std::begin(items), std::end(items), Of::item(NO_VALUE, NO_VALUE));
-        vbr_totals report = {77, 77, 77, 77};
+        vbr_report report = {77, 77, 77, 77};
         size_t room = byte() % MOST_KEYS;
         int want = told != VBR_NO ? told : m->keys.size() > room ? VBR_NO_ROOM : VBR_YES;
         int answer = Of::report_all(all, count, items, room, &report);
@@ -703,7 +732,7 @@ private:
         if (!(items[count] == Of::item(NO_VALUE, NO_VALUE))) fail("more keys than there are");
     }
 
-    static void check_report(const Model &m, const vbr_totals &report) {
+    static void check_report(const Model &m, const vbr_report &report) {
         if (report.live != m.keys.size()) fail("the number of keys of the report");
         if (report.marked > m.all_marked) fail("more marked nodes than removes could leave");
         if (uint64_t{report.live} + report.marked + report.free != m.slots) fail("slots are lost");
@@ -716,6 +745,7 @@ private:
         if (!models[cell]) return;
         models[cell]->open--;
         models[cell] = nullptr;
+        check_balances(cell, 1);
     }
 };
 

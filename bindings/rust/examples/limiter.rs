@@ -10,6 +10,7 @@
 //! The program counts, for each client and each window, how many requests were admitted, over all threads: no more than
 //! `LIMIT`, and just as many where one was refused. A careless limiter, which gets the value and puts the next one, admits too
 //! many.
+#![allow(clippy::cast_possible_truncation, reason = "the numbers are small")]
 use std::error::Error;
 use std::sync::atomic::AtomicU32;
 use std::sync::atomic::Ordering::Relaxed;
@@ -26,7 +27,6 @@ const WINDOW: u32 = 4_096;
 /// Of all threads.
 const REQUESTS: u32 = 400_000;
 const WINDOWS: u32 = REQUESTS / WINDOW + 1;
-const BUDGET: u32 = 100_000;
 
 /// How many requests of a client were admitted in a window, which is the last one that it made any in.
 #[derive(Clone, Copy)]
@@ -74,13 +74,13 @@ impl Limiter {
                 refused = next.is_none().then_some(Verdict::Refused(there.window));
                 next.map(Usage::value)
             };
-            if let Some(before) = self.0.fetch_update(client, count, BUDGET)? {
+            if let Some(before) = self.0.fetch_update(client, count)? {
                 return Ok(Verdict::Admitted(now.max(Usage::of(before).window)));
             }
             if let Some(verdict) = refused {
                 return Ok(verdict);
             }
-            if self.0.get_or_insert(client, Usage { window: now, count: 1 }.value(), BUDGET)?.is_none() {
+            if self.0.get_or_insert(client, Usage { window: now, count: 1 }.value())?.is_none() {
                 return Ok(Verdict::Admitted(now));
             }
         }
@@ -88,11 +88,11 @@ impl Limiter {
 
     /// The same with a step between, in which another thread may count.
     fn admit_carelessly(&mut self, client: u64, now: u32) -> Result<Verdict, Refusal> {
-        let there = Usage::of(self.0.get(client, BUDGET)?.unwrap_or(0));
+        let there = Usage::of(self.0.get(client)?.unwrap_or(0));
         let Some(next) = there.with_one(now) else {
             return Ok(Verdict::Refused(there.window));
         };
-        self.0.put(client, next.value(), BUDGET)?;
+        self.0.put(client, next.value())?;
         Ok(Verdict::Admitted(next.window))
     }
 }
@@ -151,7 +151,7 @@ fn client_of(request: u32) -> u32 {
 
 fn main() -> Result<(), Box<dyn Error>> {
     let is_careless = std::env::args().nth(1).is_some_and(|word| word == "careless");
-    let mut limiters: Vec<_> = Map::open(Shape::for_keys(CLIENTS, THREADS), THREADS)?.into_iter().map(Limiter).collect();
+    let mut limiters: Vec<_> = Map::handles(Shape::for_keys(CLIENTS, THREADS))?.into_iter().map(Limiter).collect();
     let counts = Counts::new();
     thread::scope(|scope| {
         let threads: Vec<_> = limiters.iter_mut().map(|limiter| scope.spawn(|| counts.serve(limiter, is_careless))).collect();

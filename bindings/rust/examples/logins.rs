@@ -9,11 +9,12 @@
 //!
 //! Beside the map it is noted of each user until when a call has promised that the login lives. The program sees that no login
 //! is told absent before that. With a careless sweeper, which removes whatever is there, it finds one that is.
+#![allow(clippy::cast_possible_truncation, reason = "the numbers are small")]
 use std::error::Error;
 use std::sync::atomic::AtomicU64;
 use std::sync::atomic::Ordering::SeqCst;
 use std::thread;
-use vbr::{ample_budget, Compared, Map, MapHandle, Refusal, Shape};
+use vbr::{Compared, Map, MapHandle, OutOfSteps, Refusal, Shape};
 
 const WORKERS: usize = 3;
 const USERS: usize = 1_000;
@@ -25,7 +26,6 @@ const LIFE: u64 = 3_000;
 const REQUESTS: u64 = 200_000;
 
 const SHAPE: Shape = Shape::for_keys(USERS as u32, WORKERS + 1);
-const BUDGET: u32 = ample_budget(SHAPE.slots);
 
 /// The logins, as one thread has them.
 struct Logins(MapHandle);
@@ -33,8 +33,8 @@ struct Logins(MapHandle);
 impl Logins {
     /// Logs a user in, at least until then.
     fn log_in(&mut self, user: u64, until: u64) -> Result<(), Refusal> {
-        while let Some(had) = self.0.get_or_insert(user, until, BUDGET)? {
-            if had >= until || self.0.compare_exchange(user, had, until, BUDGET)? == Compared::Equal {
+        while let Some(had) = self.0.get_or_insert(user, until)? {
+            if had >= until || self.0.compare_exchange(user, had, until)? == Compared::Equal {
                 break;
             }
         }
@@ -44,25 +44,25 @@ impl Logins {
     /// Until when the login of a user lives, which is used now; none where it has expired. It gets more time where half is over.
     fn use_now(&mut self, user: u64, now: u64) -> Result<Option<u64>, Refusal> {
         let longer = |until: u64| (until > now).then(|| until.max(now + LIFE));
-        match self.0.get(user, BUDGET)? {
-            Some(until) if until <= now + LIFE / 2 => Ok(self.0.fetch_update(user, longer, BUDGET)?.and_then(longer)),
+        match self.0.get(user)? {
+            Some(until) if until <= now + LIFE / 2 => Ok(self.0.fetch_update(user, longer)?.and_then(longer)),
             until => Ok(until),
         }
     }
 
     /// What has expired: each user with the time that was seen.
-    fn expired(&self, now: u64) -> Result<Vec<(u64, u64)>, Refusal> {
-        self.0.iter(BUDGET).filter(|entry| !matches!(entry, Ok((_, until)) if *until > now)).collect()
+    fn expired(&self, now: u64) -> Result<Vec<(u64, u64)>, OutOfSteps> {
+        self.0.iter().filter(|entry| !matches!(entry, Ok((_, until)) if *until > now)).collect()
     }
 
     /// Takes out a login that was seen to have expired; not if its user has logged in again since.
-    fn sweep(&mut self, (user, seen): (u64, u64)) -> Result<bool, Refusal> {
-        Ok(self.0.remove_if(user, seen, BUDGET)? == Compared::Equal)
+    fn sweep(&mut self, (user, seen): (u64, u64)) -> Result<bool, OutOfSteps> {
+        Ok(self.0.remove_if(user, seen)? == Compared::Equal)
     }
 
     /// Takes out whatever is there.
-    fn sweep_carelessly(&mut self, (user, _): (u64, u64)) -> Result<bool, Refusal> {
-        Ok(self.0.remove(user, BUDGET)?.is_some())
+    fn sweep_carelessly(&mut self, (user, _): (u64, u64)) -> Result<bool, OutOfSteps> {
+        Ok(self.0.remove(user)?.is_some())
     }
 }
 
@@ -81,14 +81,13 @@ impl Known {
         let lives = self.promised[user].load(SeqCst);
         let now = self.now.fetch_add(1, SeqCst);
         let found = logins.use_now(user as u64, now)?;
-        let until = match found {
-            Some(until) => until,
-            None => {
-                assert!(lives <= self.now.load(SeqCst), "a login that lives is told absent");
-                let until = self.now.load(SeqCst) + LIFE;
-                logins.log_in(user as u64, until)?;
-                until
-            }
+        let until = if let Some(until) = found {
+            until
+        } else {
+            assert!(lives <= self.now.load(SeqCst), "a login that lives is told absent");
+            let until = self.now.load(SeqCst) + LIFE;
+            logins.log_in(user as u64, until)?;
+            until
         };
         self.promised[user].fetch_max(until, SeqCst);
         Ok(found.is_none())
@@ -109,7 +108,7 @@ impl Known {
     }
 
     /// Sweeps while the workers run, and says how many logins were taken out, and how many of those that were to be weren't.
-    fn sweep(&self, logins: &mut Logins, is_careless: bool) -> Result<[u64; 2], Refusal> {
+    fn sweep(&self, logins: &mut Logins, is_careless: bool) -> Result<[u64; 2], OutOfSteps> {
         let mut counts = [0; 2];
         while self.working.load(SeqCst) > 0 {
             for seen in logins.expired(self.now.load(SeqCst))? {
@@ -150,13 +149,13 @@ fn play(known: &Known, of: &mut [Logins], is_careless: bool) -> Result<(u64, [u6
 
 fn main() -> Result<(), Box<dyn Error>> {
     let is_careless = std::env::args().nth(1).is_some_and(|word| word == "careless");
-    let mut of: Vec<_> = Map::open(SHAPE, WORKERS + 1)?.into_iter().map(Logins).collect();
+    let mut of: Vec<_> = Map::handles(SHAPE)?.into_iter().map(Logins).collect();
     let promised = (0..USERS).map(|_| AtomicU64::new(0)).collect();
     let known = Known { now: AtomicU64::new(0), promised, working: AtomicU64::new(WORKERS as u64) };
     let (logged_in, [swept, kept]) = play(&known, &mut of, is_careless)?;
     assert!(logged_in > USERS as u64 && swept > 0);
     let now = known.now.into_inner();
-    let left = of[0].0.iter(BUDGET).collect::<Result<Vec<_>, _>>()?;
+    let left = of[0].0.iter().collect::<Result<Vec<_>, _>>()?;
     let live: Vec<_> = left.into_iter().filter(|(_, until)| *until > now).collect();
     assert!(live.iter().all(|(user, until)| *until >= known.promised[*user as usize].load(SeqCst)));
     assert_eq!(live.len(), known.promised.into_iter().filter(|until| until.load(SeqCst) > now).count());

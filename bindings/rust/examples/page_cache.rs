@@ -16,13 +16,14 @@
 //! The program plays one stream of requests, by one thread, by one with an index that is too small, and by four, and beside
 //! each a plain CLOCK over a `HashMap`, on one thread. One thread has to have the very same hits, and four about as many. Each
 //! checkpoint is compared with how often each page was changed before it began, and the disk at the end with the requests.
+#![allow(clippy::cast_possible_truncation, clippy::cast_precision_loss, reason = "the numbers are small")]
 use std::collections::HashMap;
 use std::error::Error;
 use std::sync::atomic::Ordering::{Acquire, Relaxed, Release};
 use std::sync::atomic::{AtomicBool, AtomicU64, AtomicUsize};
 use std::sync::{Mutex, RwLock, RwLockWriteGuard};
 use std::thread;
-use vbr::{ample_budget, Compared, Entry, Map, MapHandle, Refusal, Shape};
+use vbr::{Compared, Map, MapHandle, Refusal, Shape, Steps};
 
 const FRAMES: usize = 512;
 const PAGES: u64 = 4_096;
@@ -35,10 +36,7 @@ const BETWEEN_CHECKPOINTS: u64 = 20_000;
 const LAST_EPOCH: u64 = 20_000;
 
 /// So small that some calls need more. A program takes an ample one.
-const FIRST_BUDGET: u32 = 48;
-
-/// Checkpoints have it, and removes: with a small one a page could leave the index, and its slot stay in a list.
-const AMPLE: u32 = ample_budget(2 * FRAMES as u32);
+const FIRST_STEPS: Steps = Steps::new(48);
 
 /// How far the share of hits of several threads may be from that of the plain CLOCK.
 const BOUND: f64 = 0.01;
@@ -132,7 +130,7 @@ impl Cache {
     fn checkpoint(&self, index: &MapHandle) -> Result<u64, Refusal> {
         let due = self.changes_made();
         let mut written = 0;
-        for entry in index.iter(AMPLE) {
+        for entry in index {
             let (page, number) = entry?;
             let mut frame = self.frames[number as usize].write().expect("a frame");
             // Where it has another page by now, this one was written back when it left.
@@ -206,7 +204,7 @@ impl<'c> Worker<'c> {
         }
         let mut is_hit = true;
         loop {
-            match with_steps(&mut self.tired, FIRST_BUDGET, |budget| index.get(request.page, budget))? {
+            match with_steps(&mut self.tired, |steps| index.get_within(request.page, steps))? {
                 Some(number) if self.cache.serve_in(number as usize, request) => return Ok(is_hit),
                 Some(_) => thread::yield_now(),
                 None if self.bring_in(index, request)? => return Ok(false),
@@ -235,7 +233,7 @@ impl<'c> Worker<'c> {
     /// The frame that a page has in the index; none where it wasn't there, and then it is put there with this one.
     fn find_or_insert(&mut self, index: &mut MapHandle, page: u64, number: usize) -> Result<Option<u64>, Refusal> {
         loop {
-            match with_steps(&mut self.tired, FIRST_BUDGET, |budget| index.get_or_insert(page, number as u64, budget)) {
+            match with_steps(&mut self.tired, |steps| index.get_or_insert_within(page, number as u64, steps)) {
                 Err(Refusal::NoSlot) => self.full += 1,
                 told => return told,
             }
@@ -265,13 +263,13 @@ impl<'c> Worker<'c> {
                 continue; // somebody reads it, or brings a page in
             };
             match frame.page {
-                None if wants_slot => continue,
+                None if wants_slot => {}
                 None => return Ok((number, frame)),
-                Some(_) if self.cache.used[number].swap(false, Relaxed) => continue,
+                Some(_) if self.cache.used[number].swap(false, Relaxed) => {}
                 Some(page) => {
                     // Before it leaves the index: a checkpoint that doesn't meet it there takes it for written.
                     self.cache.write_back(&mut frame);
-                    let there = with_steps(&mut self.tired, AMPLE, |budget| index.remove_if(page, number as u64, budget))?;
+                    let there = index.remove_if(page, number as u64)?;
                     assert_eq!(there, Compared::Equal);
                     frame.page = None;
                     return Ok((number, frame));
@@ -282,18 +280,19 @@ impl<'c> Worker<'c> {
 }
 
 /// Makes a call, and again with twice the budget, as often as that is too small.
-fn with_steps<T>(tired: &mut u64, mut budget: u32, mut call: impl FnMut(u32) -> Result<T, Refusal>) -> Result<T, Refusal> {
+fn with_steps<T, E: Into<Refusal>>(tired: &mut u64, mut call: impl FnMut(Steps) -> Result<T, E>) -> Result<T, Refusal> {
+    let mut steps = FIRST_STEPS;
     loop {
-        match call(budget) {
+        match call(steps).map_err(Into::into) {
             Err(Refusal::OutOfSteps) => *tired += 1,
             told => return told,
         }
-        budget = budget.saturating_mul(2);
+        steps = steps.doubled();
     }
 }
 
 /// Closes the index by all its handles: the last one is told the entries.
-fn close(handles: Vec<MapHandle>) -> Result<Vec<Entry>, Box<dyn Error>> {
+fn close(handles: Vec<MapHandle>) -> Result<Vec<(u64, u64)>, Box<dyn Error>> {
     let mut report = None;
     for handle in handles {
         report = handle.close()?;
@@ -303,8 +302,7 @@ fn close(handles: Vec<MapHandle>) -> Result<Vec<Entry>, Box<dyn Error>> {
 
 /// Opens the index anew with its entries, at epoch 1. No thread is in a call meanwhile.
 fn renew(shape: Shape, handles: Vec<MapHandle>) -> Result<Vec<MapHandle>, Box<dyn Error>> {
-    let count = handles.len();
-    Ok(Map::open_with(shape, count, &close(handles)?)?)
+    Ok(Map::handles_with(shape, &close(handles)?)?)
 }
 
 /// What came of all requests: the hits, how many pages checkpoints wrote, and what was refused on the way.
@@ -322,7 +320,7 @@ fn play(threads: usize, slots: u32) -> Result<Played, Box<dyn Error>> {
     let shape = Shape { slots, last_epoch: LAST_EPOCH, ..Shape::for_keys(FRAMES as u32, threads) };
     let cache = Cache::new();
     let mut workers: Vec<_> = (0..threads).map(|_| Worker::new(&cache)).collect();
-    let mut handles = Map::open(shape, threads)?;
+    let mut handles = Map::handles(shape)?;
     let mut renewals = 0;
     loop {
         thread::scope(|scope| {
@@ -346,8 +344,8 @@ fn play(threads: usize, slots: u32) -> Result<Played, Box<dyn Error>> {
 }
 
 /// Each entry tells the frame of its page, and each page of a frame has one.
-fn check_index(cache: Cache, entries: Vec<Entry>) -> Result<(), Box<dyn Error>> {
-    let told: HashMap<_, _> = entries.into_iter().map(<(u64, u64)>::from).collect();
+fn check_index(cache: Cache, entries: Vec<(u64, u64)>) -> Result<(), Box<dyn Error>> {
+    let told: HashMap<_, _> = entries.into_iter().collect();
     let mut there = HashMap::new();
     for (number, frame) in (0..).zip(cache.frames) {
         there.extend(frame.into_inner()?.page.map(|page| (page, number)));
@@ -394,8 +392,8 @@ impl Plain {
             let frame = self.hand % FRAMES;
             self.hand += 1;
             match self.pages[frame] {
-                _ if for_slot_of == Some(frame) => continue,
-                None if for_slot_of.is_some() => continue,
+                _ if for_slot_of == Some(frame) => {}
+                None if for_slot_of.is_some() => {}
                 None => return frame,
                 Some(_) if self.used[frame] => self.used[frame] = false,
                 Some(page) => {

@@ -13,19 +13,22 @@
 //!
 //! The program counts what was paid into each account: it is what the accounts have at the end, and had when they were ended. No
 //! copy is of two records. A careless reader, which doesn't compare the generation, finds one that is.
+#![allow(clippy::cast_possible_truncation, reason = "words have two numbers of 32 bits each")]
 use std::error::Error;
 use std::sync::atomic::Ordering::{AcqRel, Acquire, Relaxed, Release};
 use std::sync::atomic::{AtomicU32, AtomicU64};
 use std::thread;
-use vbr::{Compared, Map, MapHandle, Refusal, Shape};
+use vbr::{Compared, Map, MapHandle, OutOfSteps, Refusal, Shape};
 
 const THREADS: usize = 4;
 const KEYS: u32 = 16;
 const SHAPE: Shape = Shape::for_keys(KEYS, THREADS);
-const BUDGET: u32 = vbr::ample_budget(SHAPE.slots);
 const TURNS: u32 = 50_000;
 
 const WORDS: usize = 32;
+
+/// What the map has of an account: the generation of its record, and the index.
+type Value = (u32, u32);
 
 /// Records of so many words, in fixed memory.
 struct Records {
@@ -53,7 +56,7 @@ impl Records {
     }
 
     /// Writes a record that is free, and gives the value that says where it is.
-    fn write(&self, words: [u64; WORDS]) -> u64 {
+    fn write(&self, words: [u64; WORDS]) -> Value {
         let index = self.take();
         let place = &self.places[index as usize];
         let generation = place.generation.load(Relaxed).wrapping_add(1);
@@ -61,20 +64,20 @@ impl Records {
         for (to, word) in place.words.iter().zip(words) {
             to.store(word, Release); // who reads one sees the generation
         }
-        u64::from(generation) << 32 | u64::from(index)
+        (generation, index)
     }
 
     /// A copy of the record that a value names; none if it isn't that one any more.
-    fn read(&self, value: u64) -> Option<[u64; WORDS]> {
-        let place = &self.places[value as u32 as usize];
+    fn read(&self, (generation, index): Value) -> Option<[u64; WORDS]> {
+        let place = &self.places[index as usize];
         let words = place.words.each_ref().map(|it| it.load(Acquire));
-        let is_that_one = u64::from(place.generation.load(Relaxed)) == value >> 32;
+        let is_that_one = place.generation.load(Relaxed) == generation;
         (is_that_one || self.is_careless).then_some(words)
     }
 
     /// Frees the record that a value names, which no other value does.
-    fn free(&self, value: u64) {
-        self.give(value as u32);
+    fn free(&self, (_, index): Value) {
+        self.give(index);
     }
 
     fn give(&self, index: u32) {
@@ -133,14 +136,14 @@ impl Account {
 
 /// The accounts, as one thread has them.
 struct Accounts<'r> {
-    map: MapHandle,
+    map: MapHandle<u64, Value>,
     records: &'r Records,
 }
 
 impl Accounts<'_> {
     /// The account of an owner, and the value that names it.
-    fn find(&self, owner: u64) -> Result<Option<(Account, u64)>, Refusal> {
-        while let Some(value) = self.map.get(owner, BUDGET)? {
+    fn find(&self, owner: u64) -> Result<Option<(Account, Value)>, OutOfSteps> {
+        while let Some(value) = self.map.get(owner)? {
             if let Some(words) = self.records.read(value) {
                 let account = Account::of(words);
                 assert_eq!(account.owner, owner, "another account");
@@ -157,8 +160,8 @@ impl Accounts<'_> {
             let Account { paid, payments, .. } = before.map_or(Account::default(), |(account, _)| account);
             let after = self.records.write(Account { owner, paid: paid + amount, payments: payments + 1 }.words());
             let is_done = match before {
-                None => self.map.insert(owner, after, BUDGET)?,
-                Some((_, value)) => self.map.compare_exchange(owner, value, after, BUDGET)? == Compared::Equal,
+                None => self.map.try_insert(owner, after)?,
+                Some((_, value)) => self.map.compare_exchange(owner, value, after)? == Compared::Equal,
             };
             match before {
                 _ if !is_done => self.records.free(after), // another thread was faster
@@ -172,9 +175,9 @@ impl Accounts<'_> {
     }
 
     /// Ends an account, and tells what it had.
-    fn end(&mut self, owner: u64) -> Result<u64, Refusal> {
+    fn end(&mut self, owner: u64) -> Result<u64, OutOfSteps> {
         while let Some((account, value)) = self.find(owner)? {
-            if self.map.remove_if(owner, value, BUDGET)? == Compared::Equal {
+            if self.map.remove_if(owner, value)? == Compared::Equal {
                 self.records.free(value);
                 return Ok(account.paid);
             } // or it was paid into since, or is gone
@@ -205,7 +208,7 @@ impl Accounts<'_> {
 
 fn main() -> Result<(), Box<dyn Error>> {
     let records = Records::new(std::env::args().nth(1).is_some_and(|word| word == "careless"));
-    let mut all: Vec<_> = Map::open(SHAPE, THREADS)?.into_iter().map(|map| Accounts { map, records: &records }).collect();
+    let mut all: Vec<_> = Map::handles(SHAPE)?.into_iter().map(|map| Accounts { map, records: &records }).collect();
     let told: Vec<_> = thread::scope(|scope| {
         let threads: Vec<_> =
             (0..).zip(&mut all).map(|(it, mine)| scope.spawn(move || mine.work(88_172_645_463_325_252 + it))).collect();
@@ -218,11 +221,11 @@ fn main() -> Result<(), Box<dyn Error>> {
         report = accounts.map.close()?;
     }
     let mut left = 0;
-    for entry in report.expect("the last handle").entries {
-        let account = Account::of(records.read(entry.value).expect("the record that its key has"));
-        assert_eq!(account.owner, entry.key);
+    for (owner, value) in report.expect("the last handle") {
+        let account = Account::of(records.read(value).expect("the record that its key has"));
+        assert_eq!(account.owner, owner);
         left += account.paid;
-        records.free(entry.value);
+        records.free(value);
     }
     assert!(paid == left + ended && ended > 0, "a payment is lost, or made twice");
     assert_eq!(records.count_free(), records.places.len(), "a record is lost, or free twice");

@@ -9,18 +9,18 @@
 //!
 //! The last epoch is small here, so that the map is renewed often. The program sees that no request is lost: those of the sessions
 //! that ended, and those that are in the map at its end, are all that were made.
+#![allow(clippy::cast_possible_truncation, reason = "the numbers are small")]
 use std::error::Error;
 use std::sync::atomic::AtomicBool;
 use std::sync::atomic::Ordering::Relaxed;
 use std::thread;
 use std::time::Duration;
-use vbr::{ample_budget, Map, MapReport, Refusal, Shape};
+use vbr::{Map, OutOfSteps, Refusal, Shape};
 
 const THREADS: u64 = 8;
 const HANDLES: usize = 4;
 const SESSIONS: u32 = 1_000;
-const SHAPE: Shape = Shape::new(SESSIONS + 64 * HANDLES as u32, 1_024, 500);
-const BUDGET: u32 = ample_budget(SHAPE.slots);
+const SHAPE: Shape = Shape::new(SESSIONS + 64 * HANDLES as u32, 1_024, 500).with_handles(HANDLES);
 const PERIOD: Duration = Duration::from_millis(5);
 
 /// Of each thread.
@@ -29,8 +29,8 @@ const REQUESTS: u64 = 30_000;
 struct Server(Map);
 
 impl Server {
-    /// Counts a request of a session, which begins with its first one.
-    fn serve(&self, session: u64) -> Result<(), Box<dyn Error + Send + Sync>> {
+    /// Counts a request of a session, which begins with its first one, and tells how many it has made.
+    fn serve(&self, session: u64) -> Result<u64, Box<dyn Error + Send + Sync>> {
         loop {
             match self.count(session) {
                 Err(Refusal::EpochSpent) => self.renew()?, // it was spent before its time
@@ -40,19 +40,13 @@ impl Server {
     }
 
     /// Counts a request by a handle on loan.
-    fn count(&self, session: u64) -> Result<(), Refusal> {
-        let mut mine = self.0.lend_wait();
-        loop {
-            let before = mine.fetch_update(session, |count| Some(count + 1), BUDGET)?;
-            if before.is_some() || mine.insert(session, 1, BUDGET)? {
-                return Ok(());
-            }
-        }
+    fn count(&self, session: u64) -> Result<u64, Refusal> {
+        self.0.lend_wait().entry(session).and_modify(|count| *count += 1).or_insert(1)
     }
 
     /// Ends a session, and tells how many requests it made.
-    fn end(&self, session: u64) -> Result<u64, Refusal> {
-        Ok(self.0.lend_wait().remove(session, BUDGET)?.unwrap_or(0))
+    fn end(&self, session: u64) -> Result<u64, OutOfSteps> {
+        Ok(self.0.lend_wait().remove(session)?.unwrap_or(0))
     }
 
     /// Lets the map go on at epoch 1, as soon as no request is under way.
@@ -77,7 +71,7 @@ impl Server {
 }
 
 fn main() -> Result<(), Box<dyn Error + Send + Sync>> {
-    let server = Server(Map::lending(SHAPE, HANDLES)?);
+    let server = Server(Map::open(SHAPE)?);
     let is_over = AtomicBool::new(false);
     let (ended, renewals) = thread::scope(|scope| {
         let (server, is_over) = (&server, &is_over);
@@ -96,9 +90,9 @@ fn main() -> Result<(), Box<dyn Error + Send + Sync>> {
         (ended, clock.join().expect("a clock that ends"))
     });
     let (ended, renewals) = (ended?, renewals?);
-    let MapReport { entries, epoch, .. } = server.0.close()?;
-    assert!(epoch <= SHAPE.last_epoch && renewals > 0);
-    let requests = ended + entries.iter().map(|it| it.value).sum::<u64>();
+    let report = server.0.close()?;
+    assert!(report.epoch <= SHAPE.last_epoch && renewals > 0);
+    let requests = ended + report.iter().map(|(_, count)| count).sum::<u64>();
     assert_eq!(requests, THREADS * REQUESTS, "a request is lost, or counted twice");
     println!("server in Rust: passed, {requests} requests, and the clock renewed the map {renewals} times");
     Ok(())

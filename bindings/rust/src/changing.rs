@@ -1,32 +1,32 @@
 //! Calls of maps that do one thing or another by what is there.
 use crate::library::{
-    answer_with, compared, vbr_map_compare_exchange, vbr_map_get_or_insert, vbr_map_put, vbr_map_remove_if, vbr_map_replace,
+    compared, looked_up, updated, vbr_map_compare_exchange_within, vbr_map_get_or_insert_within, vbr_map_put_within,
+    vbr_map_remove_if_within, vbr_map_replace_within, with_value,
 };
-use crate::{Entries, PassOf, Refusal};
+use crate::{order, Bits, Cursor, Entries, OutOfSteps, PassOf, Refusal, Steps};
 
 /// What a call did that changes an entry only where it has an expected value.
 ///
 /// ```
-/// # use vbr::{Compared, MapPass, Refusal};
+/// # use vbr::{Compared, MapPass, OutOfSteps};
 /// /// Takes a page out of an index, unless it has come into another frame.
-/// fn evict(index: &mut MapPass, page: u64, frame: u64) -> Result<bool, Refusal> {
-///     Ok(match index.remove_if(page, frame, 100_000)? {
+/// fn evict(index: &mut MapPass, page: u64, frame: u64) -> Result<bool, OutOfSteps> {
+///     Ok(match index.remove_if(page, frame)? {
 ///         Compared::Equal => true,
 ///         Compared::Other(_) | Compared::Absent => false,
 ///     })
 /// }
-/// # let entry = vbr::Entry { key: 5, value: 70 };
-/// # let mut index = vbr::Map::open_with(vbr::Shape::for_keys(8, 1), 1, &[entry])?.remove(0);
+/// # let mut index = vbr::Map::handles_with(vbr::Shape::for_keys(8, 1), &[(5, 70)])?.remove(0);
 /// # assert!(!evict(&mut index, 5, 71)? && evict(&mut index, 5, 70)? && !evict(&mut index, 5, 70)?);
 /// # Ok::<(), Box<dyn std::error::Error>>(())
 /// ```
 #[derive(Clone, Copy, Debug, PartialEq, Eq, Hash)]
 #[must_use = "the entry may be as it was"]
-pub enum Compared {
+pub enum Compared<V = u64> {
     /// The key was there with the expected value. It has the new one, or is taken out.
     Equal,
     /// The key is there with this value. Nothing was changed.
-    Other(u64),
+    Other(V),
     /// The key is absent. Nothing was changed.
     Absent,
 }
@@ -40,16 +40,16 @@ pub enum Compared {
 ///
 /// A new value takes a slot before the slot of the old one is free, so these calls want one slot more than there are keys. The
 /// 64 of the handle in [`Shape`](crate::Shape) cover that.
-impl PassOf<Entries> {
+impl<K: Bits, V: Bits> PassOf<Entries<K, V>> {
     /// Gives a key that is there another value, and gives the one that it had; `None` where it was absent, and then nothing was
     /// changed.
     ///
     /// ```
-    /// # use vbr::{Entry, Map, Shape};
-    /// let mut handle = Map::open_with(Shape::for_keys(8, 1), 1, &[Entry { key: 5, value: 70 }])?.remove(0);
-    /// assert_eq!(handle.replace(5, 71, 1_000)?, Some(70));
-    /// assert_eq!(handle.replace(6, 71, 1_000)?, None);
-    /// assert_eq!((handle.get(5, 1_000)?, handle.get(6, 1_000)?), (Some(71), None));
+    /// # use vbr::{Map, Shape};
+    /// let mut handle = Map::handles_with(Shape::for_keys(8, 1), &[(5, 70)])?.remove(0);
+    /// assert_eq!(handle.replace(5, 71)?, Some(70));
+    /// assert_eq!(handle.replace(6, 71)?, None);
+    /// assert_eq!((handle.get(5)?, handle.get(6)?), (Some(71), None));
     /// # Ok::<(), Box<dyn std::error::Error>>(())
     /// ```
     ///
@@ -58,9 +58,29 @@ impl PassOf<Entries> {
     /// [`Refusal::OutOfSteps`], and, where the key was there at a moment, [`Refusal::NoSlot`] and [`Refusal::EpochSpent`]. No
     /// call was made then.
     #[inline]
-    pub fn replace(&mut self, key: u64, value: u64, budget: u32) -> Result<Option<u64>, Refusal> {
-        // SAFETY: `&mut` is exclusive, and nothing else has what is found.
-        answer_with(|found| unsafe { vbr_map_replace(self.raw(), key, value, found, budget) })
+    pub fn replace(&mut self, key: K, value: V) -> Result<Option<V>, Refusal> {
+        self.replace_within(key, value, self.steps())
+    }
+
+    /// As [`MapPass::replace`](PassOf::replace), with a budget of its own.
+    ///
+    /// ```
+    /// # use vbr::{Map, Refusal, Shape, Steps};
+    /// let mut handle = Map::handles_with(Shape::for_keys(8, 1), &[(5, 70)])?.remove(0);
+    /// assert_eq!(handle.replace_within(5, 71, Steps::new(1)), Err(Refusal::OutOfSteps));
+    /// # Ok::<(), vbr::OpenError>(())
+    /// ```
+    ///
+    /// # Errors
+    ///
+    /// Those of [`replace`](PassOf::replace).
+    #[inline]
+    pub fn replace_within(&mut self, key: K, value: V, steps: Steps) -> Result<Option<V>, Refusal> {
+        let (key, value) = (key.to_bits(), value.to_bits());
+        with_value(updated, |found| {
+            // SAFETY: `&mut` is exclusive, and nothing else has what is found.
+            order::changes(key, || unsafe { vbr_map_replace_within(self.raw(), key, value, found, steps.count()) })
+        })
     }
 
     /// Gives a key this value, and gives the one that it had; `None` where it was absent, and then it is inserted, as
@@ -68,10 +88,10 @@ impl PassOf<Entries> {
     ///
     /// ```
     /// # use vbr::{Map, Shape};
-    /// let mut handle = Map::open(Shape::for_keys(8, 1), 1)?.remove(0);
-    /// assert_eq!(handle.put(5, 70, 1_000)?, None);
-    /// assert_eq!(handle.put(5, 71, 1_000)?, Some(70));
-    /// assert_eq!(handle.get(5, 1_000)?, Some(71));
+    /// let mut handle = Map::handles(Shape::for_keys(8, 1))?.remove(0);
+    /// assert_eq!(handle.put(5, 70)?, None);
+    /// assert_eq!(handle.put(5, 71)?, Some(70));
+    /// assert_eq!(handle.get(5)?, Some(71));
     /// # Ok::<(), Box<dyn std::error::Error>>(())
     /// ```
     ///
@@ -79,18 +99,39 @@ impl PassOf<Entries> {
     ///
     /// [`Refusal::OutOfSteps`], [`Refusal::NoSlot`] and [`Refusal::EpochSpent`]. No call was made then.
     #[inline]
-    pub fn put(&mut self, key: u64, value: u64, budget: u32) -> Result<Option<u64>, Refusal> {
-        // SAFETY: as for `replace`.
-        answer_with(|found| unsafe { vbr_map_put(self.raw(), key, value, found, budget) })
+    pub fn put(&mut self, key: K, value: V) -> Result<Option<V>, Refusal> {
+        self.put_within(key, value, self.steps())
     }
 
-    /// The value of a key; `None` where it was absent, and then it is inserted with this one.
+    /// As [`put`](PassOf::put), with a budget of its own.
+    ///
+    /// ```
+    /// # use vbr::{Map, Refusal, Shape, Steps};
+    /// let mut handle = Map::handles(Shape::for_keys(8, 1))?.remove(0);
+    /// assert_eq!(handle.put_within(5, 70, Steps::new(1)), Err(Refusal::OutOfSteps));
+    /// # Ok::<(), vbr::OpenError>(())
+    /// ```
+    ///
+    /// # Errors
+    ///
+    /// Those of [`put`](PassOf::put).
+    #[inline]
+    pub fn put_within(&mut self, key: K, value: V, steps: Steps) -> Result<Option<V>, Refusal> {
+        let (key, value) = (key.to_bits(), value.to_bits());
+        with_value(updated, |found| {
+            // SAFETY: as for `replace_within`.
+            order::changes(key, || unsafe { vbr_map_put_within(self.raw(), key, value, found, steps.count()) })
+        })
+    }
+
+    /// The value of a key; `None` where it was absent, and then it is inserted with this one. [`MapPass::entry`](PassOf::entry) is
+    /// another way to say so.
     ///
     /// ```
     /// # use vbr::{Map, Shape};
-    /// let mut handle = Map::open(Shape::for_keys(8, 1), 1)?.remove(0);
-    /// assert_eq!(handle.get_or_insert(5, 70, 1_000)?, None);
-    /// assert_eq!(handle.get_or_insert(5, 71, 1_000)?, Some(70));
+    /// let mut handle = Map::handles(Shape::for_keys(8, 1))?.remove(0);
+    /// assert_eq!(handle.get_or_insert(5, 70)?, None);
+    /// assert_eq!(handle.get_or_insert(5, 71)?, Some(70));
     /// # Ok::<(), Box<dyn std::error::Error>>(())
     /// ```
     ///
@@ -99,19 +140,41 @@ impl PassOf<Entries> {
     /// [`Refusal::OutOfSteps`], and, where the key is absent, [`Refusal::NoSlot`] and [`Refusal::EpochSpent`]. No call was
     /// made then.
     #[inline]
-    pub fn get_or_insert(&mut self, key: u64, value: u64, budget: u32) -> Result<Option<u64>, Refusal> {
-        // SAFETY: as for `replace`.
-        answer_with(|found| unsafe { vbr_map_get_or_insert(self.raw(), key, value, found, budget) })
+    pub fn get_or_insert(&mut self, key: K, value: V) -> Result<Option<V>, Refusal> {
+        self.get_or_insert_within(key, value, self.steps())
     }
 
-    /// Gives a key another value if it has the one that is expected.
+    /// As [`get_or_insert`](PassOf::get_or_insert), with a budget of its own.
     ///
     /// ```
-    /// # use vbr::{Compared, Entry, Map, Shape};
-    /// let mut handle = Map::open_with(Shape::for_keys(8, 1), 1, &[Entry { key: 5, value: 70 }])?.remove(0);
-    /// assert_eq!(handle.compare_exchange(5, 70, 71, 1_000)?, Compared::Equal);
-    /// assert_eq!(handle.compare_exchange(5, 70, 72, 1_000)?, Compared::Other(71));
-    /// assert_eq!(handle.compare_exchange(6, 70, 72, 1_000)?, Compared::Absent);
+    /// # use vbr::{Map, Refusal, Shape, Steps};
+    /// let mut handle = Map::handles(Shape::for_keys(8, 1))?.remove(0);
+    /// assert_eq!(handle.get_or_insert_within(5, 70, Steps::new(1)), Err(Refusal::OutOfSteps));
+    /// # Ok::<(), vbr::OpenError>(())
+    /// ```
+    ///
+    /// # Errors
+    ///
+    /// Those of [`get_or_insert`](PassOf::get_or_insert).
+    #[inline]
+    pub fn get_or_insert_within(&mut self, key: K, value: V, steps: Steps) -> Result<Option<V>, Refusal> {
+        let (key, value) = (key.to_bits(), value.to_bits());
+        with_value(updated, |found| {
+            // SAFETY: as for `replace_within`.
+            order::finds_or_adds(key, || unsafe {
+                vbr_map_get_or_insert_within(self.raw(), key, value, found, steps.count())
+            })
+        })
+    }
+
+    /// Gives a key another value if it has the one that is expected. Values are compared by their bits.
+    ///
+    /// ```
+    /// # use vbr::{Compared, Map, Shape};
+    /// let mut handle = Map::handles_with(Shape::for_keys(8, 1), &[(5, 70)])?.remove(0);
+    /// assert_eq!(handle.compare_exchange(5, 70, 71)?, Compared::Equal);
+    /// assert_eq!(handle.compare_exchange(5, 70, 72)?, Compared::Other(71));
+    /// assert_eq!(handle.compare_exchange(6, 70, 72)?, Compared::Absent);
     /// # Ok::<(), Box<dyn std::error::Error>>(())
     /// ```
     ///
@@ -120,69 +183,164 @@ impl PassOf<Entries> {
     /// [`Refusal::OutOfSteps`], and, where the key had the expected value at a moment, [`Refusal::NoSlot`] and
     /// [`Refusal::EpochSpent`]. No call was made then.
     #[inline]
-    pub fn compare_exchange(&mut self, key: u64, expected: u64, value: u64, budget: u32) -> Result<Compared, Refusal> {
-        // SAFETY: as for `replace`.
-        compared(|found| unsafe { vbr_map_compare_exchange(self.raw(), key, expected, value, found, budget) })
+    pub fn compare_exchange(&mut self, key: K, expected: V, value: V) -> Result<Compared<V>, Refusal> {
+        self.compare_exchange_within(key, expected, value, self.steps())
     }
 
-    /// Takes a key out if it has the value that is expected. While the other handles stand still, 9n + 11 steps are enough,
-    /// with n nodes in the bucket of the key.
+    /// As [`compare_exchange`](PassOf::compare_exchange), with a budget of its own.
     ///
     /// ```
-    /// # use vbr::{Compared, Entry, Map, Shape};
-    /// let mut handle = Map::open_with(Shape::for_keys(8, 1), 1, &[Entry { key: 5, value: 70 }])?.remove(0);
-    /// assert_eq!(handle.remove_if(5, 71, 1_000)?, Compared::Other(70));
-    /// assert_eq!(handle.remove_if(5, 70, 1_000)?, Compared::Equal);
-    /// assert_eq!(handle.remove_if(5, 70, 1_000)?, Compared::Absent);
+    /// # use vbr::{Map, Refusal, Shape, Steps};
+    /// let mut handle = Map::handles_with(Shape::for_keys(8, 1), &[(5, 70)])?.remove(0);
+    /// assert_eq!(handle.compare_exchange_within(5, 70, 71, Steps::new(1)), Err(Refusal::OutOfSteps));
+    /// # Ok::<(), vbr::OpenError>(())
+    /// ```
+    ///
+    /// # Errors
+    ///
+    /// Those of [`compare_exchange`](PassOf::compare_exchange).
+    #[inline]
+    pub fn compare_exchange_within(&mut self, key: K, expected: V, value: V, steps: Steps) -> Result<Compared<V>, Refusal> {
+        let (key, expected, value) = (key.to_bits(), expected.to_bits(), value.to_bits());
+        compared(updated, |found| {
+            order::changes(key, || {
+                // SAFETY: as for `replace_within`.
+                unsafe { vbr_map_compare_exchange_within(self.raw(), key, expected, value, found, steps.count()) }
+            })
+        })
+    }
+
+    /// Takes a key out if it has the value that is expected. Values are compared by their bits. While the other handles stand
+    /// still, 9n + 11 steps are enough, with n nodes in the bucket of the key.
+    ///
+    /// ```
+    /// # use vbr::{Compared, Map, Shape};
+    /// let mut handle = Map::handles_with(Shape::for_keys(8, 1), &[(5, 70)])?.remove(0);
+    /// assert_eq!(handle.remove_if(5, 71)?, Compared::Other(70));
+    /// assert_eq!(handle.remove_if(5, 70)?, Compared::Equal);
+    /// assert_eq!(handle.remove_if(5, 70)?, Compared::Absent);
     /// # Ok::<(), Box<dyn std::error::Error>>(())
     /// ```
     ///
     /// # Errors
     ///
-    /// [`Refusal::OutOfSteps`] alone. No call was made then.
+    /// [`OutOfSteps`]. No call was made then.
     #[inline]
-    pub fn remove_if(&mut self, key: u64, expected: u64, budget: u32) -> Result<Compared, Refusal> {
-        // SAFETY: as for `replace`.
-        compared(|found| unsafe { vbr_map_remove_if(self.raw(), key, expected, found, budget) })
+    pub fn remove_if(&mut self, key: K, expected: V) -> Result<Compared<V>, OutOfSteps> {
+        self.remove_if_within(key, expected, self.steps())
+    }
+
+    /// As [`remove_if`](PassOf::remove_if), with a budget of its own.
+    ///
+    /// ```
+    /// # use vbr::{Map, OutOfSteps, Shape, Steps};
+    /// let mut handle = Map::handles_with(Shape::for_keys(8, 1), &[(5, 70)])?.remove(0);
+    /// assert_eq!(handle.remove_if_within(5, 70, Steps::new(1)), Err(OutOfSteps));
+    /// # Ok::<(), vbr::OpenError>(())
+    /// ```
+    ///
+    /// # Errors
+    ///
+    /// [`OutOfSteps`]. No call was made then.
+    #[inline]
+    pub fn remove_if_within(&mut self, key: K, expected: V, steps: Steps) -> Result<Compared<V>, OutOfSteps> {
+        let (key, expected) = (key.to_bits(), expected.to_bits());
+        compared(looked_up, |found| {
+            // SAFETY: as for `replace_within`.
+            order::removes(key, || unsafe { vbr_map_remove_if_within(self.raw(), key, expected, found, steps.count()) })
+        })
     }
 
     /// Gives a key the value that `update` makes of the one that it has, and gives the one before; `None` where the key is
     /// absent, or `update` makes none, and then nothing was changed.
     ///
     /// No update is lost. Where another comes in between, `update` is asked again, with the value that it left. Each call that
-    /// it takes has this budget.
+    /// it takes has the budget of the handle.
     ///
     /// ```
-    /// # use vbr::{Entry, Map, Shape};
-    /// let mut handle = Map::open_with(Shape::for_keys(8, 1), 1, &[Entry { key: 5, value: 1 }])?.remove(0);
+    /// # use vbr::{Map, Shape};
+    /// let mut handle = Map::handles_with(Shape::for_keys(8, 1), &[(5, 1_u64)])?.remove(0);
     /// let one_less = |left: u64| left.checked_sub(1);
-    /// assert_eq!(handle.fetch_update(5, one_less, 1_000)?, Some(1));
-    /// assert_eq!(handle.fetch_update(5, one_less, 1_000)?, None); // it is 0, and stays so
-    /// assert_eq!(handle.fetch_update(6, one_less, 1_000)?, None);
-    /// assert_eq!(handle.get(5, 1_000)?, Some(0));
+    /// assert_eq!(handle.fetch_update(5, one_less)?, Some(1));
+    /// assert_eq!(handle.fetch_update(5, one_less)?, None); // it is 0, and stays so
+    /// assert_eq!(handle.fetch_update(6, one_less)?, None);
+    /// assert_eq!(handle.get(5)?, Some(0));
     /// # Ok::<(), Box<dyn std::error::Error>>(())
     /// ```
     ///
     /// # Errors
     ///
     /// Those of [`compare_exchange`](PassOf::compare_exchange). Nothing was changed then.
-    pub fn fetch_update(
+    #[inline]
+    pub fn fetch_update(&mut self, key: K, update: impl FnMut(V) -> Option<V>) -> Result<Option<V>, Refusal> {
+        self.fetch_update_within(key, update, self.steps())
+    }
+
+    /// As [`fetch_update`](PassOf::fetch_update), each of whose calls has this budget.
+    ///
+    /// ```
+    /// # use vbr::{Map, Refusal, Shape, Steps};
+    /// let mut handle = Map::handles_with(Shape::for_keys(8, 1), &[(5, 70)])?.remove(0);
+    /// assert_eq!(handle.fetch_update_within(5, |value| Some(value + 1), Steps::new(1)), Err(Refusal::OutOfSteps));
+    /// # Ok::<(), vbr::OpenError>(())
+    /// ```
+    ///
+    /// # Errors
+    ///
+    /// Those of [`compare_exchange`](PassOf::compare_exchange). Nothing was changed then.
+    pub fn fetch_update_within(
         &mut self,
-        key: u64,
-        mut update: impl FnMut(u64) -> Option<u64>,
-        budget: u32,
-    ) -> Result<Option<u64>, Refusal> {
-        let mut seen = self.get(key, budget)?;
+        key: K,
+        mut update: impl FnMut(V) -> Option<V>,
+        steps: Steps,
+    ) -> Result<Option<V>, Refusal> {
+        let mut seen = self.get_within(key, steps)?;
         while let Some(before) = seen {
             let Some(value) = update(before) else {
                 return Ok(None);
             };
-            match self.compare_exchange(key, before, value, budget)? {
+            match self.compare_exchange_within(key, before, value, steps)? {
                 Compared::Equal => return Ok(seen),
                 Compared::Other(now) => seen = Some(now),
                 Compared::Absent => seen = None,
             }
         }
         Ok(None)
+    }
+
+    /// Goes over all entries while other threads make calls, as [`PassOf::iter`] does, takes out those for which `keep` says no,
+    /// and returns how many it took out. Each call that it takes has the budget of the handle.
+    ///
+    /// An entry is taken out only with a value that `keep` saw, by [`remove_if`](PassOf::remove_if): where it has another one
+    /// meanwhile, `keep` is asked again, with that.
+    ///
+    /// ```
+    /// # use vbr::{Map, Shape};
+    /// let now = 100;
+    /// let mut logins = Map::handles_with(Shape::for_keys(8, 1), &[(5, 70), (7, 170)])?.remove(0);
+    /// assert_eq!(logins.retain(|_, until| until > now)?, 1);
+    /// assert_eq!(logins.close()?.expect("the only handle").entries, [(7, 170)]);
+    /// # Ok::<(), Box<dyn std::error::Error>>(())
+    /// ```
+    ///
+    /// # Errors
+    ///
+    /// [`OutOfSteps`], as of [`PassOf::iter`] or of a remove. What was taken out before stays out.
+    pub fn retain(&mut self, mut keep: impl FnMut(K, V) -> bool) -> Result<u64, OutOfSteps> {
+        let (mut cursor, mut count) = (Cursor::first(), 0);
+        while let Some((key, value)) = self.walk_on(&mut cursor, self.steps())? {
+            let mut seen = Some(value);
+            while let Some(value) = seen.filter(|&value| !keep(key, value)) {
+                seen = match self.remove_if(key, value)? {
+                    Compared::Other(now) => Some(now),
+                    Compared::Absent => None,
+                    Compared::Equal => {
+                        count += 1;
+                        None
+                    }
+                };
+            }
+        }
+        Ok(count)
     }
 }

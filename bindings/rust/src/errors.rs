@@ -6,36 +6,77 @@ use core::fmt;
 /// Why a set or a map was not opened.
 ///
 /// ```
-/// # use vbr::{OpenError, Set, Shape};
-/// assert_eq!(Set::open_with(Shape::for_keys(8, 1), 1, &[7, 5]).unwrap_err(), OpenError::Keys);
+/// # use vbr::{KeysError, OpenError, Set, Shape};
+/// let error = Set::handles_with(Shape::for_keys(8, 1), &[5, 9, 7]).unwrap_err();
+/// assert_eq!(error, OpenError::Keys(KeysError::NotAscending { place: 2 }));
+/// assert_eq!(error.to_string(), "the key at place 2 is not above the one before");
 /// ```
-#[derive(Clone, Copy, Debug, PartialEq, Eq)]
+#[derive(Clone, Copy, Debug, PartialEq, Eq, Hash)]
+#[non_exhaustive]
 pub enum OpenError {
     /// A number of the shape is out of range: the first such one.
     Shape(ShapeError),
-    /// The number of handles is not from 1 to 64.
-    Handles,
-    /// The number of handles is not from 1 to 65,536, of [`Set::open_many`](crate::Set::open_many).
-    ManyHandles,
-    /// The keys, or those of the entries, don't ascend, each above the one before, or there are more of them than slots.
-    Keys,
+    /// The keys, or those of the entries, aren't such as a set opens with.
+    Keys(KeysError),
     /// There is no memory.
     Memory,
 }
 
+/// Why a set or a map can't be opened with these keys.
+///
+/// ```
+/// # use vbr::{KeysError, OpenError, Set, Shape};
+/// let error = Set::handles_with(Shape::new(2, 1, 100), &[5, 7, 9]).unwrap_err();
+/// assert_eq!(error, OpenError::Keys(KeysError::TooMany { keys: 3, slots: 2 }));
+/// ```
+#[derive(Clone, Copy, Debug, PartialEq, Eq, Hash)]
+#[non_exhaustive]
+pub enum KeysError {
+    /// There are so many of them, and fewer slots.
+    TooMany {
+        /// How many keys there are.
+        keys: usize,
+        /// How many slots the shape has.
+        slots: u32,
+    },
+    /// The key at this place, the first such one, isn't above the one before it: they are out of order, or the same.
+    NotAscending {
+        /// Where the key is, counted from 0.
+        place: usize,
+    },
+}
+
+/// Why a look-up, a remove or a walk gave no answer, the only reason that there is: its budget is spent. It made no call then.
+/// [`Refusal::OutOfSteps`] says what helps. It converts into a [`Refusal`], so `?` serves both.
+///
+/// ```
+/// # use vbr::{MapPass, OutOfSteps, Refusal};
+/// /// Takes a page out of one index, and puts it into another.
+/// fn moved(page: u64, from: &mut MapPass, to: &mut MapPass) -> Result<bool, Refusal> {
+///     match from.remove(page)? {
+///         Some(frame) => to.try_insert(page, frame),
+///         None => Ok(false),
+///     }
+/// }
+/// assert_eq!(Refusal::from(OutOfSteps), Refusal::OutOfSteps);
+/// ```
+#[derive(Clone, Copy, Debug, PartialEq, Eq, Hash)]
+pub struct OutOfSteps;
+
 /// Why a call gave no answer. It made no call then.
 ///
 /// ```
-/// # use vbr::{Refusal, Set, Shape};
-/// let mut handle = Set::open_with(Shape::new(1, 1, 100), 1, &[5])?.remove(0);
-/// assert_eq!(handle.insert(6, 1_000), Err(Refusal::NoSlot));
-/// assert_eq!(handle.insert(6, 1), Err(Refusal::OutOfSteps));
+/// # use vbr::{Refusal, Set, Shape, Steps};
+/// let mut handle = Set::handles_with(Shape::new(1, 1, 100), &[5])?.remove(0);
+/// assert_eq!(handle.insert(6), Err(Refusal::NoSlot));
+/// assert_eq!(handle.insert_within(6, Steps::new(1)), Err(Refusal::OutOfSteps));
 /// # Ok::<(), Box<dyn std::error::Error>>(())
 /// ```
-#[derive(Clone, Copy, Debug, PartialEq, Eq)]
+#[derive(Clone, Copy, Debug, PartialEq, Eq, Hash)]
+#[non_exhaustive]
 pub enum Refusal {
     /// The budget is spent. Make the call again, with twice the budget if that may have been too small:
-    /// [`ample_budget`](crate::ample_budget) is enough in short buckets. A look-up or a remove with steps enough alone runs out
+    /// [`Steps::AMPLE`](crate::Steps::AMPLE) is enough in short buckets. A look-up or a remove with steps enough alone runs out
     /// of them only where others inserted or removed in the key's bucket meanwhile, or advanced the epoch.
     OutOfSteps,
     /// An insert of an absent key, or a call that gives a key another value, found no slot: its handle had none of its own, and
@@ -43,8 +84,7 @@ pub enum Refusal {
     /// or make the call again; a greater budget alone doesn't help.
     NoSlot,
     /// An insert of an absent key, or a call that gives a key another value, would have needed an epoch beyond the last one.
-    /// Renew the set or the map, as [`Set::open_with`](crate::Set::open_with) and [`Map::open_with`](crate::Map::open_with)
-    /// show; until then look-ups and removes are answered as ever.
+    /// Renew the set or the map ([`Table::renew`], [`HandleOf::renew_all`]); until then look-ups and removes are answered as ever.
     EpochSpent,
 }
 
@@ -57,14 +97,14 @@ pub enum Refusal {
 ///     match handle.close() {
 ///         Ok(report) => Ok(report), // None: others are open
 ///         Err(CloseError::Memory(unclosed)) => Err(unclosed.into_handle()),
-///         Err(CloseError::Lost) => Ok(None),
+///         Err(_) => Ok(None),
 ///     }
 /// }
-/// # let handle = vbr::Set::open_with(vbr::Shape::for_keys(8, 1), 1, &[5])?.remove(0);
+/// # let handle = vbr::Set::handles_with(vbr::Shape::for_keys(8, 1), &[5])?.remove(0);
 /// # assert_eq!(report_of(handle).expect("memory").expect("the only handle").keys, [5]);
 /// # Ok::<(), Box<dyn std::error::Error>>(())
 /// ```
-#[derive(Debug)]
+#[non_exhaustive]
 pub enum CloseError<H = Handle> {
     /// It was the last handle, and a pass of the set or map is not there. The set or map is gone. No program is known to get
     /// this, so there is no example of it: a handle that is dropped is closed, and one that is forgotten keeps its set open.
@@ -78,17 +118,16 @@ pub enum CloseError<H = Handle> {
 ///
 /// ```
 /// # use vbr::{Handle, Unclosed};
-/// fn goes_on(unclosed: Unclosed) -> Result<bool, vbr::Refusal> {
-///     unclosed.into_handle().has(5, 1_000)
+/// fn goes_on(unclosed: Unclosed) -> Result<bool, vbr::OutOfSteps> {
+///     unclosed.into_handle().has(5)
 /// }
 /// ```
-#[derive(Debug)]
 pub struct Unclosed<H = Handle>(pub(crate) H);
 
 // SAFETY: it has a handle or a set, and a reference to it gives nothing but the name.
 unsafe impl<H> Sync for Unclosed<H> {}
 
-impl<K: Kind> Unclosed<Table<K>> {
+impl<T: Kind> Unclosed<Table<T>> {
     /// The set, which lends its handles again, or is closed again.
     ///
     /// ```
@@ -103,16 +142,16 @@ impl<K: Kind> Unclosed<Table<K>> {
     ///         std::thread::yield_now();
     ///     }
     /// }
-    /// # let set = Set::lending(vbr::Shape::for_keys(8, 1), 1)?;
+    /// # let set = Set::open(vbr::Shape::for_keys(8, 1))?;
     /// # assert!(close(set).is_some());
     /// # Ok::<(), vbr::OpenError>(())
     /// ```
-    pub fn into_table(self) -> Table<K> {
+    pub fn into_table(self) -> Table<T> {
         self.0
     }
 }
 
-impl<K: Kind> Unclosed<HandleOf<K>> {
+impl<T: Kind> Unclosed<HandleOf<T>> {
     /// The handle, to go on with, or to be closed again.
     ///
     /// ```
@@ -127,11 +166,11 @@ impl<K: Kind> Unclosed<HandleOf<K>> {
     ///         std::thread::yield_now();
     ///     }
     /// }
-    /// # let handle = vbr::Set::open(vbr::Shape::for_keys(8, 1), 1)?.remove(0);
+    /// # let handle = vbr::Set::handles(vbr::Shape::for_keys(8, 1))?.remove(0);
     /// # assert!(close(handle).is_some());
     /// # Ok::<(), vbr::OpenError>(())
     /// ```
-    pub fn into_handle(self) -> HandleOf<K> {
+    pub fn into_handle(self) -> HandleOf<T> {
         self.0
     }
 }
@@ -140,11 +179,12 @@ impl<K: Kind> Unclosed<HandleOf<K>> {
 ///
 /// ```
 /// # use vbr::{Handle, ReportError, Set, Shape};
-/// let mut handles = Set::open(Shape::for_keys(8, 2), 2)?;
+/// let mut handles: Vec<Handle> = Set::handles(Shape::for_keys(8, 2))?;
 /// assert_eq!(Handle::report_all(&mut handles[..1]).unwrap_err(), ReportError::Missing);
 /// # Ok::<(), vbr::OpenError>(())
 /// ```
-#[derive(Clone, Copy, Debug, PartialEq, Eq)]
+#[derive(Clone, Copy, Debug, PartialEq, Eq, Hash)]
+#[non_exhaustive]
 pub enum ReportError {
     /// Two of the handles are of different sets.
     Mixed,
@@ -158,11 +198,12 @@ pub enum ReportError {
 ///
 /// ```
 /// # use vbr::{Handle, RenewError, Set, Shape};
-/// let mut handles = Set::open_with(Shape::for_keys(8, 1), 1, &[5, 7])?;
+/// let mut handles = Set::handles_with(Shape::for_keys(8, 1), &[5, 7])?;
 /// assert_eq!(Handle::renew_all(&mut handles, Shape::new(1, 1, 100)), Err(RenewError::Slots));
 /// # Ok::<(), vbr::OpenError>(())
 /// ```
-#[derive(Clone, Copy, Debug, PartialEq, Eq)]
+#[derive(Clone, Copy, Debug, PartialEq, Eq, Hash)]
+#[non_exhaustive]
 pub enum RenewError {
     /// A number of the shape is out of range: the first such one.
     Shape(ShapeError),
@@ -178,6 +219,18 @@ pub enum RenewError {
     Lent,
 }
 
+impl From<OutOfSteps> for Refusal {
+    fn from(_: OutOfSteps) -> Refusal {
+        Refusal::OutOfSteps
+    }
+}
+
+impl From<ShapeError> for OpenError {
+    fn from(number: ShapeError) -> OpenError {
+        OpenError::Shape(number)
+    }
+}
+
 impl From<ShapeError> for RenewError {
     fn from(number: ShapeError) -> RenewError {
         RenewError::Shape(number)
@@ -191,6 +244,50 @@ impl From<ReportError> for RenewError {
             ReportError::Missing => RenewError::Missing,
             ReportError::Memory => RenewError::Memory,
         }
+    }
+}
+
+impl fmt::Display for OpenError {
+    fn fmt(&self, f: &mut fmt::Formatter<'_>) -> fmt::Result {
+        match self {
+            OpenError::Shape(number) => number.fmt(f),
+            OpenError::Keys(why) => why.fmt(f),
+            OpenError::Memory => f.write_str("there is no memory for the set or map"),
+        }
+    }
+}
+
+impl fmt::Display for KeysError {
+    fn fmt(&self, f: &mut fmt::Formatter<'_>) -> fmt::Result {
+        match self {
+            KeysError::TooMany { keys, slots } => write!(f, "there are {keys} keys, and {slots} slots"),
+            KeysError::NotAscending { place } => write!(f, "the key at place {place} is not above the one before"),
+        }
+    }
+}
+
+impl fmt::Display for OutOfSteps {
+    fn fmt(&self, f: &mut fmt::Formatter<'_>) -> fmt::Result {
+        Refusal::OutOfSteps.fmt(f)
+    }
+}
+
+impl fmt::Display for Refusal {
+    fn fmt(&self, f: &mut fmt::Formatter<'_>) -> fmt::Result {
+        f.write_str(match self {
+            Refusal::OutOfSteps => "the budget of steps is spent",
+            Refusal::NoSlot => "no slot was found",
+            Refusal::EpochSpent => "the last epoch is spent",
+        })
+    }
+}
+
+impl<H> fmt::Display for CloseError<H> {
+    fn fmt(&self, f: &mut fmt::Formatter<'_>) -> fmt::Result {
+        f.write_str(match self {
+            CloseError::Lost => "a pass of the set or map is missing",
+            CloseError::Memory(_) => "there is no memory for the report",
+        })
     }
 }
 
@@ -217,49 +314,32 @@ impl fmt::Display for RenewError {
     }
 }
 
-impl Error for ReportError {}
-
-impl Error for RenewError {}
-
-impl fmt::Display for OpenError {
+/// The name alone: threads that share it see nothing of the handle.
+impl<H> fmt::Debug for Unclosed<H> {
     fn fmt(&self, f: &mut fmt::Formatter<'_>) -> fmt::Result {
-        f.write_str(match self {
-            OpenError::Shape(number) => return number.fmt(f),
-            OpenError::Handles => "the number of handles is not from 1 to 64",
-            OpenError::ManyHandles => "the number of handles is not from 1 to 65536",
-            OpenError::Keys => "the keys do not ascend, or there are more than slots",
-            OpenError::Memory => "there is no memory for the set or map",
-        })
+        f.debug_struct("Unclosed").finish_non_exhaustive()
     }
 }
 
-impl From<ShapeError> for OpenError {
-    fn from(number: ShapeError) -> OpenError {
-        OpenError::Shape(number)
-    }
-}
-
-impl fmt::Display for Refusal {
+impl<H> fmt::Debug for CloseError<H> {
     fn fmt(&self, f: &mut fmt::Formatter<'_>) -> fmt::Result {
-        f.write_str(match self {
-            Refusal::OutOfSteps => "the budget of steps is spent",
-            Refusal::NoSlot => "no slot was found",
-            Refusal::EpochSpent => "the last epoch is spent",
-        })
-    }
-}
-
-impl<H> fmt::Display for CloseError<H> {
-    fn fmt(&self, f: &mut fmt::Formatter<'_>) -> fmt::Result {
-        f.write_str(match self {
-            CloseError::Lost => "a pass of the set or map is missing",
-            CloseError::Memory(_) => "there is no memory for the report",
-        })
+        match self {
+            CloseError::Lost => f.write_str("Lost"),
+            CloseError::Memory(unclosed) => f.debug_tuple("Memory").field(unclosed).finish(),
+        }
     }
 }
 
 impl Error for OpenError {}
 
+impl Error for KeysError {}
+
+impl Error for OutOfSteps {}
+
 impl Error for Refusal {}
 
-impl<H: fmt::Debug> Error for CloseError<H> {}
+impl<H> Error for CloseError<H> {}
+
+impl Error for ReportError {}
+
+impl Error for RenewError {}

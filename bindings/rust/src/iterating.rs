@@ -1,5 +1,5 @@
 //! Going over all keys while other threads make calls.
-use crate::{Keys, Kind, PassOf, Refusal};
+use crate::{HandleOf, Keys, Kind, OutOfSteps, PassOf, Steps};
 use core::fmt;
 use core::iter::FusedIterator;
 
@@ -11,12 +11,12 @@ use core::iter::FusedIterator;
 ///
 /// ```
 /// # use vbr::{Cursor, Set, Shape};
-/// let handles = Set::open_with(Shape::new(8, 1, 100), 2, &[2, 5, 9])?;
+/// let handles = Set::handles_with(Shape::new(8, 1, 100).with_handles(2), &[2, 5, 9])?;
 /// let mut cursor = Cursor::first();
-/// assert_eq!(handles[0].next(&mut cursor, 1_000)?, Some(2));
+/// assert_eq!(handles[0].next(&mut cursor)?, Some(2));
 /// let mut copy = cursor;
-/// assert_eq!(handles[1].next(&mut cursor, 1_000)?, Some(5));
-/// assert_eq!(handles[1].next(&mut copy, 1_000)?, Some(5));
+/// assert_eq!(handles[1].next(&mut cursor)?, Some(5));
+/// assert_eq!(handles[1].next(&mut copy)?, Some(5));
 /// # Ok::<(), Box<dyn std::error::Error>>(())
 /// ```
 #[repr(C)]
@@ -31,13 +31,14 @@ impl Cursor {
     ///
     /// ```
     /// # use vbr::{Cursor, Set, Shape};
-    /// let handle = Set::open_with(Shape::for_keys(8, 1), 1, &[5])?.remove(0);
+    /// let handle = Set::handles_with(Shape::for_keys(8, 1), &[5])?.remove(0);
     /// let mut cursor = Cursor::first();
-    /// assert_eq!(handle.next(&mut cursor, 1_000)?, Some(5));
-    /// assert_eq!(handle.next(&mut cursor, 1_000)?, None);
+    /// assert_eq!(handle.next(&mut cursor)?, Some(5));
+    /// assert_eq!(handle.next(&mut cursor)?, None);
     /// assert_eq!(Cursor::default(), Cursor::first());
     /// # Ok::<(), Box<dyn std::error::Error>>(())
     /// ```
+    #[must_use]
     pub const fn first() -> Cursor {
         Cursor { bucket: 0, from: 0 }
     }
@@ -47,53 +48,66 @@ impl Cursor {
 /// map's as `Iter<'_, Entries>`.
 ///
 /// Each call of the library has the same budget of steps. One that is refused and has come further is made again, as often as
-/// need be. Where a whole call didn't come to a later bucket, the item is `Err(`[`Refusal::OutOfSteps`]`)`. The walk isn't over
+/// need be. Where a whole call didn't come to a later bucket, the item is `Err(`[`OutOfSteps`]`)`. The walk isn't over
 /// by that: the next item is of a call from the same place, or again such an error, for as long as the budget is too small for
 /// the bucket. So leave it by `?`, or collect into a [`Result`]; what skips errors, as [`Iterator::flatten`] does, may go on for
-/// ever. Behind the last key it gives `None` for good.
+/// ever. After the last key it gives `None` for good.
 ///
 /// ```
-/// # use vbr::{Entries, Iter, Refusal};
-/// fn sum_of_values(mut entries: Iter<'_, Entries>) -> Result<u64, Refusal> {
+/// # use vbr::{Entries, Iter, OutOfSteps};
+/// fn sum_of_values(mut entries: Iter<'_, Entries>) -> Result<u64, OutOfSteps> {
 ///     entries.try_fold(0, |sum, entry| Ok(sum + entry?.1))
 /// }
-/// # let entries = [(5, 70), (7, 71)].map(vbr::Entry::from);
-/// # let handle = vbr::Map::open_with(vbr::Shape::for_keys(8, 1), 1, &entries)?.remove(0);
-/// # assert_eq!(sum_of_values(handle.iter(1_000))?, 141);
+/// # let handle = vbr::Map::handles_with(vbr::Shape::for_keys(8, 1), &[(5, 70), (7, 71)])?.remove(0);
+/// # assert_eq!(sum_of_values(handle.iter())?, 141);
 /// # Ok::<(), Box<dyn std::error::Error>>(())
 /// ```
 #[must_use = "a walk makes no call before it is asked for a key"]
-pub struct Iter<'h, K: Kind = Keys> {
-    pass: &'h PassOf<K>,
+pub struct Iter<'h, T: Kind = Keys> {
+    pass: &'h PassOf<T>,
     cursor: Cursor,
-    budget: u32,
+    steps: Steps,
 }
 
-impl<'h, K: Kind> Iter<'h, K> {
-    pub(crate) fn new(pass: &'h PassOf<K>, budget: u32) -> Iter<'h, K> {
-        Iter { pass, cursor: Cursor::first(), budget }
+impl<'h, T: Kind> Iter<'h, T> {
+    pub(crate) fn new(pass: &'h PassOf<T>, steps: Steps) -> Iter<'h, T> {
+        Iter { pass, cursor: Cursor::first(), steps }
     }
 }
 
-impl<K: Kind> Iterator for Iter<'_, K> {
-    type Item = Result<K::Given, Refusal>;
+impl<T: Kind> Iterator for Iter<'_, T> {
+    type Item = Result<T::Item, OutOfSteps>;
 
     #[inline]
-    fn next(&mut self) -> Option<Result<K::Given, Refusal>> {
-        loop {
-            let before = self.cursor;
-            let told = self.pass.next(&mut self.cursor, self.budget);
-            if told.is_ok() || self.cursor == before {
-                return told.transpose();
-            }
-        }
+    fn next(&mut self) -> Option<Result<T::Item, OutOfSteps>> {
+        self.pass.walk_on(&mut self.cursor, self.steps).transpose()
     }
 }
 
-impl<K: Kind> FusedIterator for Iter<'_, K> {}
+impl<T: Kind> FusedIterator for Iter<'_, T> {}
 
-impl<K: Kind> fmt::Debug for Iter<'_, K> {
+impl<'h, T: Kind> IntoIterator for &'h PassOf<T> {
+    type Item = Result<T::Item, OutOfSteps>;
+    type IntoIter = Iter<'h, T>;
+
+    #[inline]
+    fn into_iter(self) -> Iter<'h, T> {
+        self.iter()
+    }
+}
+
+impl<'h, T: Kind> IntoIterator for &'h HandleOf<T> {
+    type Item = Result<T::Item, OutOfSteps>;
+    type IntoIter = Iter<'h, T>;
+
+    #[inline]
+    fn into_iter(self) -> Iter<'h, T> {
+        self.iter()
+    }
+}
+
+impl<T: Kind> fmt::Debug for Iter<'_, T> {
     fn fmt(&self, f: &mut fmt::Formatter<'_>) -> fmt::Result {
-        f.debug_struct("Iter").field("cursor", &self.cursor).field("budget", &self.budget).finish_non_exhaustive()
+        f.debug_struct("Iter").field("cursor", &self.cursor).field("steps", &self.steps).finish_non_exhaustive()
     }
 }

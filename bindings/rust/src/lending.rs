@@ -1,8 +1,9 @@
 //! Handles on loan.
 use crate::all::All;
-use crate::handle::Unreported;
+use crate::boxed::boxed;
+use crate::reporting::Unreported;
 use crate::waiting::Waiters;
-use crate::{HandleOf, Keys, Kind, OpenError, PassOf, RenewError, Shape, Table};
+use crate::{HandleOf, Keys, Kind, OpenError, PassOf, RenewError, Shape, Steps, Table};
 use std::cell::{Cell, UnsafeCell};
 use std::fmt;
 use std::ops::{Deref, DerefMut};
@@ -12,40 +13,50 @@ use std::sync::Arc;
 use std::time::Instant;
 
 /// The handles of one set or map, which it lends.
-pub(crate) struct Lender<K: Kind> {
-    places: Box<[Place<K>]>,
+pub(crate) struct Lender<T: Kind> {
+    places: Box<[Place<T>]>,
     /// Of so many one may be lent: of all, and of none while they are renewed. It is never more than there are.
     lends: AtomicUsize,
-    shape: SharedShape,
-    renewals: AtomicUsize,
     waiters: Waiters,
+    /// Apart from what a borrower reads, so that a set is small enough for an error.
+    made: Box<Made>,
 }
 
-/// The shape of a set, with the seed that was asked for if one was; a renewal changes it while other threads read it.
+/// How the set is opened now, and how often it was renewed.
+struct Made {
+    shape: SharedShape,
+    renewals: AtomicUsize,
+}
+
+/// The shape of a set, with the seed and the budget that were asked for if they were; a renewal changes it while other threads read
+/// it.
 pub(crate) struct SharedShape {
     slots: AtomicU32,
     buckets: AtomicU32,
     last_epoch: AtomicU64,
+    handles: usize,
     has_seed: AtomicBool,
     seed: AtomicU64,
+    has_steps: AtomicBool,
+    steps: AtomicU32,
 }
 
 /// A renewal: where it has its turn no handle is lent, and it takes each that is free. At its end all are lent again.
-struct Renewal<'l, K: Kind> {
-    of: &'l Lender<K>,
+struct Renewal<'l, T: Kind> {
+    of: &'l Lender<T>,
     has_turn: bool,
     taken: usize,
 }
 
 /// A handle, and whether it is lent, on cache lines of their own.
 #[repr(align(128))]
-struct Place<K: Kind> {
+struct Place<T: Kind> {
     is_lent: AtomicBool,
-    handle: UnsafeCell<HandleOf<K>>,
+    handle: UnsafeCell<HandleOf<T>>,
 }
 
 // SAFETY: a handle is reached by whoever set `is_lent`, one thread at a time, and may be sent to any thread.
-unsafe impl<K: Kind> Sync for Place<K> {}
+unsafe impl<T: Kind> Sync for Place<T> {}
 
 thread_local! {
     /// The number of the handle that this thread was lent last, by any lender: it tries that one first. So threads that are no
@@ -53,9 +64,9 @@ thread_local! {
     static LAST: Cell<usize> = const { Cell::new(0) };
 }
 
-impl<K: Kind> Lender<K> {
+impl<T: Kind> Lender<T> {
     /// Keeps the handles of one set or map.
-    pub(crate) fn of(handles: Vec<HandleOf<K>>, shape: Shape) -> Result<Lender<K>, OpenError> {
+    pub(crate) fn of(handles: Vec<HandleOf<T>>, shape: Shape) -> Result<Lender<T>, OpenError> {
         let mut places = Vec::new();
         places.try_reserve_exact(handles.len()).map_err(|_| OpenError::Memory)?;
         let free = |handle| Place { is_lent: AtomicBool::new(false), handle: UnsafeCell::new(handle) };
@@ -63,14 +74,13 @@ impl<K: Kind> Lender<K> {
         Ok(Lender {
             lends: AtomicUsize::new(places.len()),
             places: places.into_boxed_slice(),
-            shape: SharedShape::of(shape),
-            renewals: AtomicUsize::new(0),
-            waiters: Waiters::default(),
+            waiters: Waiters::none().ok_or(OpenError::Memory)?,
+            made: boxed(Made { shape: SharedShape::of(shape), renewals: AtomicUsize::new(0) }).ok_or(OpenError::Memory)?,
         })
     }
 
     pub(crate) fn shape(&self) -> &SharedShape {
-        &self.shape
+        &self.made.shape
     }
 
     /// How many handles there are.
@@ -105,14 +115,15 @@ impl<K: Kind> Lender<K> {
     }
 
     /// Closes all handles, and tells what was in the set. Where it is refused memory they stay as they were.
-    pub(crate) fn close(&mut self) -> Result<K::Report, Unreported> {
+    pub(crate) fn close(&mut self) -> Result<T::Report, Unreported> {
         HandleOf::close_all(&mut self.places)
     }
 
     /// Lets the handles go on over a fresh set of this shape, once all loans are back, if they are before the deadline.
     pub(crate) fn renew(&self, shape: Shape, deadline: Option<Instant>) -> Result<(), RenewError> {
-        shape.check()?;
-        let before = self.renewals.load(Ordering::Relaxed);
+        shape.check_numbers()?;
+        let shape = shape.with_handles(self.count());
+        let before = self.made.renewals.load(Ordering::Relaxed);
         let mut mine = Renewal { of: self, has_turn: false, taken: 0 };
         let is_to_be_made = self.waiters.wait_for_all(deadline, || {
             if self.is_renewed_since(before, shape) {
@@ -124,19 +135,19 @@ impl<K: Kind> Lender<K> {
             return Ok(()); // another thread's serves both
         }
         mine.renew(shape)?;
-        self.shape.set(shape);
-        self.renewals.fetch_add(1, Ordering::Relaxed);
+        self.made.shape.set(shape);
+        self.made.renewals.fetch_add(1, Ordering::Relaxed);
         Ok(())
     }
 
     /// Whether no renewal is under way, and one that came after so many has given the set this shape.
     fn is_renewed_since(&self, before: usize, shape: Shape) -> bool {
         let is_lending = self.lends.load(Ordering::Acquire) > 0;
-        is_lending && self.renewals.load(Ordering::Relaxed) != before && self.shape.get() == shape
+        is_lending && self.made.renewals.load(Ordering::Relaxed) != before && self.made.shape.get() == shape
     }
 }
 
-impl<K: Kind> Renewal<'_, K> {
+impl<T: Kind> Renewal<'_, T> {
     /// Whether it has all handles now.
     fn takes_all(&mut self) -> bool {
         let Lender { places, lends, .. } = self.of;
@@ -149,19 +160,19 @@ impl<K: Kind> Renewal<'_, K> {
     }
 }
 
-impl<K: Kind> All<K> for Renewal<'_, K> {
+impl<T: Kind> All<T> for Renewal<'_, T> {
     fn count(&self) -> usize {
         self.taken
     }
 
-    fn at(&mut self, place: usize) -> &mut HandleOf<K> {
+    fn at(&mut self, place: usize) -> &mut HandleOf<T> {
         assert!(place < self.taken);
         // SAFETY: this has taken it, and nothing else reaches it until it is given back.
         unsafe { &mut *self.of.places[place].handle.get() }
     }
 }
 
-impl<K: Kind> Drop for Renewal<'_, K> {
+impl<T: Kind> Drop for Renewal<'_, T> {
     fn drop(&mut self) {
         if self.has_turn {
             self.of.lends.store(self.of.count(), Ordering::Release);
@@ -172,27 +183,36 @@ impl<K: Kind> Drop for Renewal<'_, K> {
 }
 
 impl SharedShape {
-    fn of(Shape { slots, buckets, last_epoch, seed }: Shape) -> SharedShape {
-        SharedShape {
-            slots: AtomicU32::new(slots),
-            buckets: AtomicU32::new(buckets),
-            last_epoch: AtomicU64::new(last_epoch),
-            has_seed: AtomicBool::new(seed.is_some()),
-            seed: AtomicU64::new(seed.unwrap_or_default()),
-        }
+    fn of(shape: Shape) -> SharedShape {
+        let shared = SharedShape {
+            slots: AtomicU32::new(0),
+            buckets: AtomicU32::new(0),
+            last_epoch: AtomicU64::new(0),
+            handles: shape.handles,
+            has_seed: AtomicBool::new(false),
+            seed: AtomicU64::new(0),
+            has_steps: AtomicBool::new(false),
+            steps: AtomicU32::new(0),
+        };
+        shared.set(shape);
+        shared
     }
 
-    fn set(&self, Shape { slots, buckets, last_epoch, seed }: Shape) {
+    fn set(&self, Shape { slots, buckets, last_epoch, seed, steps, .. }: Shape) {
         self.slots.store(slots, Ordering::Relaxed);
         self.buckets.store(buckets, Ordering::Relaxed);
         self.last_epoch.store(last_epoch, Ordering::Relaxed);
         self.has_seed.store(seed.is_some(), Ordering::Relaxed);
         self.seed.store(seed.unwrap_or_default(), Ordering::Relaxed);
+        self.has_steps.store(steps.is_some(), Ordering::Relaxed);
+        self.steps.store(steps.unwrap_or_default().count(), Ordering::Relaxed);
     }
 
     fn get(&self) -> Shape {
         let seed = self.has_seed.load(Ordering::Relaxed).then(|| self.seed.load(Ordering::Relaxed));
-        Shape { slots: self.slots(), buckets: self.buckets(), last_epoch: self.last_epoch(), seed }
+        let steps = self.has_steps.load(Ordering::Relaxed).then(|| Steps::new(self.steps.load(Ordering::Relaxed)));
+        let (slots, buckets, last_epoch) = (self.slots(), self.buckets(), self.last_epoch());
+        Shape { slots, buckets, last_epoch, handles: self.handles, seed, steps }
     }
 
     pub(crate) fn slots(&self) -> u32 {
@@ -208,7 +228,7 @@ impl SharedShape {
     }
 }
 
-impl<K: Kind> Place<K> {
+impl<T: Kind> Place<T> {
     /// Whether the handle was free; it is lent then.
     #[inline]
     fn take(&self) -> bool {
@@ -216,8 +236,8 @@ impl<K: Kind> Place<K> {
     }
 }
 
-impl<K: Kind> AsMut<HandleOf<K>> for Place<K> {
-    fn as_mut(&mut self) -> &mut HandleOf<K> {
+impl<T: Kind> AsMut<HandleOf<T>> for Place<T> {
+    fn as_mut(&mut self) -> &mut HandleOf<T> {
         self.handle.get_mut()
     }
 }
@@ -231,46 +251,46 @@ impl<K: Kind> AsMut<HandleOf<K>> for Place<K> {
 /// It may go to another thread, and is not `Sync`.
 ///
 /// ```
-/// # use vbr::{Entry, Kind, LentBy, Map, Refusal, Shape, Table};
+/// # use vbr::{Kind, LentBy, Map, OutOfSteps, Shape, Table};
 /// /// How many items there are, by a loan of either kind.
-/// fn count<K: Kind, T: std::ops::Deref<Target = Table<K>>>(mine: &LentBy<K, T>) -> Result<u64, Refusal> {
-///     mine.iter(100_000).map(|each| each.map(|_| 1)).sum()
+/// fn count<T: Kind, B: std::ops::Deref<Target = Table<T>>>(mine: &LentBy<T, B>) -> Result<u64, OutOfSteps> {
+///     mine.iter().map(|each| each.map(|_| 1)).sum()
 /// }
-/// let map = Map::lending_with(Shape::for_keys(8, 1), 1, &[Entry { key: 5, value: 70 }])?;
+/// let map = Map::open_with(Shape::for_keys(8, 1), &[(5, 70)])?;
 /// assert_eq!(count(&map.lend().expect("the one handle"))?, 1);
 /// # Ok::<(), Box<dyn std::error::Error>>(())
 /// ```
 ///
-/// ```compile_fail
+/// ```compile_fail,E0277
 /// fn is_sync<T: Sync>() {}
 /// is_sync::<vbr::Lent<'static>>();
 /// ```
 ///
-/// ```compile_fail
+/// ```compile_fail,E0277
 /// fn is_sync<T: Sync>() {}
 /// is_sync::<vbr::OwnedLent<vbr::Entries>>();
 /// ```
 #[must_use = "it goes back where it is dropped"]
-pub struct LentBy<K: Kind, T: Deref<Target = Table<K>>> {
-    table: T,
+pub struct LentBy<T: Kind, B: Deref<Target = Table<T>>> {
+    table: B,
     number: usize,
     /// Where the handle is, in the table: so a call loads no more words than by a handle of one's own.
-    place: NonNull<Place<K>>,
+    place: NonNull<Place<T>>,
 }
 
 // SAFETY: a loan is a handle, which may be sent, and a table, which threads share.
-unsafe impl<K: Kind, T: Deref<Target = Table<K>> + Send> Send for LentBy<K, T> {}
+unsafe impl<T: Kind, B: Deref<Target = Table<T>> + Send> Send for LentBy<T, B> {}
 
 /// A handle on loan from its [`Set`](crate::Set), or from its [`Map`](crate::Map) as `Lent<Entries>`.
 ///
 /// ```
 /// # use vbr::{Lent, Set, Shape};
-/// let set = Set::lending(Shape::for_keys(8, 1), 1)?;
+/// let set = Set::open(Shape::for_keys(8, 1))?;
 /// let mut mine: Lent = set.lend().expect("the one handle");
-/// assert!(mine.insert(5, 100_000)?);
+/// assert!(mine.insert(5)?);
 /// # Ok::<(), Box<dyn std::error::Error>>(())
 /// ```
-pub type Lent<'t, K = Keys> = LentBy<K, &'t Table<K>>;
+pub type Lent<'t, T = Keys> = LentBy<T, &'t Table<T>>;
 
 /// A handle on loan that keeps its set, or as `OwnedLent<Entries>` its map, until it is dropped: for a task that outlives the
 /// function that begins it.
@@ -278,31 +298,31 @@ pub type Lent<'t, K = Keys> = LentBy<K, &'t Table<K>>;
 /// ```
 /// # use std::sync::Arc;
 /// # use vbr::{OwnedLent, Set, Shape};
-/// let set = Arc::new(Set::lending(Shape::for_keys(8, 1), 1)?);
+/// let set = Arc::new(Set::open(Shape::for_keys(8, 1))?);
 /// let mut mine: OwnedLent = set.lend_owned().expect("the one handle");
-/// let task = std::thread::spawn(move || mine.insert(5, 100_000));
+/// let task = std::thread::spawn(move || mine.insert(5));
 /// assert!(task.join().expect("a task that ends")?);
 /// assert_eq!(Arc::into_inner(set).expect("no loan is left").close()?.keys, [5]);
 /// # Ok::<(), Box<dyn std::error::Error>>(())
 /// ```
-pub type OwnedLent<K = Keys> = LentBy<K, Arc<Table<K>>>;
+pub type OwnedLent<T = Keys> = LentBy<T, Arc<Table<T>>>;
 
-impl<K: Kind, T: Deref<Target = Table<K>>> LentBy<K, T> {
+impl<T: Kind, B: Deref<Target = Table<T>>> LentBy<T, B> {
     /// The loan of the handle with this number, which was taken from this table.
     #[inline]
-    pub(crate) fn of(table: T, number: usize) -> LentBy<K, T> {
+    pub(crate) fn of(table: B, number: usize) -> LentBy<T, B> {
         let place = NonNull::from(&table.lender.places[number]);
         LentBy { table, number, place }
     }
 
-    /// The number of the handle, from 0 on and below [`Table::handles`]: for data that lies beside each handle. While it is on
+    /// The number of the handle, from 0 on and below [`Table::handle_count`]: for data that lies beside each handle. While it is on
     /// loan no other loan of the set has this number.
     ///
     /// ```
     /// # use vbr::{Set, Shape};
     /// # use std::sync::atomic::{AtomicU64, Ordering};
-    /// let set = Set::lending(Shape::for_keys(8, 2), 2)?;
-    /// let calls: Vec<AtomicU64> = (0..set.handles()).map(|_| AtomicU64::new(0)).collect();
+    /// let set: Set = Set::open(Shape::for_keys(8, 2))?;
+    /// let calls: Vec<AtomicU64> = (0..set.handle_count()).map(|_| AtomicU64::new(0)).collect();
     /// let mine = set.lend().expect("two are free");
     /// calls[mine.number()].fetch_add(1, Ordering::Relaxed);
     /// # Ok::<(), vbr::OpenError>(())
@@ -313,31 +333,31 @@ impl<K: Kind, T: Deref<Target = Table<K>>> LentBy<K, T> {
     }
 
     #[inline]
-    fn place(&self) -> &Place<K> {
+    fn place(&self) -> &Place<T> {
         // SAFETY: the table is there as long as this is, and its places stay where they are.
         unsafe { self.place.as_ref() }
     }
 }
 
-impl<K: Kind, T: Deref<Target = Table<K>>> Deref for LentBy<K, T> {
-    type Target = PassOf<K>;
+impl<T: Kind, B: Deref<Target = Table<T>>> Deref for LentBy<T, B> {
+    type Target = PassOf<T>;
 
     #[inline]
-    fn deref(&self) -> &PassOf<K> {
+    fn deref(&self) -> &PassOf<T> {
         // SAFETY: the handle is lent to this alone, which is not `Sync`.
         unsafe { &*self.place().handle.get() }
     }
 }
 
-impl<K: Kind, T: Deref<Target = Table<K>>> DerefMut for LentBy<K, T> {
+impl<T: Kind, B: Deref<Target = Table<T>>> DerefMut for LentBy<T, B> {
     #[inline]
-    fn deref_mut(&mut self) -> &mut PassOf<K> {
+    fn deref_mut(&mut self) -> &mut PassOf<T> {
         // SAFETY: the handle is lent to this alone, and `&mut` is exclusive.
         unsafe { &mut *self.place().handle.get() }
     }
 }
 
-impl<K: Kind, T: Deref<Target = Table<K>>> Drop for LentBy<K, T> {
+impl<T: Kind, B: Deref<Target = Table<T>>> Drop for LentBy<T, B> {
     #[inline]
     fn drop(&mut self) {
         self.place().is_lent.store(false, Ordering::Release);
@@ -345,7 +365,7 @@ impl<K: Kind, T: Deref<Target = Table<K>>> Drop for LentBy<K, T> {
     }
 }
 
-impl<K: Kind, T: Deref<Target = Table<K>>> fmt::Debug for LentBy<K, T> {
+impl<T: Kind, B: Deref<Target = Table<T>>> fmt::Debug for LentBy<T, B> {
     fn fmt(&self, f: &mut fmt::Formatter<'_>) -> fmt::Result {
         f.debug_struct("Lent").field("number", &self.number).finish_non_exhaustive()
     }

@@ -1,62 +1,127 @@
-//! A hash set of 64-bit keys, and a map from such keys to 64-bit values, that threads share, in fixed memory and without a
-//! lock: a safe wrapper of a library that is proved.
-//!
-//! [`Set::open`] gives the handles of a new set. Each is moved to its thread and makes calls; none waits
-//! for another, and each ends within its budget of steps. The last handle that is closed is told what is
-//! in the set.
+//! A hash set, and a map, that threads share, in fixed memory and without a lock: a safe wrapper of a library whose calls are
+//! proved. Keys and values are of any types of at most 64 bits.
 //!
 //! ```
 //! use vbr::{Set, Shape};
 //!
-//! let mut handles = Set::open(Shape::for_keys(1_024, 2), 2)?;
-//! let mut second = handles.pop().expect("two handles");
-//! let mut first = handles.pop().expect("two handles");
+//! let [mut first, mut second] = Set::handles(Shape::for_keys(1_024, 2))?.try_into().expect("two handles");
 //! std::thread::scope(|scope| {
-//!     scope.spawn(|| first.insert(5, 100_000));
-//!     scope.spawn(|| second.insert(7, 100_000));
+//!     scope.spawn(|| first.insert(5));
+//!     scope.spawn(|| second.insert(7));
 //! });
-//! assert!(second.has(5, 100_000)?);
+//! assert!(second.contains(5)?);
 //! assert!(first.close()?.is_none());
 //! let report = second.close()?.expect("the last handle");
 //! assert_eq!(report.keys, [5, 7]);
 //! # Ok::<(), Box<dyn std::error::Error>>(())
 //! ```
 //!
-//! Where a call returns before another one begins, by a lock, a channel, a join, or a release and an acquire, it
-//! stands before that one in the history whose answers the later caller gets: once a thread is told that a
-//! key was inserted, and nobody removes it, [`PassOf::has`] answers yes.
+//! A [`Shape`] says how large the set is, and for how many handles. Each handle is moved to its thread and makes calls; none waits
+//! for another, and each ends within its budget of steps. The last handle that is closed is told what is in the set.
 //!
-//! What a thread wrote before it inserted a key can be read by a thread that then finds the key. ThreadSanitizer doesn't see
-//! into the library, and this crate tells it nothing, as the header for C does: under it what is ordered by the set alone may
-//! be told as a race.
+//! # What to know before you take it
+//!
+//! - **Platform.** Linux on x86-64, processors of x86-64-v2 or later (SSE4.2 and POPCNT). It was run on Xeons in virtual machines
+//!   under Debian 12, and nowhere else. Rust 1.81 or later, with `std`.
+//! - **Limits.** Keys and values of at most 64 bits. Up to [`MAX_SLOTS`] slots (16,777,215), of which each key takes one and each
+//!   handle keeps up to 64; [`MAX_HANDLES`] handles; memory that is taken at the opening, 8 × (2 + buckets + 4 × slots +
+//!   ⌈slots / 64⌉) bytes for a set, and 8 more for each slot of a map. A set doesn't grow by itself: [`Table::renew`] and
+//!   [`HandleOf::renew_all`] let it go on in another shape.
+//! - **The epochs end.** Only calls that take a slot, for a key or a new value, advance the epoch, each by one at most: about six of
+//!   a hundred inserts where inserts and removes come at random, and nearly all in a full cache that takes a key out before each
+//!   that it puts in, or three once it has slots in reserve ([`PassOf::reserve`]). The greatest last epoch, [`MAX_EPOCH`], lasts
+//!   fifteen hours at ten million inserts a second that advance it, and six days at a million. After it inserts are refused by
+//!   [`Refusal::EpochSpent`] until the set is renewed; look-ups and removes go on. So a program that runs for weeks renews its set
+//!   by a clock (`examples/server.rs`).
+//! - **Progress.** Each call ends within its budget, answered or refused. Nobody holds it up: what others can cost it is bounded by
+//!   what they do, and while they stand still, wherever they do, a known budget suffices. Lock-freedom, by which some call is
+//!   always answered where all are busy, isn't claimed, and neither is fairness.
+//! - **Proved** of the library's calls: each answered one takes effect at one step between its beginning and its end, in one legal
+//!   history of what its caller has seen; that memory is reused safely, and what refusals and reports mean.
+//! - **Argued and tested**, and not proved: that calls which a program orders (by a lock, a channel, a join, or a release and an
+//!   acquire) stand in that order; that what was written before an insert can be read by who finds the key; that handles may
+//!   change threads, and signal handlers make calls. This crate, its loans and its waiting are tested, and proved by nobody.
+//!
+//! # Names
+//!
+//! [`Set::open`](Table::open) and `Map::open` give a set and a map, which lend their handles to threads that come and go.
+//! [`Set::handles`](Table::handles) and `Map::handles` give the handles themselves, one for each thread to own. Both have a form
+//! with keys that are there from the start, `open_with` and `handles_with`.
+//!
+//! Calls have the names of `std` where they do the same. A set's [`insert`](Pass::insert) says whether the key was absent, as that of
+//! `HashSet` does. A map has no `insert`, since that of `HashMap` replaces: [`MapPass::put`] does that, and
+//! [`MapPass::try_insert`] adds a key that is absent and leaves one that is there. [`PassOf::has`] is `contains` of a set and
+//! `contains_key` of a map.
+//!
+//! A call that takes no slot (look-ups, removes, walks) is refused for one reason alone, so its error is [`OutOfSteps`]; `?` makes a
+//! [`Refusal`] of it. There is no `FromIterator` and no `Extend`, since each opening and each insert may be refused: insert what an
+//! iterator gives by a loop with `?`, or by `try_for_each`. Handles, passes and reports are gone over by `for` loops.
+//!
+//! # Keys and values
+//!
+//! `Set` and `Map` are those of `u64` where a type is named. Where one is opened, its types are what its calls are given: integers
+//! (literals without a type are `i32`, as everywhere), `char`, `bool`, `NonZero`, pairs of `u32`, [`ByBits`] for `f64`, and types of
+//! yours that say how they are made of bits ([`Bits`]). What comes out of a set was put in by calls of the same type, so its bits
+//! are always those of a value.
+//!
+//! ```
+//! use vbr::{Bits, Map, MapHandle, Shape};
+//!
+//! #[derive(Clone, Copy, Debug, PartialEq, Eq)]
+//! struct Frame(u32);
+//!
+//! impl Bits for Frame {
+//!     fn to_bits(self) -> u64 {
+//!         self.0.to_bits()
+//!     }
+//!     fn from_bits(bits: u64) -> Frame {
+//!         Frame(u32::from_bits(bits))
+//!     }
+//! }
+//!
+//! /// Which frame has a page, which is a file and a place in it.
+//! struct Index(MapHandle<(u32, u32), Frame>);
+//!
+//! let mut index = Index(Map::handles(Shape::for_keys(1_024, 1))?.remove(0));
+//! assert!(index.0.try_insert((7, 0), Frame(3))?);
+//! assert_eq!(index.0.get((7, 0))?, Some(Frame(3)));
+//! # Ok::<(), Box<dyn std::error::Error>>(())
+//! ```
 //!
 //! # Maps
 //!
 //! [`Map`] has a value beside each key. It is opened, used and closed as a [`Set`], and what is said here of sets and their
-//! handles is so of maps and theirs. [`MapPass::get`] and [`MapPass::remove`] give the value of a key. [`MapPass::insert`]
-//! leaves the value of a key that is there; [`MapPass::replace`], [`MapPass::put`], [`MapPass::compare_exchange`] and
-//! [`MapPass::fetch_update`] change it at one moment, so nobody finds the key absent. [`MapPass::get_or_insert`] and
-//! [`MapPass::remove_if`] do one thing or another by what is there. [`Table`], [`HandleOf`] and [`PassOf`] have the calls of
-//! both, for either [`Kind`].
+//! handles is so of maps and theirs. [`MapPass::replace`], [`MapPass::put`], [`MapPass::compare_exchange`] and
+//! [`MapPass::fetch_update`] change a value at one moment, so nobody finds the key absent. [`MapPass::get_or_insert`] and
+//! [`MapPass::remove_if`] do one thing or another by what is there; [`MapPass::entry`] says the same in the form of `HashMap`, and
+//! [`MapPass::retain`] takes out what is no longer wanted. [`Table`], [`HandleOf`] and [`PassOf`] have the calls of both, for
+//! either [`Kind`].
 //!
 //! ```
-//! use vbr::{Entry, Map, Shape};
+//! use vbr::{Map, Shape};
 //!
-//! let mut handles = Map::open(Shape::for_keys(1_024, 2), 2)?;
-//! let second = handles.pop().expect("two handles");
-//! let mut first = handles.pop().expect("two handles");
-//! assert!(first.insert(5, 70, 100_000)?);
-//! assert!(!first.insert(5, 71, 100_000)?); // 5 keeps its value
-//! assert_eq!(second.get(5, 100_000)?, Some(70));
-//! assert_eq!(first.replace(5, 71, 100_000)?, Some(70));
-//! assert_eq!(first.remove(5, 100_000)?, Some(71));
-//! assert!(first.insert(7, 72, 100_000)?);
+//! let [mut first, mut second] = Map::handles(Shape::for_keys(1_024, 2))?.try_into().expect("two handles");
+//! assert!(first.try_insert(5, 70)?);
+//! assert!(!first.try_insert(5, 71)?); // 5 keeps its value
+//! assert_eq!(second.get(5)?, Some(70));
+//! assert_eq!(first.replace(5, 71)?, Some(70));
+//! assert_eq!(second.entry(5).and_modify(|value| *value += 1).or_insert(0)?, 72);
+//! assert_eq!(first.remove(5)?, Some(72));
+//! assert!(first.try_insert(7, 73)?);
 //! assert!(first.close()?.is_none());
-//! assert_eq!(second.close()?.expect("the last handle").entries, [Entry { key: 7, value: 72 }]);
+//! assert_eq!(second.close()?.expect("the last handle").entries, [(7, 73)]);
 //! # Ok::<(), Box<dyn std::error::Error>>(())
 //! ```
 //!
-//! `examples/page_cache.rs` is a program to begin from: the index of a page cache.
+//! Programs to begin from are in `examples`: `page_cache.rs`, the index of a page cache; `records.rs`, records beside a map, for
+//! values larger than 64 bits; `limiter.rs`, a rate limiter; `logins.rs`, logins that expire; `server.rs`, a map that a clock renews;
+//! and short ones, `routes.rs`, `interner.rs` and `visited.rs`.
+//!
+//! # Budgets
+//!
+//! Each call has the budget of its handle, [`Steps::AMPLE`] unless the shape gave another one ([`Shape::with_steps`]), and a form
+//! beside it that takes one for itself: `has_within` beside `has`, and so on. The ample one isn't spent in short buckets, so most
+//! programs never name one. A refused call made no call: give it up, or make it again.
 //!
 //! # Going over all keys
 //!
@@ -65,26 +130,28 @@
 //! there together at one moment.
 //!
 //! ```
-//! use vbr::{ample_budget, Set, Shape};
+//! use vbr::{Set, Shape};
 //!
-//! let shape = Shape::for_keys(1_024, 2);
-//! let budget = ample_budget(shape.slots);
-//! let mut handles = Set::open_with(shape, 2, &[2, 5, 9])?;
-//! let mut second = handles.pop().expect("two handles");
-//! let first = handles.pop().expect("two handles");
-//! let other = std::thread::spawn(move || second.insert(7, budget));
-//! let mut keys = first.iter(budget).collect::<Result<Vec<_>, _>>()?;
+//! let [first, mut second] = Set::handles_with(Shape::for_keys(1_024, 2), &[2, 5, 9])?.try_into().expect("two handles");
+//! let other = std::thread::spawn(move || second.insert(7));
+//! let mut keys = first.iter().collect::<Result<Vec<_>, _>>()?;
 //! keys.sort();
 //! assert!(keys == [2, 5, 9] || keys == [2, 5, 7, 9]);
 //! assert!(other.join().expect("a thread that ends")?);
-//! assert_eq!(first.iter(budget).count(), 4);
+//! assert_eq!(first.iter().count(), 4);
 //! # Ok::<(), Box<dyn std::error::Error>>(())
 //! ```
 //!
 //! Between the calls of [`PassOf::next`], which has a [`Cursor`] in place of an iterator, the handle itself makes other calls
-//! too.
+//! too. How many keys are in the set at one moment isn't told while threads run: add up the balances of the handles
+//! ([`PassOf::balance`]), count the keys that a walk gives, or read a report.
 //!
 //! # Threads
+//!
+//! Where a call returns before another one begins, by a lock, a channel, a join, or a release and an acquire, it
+//! stands before that one in the history whose answers the later caller gets: once a thread is told that a
+//! key was inserted, and nobody removes it, [`PassOf::has`] answers yes. What a thread wrote before it inserted a key can be read by
+//! a thread that then finds the key.
 //!
 //! A handle is no thread's: it may be moved to another one at any time, by whatever Rust has for that, and the library
 //! keeps nothing for each thread. Where a thread ends or panics, the handles that it owns are dropped, which closes them:
@@ -92,26 +159,26 @@
 //! ([`core::mem::forget`]) is never closed, and neither is its set. After a fork the child uses no handle, unless the process
 //! had one thread.
 //!
-//! Threads that come and go, or are more than the handles, borrow those of a [`Set`] that lends them: [`Set::lend`] gives a free handle
-//! or none, [`Set::lend_wait`] and [`Set::lend_timeout`] wait for one, and [`Set::lend_owned`] and its kin give a loan with a
-//! share of the set, for tasks. A loan makes all calls of its handle, by the [`Pass`], and goes back when it is dropped.
+//! Threads that come and go, or are more than the handles, borrow those of a [`Set`] that lends them: [`Set::lend`](Table::lend) gives a
+//! free handle or none, [`lend_wait`](Table::lend_wait) and [`lend_timeout`](Table::lend_timeout) wait for one, and
+//! [`lend_owned`](Table::lend_owned) and its kin give a loan with a share of the set, for tasks. A loan makes all calls of its handle,
+//! by the [`Pass`], and goes back when it is dropped.
 //!
 //! ```
 //! use std::sync::Arc;
-//! use vbr::{ample_budget, Set, Shape};
+//! use vbr::{Set, Shape};
 //!
-//! let set = Arc::new(Set::lending(Shape::for_keys(1_024, 2), 2)?);
-//! let budget = ample_budget(set.slots());
+//! let set = Arc::new(Set::open(Shape::for_keys(1_024, 2))?);
 //! let tasks: Vec<_> = (0..8)
 //!     .map(|page| {
 //!         let set = Arc::clone(&set);
-//!         std::thread::spawn(move || set.lend_wait().insert(page, budget))
+//!         std::thread::spawn(move || set.lend_wait().insert(page))
 //!     })
 //!     .collect();
 //! for task in tasks {
 //!     assert!(task.join().expect("a task that ends")?);
 //! }
-//! assert_eq!(set.lend_wait().iter(budget).count(), 8);
+//! assert_eq!(set.lend_wait().iter().count(), 8);
 //! # Ok::<(), Box<dyn std::error::Error>>(())
 //! ```
 //!
@@ -120,17 +187,27 @@
 //! values and look up with a handle that nothing else uses; it opens, closes and drops none, since these take memory or free it,
 //! and borrows none, since a return takes a lock where threads wait.
 //!
-//! How many keys are in the set at one moment isn't told while threads run. Count the inserts and removes that are answered
-//! yes, count the keys that a walk gives, or read the report of the last close.
-//!
 //! The exports of the library ask nothing of their caller but what the types here say: a handle is moved
 //! and never copied, and one call at a time has it, since it is not `Sync`.
+//!
+//! # How it finds the library
+//!
+//! The crate links `libvbr.a` statically: that in the directory that `VBR_LIB_DIR` names, or else that which pkg-config names, if it
+//! is of the crate's version, or else that in `prebuilt/` of the repository that the crate lies in. A warning of cargo tells which,
+//! where you named none. The build ends in clear words where there is none, or the target isn't Linux on x86-64; an opening panics
+//! where the library that was linked is of another version ([`version`]).
+//!
+//! `ThreadSanitizer` doesn't see into the library, so it may tell of a race where threads are ordered by a set alone. With the feature
+//! `tsan` the crate tells it of that order; a program that is compiled for it (`-Zsanitizer=thread`) takes the feature, and no other.
 #![warn(missing_docs)]
 
 extern crate alloc;
 
 mod all;
+mod bits;
+mod boxed;
 mod changing;
+mod entry;
 mod errors;
 mod handle;
 mod iterating;
@@ -138,20 +215,30 @@ mod kind;
 mod lending;
 mod library;
 mod map;
+#[cfg(doctest)]
+mod misuse;
+mod order;
+mod pass;
+mod reporting;
 mod set;
 mod shape;
+mod steps;
 mod table;
 mod waiting;
 
+pub use bits::{Bits, ByBits};
 pub use changing::Compared;
-pub use errors::{CloseError, OpenError, Refusal, RenewError, ReportError, Unclosed};
-pub use handle::{HandleOf, PassOf};
+pub use entry::{Entry, ModifiedEntry};
+pub use errors::{CloseError, KeysError, OpenError, OutOfSteps, Refusal, RenewError, ReportError, Unclosed};
+pub use handle::HandleOf;
 pub use iterating::{Cursor, Iter};
 pub use kind::{Entries, Keys, Kind};
 pub use lending::{Lent, LentBy, OwnedLent};
-pub use map::{Entry, Map, MapHandle, MapPass, MapReport};
+pub use map::{Map, MapHandle, MapPass, MapReport};
+pub use pass::PassOf;
 pub use set::{Handle, Pass, Report, Set};
 pub use shape::{random_seed, Shape, ShapeError};
+pub use steps::Steps;
 pub use table::Table;
 
 /// The greatest number of slots.
@@ -179,36 +266,17 @@ pub const MAX_EPOCH: u64 = 549_755_813_887;
 /// The greatest number of handles of a set.
 ///
 /// ```
-/// let handles = vbr::Set::open(vbr::Shape::for_keys(8, vbr::MAX_HANDLES), vbr::MAX_HANDLES);
-/// assert_eq!(handles.map(|it| it.len()), Ok(64));
+/// assert!(vbr::Shape::for_keys(8, vbr::MAX_HANDLES + 1).check().is_err());
 /// ```
-pub const MAX_HANDLES: usize = 64;
-
-/// The greatest number of handles that [`Set::open_many`] and [`Map::open_many`] open.
-///
-/// ```
-/// let handles = vbr::Set::open_many(vbr::Shape::for_keys(8, 1_000), 1_000, &[5, 7])?;
-/// assert!(handles.len() <= vbr::MAX_MANY_HANDLES);
-/// # Ok::<(), vbr::OpenError>(())
-/// ```
-pub const MAX_MANY_HANDLES: usize = 65_536;
+pub const MAX_HANDLES: usize = 65_536;
 
 /// The version of the library: major * 1000000 + minor * 1000 + patch.
 ///
 /// ```
-/// assert_eq!(vbr::version(), 2_000); // 0.2.0
+/// assert_eq!(vbr::version(), 3_000); // 0.3.0
 /// ```
+#[must_use]
 pub fn version() -> u32 {
     // SAFETY: it takes nothing.
     unsafe { library::vbr_version() }
-}
-
-/// A budget that no call runs out of in short buckets, in a set of so many slots.
-///
-/// ```
-/// let shape = vbr::Shape::for_keys(1_000_000, 1);
-/// assert_eq!(vbr::ample_budget(shape.slots), 115_626);
-/// ```
-pub const fn ample_budget(slots: u32) -> u32 {
-    100_000 + slots / 64
 }

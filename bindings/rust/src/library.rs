@@ -1,11 +1,32 @@
 //! The calls of the library, and which of them are those of a set and which those of a map.
-use crate::handle::Contents;
-use crate::{Compared, Cursor, Entries, Entry, Keys, MapReport, Refusal, Report};
+use crate::reporting::Contents;
+use crate::{order, Bits, Compared, Cursor, Entries, Keys, MapReport, OutOfSteps, Refusal, Report};
 use core::ffi::c_void;
+use core::ptr::null_mut;
 
-/// As C sees a handle: one pointer, null where it is empty.
-#[repr(transparent)]
-pub(crate) struct Raw(pub(crate) *mut c_void);
+/// What the library answers.
+pub(crate) mod code {
+    pub(crate) const NO: i32 = 0;
+    pub(crate) const YES: i32 = 1;
+    pub(crate) const OTHER: i32 = 2;
+    pub(crate) const NO_SLOT: i32 = -2;
+    pub(crate) const EPOCH_SPENT: i32 = -3;
+    pub(crate) const NO_MEMORY: i32 = -8;
+    pub(crate) const NO_ROOM: i32 = -11;
+    /// Of what answers neither yes nor no.
+    pub(crate) const DONE: i32 = 0;
+}
+
+/// As C sees a handle: what it owns, null where it is empty, and the budget of its calls, which the library leaves alone.
+#[repr(C)]
+pub(crate) struct Raw {
+    pub(crate) owned: *mut c_void,
+    pub(crate) steps: u32,
+}
+
+impl Raw {
+    pub(crate) const EMPTY: Raw = Raw { owned: null_mut(), steps: 0 };
+}
 
 #[repr(C)]
 #[derive(Default)]
@@ -14,6 +35,14 @@ pub(crate) struct ReportNumbers {
     pub(crate) live: u32,
     pub(crate) marked: u32,
     pub(crate) free: u32,
+}
+
+/// A key with its value, as C sees them.
+#[repr(C)]
+#[derive(Clone, Copy, Default)]
+pub(crate) struct Pair {
+    key: u64,
+    value: u64,
 }
 
 /// What a get of several keys tells of one.
@@ -26,18 +55,8 @@ pub(crate) struct Found {
 
 extern "C" {
     pub(crate) fn vbr_version() -> u32;
-
     pub(crate) fn vbr_random_seed() -> u64;
-    fn vbr_open_seeded(
-        handles: *mut Raw,
-        count: usize,
-        slots: u32,
-        buckets: u32,
-        last_epoch: u64,
-        seed: u64,
-        keys: *const u64,
-        key_count: usize,
-    ) -> i32;
+
     fn vbr_open_many_seeded(
         handles: *mut Raw,
         count: usize,
@@ -48,34 +67,24 @@ extern "C" {
         keys: *const u64,
         key_count: usize,
     ) -> i32;
-    pub(crate) fn vbr_insert(handle: *mut Raw, key: u64, budget: u32) -> i32;
-    pub(crate) fn vbr_remove(handle: *mut Raw, key: u64, budget: u32) -> i32;
-    fn vbr_has(handle: *mut Raw, key: u64, budget: u32) -> i32;
-    fn vbr_has_all(handle: *mut Raw, keys: *const u64, count: usize, answers: *mut i32, budget: u32);
-    fn vbr_next(handle: *mut Raw, cursor: *mut Cursor, budget: u32, key: *mut u64) -> i32;
-    fn vbr_epoch(handle: *mut Raw) -> u64;
-    fn vbr_last_epoch(handle: *mut Raw) -> u64;
-    fn vbr_slots(handle: *mut Raw) -> u32;
-    fn vbr_buckets(handle: *mut Raw) -> u32;
-    fn vbr_seed(handle: *mut Raw) -> u64;
-    fn vbr_balance(handle: *mut Raw) -> i64;
+    pub(crate) fn vbr_insert_within(handle: *mut Raw, key: u64, steps: u32) -> i32;
+    pub(crate) fn vbr_remove_within(handle: *mut Raw, key: u64, steps: u32) -> i32;
+    fn vbr_has_within(handle: *mut Raw, key: u64, steps: u32) -> i32;
+    fn vbr_has_all_within(handle: *mut Raw, keys: *const u64, count: usize, answers: *mut i32, steps: u32);
+    fn vbr_next_within(handle: *mut Raw, cursor: *mut Cursor, key: *mut u64, steps: u32) -> i32;
+    fn vbr_epoch(handle: *const Raw) -> u64;
+    fn vbr_last_epoch(handle: *const Raw) -> u64;
+    fn vbr_slots(handle: *const Raw) -> u32;
+    fn vbr_buckets(handle: *const Raw) -> u32;
+    fn vbr_seed(handle: *const Raw) -> u64;
+    fn vbr_balance(handle: *const Raw) -> i64;
     fn vbr_spare(handle: *mut Raw) -> u32;
     fn vbr_reserve(handle: *mut Raw, wanted: u32) -> u32;
     fn vbr_close_all(handles: *mut Raw, count: usize, keys: *mut u64, room: usize, told: *mut ReportNumbers) -> i32;
     fn vbr_report_all(handles: *mut Raw, count: usize, keys: *mut u64, room: usize, told: *mut ReportNumbers) -> i32;
     fn vbr_renew_all_seeded(handles: *mut Raw, count: usize, slots: u32, buckets: u32, last_epoch: u64, seed: u64) -> i32;
-    fn vbr_drop(handle: *mut Raw);
+    fn vbr_end_all(handles: *mut Raw, count: usize);
 
-    fn vbr_map_open_seeded(
-        handles: *mut Raw,
-        count: usize,
-        slots: u32,
-        buckets: u32,
-        last_epoch: u64,
-        seed: u64,
-        entries: *const Entry,
-        entry_count: usize,
-    ) -> i32;
     fn vbr_map_open_many_seeded(
         handles: *mut Raw,
         count: usize,
@@ -83,192 +92,257 @@ extern "C" {
         buckets: u32,
         last_epoch: u64,
         seed: u64,
-        entries: *const Entry,
+        entries: *const Pair,
         entry_count: usize,
     ) -> i32;
-    pub(crate) fn vbr_map_insert(handle: *mut Raw, key: u64, value: u64, budget: u32) -> i32;
-    pub(crate) fn vbr_map_remove(handle: *mut Raw, key: u64, budget: u32, value: *mut u64) -> i32;
-    pub(crate) fn vbr_map_get(handle: *mut Raw, key: u64, budget: u32, value: *mut u64) -> i32;
-    pub(crate) fn vbr_map_replace(handle: *mut Raw, key: u64, value: u64, found: *mut u64, budget: u32) -> i32;
-    pub(crate) fn vbr_map_put(handle: *mut Raw, key: u64, value: u64, found: *mut u64, budget: u32) -> i32;
-    pub(crate) fn vbr_map_get_or_insert(handle: *mut Raw, key: u64, value: u64, found: *mut u64, budget: u32) -> i32;
-    pub(crate) fn vbr_map_compare_exchange(
+    pub(crate) fn vbr_map_insert_within(handle: *mut Raw, key: u64, value: u64, steps: u32) -> i32;
+    pub(crate) fn vbr_map_remove_within(handle: *mut Raw, key: u64, value: *mut u64, steps: u32) -> i32;
+    pub(crate) fn vbr_map_get_within(handle: *mut Raw, key: u64, value: *mut u64, steps: u32) -> i32;
+    pub(crate) fn vbr_map_replace_within(handle: *mut Raw, key: u64, value: u64, found: *mut u64, steps: u32) -> i32;
+    pub(crate) fn vbr_map_put_within(handle: *mut Raw, key: u64, value: u64, found: *mut u64, steps: u32) -> i32;
+    pub(crate) fn vbr_map_get_or_insert_within(handle: *mut Raw, key: u64, value: u64, found: *mut u64, steps: u32) -> i32;
+    pub(crate) fn vbr_map_compare_exchange_within(
         handle: *mut Raw,
         key: u64,
         expected: u64,
         value: u64,
         found: *mut u64,
-        budget: u32,
+        steps: u32,
     ) -> i32;
-    pub(crate) fn vbr_map_remove_if(handle: *mut Raw, key: u64, expected: u64, found: *mut u64, budget: u32) -> i32;
-    fn vbr_map_has(handle: *mut Raw, key: u64, budget: u32) -> i32;
-    fn vbr_map_has_all(handle: *mut Raw, keys: *const u64, count: usize, answers: *mut i32, budget: u32);
-    pub(crate) fn vbr_map_get_all(handle: *mut Raw, keys: *const u64, count: usize, found: *mut Found, budget: u32);
-    fn vbr_map_next(handle: *mut Raw, cursor: *mut Cursor, budget: u32, key: *mut u64, value: *mut u64) -> i32;
-    fn vbr_map_epoch(handle: *mut Raw) -> u64;
-    fn vbr_map_last_epoch(handle: *mut Raw) -> u64;
-    fn vbr_map_slots(handle: *mut Raw) -> u32;
-    fn vbr_map_buckets(handle: *mut Raw) -> u32;
-    fn vbr_map_seed(handle: *mut Raw) -> u64;
-    fn vbr_map_balance(handle: *mut Raw) -> i64;
+    pub(crate) fn vbr_map_remove_if_within(handle: *mut Raw, key: u64, expected: u64, found: *mut u64, steps: u32) -> i32;
+    fn vbr_map_has_within(handle: *mut Raw, key: u64, steps: u32) -> i32;
+    fn vbr_map_has_all_within(handle: *mut Raw, keys: *const u64, count: usize, answers: *mut i32, steps: u32);
+    pub(crate) fn vbr_map_get_all_within(handle: *mut Raw, keys: *const u64, count: usize, found: *mut Found, steps: u32);
+    fn vbr_map_next_within(handle: *mut Raw, cursor: *mut Cursor, entry: *mut Pair, steps: u32) -> i32;
+    fn vbr_map_epoch(handle: *const Raw) -> u64;
+    fn vbr_map_last_epoch(handle: *const Raw) -> u64;
+    fn vbr_map_slots(handle: *const Raw) -> u32;
+    fn vbr_map_buckets(handle: *const Raw) -> u32;
+    fn vbr_map_seed(handle: *const Raw) -> u64;
+    fn vbr_map_balance(handle: *const Raw) -> i64;
     fn vbr_map_spare(handle: *mut Raw) -> u32;
     fn vbr_map_reserve(handle: *mut Raw, wanted: u32) -> u32;
-    fn vbr_map_close_all(handles: *mut Raw, count: usize, entries: *mut Entry, room: usize, told: *mut ReportNumbers) -> i32;
-    fn vbr_map_report_all(handles: *mut Raw, count: usize, entries: *mut Entry, room: usize, told: *mut ReportNumbers) -> i32;
-    fn vbr_map_renew_all_seeded(handles: *mut Raw, count: usize, slots: u32, buckets: u32, last_epoch: u64, seed: u64) -> i32;
-    fn vbr_map_drop(handle: *mut Raw);
+    fn vbr_map_close_all(handles: *mut Raw, count: usize, entries: *mut Pair, room: usize, told: *mut ReportNumbers) -> i32;
+    fn vbr_map_report_all(handles: *mut Raw, count: usize, entries: *mut Pair, room: usize, told: *mut ReportNumbers) -> i32;
+    fn vbr_map_renew_all_seeded(handles: *mut Raw, count: usize, slots: u32, buckets: u32, last_epoch: u64, seed: u64)
+        -> i32;
+    fn vbr_map_end_all(handles: *mut Raw, count: usize);
 }
 
-/// The calls of the library that sets and maps have alike, over what they open with, what a walk gives, and what a close tells.
-pub(crate) trait Calls<Item, Given, Told> {
+/// The calls of the library that sets and maps have alike, over an item, a key or a key with its value, and what a close tells.
+pub(crate) trait Calls<Item, Told> {
+    /// An item as C sees it.
+    type Plain: Copy + Default;
+
     /// The names of a table, of its handles and of their passes.
     const NAMES: [&'static str; 3];
 
-    const OPEN: unsafe extern "C" fn(*mut Raw, usize, u32, u32, u64, u64, *const Item, usize) -> i32;
-    const OPEN_MANY: unsafe extern "C" fn(*mut Raw, usize, u32, u32, u64, u64, *const Item, usize) -> i32;
-    const CLOSE_ALL: unsafe extern "C" fn(*mut Raw, usize, *mut Item, usize, *mut ReportNumbers) -> i32;
-    const REPORT_ALL: unsafe extern "C" fn(*mut Raw, usize, *mut Item, usize, *mut ReportNumbers) -> i32;
+    const OPEN: unsafe extern "C" fn(*mut Raw, usize, u32, u32, u64, u64, *const Self::Plain, usize) -> i32;
+    const CLOSE_ALL: unsafe extern "C" fn(*mut Raw, usize, *mut Self::Plain, usize, *mut ReportNumbers) -> i32;
+    const REPORT_ALL: unsafe extern "C" fn(*mut Raw, usize, *mut Self::Plain, usize, *mut ReportNumbers) -> i32;
     const RENEW_ALL: unsafe extern "C" fn(*mut Raw, usize, u32, u32, u64, u64) -> i32;
-    const DROP: unsafe extern "C" fn(*mut Raw);
+    const END_ALL: unsafe extern "C" fn(*mut Raw, usize);
     const HAS: unsafe extern "C" fn(*mut Raw, u64, u32) -> i32;
     const HAS_ALL: unsafe extern "C" fn(*mut Raw, *const u64, usize, *mut i32, u32);
-    const EPOCH: unsafe extern "C" fn(*mut Raw) -> u64;
-    const LAST_EPOCH: unsafe extern "C" fn(*mut Raw) -> u64;
-    const SLOTS: unsafe extern "C" fn(*mut Raw) -> u32;
-    const BUCKETS: unsafe extern "C" fn(*mut Raw) -> u32;
-    const SEED: unsafe extern "C" fn(*mut Raw) -> u64;
-    const BALANCE: unsafe extern "C" fn(*mut Raw) -> i64;
+    const NEXT: unsafe extern "C" fn(*mut Raw, *mut Cursor, *mut Self::Plain, u32) -> i32;
+    const EPOCH: unsafe extern "C" fn(*const Raw) -> u64;
+    const LAST_EPOCH: unsafe extern "C" fn(*const Raw) -> u64;
+    const SLOTS: unsafe extern "C" fn(*const Raw) -> u32;
+    const BUCKETS: unsafe extern "C" fn(*const Raw) -> u32;
+    const SEED: unsafe extern "C" fn(*const Raw) -> u64;
+    const BALANCE: unsafe extern "C" fn(*const Raw) -> i64;
     const SPARE: unsafe extern "C" fn(*mut Raw) -> u32;
     const RESERVE: unsafe extern "C" fn(*mut Raw, u32) -> u32;
 
-    /// The next call of a walk.
-    ///
-    /// # Safety
-    ///
-    /// Nothing else has the handle meanwhile.
-    unsafe fn next(handle: *mut Raw, cursor: &mut Cursor, budget: u32, given: &mut Given) -> i32;
+    fn plain(item: Item) -> Self::Plain;
+    fn item(plain: Self::Plain) -> Item;
+    fn key(plain: &Self::Plain) -> u64;
 
     /// What the last close tells.
     fn report(contents: Contents<Item>) -> Told;
 }
 
-impl Calls<u64, u64, Report> for Keys {
+impl<K: Bits> Calls<K, Report<K>> for Keys<K> {
+    type Plain = u64;
+
     const NAMES: [&'static str; 3] = ["Set", "Handle", "Pass"];
 
-    const OPEN: unsafe extern "C" fn(*mut Raw, usize, u32, u32, u64, u64, *const u64, usize) -> i32 = vbr_open_seeded;
-    const OPEN_MANY: unsafe extern "C" fn(*mut Raw, usize, u32, u32, u64, u64, *const u64, usize) -> i32 = vbr_open_many_seeded;
+    const OPEN: unsafe extern "C" fn(*mut Raw, usize, u32, u32, u64, u64, *const u64, usize) -> i32 = vbr_open_many_seeded;
     const CLOSE_ALL: unsafe extern "C" fn(*mut Raw, usize, *mut u64, usize, *mut ReportNumbers) -> i32 = vbr_close_all;
     const REPORT_ALL: unsafe extern "C" fn(*mut Raw, usize, *mut u64, usize, *mut ReportNumbers) -> i32 = vbr_report_all;
     const RENEW_ALL: unsafe extern "C" fn(*mut Raw, usize, u32, u32, u64, u64) -> i32 = vbr_renew_all_seeded;
-    const DROP: unsafe extern "C" fn(*mut Raw) = vbr_drop;
-    const HAS: unsafe extern "C" fn(*mut Raw, u64, u32) -> i32 = vbr_has;
-    const HAS_ALL: unsafe extern "C" fn(*mut Raw, *const u64, usize, *mut i32, u32) = vbr_has_all;
-    const EPOCH: unsafe extern "C" fn(*mut Raw) -> u64 = vbr_epoch;
-    const LAST_EPOCH: unsafe extern "C" fn(*mut Raw) -> u64 = vbr_last_epoch;
-    const SLOTS: unsafe extern "C" fn(*mut Raw) -> u32 = vbr_slots;
-    const BUCKETS: unsafe extern "C" fn(*mut Raw) -> u32 = vbr_buckets;
-    const SEED: unsafe extern "C" fn(*mut Raw) -> u64 = vbr_seed;
-    const BALANCE: unsafe extern "C" fn(*mut Raw) -> i64 = vbr_balance;
+    const END_ALL: unsafe extern "C" fn(*mut Raw, usize) = vbr_end_all;
+    const HAS: unsafe extern "C" fn(*mut Raw, u64, u32) -> i32 = vbr_has_within;
+    const HAS_ALL: unsafe extern "C" fn(*mut Raw, *const u64, usize, *mut i32, u32) = vbr_has_all_within;
+    const NEXT: unsafe extern "C" fn(*mut Raw, *mut Cursor, *mut u64, u32) -> i32 = vbr_next_within;
+    const EPOCH: unsafe extern "C" fn(*const Raw) -> u64 = vbr_epoch;
+    const LAST_EPOCH: unsafe extern "C" fn(*const Raw) -> u64 = vbr_last_epoch;
+    const SLOTS: unsafe extern "C" fn(*const Raw) -> u32 = vbr_slots;
+    const BUCKETS: unsafe extern "C" fn(*const Raw) -> u32 = vbr_buckets;
+    const SEED: unsafe extern "C" fn(*const Raw) -> u64 = vbr_seed;
+    const BALANCE: unsafe extern "C" fn(*const Raw) -> i64 = vbr_balance;
     const SPARE: unsafe extern "C" fn(*mut Raw) -> u32 = vbr_spare;
     const RESERVE: unsafe extern "C" fn(*mut Raw, u32) -> u32 = vbr_reserve;
 
     #[inline]
-    unsafe fn next(handle: *mut Raw, cursor: &mut Cursor, budget: u32, key: &mut u64) -> i32 {
-        vbr_next(handle, cursor, budget, key)
+    fn plain(key: K) -> u64 {
+        key.to_bits()
     }
 
-    fn report(Contents { items: keys, epoch, marked, free }: Contents<u64>) -> Report {
+    #[inline]
+    fn item(key: u64) -> K {
+        K::from_bits(key)
+    }
+
+    #[inline]
+    fn key(key: &u64) -> u64 {
+        *key
+    }
+
+    fn report(Contents { items: keys, epoch, marked, free }: Contents<K>) -> Report<K> {
         Report { keys, epoch, marked, free }
     }
 }
 
-impl Calls<Entry, (u64, u64), MapReport> for Entries {
+impl<K: Bits, V: Bits> Calls<(K, V), MapReport<K, V>> for Entries<K, V> {
+    type Plain = Pair;
+
     const NAMES: [&'static str; 3] = ["Map", "MapHandle", "MapPass"];
 
-    const OPEN: unsafe extern "C" fn(*mut Raw, usize, u32, u32, u64, u64, *const Entry, usize) -> i32 = vbr_map_open_seeded;
-    const OPEN_MANY: unsafe extern "C" fn(*mut Raw, usize, u32, u32, u64, u64, *const Entry, usize) -> i32 = vbr_map_open_many_seeded;
-    const CLOSE_ALL: unsafe extern "C" fn(*mut Raw, usize, *mut Entry, usize, *mut ReportNumbers) -> i32 = vbr_map_close_all;
-    const REPORT_ALL: unsafe extern "C" fn(*mut Raw, usize, *mut Entry, usize, *mut ReportNumbers) -> i32 = vbr_map_report_all;
+    const OPEN: unsafe extern "C" fn(*mut Raw, usize, u32, u32, u64, u64, *const Pair, usize) -> i32 =
+        vbr_map_open_many_seeded;
+    const CLOSE_ALL: unsafe extern "C" fn(*mut Raw, usize, *mut Pair, usize, *mut ReportNumbers) -> i32 = vbr_map_close_all;
+    const REPORT_ALL: unsafe extern "C" fn(*mut Raw, usize, *mut Pair, usize, *mut ReportNumbers) -> i32 = vbr_map_report_all;
     const RENEW_ALL: unsafe extern "C" fn(*mut Raw, usize, u32, u32, u64, u64) -> i32 = vbr_map_renew_all_seeded;
-    const DROP: unsafe extern "C" fn(*mut Raw) = vbr_map_drop;
-    const HAS: unsafe extern "C" fn(*mut Raw, u64, u32) -> i32 = vbr_map_has;
-    const HAS_ALL: unsafe extern "C" fn(*mut Raw, *const u64, usize, *mut i32, u32) = vbr_map_has_all;
-    const EPOCH: unsafe extern "C" fn(*mut Raw) -> u64 = vbr_map_epoch;
-    const LAST_EPOCH: unsafe extern "C" fn(*mut Raw) -> u64 = vbr_map_last_epoch;
-    const SLOTS: unsafe extern "C" fn(*mut Raw) -> u32 = vbr_map_slots;
-    const BUCKETS: unsafe extern "C" fn(*mut Raw) -> u32 = vbr_map_buckets;
-    const SEED: unsafe extern "C" fn(*mut Raw) -> u64 = vbr_map_seed;
-    const BALANCE: unsafe extern "C" fn(*mut Raw) -> i64 = vbr_map_balance;
+    const END_ALL: unsafe extern "C" fn(*mut Raw, usize) = vbr_map_end_all;
+    const HAS: unsafe extern "C" fn(*mut Raw, u64, u32) -> i32 = vbr_map_has_within;
+    const HAS_ALL: unsafe extern "C" fn(*mut Raw, *const u64, usize, *mut i32, u32) = vbr_map_has_all_within;
+    const NEXT: unsafe extern "C" fn(*mut Raw, *mut Cursor, *mut Pair, u32) -> i32 = vbr_map_next_within;
+    const EPOCH: unsafe extern "C" fn(*const Raw) -> u64 = vbr_map_epoch;
+    const LAST_EPOCH: unsafe extern "C" fn(*const Raw) -> u64 = vbr_map_last_epoch;
+    const SLOTS: unsafe extern "C" fn(*const Raw) -> u32 = vbr_map_slots;
+    const BUCKETS: unsafe extern "C" fn(*const Raw) -> u32 = vbr_map_buckets;
+    const SEED: unsafe extern "C" fn(*const Raw) -> u64 = vbr_map_seed;
+    const BALANCE: unsafe extern "C" fn(*const Raw) -> i64 = vbr_map_balance;
     const SPARE: unsafe extern "C" fn(*mut Raw) -> u32 = vbr_map_spare;
     const RESERVE: unsafe extern "C" fn(*mut Raw, u32) -> u32 = vbr_map_reserve;
 
     #[inline]
-    unsafe fn next(handle: *mut Raw, cursor: &mut Cursor, budget: u32, (key, value): &mut (u64, u64)) -> i32 {
-        vbr_map_next(handle, cursor, budget, key, value)
+    fn plain((key, value): (K, V)) -> Pair {
+        Pair { key: key.to_bits(), value: value.to_bits() }
     }
 
-    fn report(Contents { items: entries, epoch, marked, free }: Contents<Entry>) -> MapReport {
+    #[inline]
+    fn item(Pair { key, value }: Pair) -> (K, V) {
+        (K::from_bits(key), V::from_bits(value))
+    }
+
+    #[inline]
+    fn key(pair: &Pair) -> u64 {
+        pair.key
+    }
+
+    fn report(Contents { items: entries, epoch, marked, free }: Contents<(K, V)>) -> MapReport<K, V> {
         MapReport { entries, epoch, marked, free }
     }
 }
 
-/// The answer of a call.
+/// The answer of a call that may take a slot.
 #[inline]
-pub(crate) fn answer(code: i32) -> Result<bool, Refusal> {
-    match code {
-        0 => Ok(false),
-        1 => Ok(true),
-        -2 => Err(Refusal::NoSlot),
-        -3 => Err(Refusal::EpochSpent),
+pub(crate) fn updated(told: i32) -> Result<bool, Refusal> {
+    match told {
+        code::NO => Ok(false),
+        code::YES => Ok(true),
+        code::NO_SLOT => Err(Refusal::NoSlot),
+        code::EPOCH_SPENT => Err(Refusal::EpochSpent),
         _ => Err(Refusal::OutOfSteps),
     }
 }
 
-/// The answer of a call that writes what it gives where it answers yes: a value, or the next key or entry.
+/// The answer of a call that takes no slot: of a look-up, a remove or a walk.
 #[inline]
-pub(crate) fn answer_with<T: Default>(call: impl FnOnce(&mut T) -> i32) -> Result<Option<T>, Refusal> {
-    let mut given = T::default();
-    let there = answer(call(&mut given))?;
-    Ok(there.then_some(given))
+pub(crate) fn looked_up(told: i32) -> Result<bool, OutOfSteps> {
+    match told {
+        code::NO => Ok(false),
+        code::YES => Ok(true),
+        _ => Err(OutOfSteps),
+    }
 }
 
-/// The answers of look-ups of several keys, each of which `told` makes of what the library wrote for its key. It asks for as many
-/// answers as keys.
-///
-/// `call` is given some of the keys, and room for what is told of each.
+/// The answer of a call that writes the value that was there where it answers yes.
 #[inline]
-pub(crate) fn answer_all<T: Copy + Default, A>(
-    keys: &[u64],
-    answers: &mut [A],
-    call: impl Fn(&[u64], &mut [T]),
-    told: impl Fn(T) -> A,
-) {
-    assert_eq!(keys.len(), answers.len(), "there have to be as many answers as keys");
-    let mut room = [T::default(); TOGETHER];
-    for (keys, answers) in keys.chunks(TOGETHER).zip(answers.chunks_mut(TOGETHER)) {
-        let room = &mut room[..keys.len()];
-        call(keys, room);
-        for (answer, &given) in answers.iter_mut().zip(&*room) {
-            *answer = told(given);
-        }
+pub(crate) fn with_value<V: Bits, E>(
+    answer: impl FnOnce(i32) -> Result<bool, E>,
+    call: impl FnOnce(&mut u64) -> i32,
+) -> Result<Option<V>, E> {
+    let mut value = 0;
+    let was_there = answer(call(&mut value))?;
+    Ok(was_there.then(|| V::from_bits(value)))
+}
+
+/// The answer of a call that compares the value of a key, and writes it where the key is there.
+#[inline]
+pub(crate) fn compared<V: Bits, E>(
+    answer: impl FnOnce(i32) -> Result<bool, E>,
+    call: impl FnOnce(&mut u64) -> i32,
+) -> Result<Compared<V>, E> {
+    let mut found = 0;
+    match call(&mut found) {
+        code::OTHER => Ok(Compared::Other(V::from_bits(found))),
+        told => Ok(if answer(told)? { Compared::Equal } else { Compared::Absent }),
     }
 }
 
 /// How many keys a call of the library is given at once: some of its batches.
 const TOGETHER: usize = 64;
 
-/// The answer that a get of several keys tells of one.
+/// The answers of look-ups of several keys, each of which `told` makes of what the library wrote for its key. It asks for as many
+/// answers as keys.
+///
+/// `call` is given some of the keys, and room for what is told of each.
 #[inline]
-pub(crate) fn found(Found { value, answer: code }: Found) -> Result<Option<u64>, Refusal> {
-    Ok(answer(code)?.then_some(value))
+pub(crate) fn answer_all<K: Bits, T: Copy + Default + Answered, A>(
+    keys: &[K],
+    answers: &mut [A],
+    call: impl Fn(&[u64], &mut [T]),
+    told: impl Fn(T) -> A,
+) {
+    assert_eq!(keys.len(), answers.len(), "there have to be as many answers as keys");
+    let (mut bits, mut room) = ([0; TOGETHER], [T::default(); TOGETHER]);
+    for (keys, answers) in keys.chunks(TOGETHER).zip(answers.chunks_mut(TOGETHER)) {
+        let (bits, room) = (&mut bits[..keys.len()], &mut room[..keys.len()]);
+        for (bits, key) in bits.iter_mut().zip(keys) {
+            *bits = key.to_bits();
+        }
+        call(bits, room);
+        for ((answer, &given), &key) in answers.iter_mut().zip(&*room).zip(&*bits) {
+            order::finds(key, || given.code());
+            *answer = told(given);
+        }
+    }
 }
 
-/// The answer of a call that compares the value of a key, and writes it where the key is there.
-#[inline]
-pub(crate) fn compared(call: impl FnOnce(&mut u64) -> i32) -> Result<Compared, Refusal> {
-    let mut found = 0;
-    match call(&mut found) {
-        2 => Ok(Compared::Other(found)),
-        code => Ok(if answer(code)? { Compared::Equal } else { Compared::Absent }),
+/// What is told of one of several keys, with its code.
+pub(crate) trait Answered {
+    fn code(&self) -> i32;
+}
+
+impl Answered for i32 {
+    #[inline]
+    fn code(&self) -> i32 {
+        *self
     }
+}
+
+impl Answered for Found {
+    #[inline]
+    fn code(&self) -> i32 {
+        self.answer
+    }
+}
+
+/// The answer that a get of several keys tells of one.
+#[inline]
+pub(crate) fn found<V: Bits>(Found { value, answer }: Found) -> Result<Option<V>, OutOfSteps> {
+    Ok(looked_up(answer)?.then(|| V::from_bits(value)))
 }

@@ -1,75 +1,77 @@
 //! Maps: what is of them alone.
-use crate::library::{answer, answer_all, answer_with, found, Found};
-use crate::library::{vbr_map_get, vbr_map_get_all, vbr_map_insert, vbr_map_remove};
-use crate::{Entries, HandleOf, Kind, PassOf, Refusal, Table};
-use alloc::vec::Vec;
+use crate::library::{answer_all, found, looked_up, updated, with_value, Found};
+use crate::library::{vbr_map_get_all_within, vbr_map_get_within, vbr_map_insert_within, vbr_map_remove_within};
+use crate::{order, Bits, Entries, HandleOf, Kind, OutOfSteps, PassOf, Refusal, Steps, Table};
+use alloc::vec::{self, Vec};
+use core::slice;
 
-/// A map from keys to values. It is used through its handles: [`Map::open`] gives them, and [`Map::lending`] keeps them and
-/// lends them. Its calls are those of a [`Table`].
+/// A map from keys to values of any types that have [`Bits`]. [`Map::open`] opens one that lends its handles, and [`Map::handles`]
+/// gives the handles of a new map to their owners. Its calls are those of a [`Table`].
 ///
-/// A key keeps its value until it is removed or gets another one: [`MapPass::insert`] leaves the value of a key that is there,
+/// A key keeps its value until it is removed or gets another one: [`MapPass::try_insert`] leaves the value of a key that is there,
 /// and [`MapPass::replace`] and [`MapPass::put`] change it at one moment.
 ///
-/// Slots, buckets, budgets and refusals are those of a set; a slot takes 40 bytes in place of 32.
+/// Slots, buckets, budgets and refusals are those of a set; a slot takes 40 bytes in place of 32. Where a type is named, `Map` is a
+/// map from `u64` to `u64`; where one is opened, its types are those that its calls are given.
 ///
 /// ```
-/// # use vbr::{Entry, Map, Shape};
-/// let map = Map::lending_with(Shape::for_keys(8, 2), 2, &[Entry { key: 5, value: 70 }])?;
-/// assert_eq!(map.lend().expect("two are free").get(5, 100_000)?, Some(70));
+/// # use vbr::{Map, Shape};
+/// let map: Map<u32, char> = Map::open_with(Shape::for_keys(8, 2), &[(5, 'k')])?;
+/// assert_eq!(map.lend().expect("two are free").get(5)?, Some('k'));
 /// # Ok::<(), Box<dyn std::error::Error>>(())
 /// ```
-pub type Map = Table<Entries>;
+pub type Map<K = u64, V = u64> = Table<Entries<K, V>>;
 
 /// A handle to a map, as a [`Handle`](crate::Handle) is one to a set. Its calls are those of its [`MapPass`], and
 /// [`HandleOf::close`].
 ///
 /// ```
 /// # use vbr::{Map, MapHandle, Shape};
-/// let mut handle: MapHandle = Map::open(Shape::for_keys(8, 1), 1)?.remove(0);
-/// assert!(handle.insert(5, 70, 100_000)?);
+/// let mut handle: MapHandle = Map::handles(Shape::for_keys(8, 1))?.remove(0);
+/// assert!(handle.try_insert(5, 70)?);
 /// # Ok::<(), Box<dyn std::error::Error>>(())
 /// ```
 ///
-/// ```compile_fail
+/// ```compile_fail,E0277
 /// fn is_clone<T: Clone>() {}
 /// is_clone::<vbr::MapHandle>();
 /// ```
 ///
-/// ```compile_fail
+/// ```compile_fail,E0277
 /// fn is_sync<T: Sync>() {}
 /// is_sync::<vbr::MapHandle>();
 /// ```
-pub type MapHandle = HandleOf<Entries>;
+pub type MapHandle<K = u64, V = u64> = HandleOf<Entries<K, V>>;
 
 /// The pass of a handle to a map: the calls of [`PassOf`], and [`MapPass::get`], and those that insert, remove and
 /// change an entry.
 ///
 /// ```
-/// # use vbr::{MapPass, Refusal};
-/// fn frame_of(index: &MapPass, page: u64) -> Result<Option<u64>, Refusal> {
-///     index.get(page, 100_000)
+/// # use vbr::{MapPass, OutOfSteps};
+/// fn frame_of(index: &MapPass, page: u64) -> Result<Option<u64>, OutOfSteps> {
+///     index.get(page)
 /// }
 /// ```
-pub type MapPass = PassOf<Entries>;
+pub type MapPass<K = u64, V = u64> = PassOf<Entries<K, V>>;
 
-impl Kind for Entries {
-    type Item = Entry;
-    type Given = (u64, u64);
-    type Report = MapReport;
+impl<K: Bits, V: Bits> Kind for Entries<K, V> {
+    type Key = K;
+    type Item = (K, V);
+    type Report = MapReport<K, V>;
 }
 
 /// The calls of maps alone.
-impl PassOf<Entries> {
-    /// Adds a key with its value, in at most `budget` steps, and says whether the key was absent. Where it was there, it
-    /// keeps the value that it has. A step is one atomic operation on one word. While the other handles stand still,
-    /// 18n + slots + 82 are enough, with n nodes in the bucket of the key.
+impl<K: Bits, V: Bits> PassOf<Entries<K, V>> {
+    /// Adds a key with its value where it is absent, and says whether it was. A key that is there keeps the value that it has;
+    /// what `HashMap::insert` does, which replaces it, is [`MapPass::put`]. While the other handles stand still, 18n + slots + 82
+    /// steps are enough, with n nodes in the bucket of the key.
     ///
     /// ```
     /// # use vbr::{Map, Shape};
-    /// let mut handle = Map::open(Shape::new(8, 2, 100), 1)?.remove(0);
-    /// assert!(handle.insert(5, 70, 1_000)?);
-    /// assert!(!handle.insert(5, 71, 1_000)?);
-    /// assert_eq!(handle.get(5, 1_000)?, Some(70));
+    /// let mut handle = Map::handles(Shape::for_keys(8, 1))?.remove(0);
+    /// assert!(handle.try_insert(5, 70)?);
+    /// assert!(!handle.try_insert(5, 71)?);
+    /// assert_eq!(handle.get(5)?, Some(70));
     /// # Ok::<(), Box<dyn std::error::Error>>(())
     /// ```
     ///
@@ -78,66 +80,123 @@ impl PassOf<Entries> {
     /// [`Refusal::OutOfSteps`], and, where the key is absent, [`Refusal::NoSlot`] and [`Refusal::EpochSpent`]. No call was
     /// made then.
     #[inline]
-    pub fn insert(&mut self, key: u64, value: u64, budget: u32) -> Result<bool, Refusal> {
-        // SAFETY: `&mut` is exclusive.
-        answer(unsafe { vbr_map_insert(self.raw(), key, value, budget) })
+    pub fn try_insert(&mut self, key: K, value: V) -> Result<bool, Refusal> {
+        self.try_insert_within(key, value, self.steps())
     }
 
-    /// Takes a key out, in at most `budget` steps, and gives the value that it had, if it was there: that of the entry that this
-    /// call took, and no other one. While the other handles stand still, 9n + 11 are enough, with n nodes
-    /// in the bucket of the key.
+    /// As [`MapPass::try_insert`], with a budget of its own.
+    ///
+    /// ```
+    /// # use vbr::{Map, Refusal, Shape, Steps};
+    /// let mut handle = Map::handles(Shape::for_keys(8, 1))?.remove(0);
+    /// assert_eq!(handle.try_insert_within(5, 70, Steps::new(1)), Err(Refusal::OutOfSteps));
+    /// # Ok::<(), vbr::OpenError>(())
+    /// ```
+    ///
+    /// # Errors
+    ///
+    /// Those of [`MapPass::try_insert`].
+    #[inline]
+    pub fn try_insert_within(&mut self, key: K, value: V, steps: Steps) -> Result<bool, Refusal> {
+        let (key, value) = (key.to_bits(), value.to_bits());
+        // SAFETY: `&mut` is exclusive.
+        updated(order::adds(key, || unsafe { vbr_map_insert_within(self.raw(), key, value, steps.count()) }))
+    }
+
+    /// Takes a key out, and gives the value that it had, if it was there: that of the entry that this call took, and no other one.
+    /// While the other handles stand still, 9n + 11 steps are enough, with n nodes in the bucket of the key.
     ///
     /// Where it was there, its node has left its list, unless the budget ended first: then the next insert or remove that
     /// passes the node takes it out.
     ///
     /// ```
-    /// # use vbr::{Entry, Map, Shape};
-    /// let mut handle = Map::open_with(Shape::for_keys(8, 1), 1, &[Entry { key: 5, value: 70 }])?.remove(0);
-    /// assert_eq!(handle.remove(5, 1_000)?, Some(70));
-    /// assert_eq!(handle.remove(5, 1_000)?, None);
+    /// # use vbr::{Map, Shape};
+    /// let mut handle = Map::handles_with(Shape::for_keys(8, 1), &[(5, 70)])?.remove(0);
+    /// assert_eq!(handle.remove(5)?, Some(70));
+    /// assert_eq!(handle.remove(5)?, None);
     /// # Ok::<(), Box<dyn std::error::Error>>(())
     /// ```
     ///
     /// # Errors
     ///
-    /// [`Refusal::OutOfSteps`] alone. No call was made then.
+    /// [`OutOfSteps`]. No call was made then.
     #[inline]
-    pub fn remove(&mut self, key: u64, budget: u32) -> Result<Option<u64>, Refusal> {
-        // SAFETY: `&mut` is exclusive, and nothing else has the value.
-        answer_with(|value| unsafe { vbr_map_remove(self.raw(), key, budget, value) })
+    pub fn remove(&mut self, key: K) -> Result<Option<V>, OutOfSteps> {
+        self.remove_within(key, self.steps())
     }
 
-    /// The value of a key, if the key is in the map, in at most `budget` steps, all of them loads. While the other handles stand
-    /// still, 5n + 11 are enough, with n nodes in the bucket of the key.
-    ///
-    /// It takes `&self`, as [`MapPass::has`] does.
+    /// As [`MapPass::remove`], with a budget of its own.
     ///
     /// ```
-    /// # use vbr::{Entry, Map, Shape};
-    /// let handle = Map::open_with(Shape::for_keys(8, 1), 1, &[Entry { key: 5, value: 70 }])?.remove(0);
-    /// assert_eq!(handle.get(5, 1_000)?, Some(70));
-    /// assert_eq!(handle.get(6, 1_000)?, None);
+    /// # use vbr::{Map, Shape, Steps};
+    /// let mut handle = Map::handles_with(Shape::for_keys(8, 1), &[(5, 70)])?.remove(0);
+    /// assert_eq!(handle.remove_within(5, Steps::new(9 + 11)), Ok(Some(70)));
+    /// # Ok::<(), vbr::OpenError>(())
+    /// ```
+    ///
+    /// # Errors
+    ///
+    /// [`OutOfSteps`]. No call was made then.
+    #[inline]
+    pub fn remove_within(&mut self, key: K, steps: Steps) -> Result<Option<V>, OutOfSteps> {
+        let key = key.to_bits();
+        with_value(looked_up, |value| {
+            // SAFETY: `&mut` is exclusive, and nothing else has the value.
+            order::removes(key, || unsafe { vbr_map_remove_within(self.raw(), key, value, steps.count()) })
+        })
+    }
+
+    /// The value of a key, if the key is in the map. All steps are loads; while the other handles stand still, 5n + 11 are enough,
+    /// with n nodes in the bucket of the key.
+    ///
+    /// It takes `&self`, as [`PassOf::has`] does.
+    ///
+    /// ```
+    /// # use vbr::{Map, Shape};
+    /// let handle = Map::handles_with(Shape::for_keys(8, 1), &[(5, 70)])?.remove(0);
+    /// assert_eq!(handle.get(5)?, Some(70));
+    /// assert_eq!(handle.get(6)?, None);
     /// # Ok::<(), Box<dyn std::error::Error>>(())
     /// ```
     ///
     /// # Errors
     ///
-    /// [`Refusal::OutOfSteps`] alone. No call was made then.
+    /// [`OutOfSteps`]. No call was made then.
     #[inline]
-    pub fn get(&self, key: u64, budget: u32) -> Result<Option<u64>, Refusal> {
-        // SAFETY: one thread at a time has the pass, which is not `Sync`, and the call lends it to nobody; nothing else
-        // has the value.
-        answer_with(|value| unsafe { vbr_map_get(self.raw(), key, budget, value) })
+    pub fn get(&self, key: K) -> Result<Option<V>, OutOfSteps> {
+        self.get_within(key, self.steps())
     }
 
-    /// Looks keys up in their order, each in at most `budget` steps, and writes what [`MapPass::get`] answers to each at its place,
-    /// as [`MapPass::has_all`] does for keys alone.
+    /// As [`MapPass::get`], with a budget of its own.
     ///
     /// ```
-    /// # use vbr::{Entry, Map, Shape};
-    /// let handle = Map::open_with(Shape::for_keys(8, 1), 1, &[Entry { key: 5, value: 70 }])?.remove(0);
+    /// # use vbr::{Map, Shape, Steps};
+    /// let handle = Map::handles_with(Shape::for_keys(8, 1), &[(5, 70)])?.remove(0);
+    /// assert_eq!(handle.get_within(5, Steps::new(5 + 11)), Ok(Some(70)));
+    /// # Ok::<(), vbr::OpenError>(())
+    /// ```
+    ///
+    /// # Errors
+    ///
+    /// [`OutOfSteps`]. No call was made then.
+    #[inline]
+    pub fn get_within(&self, key: K, steps: Steps) -> Result<Option<V>, OutOfSteps> {
+        let key = key.to_bits();
+        with_value(looked_up, |value| {
+            // SAFETY: one thread at a time has the pass, which is not `Sync`, and the call lends it to nobody; nothing else has the
+            // value.
+            order::finds(key, || unsafe { vbr_map_get_within(self.raw(), key, value, steps.count()) })
+        })
+    }
+
+    /// Looks keys up in their order, each with the budget of the handle, and writes what [`MapPass::get`] answers to each at its
+    /// place, as [`PassOf::has_all`] does for keys alone.
+    ///
+    /// ```
+    /// # use vbr::{Map, Shape};
+    /// let handle = Map::handles_with(Shape::for_keys(8, 1), &[(5, 70)])?.remove(0);
     /// let mut values = [Ok(None); 2];
-    /// handle.get_all(&[5, 6], &mut values, 1_000);
+    /// handle.get_all(&[5, 6], &mut values);
     /// assert_eq!(values, [Ok(Some(70)), Ok(None)]);
     /// # Ok::<(), Box<dyn std::error::Error>>(())
     /// ```
@@ -146,30 +205,70 @@ impl PassOf<Entries> {
     ///
     /// Where there aren't as many values as keys. No call was made then.
     #[inline]
-    pub fn get_all(&self, keys: &[u64], values: &mut [Result<Option<u64>, Refusal>], budget: u32) {
-        // SAFETY: as for `get`; there is room for as many values as keys.
+    pub fn get_all(&self, keys: &[K], values: &mut [Result<Option<V>, OutOfSteps>]) {
+        self.get_all_within(keys, values, self.steps());
+    }
+
+    /// As [`MapPass::get_all`], each key with this budget.
+    ///
+    /// ```
+    /// # use vbr::{Map, OutOfSteps, Shape, Steps};
+    /// # let handle = Map::handles_with(Shape::for_keys(8, 1), &[(5, 70)])?.remove(0);
+    /// let mut values = [Ok(None); 2];
+    /// handle.get_all_within(&[5, 6], &mut values, Steps::new(1));
+    /// assert_eq!(values, [Err(OutOfSteps); 2]);
+    /// # Ok::<(), vbr::OpenError>(())
+    /// ```
+    ///
+    /// # Panics
+    ///
+    /// Where there aren't as many values as keys. No call was made then.
+    #[inline]
+    pub fn get_all_within(&self, keys: &[K], values: &mut [Result<Option<V>, OutOfSteps>], steps: Steps) {
+        // SAFETY: as for `get_within`; there is room for as many values as keys.
         let call = |keys: &[u64], told: &mut [Found]| unsafe {
-            vbr_map_get_all(self.raw(), keys.as_ptr(), keys.len(), told.as_mut_ptr(), budget);
+            vbr_map_get_all_within(self.raw(), keys.as_ptr(), keys.len(), told.as_mut_ptr(), steps.count());
         };
         answer_all(keys, values, call, found);
     }
+
+    /// Whether a key is there: [`PassOf::has`], by the name that `HashMap` has for it.
+    ///
+    /// ```
+    /// # use vbr::{Map, Shape};
+    /// let handle = Map::handles_with(Shape::for_keys(8, 1), &[(5, 70)])?.remove(0);
+    /// assert!(handle.contains_key(5)? && !handle.contains_key(6)?);
+    /// # Ok::<(), Box<dyn std::error::Error>>(())
+    /// ```
+    ///
+    /// # Errors
+    ///
+    /// [`OutOfSteps`]. No call was made then.
+    #[inline]
+    pub fn contains_key(&self, key: K) -> Result<bool, OutOfSteps> {
+        self.has(key)
+    }
 }
 
-/// What a map held when it was closed. The numbers are those of a set's [`Report`](crate::Report).
+/// What a map held when it was closed, or was reported. The numbers are those of a set's [`Report`](crate::Report). It goes over
+/// its entries where a loop takes it.
 ///
 /// ```
-/// # use vbr::{Entry, Map, Shape};
-/// let mut handle = Map::open(Shape::for_keys(8, 1), 1)?.remove(0);
-/// handle.insert(5, 70, 1_000)?;
+/// # use vbr::{Map, Shape};
+/// let mut handle = Map::handles(Shape::for_keys(8, 1))?.remove(0);
+/// handle.try_insert(5, 70)?;
 /// let report = handle.close()?.expect("the only handle");
-/// assert_eq!(report.entries, [Entry { key: 5, value: 70 }]);
+/// assert_eq!(report.entries, [(5, 70)]);
 /// assert_eq!((report.epoch, report.marked, report.free), (1, 0, 8 + 64 - 1));
+/// let entries: std::collections::HashMap<u64, u64> = report.into_iter().collect();
+/// assert_eq!(entries[&5], 70);
 /// # Ok::<(), Box<dyn std::error::Error>>(())
 /// ```
-#[derive(Clone, Debug, PartialEq, Eq)]
-pub struct MapReport {
-    /// The keys in the map, ascending, each with its value.
-    pub entries: Vec<Entry>,
+#[derive(Clone, Debug, PartialEq, Eq, Hash)]
+#[non_exhaustive]
+pub struct MapReport<K = u64, V = u64> {
+    /// The keys in the map, ascending by their bits, each with its value.
+    pub entries: Vec<(K, V)>,
     /// As [`Report::epoch`](crate::Report::epoch).
     pub epoch: u64,
     /// As [`Report::marked`](crate::Report::marked).
@@ -178,29 +277,34 @@ pub struct MapReport {
     pub free: u32,
 }
 
-/// A key with its value, as a map opens with and its report has them.
-///
-/// ```
-/// # use vbr::Entry;
-/// assert_eq!(Entry::from((5, 70)), Entry { key: 5, value: 70 });
-/// ```
-#[repr(C)]
-#[derive(Clone, Copy, Debug, Default, PartialEq, Eq, PartialOrd, Ord, Hash)]
-pub struct Entry {
-    /// The key.
-    pub key: u64,
-    /// The value that it has.
-    pub value: u64,
-}
-
-impl From<(u64, u64)> for Entry {
-    fn from((key, value): (u64, u64)) -> Entry {
-        Entry { key, value }
+impl<K, V> MapReport<K, V> {
+    /// Goes over the entries.
+    ///
+    /// ```
+    /// # use vbr::{Map, Shape};
+    /// let report = Map::open_with(Shape::for_keys(8, 1), &[(5, 70), (7, 71)])?.close()?;
+    /// assert_eq!(report.iter().map(|(_, value)| value).sum::<u64>(), 141);
+    /// # Ok::<(), Box<dyn std::error::Error>>(())
+    /// ```
+    pub fn iter(&self) -> slice::Iter<'_, (K, V)> {
+        self.entries.iter()
     }
 }
 
-impl From<Entry> for (u64, u64) {
-    fn from(entry: Entry) -> (u64, u64) {
-        (entry.key, entry.value)
+impl<K, V> IntoIterator for MapReport<K, V> {
+    type Item = (K, V);
+    type IntoIter = vec::IntoIter<(K, V)>;
+
+    fn into_iter(self) -> vec::IntoIter<(K, V)> {
+        self.entries.into_iter()
+    }
+}
+
+impl<'r, K, V> IntoIterator for &'r MapReport<K, V> {
+    type Item = &'r (K, V);
+    type IntoIter = slice::Iter<'r, (K, V)>;
+
+    fn into_iter(self) -> slice::Iter<'r, (K, V)> {
+        self.iter()
     }
 }

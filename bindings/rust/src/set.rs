@@ -1,66 +1,76 @@
 //! Sets: what is of them alone.
-use crate::library::{answer, vbr_insert, vbr_remove};
-use crate::{HandleOf, Keys, Kind, PassOf, Refusal, Table};
-use alloc::vec::Vec;
+use crate::library::{looked_up, updated, vbr_insert_within, vbr_remove_within};
+use crate::{order, Bits, Cursor, HandleOf, Keys, Kind, OutOfSteps, PassOf, Refusal, Steps, Table};
+use alloc::vec::{self, Vec};
+use core::slice;
 
-/// A set. It is used through its handles: [`Set::open`] gives them, and [`Set::lending`] keeps them and lends them. Its calls are
-/// those of a [`Table`].
+/// A set of keys of any type that has [`Bits`]. [`Set::open`] opens one that lends its handles, and [`Set::handles`] gives the
+/// handles of a new set to their owners. Its calls are those of a [`Table`].
+///
+/// Where a type is named, `Set` is a set of `u64`; where one is opened, its keys are what its calls are given.
 ///
 /// ```
 /// # use vbr::{Set, Shape};
-/// let mut handle = Set::open(Shape::for_keys(8, 1), 1)?.remove(0);
-/// assert!(handle.insert(5, 100_000)? && handle.has(5, 100_000)?);
+/// let set = Set::open(Shape::for_keys(8, 1))?; // a Set<char>
+/// let mut mine = set.lend_wait();
+/// assert!(mine.insert('k')? && mine.contains('k')?);
 /// # Ok::<(), Box<dyn std::error::Error>>(())
 /// ```
-pub type Set = Table<Keys>;
+///
+/// ```compile_fail,E0308
+/// # use vbr::{Set, Shape};
+/// let set: Set<u32> = Set::open(Shape::for_keys(8, 1)).unwrap();
+/// set.lend_wait().insert('k');
+/// ```
+pub type Set<K = u64> = Table<Keys<K>>;
 
 /// A handle to a set: the right of one thread at a time to make calls, and a share of the set. Its calls are those of its
 /// [`Pass`], and [`HandleOf::close`].
 ///
 /// ```
 /// # use vbr::{Handle, Set, Shape};
-/// let mut handle: Handle = Set::open(Shape::for_keys(8, 1), 1)?.remove(0);
-/// assert!(handle.insert(5, 100_000)?);
+/// let mut handle: Handle = Set::handles(Shape::for_keys(8, 1))?.remove(0);
+/// assert!(handle.insert(5)?);
 /// # Ok::<(), Box<dyn std::error::Error>>(())
 /// ```
 ///
-/// ```compile_fail
+/// ```compile_fail,E0277
 /// fn is_clone<T: Clone>() {}
 /// is_clone::<vbr::Handle>();
 /// ```
 ///
-/// ```compile_fail
+/// ```compile_fail,E0277
 /// fn is_sync<T: Sync>() {}
 /// is_sync::<vbr::Handle>();
 /// ```
-pub type Handle = HandleOf<Keys>;
+pub type Handle<K = u64> = HandleOf<Keys<K>>;
 
-/// The pass of a handle to a set: the calls of [`PassOf`], and [`Pass::insert`] and [`Pass::remove`] of keys.
+/// The pass of a handle to a set: the calls of [`PassOf`], and those that insert and remove keys.
 ///
 /// ```
 /// # use vbr::{Pass, Refusal};
 /// fn visit(pass: &mut Pass, page: u64) -> Result<bool, Refusal> {
-///     pass.insert(page, 100_000)
+///     pass.insert(page)
 /// }
 /// ```
-pub type Pass = PassOf<Keys>;
+pub type Pass<K = u64> = PassOf<Keys<K>>;
 
-impl Kind for Keys {
-    type Item = u64;
-    type Given = u64;
-    type Report = Report;
+impl<K: Bits> Kind for Keys<K> {
+    type Key = K;
+    type Item = K;
+    type Report = Report<K>;
 }
 
 /// The calls of sets alone.
-impl PassOf<Keys> {
-    /// Adds a key, in at most `budget` steps, and says whether it was absent. A step is one atomic operation on one word. While
-    /// the other handles stand still, 18n + slots + 82 are enough, with n nodes in the bucket of the key.
+impl<K: Bits> PassOf<Keys<K>> {
+    /// Adds a key, and says whether it was absent, as `HashSet::insert` does. While the other handles stand still,
+    /// 18n + slots + 82 steps are enough, with n nodes in the bucket of the key.
     ///
     /// ```
     /// # use vbr::{Set, Shape};
-    /// let mut handle = Set::open(Shape::new(8, 2, 100), 1)?.remove(0);
-    /// assert!(handle.insert(5, 1_000)?);
-    /// assert!(!handle.insert(5, 1_000)?);
+    /// let mut handle = Set::handles(Shape::for_keys(8, 1))?.remove(0);
+    /// assert!(handle.insert(5)?);
+    /// assert!(!handle.insert(5)?);
     /// # Ok::<(), Box<dyn std::error::Error>>(())
     /// ```
     ///
@@ -69,54 +79,170 @@ impl PassOf<Keys> {
     /// [`Refusal::OutOfSteps`], and, where the key is absent, [`Refusal::NoSlot`] and [`Refusal::EpochSpent`]. No call was made
     /// then.
     #[inline]
-    pub fn insert(&mut self, key: u64, budget: u32) -> Result<bool, Refusal> {
-        // SAFETY: `&mut` is exclusive.
-        answer(unsafe { vbr_insert(self.raw(), key, budget) })
+    pub fn insert(&mut self, key: K) -> Result<bool, Refusal> {
+        self.insert_within(key, self.steps())
     }
 
-    /// Takes a key out, in at most `budget` steps, and says whether it was there. While the other handles stand still, 9n + 11
-    /// are enough, with n nodes in the bucket of the key.
+    /// As [`Pass::insert`], with a budget of its own.
+    ///
+    /// ```
+    /// # use vbr::{Refusal, Set, Shape, Steps};
+    /// let mut handle = Set::handles(Shape::for_keys(8, 1))?.remove(0);
+    /// assert_eq!(handle.insert_within(5, Steps::new(1)), Err(Refusal::OutOfSteps));
+    /// # Ok::<(), vbr::OpenError>(())
+    /// ```
+    ///
+    /// # Errors
+    ///
+    /// Those of [`Pass::insert`].
+    #[inline]
+    pub fn insert_within(&mut self, key: K, steps: Steps) -> Result<bool, Refusal> {
+        let key = key.to_bits();
+        // SAFETY: `&mut` is exclusive.
+        updated(order::adds(key, || unsafe { vbr_insert_within(self.raw(), key, steps.count()) }))
+    }
+
+    /// Takes a key out, and says whether it was there. While the other handles stand still, 9n + 11 steps are enough, with n nodes
+    /// in the bucket of the key.
     ///
     /// Where it was there, its node has left its list, unless the budget ended first: then the next insert or remove that
     /// passes the node takes it out.
     ///
     /// ```
     /// # use vbr::{Set, Shape};
-    /// let mut handle = Set::open_with(Shape::for_keys(8, 1), 1, &[5])?.remove(0);
-    /// assert!(handle.remove(5, 1_000)?);
-    /// assert!(!handle.remove(5, 1_000)?);
+    /// let mut handle = Set::handles_with(Shape::for_keys(8, 1), &[5])?.remove(0);
+    /// assert!(handle.remove(5)?);
+    /// assert!(!handle.remove(5)?);
     /// # Ok::<(), Box<dyn std::error::Error>>(())
     /// ```
     ///
     /// # Errors
     ///
-    /// [`Refusal::OutOfSteps`] alone. No call was made then.
+    /// [`OutOfSteps`]. No call was made then.
     #[inline]
-    pub fn remove(&mut self, key: u64, budget: u32) -> Result<bool, Refusal> {
+    pub fn remove(&mut self, key: K) -> Result<bool, OutOfSteps> {
+        self.remove_within(key, self.steps())
+    }
+
+    /// As [`Pass::remove`], with a budget of its own.
+    ///
+    /// ```
+    /// # use vbr::{Set, Shape, Steps};
+    /// let mut handle = Set::handles_with(Shape::for_keys(8, 1), &[5])?.remove(0);
+    /// assert_eq!(handle.remove_within(5, Steps::new(9 + 11)), Ok(true));
+    /// # Ok::<(), vbr::OpenError>(())
+    /// ```
+    ///
+    /// # Errors
+    ///
+    /// [`OutOfSteps`]. No call was made then.
+    #[inline]
+    pub fn remove_within(&mut self, key: K, steps: Steps) -> Result<bool, OutOfSteps> {
+        let key = key.to_bits();
         // SAFETY: `&mut` is exclusive.
-        answer(unsafe { vbr_remove(self.raw(), key, budget) })
+        looked_up(order::removes(key, || unsafe { vbr_remove_within(self.raw(), key, steps.count()) }))
+    }
+
+    /// Whether a key is there: [`PassOf::has`], by the name that `HashSet` has for it.
+    ///
+    /// ```
+    /// # use vbr::{Set, Shape};
+    /// let handle = Set::handles_with(Shape::for_keys(8, 1), &[5])?.remove(0);
+    /// assert!(handle.contains(5)? && !handle.contains(6)?);
+    /// # Ok::<(), Box<dyn std::error::Error>>(())
+    /// ```
+    ///
+    /// # Errors
+    ///
+    /// [`OutOfSteps`]. No call was made then.
+    #[inline]
+    pub fn contains(&self, key: K) -> Result<bool, OutOfSteps> {
+        self.has(key)
+    }
+
+    /// Goes over all keys while other threads make calls, as [`PassOf::iter`] does, takes out those for which `keep` says no, and
+    /// returns how many it took out. Each call that it takes has the budget of the handle.
+    ///
+    /// `keep` is asked of each key once, and the key is taken out after that, whoever inserted it: so one that another thread took
+    /// out and inserted anew in between goes too. Where that matters, have a map, whose [`retain`](crate::MapPass::retain) takes
+    /// out a key only with the value that `keep` saw.
+    ///
+    /// ```
+    /// # use vbr::{Set, Shape};
+    /// let mut handle = Set::handles_with(Shape::for_keys(8, 1), &[2, 5, 9])?.remove(0);
+    /// assert_eq!(handle.retain(|key| key % 2 == 1)?, 1);
+    /// assert_eq!(handle.close()?.expect("the only handle").keys, [5, 9]);
+    /// # Ok::<(), Box<dyn std::error::Error>>(())
+    /// ```
+    ///
+    /// # Errors
+    ///
+    /// [`OutOfSteps`], as of [`PassOf::iter`] or of a remove. What was taken out before stays out.
+    pub fn retain(&mut self, mut keep: impl FnMut(K) -> bool) -> Result<u64, OutOfSteps> {
+        let (mut cursor, mut count) = (Cursor::first(), 0);
+        while let Some(key) = self.walk_on(&mut cursor, self.steps())? {
+            if !keep(key) {
+                count += u64::from(self.remove(key)?);
+            }
+        }
+        Ok(count)
     }
 }
 
-/// What a set held when it was closed.
+/// What a set held when it was closed, or was reported. It goes over its keys where a loop takes it.
 ///
 /// ```
 /// # use vbr::{Set, Shape};
-/// let mut handle = Set::open(Shape::for_keys(8, 1), 1)?.remove(0);
-/// handle.insert(5, 1_000)?;
+/// let mut handle = Set::handles(Shape::for_keys(8, 1))?.remove(0);
+/// handle.insert(5)?;
 /// let report = handle.close()?.expect("the only handle");
 /// assert_eq!(report.keys, [5]);
 /// assert_eq!((report.epoch, report.marked, report.free), (1, 0, 8 + 64 - 1));
+/// let keys: std::collections::HashSet<u64> = report.into_iter().collect();
+/// assert!(keys.contains(&5));
 /// # Ok::<(), Box<dyn std::error::Error>>(())
 /// ```
-#[derive(Clone, Debug, PartialEq, Eq)]
-pub struct Report {
-    /// The keys in the set, ascending.
-    pub keys: Vec<u64>,
+#[derive(Clone, Debug, PartialEq, Eq, Hash)]
+#[non_exhaustive]
+pub struct Report<K = u64> {
+    /// The keys in the set, ascending by their bits.
+    pub keys: Vec<K>,
     /// The epoch.
     pub epoch: u64,
     /// How many removed nodes were still in a list.
     pub marked: u32,
     /// How many slots had no node in a list.
     pub free: u32,
+}
+
+impl<K> Report<K> {
+    /// Goes over the keys.
+    ///
+    /// ```
+    /// # use vbr::{Set, Shape};
+    /// let report = Set::open_with(Shape::for_keys(8, 1), &[5, 7])?.close()?;
+    /// assert_eq!(report.iter().sum::<u64>(), 12);
+    /// # Ok::<(), Box<dyn std::error::Error>>(())
+    /// ```
+    pub fn iter(&self) -> slice::Iter<'_, K> {
+        self.keys.iter()
+    }
+}
+
+impl<K> IntoIterator for Report<K> {
+    type Item = K;
+    type IntoIter = vec::IntoIter<K>;
+
+    fn into_iter(self) -> vec::IntoIter<K> {
+        self.keys.into_iter()
+    }
+}
+
+impl<'r, K> IntoIterator for &'r Report<K> {
+    type Item = &'r K;
+    type IntoIter = slice::Iter<'r, K>;
+
+    fn into_iter(self) -> slice::Iter<'r, K> {
+        self.iter()
+    }
 }

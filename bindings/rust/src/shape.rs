@@ -1,10 +1,10 @@
 //! How large a set or a map is.
 use crate::library::vbr_random_seed;
-use crate::{MAX_BUCKETS, MAX_EPOCH, MAX_MANY_HANDLES, MAX_SLOTS};
+use crate::{Steps, MAX_BUCKETS, MAX_EPOCH, MAX_HANDLES, MAX_SLOTS};
 use core::error::Error;
 use core::fmt;
 
-/// How many slots and buckets a set or a map has, and its last epoch.
+/// How many slots and buckets a set or a map has, its last epoch, and for how many handles it is.
 ///
 /// A set takes `8 * (2 + buckets + 4 * slots + slots.div_ceil(64))` bytes for its words, and a map 8 more for each slot.
 /// The last epoch says how often slots can be used again before inserts are refused for good.
@@ -13,7 +13,7 @@ use core::fmt;
 /// pool that all handles share, with one handle, under a key, or in a removed node that is still in its list. A handle keeps
 /// slots to itself, at most 64 between two calls: those of the nodes that its calls took out of their lists, mostly of keys
 /// that it removed. It gives them back when it is closed or dropped, or by `spare`. A remove that is answered yes has taken
-/// its node out of its list, unless its budget ended first; that of [`ample_budget`] doesn't end in short buckets. What a
+/// its node out of its list, unless its budget ended first; [`Steps::AMPLE`] doesn't end in short buckets. What a
 /// small one leaves in a list comes back with the next insert or remove that passes it, in the same bucket, or with a renewal.
 ///
 /// Where no other handle makes a step during an insert, and each stands between two calls, [`Refusal::NoSlot`] comes
@@ -32,13 +32,18 @@ use core::fmt;
 ///
 /// [`Set::open_with`]: crate::Set::open_with
 /// [`Refusal::NoSlot`]: crate::Refusal::NoSlot
-/// [`ample_budget`]: crate::ample_budget
+/// [`Steps::AMPLE`]: crate::Steps::AMPLE
 ///
 /// ```
-/// let shape = vbr::Shape { slots: 1_024 + 2 * 64, buckets: 1_024, last_epoch: vbr::MAX_EPOCH, seed: None };
-/// assert_eq!(shape, vbr::Shape::for_keys(1_024, 2));
+/// use vbr::{Shape, Steps};
+///
+/// let shape = Shape::for_keys(1_024, 2); // for up to 1,024 keys, and two handles
+/// assert_eq!((shape.slots, shape.buckets, shape.handles), (1_024 + 2 * 64, 1_024, 2));
+/// let small = Shape { last_epoch: 100, ..shape }.with_steps(Steps::new(5_000));
+/// assert_eq!(small.steps, Some(Steps::new(5_000)));
 /// ```
 #[derive(Clone, Copy, Debug, PartialEq, Eq, Hash)]
+#[must_use = "a shape is nothing before a set or a map is opened or renewed with it"]
 pub struct Shape {
     /// From 1 to [`MAX_SLOTS`].
     pub slots: u32,
@@ -46,30 +51,65 @@ pub struct Shape {
     pub buckets: u32,
     /// From 1 to [`MAX_EPOCH`].
     pub last_epoch: u64,
+    /// How many handles an opening gives or lends, from 1 to [`MAX_HANDLES`].
+    pub handles: usize,
     /// What keys are spread by, any number; with `None` an opening draws it, and a renewal keeps that of its set.
     pub seed: Option<u64>,
+    /// The budget of each call of the handles; with `None` an opening takes [`Steps::AMPLE`], and a renewal leaves them theirs.
+    pub steps: Option<Steps>,
 }
 
 impl Shape {
-    /// A shape of these numbers, which [`Set::open`](crate::Set::open) tests.
+    /// A shape of these numbers, which an opening tests, for one handle.
     ///
     /// ```
-    /// assert_eq!(vbr::Shape::new(128, 64, 1_000), vbr::Shape { slots: 128, buckets: 64, last_epoch: 1_000, seed: None });
+    /// let shape = vbr::Shape::new(128, 64, 1_000);
+    /// assert_eq!((shape.slots, shape.buckets, shape.last_epoch, shape.handles), (128, 64, 1_000, 1));
     /// ```
     pub const fn new(slots: u32, buckets: u32, last_epoch: u64) -> Shape {
-        Shape { slots, buckets, last_epoch, seed: None }
+        Shape { slots, buckets, last_epoch, handles: 1, seed: None, steps: None }
     }
 
-    /// The shape for this many keys at one time and this many handles: a slot for each key and 64 for each handle, as
-    /// many buckets as keys, rounded up to a power of two, and the greatest last epoch.
+    /// The shape for this many keys at one time and this many handles: a slot for each key and 64 for each handle, but no more
+    /// than there may be; as many buckets as keys, rounded up to a power of two; and the greatest last epoch.
     ///
     /// ```
-    /// assert_eq!(vbr::Shape::for_keys(1_000, 2), vbr::Shape::new(1_128, 1_024, vbr::MAX_EPOCH));
+    /// # use vbr::{Set, Shape};
+    /// assert_eq!(Shape::for_keys(1_000, 2), Shape::new(1_128, 1_024, vbr::MAX_EPOCH).with_handles(2));
+    /// assert_eq!(Shape::for_keys(vbr::MAX_SLOTS, 1).check(), Ok(()));
     /// ```
+    #[allow(clippy::cast_possible_truncation, reason = "it is no more than the most handles")]
     pub const fn for_keys(keys: u32, handles: usize) -> Shape {
-        let own = 64 * if handles < MAX_MANY_HANDLES { handles } else { MAX_MANY_HANDLES } as u32;
+        let own = 64 * if handles < MAX_HANDLES { handles } else { MAX_HANDLES } as u32;
+        let slots = match keys.saturating_add(own) {
+            more if keys <= MAX_SLOTS && more > MAX_SLOTS => MAX_SLOTS,
+            slots => slots,
+        };
         let buckets = if keys < MAX_BUCKETS { keys.next_power_of_two() } else { MAX_BUCKETS };
-        Shape::new(keys.saturating_add(own), buckets, MAX_EPOCH)
+        Shape::new(slots, buckets, MAX_EPOCH).with_handles(handles)
+    }
+
+    /// The same shape for so many handles.
+    ///
+    /// ```
+    /// # use vbr::{Set, Shape};
+    /// assert_eq!(Set::<u64>::handles(Shape::new(8, 2, 100).with_handles(3))?.len(), 3);
+    /// # Ok::<(), vbr::OpenError>(())
+    /// ```
+    pub const fn with_handles(self, handles: usize) -> Shape {
+        Shape { handles, ..self }
+    }
+
+    /// The same shape with this budget for each call of the handles.
+    ///
+    /// ```
+    /// # use vbr::{OutOfSteps, Set, Shape, Steps};
+    /// let set = Set::open_with(Shape::for_keys(8, 1).with_steps(Steps::new(1)), &[5])?;
+    /// assert_eq!(set.lend_wait().has(5), Err(OutOfSteps));
+    /// # Ok::<(), vbr::OpenError>(())
+    /// ```
+    pub const fn with_steps(self, steps: Steps) -> Shape {
+        Shape { steps: Some(steps), ..self }
     }
 
     /// The same shape with a seed: with the same one and as many buckets each key has the same bucket, so walks have the same
@@ -80,7 +120,7 @@ impl Shape {
     /// use vbr::{random_seed, Handle, Set, Shape};
     ///
     /// let shape = Shape::for_keys(1_000, 1).with_seed(7);
-    /// let mut handles = Set::open_with(shape, 1, &[2, 5, 9])?;
+    /// let mut handles = Set::handles_with(shape, &[2, 5, 9])?;
     /// Handle::renew_all(&mut handles, Shape { seed: None, ..shape })?;
     /// assert_eq!(handles[0].seed(), 7); // it was kept
     /// Handle::renew_all(&mut handles, shape.with_seed(random_seed()))?;
@@ -90,7 +130,7 @@ impl Shape {
         Shape { seed: Some(seed), ..self }
     }
 
-    /// The first of the three numbers that is out of its range, as [`Set::open`](crate::Set::open) tests them.
+    /// The first of its numbers that is out of range, as an opening tests them.
     ///
     /// ```
     /// use vbr::{Shape, ShapeError};
@@ -102,6 +142,15 @@ impl Shape {
     ///
     /// That number.
     pub const fn check(self) -> Result<(), ShapeError> {
+        match (self.check_numbers(), self.handles) {
+            (Ok(()), 1..=MAX_HANDLES) => Ok(()),
+            (Ok(()), handles) => Err(ShapeError::Handles(handles)),
+            (error, _) => error,
+        }
+    }
+
+    /// The same of slots, buckets and last epoch alone.
+    pub(crate) const fn check_numbers(self) -> Result<(), ShapeError> {
         match self {
             Shape { slots, .. } if slots < 1 || slots > MAX_SLOTS => Err(ShapeError::Slots(slots)),
             Shape { buckets, .. } if buckets < 1 || buckets > MAX_BUCKETS => Err(ShapeError::Buckets(buckets)),
@@ -128,10 +177,11 @@ pub fn random_seed() -> u64 {
 ///
 /// ```
 /// # use vbr::{Set, Shape};
-/// let error = Set::open(Shape::new(8, 0, 100), 1).unwrap_err();
+/// let error = Set::<u64>::open(Shape::new(8, 0, 100)).unwrap_err();
 /// assert_eq!(error.to_string(), "0 buckets are not from 1 to 16777216");
 /// ```
-#[derive(Clone, Copy, Debug, PartialEq, Eq)]
+#[derive(Clone, Copy, Debug, PartialEq, Eq, Hash)]
+#[non_exhaustive]
 pub enum ShapeError {
     /// The number of slots is not from 1 to [`MAX_SLOTS`].
     Slots(u32),
@@ -139,6 +189,8 @@ pub enum ShapeError {
     Buckets(u32),
     /// The last epoch is not from 1 to [`MAX_EPOCH`].
     LastEpoch(u64),
+    /// The number of handles is not from 1 to [`MAX_HANDLES`].
+    Handles(usize),
 }
 
 impl fmt::Display for ShapeError {
@@ -147,6 +199,7 @@ impl fmt::Display for ShapeError {
             ShapeError::Slots(slots) => write!(f, "{slots} slots are not from 1 to {MAX_SLOTS}"),
             ShapeError::Buckets(buckets) => write!(f, "{buckets} buckets are not from 1 to {MAX_BUCKETS}"),
             ShapeError::LastEpoch(epoch) => write!(f, "the last epoch {epoch} is not from 1 to {MAX_EPOCH}"),
+            ShapeError::Handles(handles) => write!(f, "{handles} handles are not from 1 to {MAX_HANDLES}"),
         }
     }
 }

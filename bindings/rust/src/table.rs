@@ -1,131 +1,39 @@
-//! A set or a map, which opens handles or lends them.
-use crate::handle::Unreported;
+//! A set or a map, which gives its handles or lends them.
 use crate::lending::Lender;
+use crate::reporting::Unreported;
 use crate::{CloseError, HandleOf, Kind, Lent, LentBy, OpenError, OwnedLent, RenewError, Shape, Unclosed};
 use std::fmt;
 use std::sync::Arc;
 use std::time::{Duration, Instant};
 
 /// A set, which is a `Table<Keys>` by the name of [`Set`](crate::Set), or a map, which is a `Table<Entries>` by that of
-/// [`Map`](crate::Map). It is used through its handles: [`Table::open`] gives them, and [`Table::lending`] keeps them and lends
-/// them.
+/// [`Map`](crate::Map). It is used through its handles: [`Table::open`] keeps them and lends them, to threads that come and go or
+/// are more than handles, and [`Table::handles`] gives them, one for each thread to own.
 ///
 /// What is said here of a set and its keys is so of a map and its entries.
 ///
 /// ```
 /// # use vbr::{Set, Shape};
-/// let set = Set::lending_with(Shape::for_keys(8, 2), 2, &[2, 5])?;
-/// assert!(set.lend().expect("two are free").has(5, 100_000)?);
+/// let set = Set::open_with(Shape::for_keys(8, 2), &[2, 5])?;
+/// assert!(set.lend().expect("two are free").has(5)?);
 /// # Ok::<(), Box<dyn std::error::Error>>(())
 /// ```
 #[repr(align(64))] // who is lent a handle reads it, so nothing that others write is on its cache line
-pub struct Table<K: Kind> {
-    pub(crate) lender: Lender<K>,
+pub struct Table<T: Kind> {
+    pub(crate) lender: Lender<T>,
 }
 
-impl<K: Kind> Table<K> {
-    /// Opens an empty set and gives its handles, from 1 to [`MAX_HANDLES`](crate::MAX_HANDLES) of them.
+impl<T: Kind> Table<T> {
+    /// Opens an empty set, which lends the handles that the shape is for.
     ///
     /// ```
-    /// use vbr::{Map, OpenError, Set, Shape, ShapeError};
+    /// use vbr::{Set, Shape};
     ///
-    /// assert_eq!(Set::open(Shape::new(8, 2, 100), 3)?.len(), 3);
-    /// let no_slots = Set::open(Shape::new(0, 2, 100), 3);
-    /// assert_eq!(no_slots.unwrap_err(), OpenError::Shape(ShapeError::Slots(0)));
-    /// let too_many = Map::open(Shape::new(8, 2, 100), 65);
-    /// assert_eq!(too_many.unwrap_err(), OpenError::Handles);
-    /// # Ok::<(), OpenError>(())
-    /// ```
-    ///
-    /// # Errors
-    ///
-    /// The errors are tested in the order of [`OpenError`], and nothing is kept then.
-    ///
-    /// # Panics
-    ///
-    /// Where the library that the program was linked with isn't of the crate's version; so of each opening.
-    pub fn open(shape: Shape, handles: usize) -> Result<Vec<HandleOf<K>>, OpenError> {
-        HandleOf::open(shape, handles)
-    }
-
-    /// Opens a set of these keys, which ascend, each above the one before, at epoch 1. It takes the memory of [`Table::open`],
-    /// and goes once over the keys. While it runs it takes 8 bytes more for each key of a set, or 48 for each entry of a map.
-    ///
-    /// So a set is renewed before its last epoch is spent: its handles are closed, and a set is opened with the keys of the
-    /// report.
-    ///
-    /// ```
-    /// use vbr::{Refusal, Set, Shape};
-    ///
-    /// let shape = Shape::new(8, 2, 20);
-    /// let mut handle = Set::open(shape, 1)?.remove(0);
-    /// handle.insert(5, 1_000)?;
-    /// while handle.insert(7, 1_000) != Err(Refusal::EpochSpent) {
-    ///     handle.remove(7, 1_000)?;
-    /// }
-    /// let report = handle.close()?.expect("the only handle");
-    /// let mut renewed = Set::open_with(shape, 1, &report.keys)?.remove(0);
-    /// assert!(renewed.has(5, 1_000)?);
-    /// assert!(renewed.insert(7, 1_000)?);
-    /// # Ok::<(), Box<dyn std::error::Error>>(())
-    /// ```
-    ///
-    /// A map keeps its values so:
-    ///
-    /// ```
-    /// # use vbr::{Entry, Map, Shape};
-    /// let shape = Shape::for_keys(8, 1);
-    /// let handle = Map::open_with(shape, 1, &[(5, 70), (7, 71)].map(Entry::from))?.remove(0);
-    /// let report = handle.close()?.expect("the only handle");
-    /// let renewed = Map::open_with(shape, 1, &report.entries)?.remove(0);
-    /// assert_eq!(renewed.get(5, 1_000)?, Some(70));
-    /// # Ok::<(), Box<dyn std::error::Error>>(())
-    /// ```
-    ///
-    /// # Errors
-    ///
-    /// Those of [`Table::open`], and [`OpenError::Keys`]. They are tested in the order of [`OpenError`], and nothing is kept
-    /// then.
-    pub fn open_with(shape: Shape, handles: usize, items: &[K::Item]) -> Result<Vec<HandleOf<K>>, OpenError> {
-        HandleOf::open_with(shape, handles, items)
-    }
-
-    /// Opens a set of these keys, which ascend and may be none, for many handles, from 1 to
-    /// [`MAX_MANY_HANDLES`](crate::MAX_MANY_HANDLES) of them. All else is as of [`Table::open_with`]. No call on a key takes a
-    /// step more for more handles; a close takes time in proportion to them.
-    ///
-    /// ```
-    /// use vbr::{ample_budget, Map, OpenError, Set, Shape};
-    ///
-    /// let shape = Shape::for_keys(2_000, 1_000);
-    /// let handles = Set::open_many(shape, 1_000, &[])?;
+    /// let set = Set::open(Shape::for_keys(1_000, 4))?;
     /// std::thread::scope(|scope| {
-    ///     for (page, mut mine) in (0..).zip(handles) {
-    ///         scope.spawn(move || mine.insert(page, ample_budget(shape.slots)));
-    ///     }
-    /// });
-    /// assert_eq!(Map::open_many(shape, 0, &[]).unwrap_err(), OpenError::ManyHandles);
-    /// # Ok::<(), OpenError>(())
-    /// ```
-    ///
-    /// # Errors
-    ///
-    /// Those of [`Table::open_with`], but for [`OpenError::ManyHandles`] in place of [`OpenError::Handles`].
-    pub fn open_many(shape: Shape, handles: usize, items: &[K::Item]) -> Result<Vec<HandleOf<K>>, OpenError> {
-        HandleOf::open_many(shape, handles, items)
-    }
-
-    /// Opens an empty set that lends its handles, from 1 to [`MAX_HANDLES`](crate::MAX_HANDLES) of them.
-    ///
-    /// ```
-    /// use vbr::{ample_budget, Set, Shape};
-    ///
-    /// let shape = Shape::for_keys(1_000, 4);
-    /// let set = Set::lending(shape, 4)?;
-    /// std::thread::scope(|scope| {
-    ///     for page in 0..8 {
+    ///     for page in 0..8_u64 {
     ///         let set = &set;
-    ///         scope.spawn(move || set.lend_wait().insert(page, ample_budget(shape.slots)));
+    ///         scope.spawn(move || set.lend_wait().insert(page));
     ///     }
     /// });
     /// assert_eq!(set.close()?.keys, [0, 1, 2, 3, 4, 5, 6, 7]);
@@ -134,34 +42,113 @@ impl<K: Kind> Table<K> {
     ///
     /// # Errors
     ///
-    /// Those of [`Table::open`].
-    pub fn lending(shape: Shape, handles: usize) -> Result<Table<K>, OpenError> {
-        Ok(Table { lender: Lender::of(HandleOf::open(shape, handles)?, shape)? })
+    /// [`OpenError::Shape`], which is tested first, and [`OpenError::Memory`]. Nothing is kept then.
+    ///
+    /// # Panics
+    ///
+    /// Where the library that the program was linked with isn't of the crate's version; so of each opening.
+    pub fn open(shape: Shape) -> Result<Table<T>, OpenError> {
+        Table::open_with(shape, &[])
     }
 
-    /// Opens a set of these keys, as [`Table::open_with`] does, that lends its handles.
+    /// Opens a set of these keys, which ascend, each above the one before, at epoch 1. It takes the memory of [`Table::open`],
+    /// and goes once over the keys. While it runs it takes 16 bytes more for each key of a set, or 64 for each entry of a map.
     ///
     /// ```
     /// # use vbr::{Set, Shape};
-    /// let set = Set::lending_with(Shape::for_keys(8, 2), 2, &[5, 7])?;
+    /// let set = Set::open_with(Shape::for_keys(8, 2), &[5, 7])?;
     /// assert_eq!(set.close()?.keys, [5, 7]);
     /// # Ok::<(), Box<dyn std::error::Error>>(())
     /// ```
     ///
     /// # Errors
     ///
+    /// [`OpenError::Shape`], which is tested first, [`OpenError::Keys`] and [`OpenError::Memory`]. Nothing is kept then.
+    pub fn open_with(shape: Shape, items: &[T::Item]) -> Result<Table<T>, OpenError> {
+        Ok(Table { lender: Lender::of(HandleOf::open(shape, items)?, shape)? })
+    }
+
+    /// Opens an empty set, and gives the handles that the shape is for: one for each thread, which owns it.
+    ///
+    /// ```
+    /// use vbr::{Map, OpenError, Set, Shape, ShapeError};
+    ///
+    /// let [mut first, second] = Set::handles(Shape::for_keys(1_000, 2))?.try_into().expect("two handles");
+    /// assert_eq!(first.insert(5), Ok(true));
+    /// assert_eq!(second.has(5), Ok(true));
+    /// let no_slots = Map::<u64, u64>::handles(Shape::new(0, 2, 100));
+    /// assert_eq!(no_slots.unwrap_err(), OpenError::Shape(ShapeError::Slots(0)));
+    /// # Ok::<(), OpenError>(())
+    /// ```
+    ///
+    /// No call on a key takes a step more for more handles; a close takes time in proportion to them:
+    ///
+    /// ```
+    /// use vbr::{Set, Shape};
+    ///
+    /// let handles = Set::handles(Shape::for_keys(2_000, 1_000))?;
+    /// std::thread::scope(|scope| {
+    ///     for (page, mut mine) in (0..).zip(handles) {
+    ///         scope.spawn(move || mine.insert(page));
+    ///     }
+    /// });
+    /// # Ok::<(), vbr::OpenError>(())
+    /// ```
+    ///
+    /// # Errors
+    ///
+    /// Those of [`Table::open`].
+    pub fn handles(shape: Shape) -> Result<Vec<HandleOf<T>>, OpenError> {
+        HandleOf::open(shape, &[])
+    }
+
+    /// Opens a set of these keys, as [`Table::open_with`] does, and gives its handles.
+    ///
+    /// So a set is renewed where memory is too short for two: its handles are closed, and a set is opened with the keys of the
+    /// report. Else [`HandleOf::renew_all`] does it.
+    ///
+    /// ```
+    /// use vbr::{Refusal, Set, Shape};
+    ///
+    /// let shape = Shape::new(8, 2, 20);
+    /// let mut handle = Set::handles(shape)?.remove(0);
+    /// for key in 0..1_000 {
+    ///     match handle.insert(key) {
+    ///         Err(Refusal::EpochSpent) => {
+    ///             let report = handle.close()?.expect("the only handle");
+    ///             let mut renewed = Set::handles_with(shape, &report.keys)?.remove(0);
+    ///             assert!(renewed.insert(key)?);
+    ///             handle = renewed;
+    ///         }
+    ///         told => assert!(told?),
+    ///     }
+    ///     assert!(handle.remove(key)?);
+    /// }
+    /// # Ok::<(), Box<dyn std::error::Error>>(())
+    /// ```
+    ///
+    /// ```
+    /// # use vbr::{Map, Shape};
+    /// # let shape = Shape::for_keys(8, 1);
+    /// let handle = Map::handles_with(shape, &[(5, 70), (7, 71)])?.remove(0);
+    /// let report = handle.close()?.expect("the only handle");
+    /// let renewed = Map::handles_with(shape, &report.entries)?.remove(0);
+    /// assert_eq!(renewed.get(5)?, Some(70));
+    /// # Ok::<(), Box<dyn std::error::Error>>(())
+    /// ```
+    ///
+    /// # Errors
+    ///
     /// Those of [`Table::open_with`].
-    pub fn lending_with(shape: Shape, handles: usize, items: &[K::Item]) -> Result<Table<K>, OpenError> {
-        Ok(Table { lender: Lender::of(HandleOf::open_with(shape, handles, items)?, shape)? })
+    pub fn handles_with(shape: Shape, items: &[T::Item]) -> Result<Vec<HandleOf<T>>, OpenError> {
+        HandleOf::open(shape, items)
     }
 
     /// How many slots the set has.
     ///
     /// ```
-    /// # use vbr::{ample_budget, Set, Shape};
-    /// let set = Set::lending(Shape::for_keys(1_000, 2), 2)?;
-    /// let budget = ample_budget(set.slots());
-    /// assert_eq!((set.slots(), budget), (1_128, 100_017));
+    /// # use vbr::{Set, Shape};
+    /// assert_eq!(Set::<u64>::open(Shape::for_keys(1_000, 2))?.slots(), 1_128);
     /// # Ok::<(), vbr::OpenError>(())
     /// ```
     pub fn slots(&self) -> u32 {
@@ -172,7 +159,7 @@ impl<K: Kind> Table<K> {
     ///
     /// ```
     /// # use vbr::{Set, Shape};
-    /// assert_eq!(Set::lending(Shape::for_keys(1_000, 2), 2)?.buckets(), 1_024);
+    /// assert_eq!(Set::<u64>::open(Shape::for_keys(1_000, 2))?.buckets(), 1_024);
     /// # Ok::<(), vbr::OpenError>(())
     /// ```
     pub fn buckets(&self) -> u32 {
@@ -183,7 +170,7 @@ impl<K: Kind> Table<K> {
     ///
     /// ```
     /// # use vbr::{Set, Shape};
-    /// assert_eq!(Set::lending(Shape::new(8, 2, 100), 1)?.last_epoch(), 100);
+    /// assert_eq!(Set::<u64>::open(Shape::new(8, 2, 100))?.last_epoch(), 100);
     /// # Ok::<(), vbr::OpenError>(())
     /// ```
     pub fn last_epoch(&self) -> u64 {
@@ -194,31 +181,31 @@ impl<K: Kind> Table<K> {
     ///
     /// ```
     /// # use vbr::{Set, Shape};
-    /// assert_eq!(Set::lending(Shape::for_keys(8, 3), 3)?.handles(), 3);
+    /// assert_eq!(Set::<u64>::open(Shape::for_keys(8, 3))?.handle_count(), 3);
     /// # Ok::<(), vbr::OpenError>(())
     /// ```
-    pub fn handles(&self) -> usize {
+    pub fn handle_count(&self) -> usize {
         self.lender.count()
     }
 
     /// A free handle, or `None` where each was lent at a moment of the call, or the set is being renewed. It tries each handle at
-    /// most once, takes no lock and no memory, and never waits: [`Table::lend_wait`] does. At most 64 are lent at a time.
+    /// most once, takes no lock and no memory, and never waits: [`Table::lend_wait`] does.
     ///
     /// A thread is lent the handle that it had last, where that is free: a loan and its return are then one atomic exchange on
     /// a word that other threads don't write. Keep no loan while the thread waits for something else.
     ///
     /// ```
     /// # use vbr::{Map, Shape};
-    /// let map = Map::lending(Shape::for_keys(8, 1), 1)?;
+    /// let map = Map::open(Shape::for_keys(8, 1))?;
     /// let mut mine = map.lend().expect("the one handle");
-    /// assert!(mine.insert(5, 70, 100_000)?);
+    /// assert!(mine.try_insert(5, 70)?);
     /// assert!(map.lend().is_none());
     /// drop(mine);
     /// assert!(map.lend().is_some());
     /// # Ok::<(), Box<dyn std::error::Error>>(())
     /// ```
     #[inline]
-    pub fn lend(&self) -> Option<Lent<'_, K>> {
+    pub fn lend(&self) -> Option<Lent<'_, T>> {
         self.lender.take().map(|number| LentBy::of(self, number))
     }
 
@@ -227,18 +214,18 @@ impl<K: Kind> Table<K> {
     ///
     /// ```
     /// # use vbr::{Set, Shape};
-    /// let set = Set::lending(Shape::for_keys(8, 1), 1)?;
+    /// let set = Set::open(Shape::for_keys(8, 1))?;
     /// std::thread::scope(|scope| {
     ///     for key in 0..4 {
     ///         let set = &set;
-    ///         scope.spawn(move || set.lend_wait().insert(key, 100_000));
+    ///         scope.spawn(move || set.lend_wait().insert(key));
     ///     }
     /// });
     /// assert_eq!(set.close()?.keys, [0, 1, 2, 3]);
     /// # Ok::<(), Box<dyn std::error::Error>>(())
     /// ```
     #[inline]
-    pub fn lend_wait(&self) -> Lent<'_, K> {
+    pub fn lend_wait(&self) -> Lent<'_, T> {
         LentBy::of(self, self.number_awaited())
     }
 
@@ -247,13 +234,13 @@ impl<K: Kind> Table<K> {
     /// ```
     /// # use std::time::Duration;
     /// # use vbr::{Set, Shape};
-    /// let set = Set::lending(Shape::for_keys(8, 1), 1)?;
+    /// let set: Set = Set::open(Shape::for_keys(8, 1))?;
     /// let mine = set.lend_timeout(Duration::from_secs(1)).expect("the one handle");
     /// assert!(set.lend_timeout(Duration::from_millis(1)).is_none());
     /// # Ok::<(), vbr::OpenError>(())
     /// ```
     #[inline]
-    pub fn lend_timeout(&self, limit: Duration) -> Option<Lent<'_, K>> {
+    pub fn lend_timeout(&self, limit: Duration) -> Option<Lent<'_, T>> {
         self.number_within(limit).map(|number| LentBy::of(self, number))
     }
 
@@ -263,15 +250,15 @@ impl<K: Kind> Table<K> {
     /// ```
     /// # use std::sync::Arc;
     /// # use vbr::{Set, Shape};
-    /// let set = Arc::new(Set::lending(Shape::for_keys(8, 1), 1)?);
+    /// let set = Arc::new(Set::open(Shape::for_keys(8, 1))?);
     /// let mine = set.lend_owned().expect("the one handle");
     /// assert!(set.lend_owned().is_none());
     /// drop(set);
-    /// assert!(!mine.has(5, 100_000)?); // the set is there until its last loan is dropped
+    /// assert!(!mine.has(5)?); // the set is there until its last loan is dropped
     /// # Ok::<(), Box<dyn std::error::Error>>(())
     /// ```
     #[inline]
-    pub fn lend_owned(self: &Arc<Self>) -> Option<OwnedLent<K>> {
+    pub fn lend_owned(self: &Arc<Self>) -> Option<OwnedLent<T>> {
         self.lender.take().map(|number| LentBy::of(Arc::clone(self), number))
     }
 
@@ -280,11 +267,11 @@ impl<K: Kind> Table<K> {
     /// ```
     /// # use std::sync::Arc;
     /// # use vbr::{Set, Shape};
-    /// let set = Arc::new(Set::lending(Shape::for_keys(8, 1), 1)?);
+    /// let set = Arc::new(Set::open(Shape::for_keys(8, 1))?);
     /// let tasks: Vec<_> = (0..4)
     ///     .map(|key| {
     ///         let mut mine = set.lend_owned_wait();
-    ///         std::thread::spawn(move || mine.insert(key, 100_000))
+    ///         std::thread::spawn(move || mine.insert(key))
     ///     })
     ///     .collect();
     /// for task in tasks {
@@ -293,7 +280,7 @@ impl<K: Kind> Table<K> {
     /// # Ok::<(), Box<dyn std::error::Error>>(())
     /// ```
     #[inline]
-    pub fn lend_owned_wait(self: &Arc<Self>) -> OwnedLent<K> {
+    pub fn lend_owned_wait(self: &Arc<Self>) -> OwnedLent<T> {
         LentBy::of(Arc::clone(self), self.number_awaited())
     }
 
@@ -302,30 +289,32 @@ impl<K: Kind> Table<K> {
     /// ```
     /// # use std::{sync::Arc, time::Duration};
     /// # use vbr::{Set, Shape};
-    /// let set = Arc::new(Set::lending(Shape::for_keys(8, 1), 1)?);
+    /// let set: Arc<Set> = Arc::new(Set::open(Shape::for_keys(8, 1))?);
     /// let mine = set.lend_owned_timeout(Duration::from_secs(1)).expect("the one handle");
     /// assert!(set.lend_owned_timeout(Duration::from_millis(1)).is_none());
     /// # Ok::<(), vbr::OpenError>(())
     /// ```
     #[inline]
-    pub fn lend_owned_timeout(self: &Arc<Self>, limit: Duration) -> Option<OwnedLent<K>> {
+    pub fn lend_owned_timeout(self: &Arc<Self>, limit: Duration) -> Option<OwnedLent<T>> {
         self.number_within(limit).map(|number| LentBy::of(Arc::clone(self), number))
     }
 
     /// Lets the handles go on over a fresh set of this shape, with the keys that were in it, or a map with the entries: at epoch 1,
     /// and larger where there are to be more of them. No handle is lent meanwhile, and it waits until all loans are back: so a
     /// thread that has one itself waits for ever (a loan of the same statement is one), and so does one that comes after a loan was
-    /// forgotten. Who waits for a handle waits on. The fresh set is opened before the other one is given up, so it takes the memory of both and of a report.
+    /// forgotten. Who waits for a handle waits on. The fresh set is opened before the other one is given up, so it takes the memory of
+    /// both and of a report. It has the seed of the shape, and where that has none, the seed of the set as it was; so it is of the
+    /// handles' budgets. How many handles the shape is for isn't asked.
     ///
     /// Where another thread renews to the same shape while this one waits, one renewal serves both: so each thread may ask for one
     /// that is told [`Refusal::EpochSpent`](crate::Refusal::EpochSpent), once it has dropped its loan.
     ///
     /// ```
     /// # use vbr::{Refusal, Set, Shape};
-    /// let set = Set::lending_with(Shape::new(2, 2, 100), 2, &[5, 7])?;
-    /// assert_eq!(set.lend_wait().insert(9, 100_000), Err(Refusal::NoSlot));
+    /// let set = Set::open_with(Shape::new(2, 2, 100).with_handles(2), &[5, 7])?;
+    /// assert_eq!(set.lend_wait().insert(9), Err(Refusal::NoSlot));
     /// set.renew(Shape::for_keys(1_000, 2))?;
-    /// assert!(set.lend_wait().insert(9, 100_000)?);
+    /// assert!(set.lend_wait().insert(9)?);
     /// assert_eq!((set.slots(), set.close()?.keys), (1_128, vec![5, 7, 9]));
     /// # Ok::<(), Box<dyn std::error::Error>>(())
     /// ```
@@ -344,7 +333,7 @@ impl<K: Kind> Table<K> {
     /// # use std::time::Duration;
     /// # use vbr::{RenewError, Set, Shape};
     /// let shape = Shape::for_keys(8, 2);
-    /// let set = Set::lending(shape, 2)?;
+    /// let set: Set = Set::open(shape)?;
     /// let mine = set.lend().expect("two are free");
     /// assert_eq!(set.renew_timeout(shape, Duration::from_millis(1)), Err(RenewError::Lent));
     /// drop(mine);
@@ -363,20 +352,34 @@ impl<K: Kind> Table<K> {
     ///
     /// ```
     /// # use vbr::{Entry, Map, Shape};
-    /// let map = Map::lending(Shape::for_keys(8, 2), 2)?;
-    /// map.lend().expect("two are free").insert(5, 70, 100_000)?;
-    /// assert_eq!(map.close()?.entries, [Entry { key: 5, value: 70 }]);
+    /// let map = Map::open(Shape::for_keys(8, 2))?;
+    /// map.lend().expect("two are free").try_insert(5, 70)?;
+    /// assert_eq!(map.close()?.entries, [(5, 70)]);
     /// # Ok::<(), Box<dyn std::error::Error>>(())
     /// ```
     ///
     /// # Errors
     ///
     /// [`CloseError::Memory`], with the set as it was, which lends all its handles again; and [`CloseError::Lost`].
-    pub fn close(mut self) -> Result<K::Report, CloseError<Table<K>>> {
+    pub fn close(mut self) -> Result<T::Report, CloseError<Table<T>>> {
         self.lender.close().map_err(|why| match why {
             Unreported::Memory => CloseError::Memory(Unclosed(self)),
             Unreported::Lost => CloseError::Lost,
         })
+    }
+
+    /// Ends the set without a report: all its handles are closed, those of loans that were forgotten too, and its memory is freed.
+    /// It takes no memory, can't fail, and doesn't read what is in the set, so it is done in a fraction of the time of a close. A set
+    /// that is dropped ends so too.
+    ///
+    /// ```
+    /// # use vbr::{Set, Shape};
+    /// let set = Set::open_with(Shape::for_keys(8, 2), &[5, 7])?;
+    /// set.end();
+    /// # Ok::<(), vbr::OpenError>(())
+    /// ```
+    pub fn end(self) {
+        drop(self);
     }
 
     #[inline]
@@ -390,8 +393,8 @@ impl<K: Kind> Table<K> {
     }
 }
 
-impl<K: Kind> fmt::Debug for Table<K> {
+impl<T: Kind> fmt::Debug for Table<T> {
     fn fmt(&self, f: &mut fmt::Formatter<'_>) -> fmt::Result {
-        f.debug_struct(K::NAMES[0]).finish_non_exhaustive()
+        f.debug_struct(T::NAMES[0]).finish_non_exhaustive()
     }
 }

@@ -1,4 +1,5 @@
 //! Threads that wait for a loan to be given back.
+use crate::boxed::boxed;
 use std::ffi::{c_int, c_long};
 use std::sync::atomic::{compiler_fence, AtomicUsize, Ordering};
 use std::sync::{Condvar, Mutex, MutexGuard, OnceLock, PoisonError};
@@ -6,10 +7,15 @@ use std::time::{Duration, Instant};
 
 /// The threads that wait. Who gives something back makes no atomic exchange for them: it stores what it gives back, and then
 /// loads how many wait. So that one of the two sees the other, who begins to wait has all threads pass a memory barrier.
-#[derive(Default)]
 pub(crate) struct Waiters {
     count: AtomicUsize,
-    /// How many of them wait for more than one thing.
+    /// Apart from what those read who don't wait.
+    sleepers: Box<Sleepers>,
+}
+
+#[derive(Default)]
+struct Sleepers {
+    /// How many of those that wait do so for more than one thing.
     lock: Mutex<usize>,
     given_back: Condvar,
 }
@@ -18,6 +24,11 @@ pub(crate) struct Waiters {
 const NAP: Duration = Duration::from_millis(1);
 
 impl Waiters {
+    /// None wait, if there is memory for them.
+    pub(crate) fn none() -> Option<Waiters> {
+        Some(Waiters { count: AtomicUsize::new(0), sleepers: boxed(Sleepers::default())? })
+    }
+
     /// Wakes a thread that waits for one thing, if there is one, and those that wait for more. Call it after something was given
     /// back, by a store.
     #[inline]
@@ -32,16 +43,16 @@ impl Waiters {
     fn wake_one_that_waits(&self) {
         let guard = self.guard();
         if *guard > 0 {
-            self.given_back.notify_all();
+            self.sleepers.given_back.notify_all();
         } else {
-            self.given_back.notify_one();
+            self.sleepers.given_back.notify_one();
         }
     }
 
     /// Wakes all threads that wait.
     pub(crate) fn wake_all(&self) {
         let _guard = self.guard();
-        self.given_back.notify_all();
+        self.sleepers.given_back.notify_all();
     }
 
     /// What `take` gives, as soon as it gives something; `None` if it gives nothing until the deadline. No two threads are in such a
@@ -75,7 +86,7 @@ impl Waiters {
             if taken.is_some() || left.is_zero() {
                 break taken;
             }
-            let woken = self.given_back.wait_timeout(guard, left.min(nap));
+            let woken = self.sleepers.given_back.wait_timeout(guard, left.min(nap));
             guard = woken.unwrap_or_else(PoisonError::into_inner).0;
         };
         self.count.fetch_sub(1, Ordering::Relaxed);
@@ -83,7 +94,7 @@ impl Waiters {
     }
 
     fn guard(&self) -> MutexGuard<'_, usize> {
-        self.lock.lock().unwrap_or_else(PoisonError::into_inner)
+        self.sleepers.lock.lock().unwrap_or_else(PoisonError::into_inner)
     }
 }
 

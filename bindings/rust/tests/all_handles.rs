@@ -1,13 +1,12 @@
 //! All handles of a set or a map at once: their balances, their report and their renewal, and each refusal.
-use vbr::{Entry, Handle, Map, MapHandle, OpenError, RenewError, ReportError, Set, Shape, ShapeError, MAX_MANY_HANDLES};
-
-const BUDGET: u32 = 100_000;
+#![allow(clippy::cast_possible_truncation, reason = "the numbers are small")]
+use vbr::{Handle, Map, MapHandle, RenewError, ReportError, Set, Shape, ShapeError, Steps, MAX_SLOTS};
 
 #[test]
 fn a_set_is_reported_and_renewed() {
-    let mut handles = Set::open_with(Shape::new(4, 1, 100), 2, &[2, 5]).expect("a set");
-    assert!(handles[1].insert(7, BUDGET).expect("an answer") && handles[0].remove(2, BUDGET).expect("an answer"));
-    assert!(!handles[1].insert(7, BUDGET).expect("an answer") && handles[1].insert(9, 1).is_err());
+    let mut handles = Set::handles_with(Shape::new(4, 1, 100).with_handles(2), &[2, 5]).expect("a set");
+    assert!(handles[1].insert(7).expect("an answer") && handles[0].remove(2).expect("an answer"));
+    assert!(!handles[1].insert(7).expect("an answer") && handles[1].insert_within(9, Steps::new(1)).is_err());
     assert_eq!([handles[0].balance(), handles[1].balance()], [1, 1]);
     let report = Handle::report_all(&mut handles).expect("a report");
     assert_eq!((report.keys, report.epoch), (vec![5, 7], 1));
@@ -15,8 +14,8 @@ fn a_set_is_reported_and_renewed() {
     Handle::renew_all(&mut handles, Shape::for_keys(4_096, 2)).expect("a fresh set");
     assert_eq!([handles[0].balance(), handles[1].balance()], [2, 0]);
     assert_eq!((handles[0].buckets(), handles[1].epoch()), (4_096, 1));
-    for key in 10..2_000 {
-        assert!(handles[(key % 2) as usize].insert(key, BUDGET).expect("an answer"));
+    for key in 10..2_000_u64 {
+        assert!(handles[(key % 2) as usize].insert(key).expect("an answer"));
     }
     let last = handles.pop().expect("two handles");
     assert!(handles.remove(0).close().expect("no refusal").is_none());
@@ -25,21 +24,21 @@ fn a_set_is_reported_and_renewed() {
 
 #[test]
 fn a_map_keeps_its_values() {
-    let some = [(2, 20), (5, 50)].map(Entry::from);
-    let mut handles = Map::open_with(Shape::new(8, 2, 100), 2, &some).expect("a map");
-    assert_eq!(handles[0].put(5, 51, BUDGET), Ok(Some(50)));
-    assert_eq!(handles[1].put(6, 60, BUDGET), Ok(None));
+    let some = [(2, 20), (5, 50)];
+    let mut handles = Map::handles_with(Shape::new(8, 2, 100).with_handles(2), &some).expect("a map");
+    assert_eq!(handles[0].put(5, 51), Ok(Some(50)));
+    assert_eq!(handles[1].put(6, 60), Ok(None));
     assert_eq!([handles[0].balance(), handles[1].balance()], [2, 1]);
     MapHandle::renew_all(&mut handles, Shape::new(3, 2, 100)).expect("a fresh map");
     let entries = MapHandle::report_all(&mut handles).expect("a report").entries;
-    assert_eq!(entries, [(2, 20), (5, 51), (6, 60)].map(Entry::from));
+    assert_eq!(entries, [(2, 20), (5, 51), (6, 60)]);
 }
 
 #[test]
 fn refusals_leave_the_handles() {
-    let mut handles = Set::open_with(Shape::new(4, 1, 100), 2, &[2, 5]).expect("a set");
-    let mut others = Set::open(Shape::new(4, 1, 100), 1).expect("another set");
-    assert_eq!(Handle::report_all(&mut []).err(), Some(ReportError::Missing));
+    let mut handles = Set::handles_with(Shape::new(4, 1, 100).with_handles(2), &[2, 5]).expect("a set");
+    let mut others = Set::handles(Shape::new(4, 1, 100)).expect("another set");
+    assert_eq!(Handle::<u64>::report_all(&mut []).err(), Some(ReportError::Missing));
     assert_eq!(Handle::report_all(&mut handles[..1]).err(), Some(ReportError::Missing));
     assert_eq!(Handle::renew_all(&mut handles[..1], Shape::new(4, 1, 100)), Err(RenewError::Missing));
     assert_eq!(Handle::renew_all(&mut handles, Shape::new(1, 1, 100)), Err(RenewError::Slots));
@@ -49,37 +48,35 @@ fn refusals_leave_the_handles() {
     assert_eq!(Handle::renew_all(&mut handles, Shape::new(4, 1, 100)), Err(RenewError::Mixed));
     std::mem::swap(&mut handles[1], &mut others[0]);
     assert_eq!(Handle::report_all(&mut handles).expect("a report").keys, [2, 5]);
-    assert!(handles[1].has(5, BUDGET).expect("an answer"));
+    assert!(handles[1].has(5).expect("an answer"));
 }
 
 #[test]
 fn a_thousand_handles() {
     let shape = Shape::for_keys(2_048, 1_000);
-    let mut handles = Set::open_many(shape, 1_000, &[5_000]).expect("a set");
+    let mut handles = Set::handles_with(shape, &[5_000]).expect("a set");
     std::thread::scope(|scope| {
         for (key, mine) in (0..).zip(&mut handles) {
-            scope.spawn(move || assert_eq!(mine.insert(key, BUDGET), Ok(true)));
+            scope.spawn(move || assert_eq!(mine.insert(key), Ok(true)));
         }
     });
     assert_eq!(Handle::report_all(&mut handles).expect("a report").keys.len(), 1_001);
     Handle::renew_all(&mut handles, shape).expect("a fresh set");
     for (key, mine) in (0..).zip(handles.iter_mut().rev()) {
-        assert_eq!(mine.has(key, BUDGET), Ok(true));
+        assert_eq!(mine.has(key), Ok(true));
     }
     let last = handles.remove(64);
     drop(handles);
     assert_eq!(last.close().expect("a report").expect("the last handle").keys.last(), Some(&5_000));
 
-    let mut maps = Map::open_many(shape, 65, &[Entry::from((5, 50))]).expect("a map");
-    assert_eq!(maps[64].put(5, 51, BUDGET), Ok(Some(50)));
-    assert_eq!(MapHandle::report_all(&mut maps).expect("a report").entries, [Entry::from((5, 51))]);
+    let mut maps = Map::handles_with(shape.with_handles(65), &[(5, 50)]).expect("a map");
+    assert_eq!(maps[64].put(5, 51), Ok(Some(50)));
+    assert_eq!(MapHandle::report_all(&mut maps).expect("a report").entries, [(5, 51)]);
 }
 
+/// As many slots as there may be, of which its handle may keep 64.
 #[test]
-fn numbers_of_handles_that_are_refused() {
-    let shape = Shape::new(1, 1, 100);
-    assert_eq!(Set::open(shape, 65).err(), Some(OpenError::Handles));
-    for handles in [0, MAX_MANY_HANDLES + 1] {
-        assert_eq!(Set::open_many(shape, handles, &[]).err(), Some(OpenError::ManyHandles));
-    }
+fn the_largest_set() {
+    let mut handle = Set::handles(Shape::for_keys(MAX_SLOTS, 1)).expect("a set").remove(0);
+    assert_eq!((handle.slots(), handle.insert(5_u64), handle.has(5)), (MAX_SLOTS, Ok(true), Ok(true)));
 }

@@ -1,10 +1,8 @@
 //! Look-ups of many keys: more than a batch, none, the same key twice, and refusals of single keys.
 mod both;
 
-use both::{value_of, Both};
-use vbr::{Entries, Entry, HandleOf, Map, Refusal, Set, Shape, Table};
-
-const BUDGET: u32 = 100_000;
+use both::{entry_of, value_of, Both};
+use vbr::{HandleOf, Map, OutOfSteps, Set, Shape, Steps, Table};
 
 of_sets_and_maps! {
     many_keys
@@ -12,7 +10,7 @@ of_sets_and_maps! {
 }
 
 fn opened_with<K: Both>(shape: Shape, keys: &[u64]) -> HandleOf<K> {
-    Table::open_with(shape, 1, &K::items(keys)).expect("a set").remove(0)
+    Table::handles_with(shape, &K::items(keys)).expect("a set").remove(0)
 }
 
 /// Odd keys are there.
@@ -21,12 +19,12 @@ fn many_keys<K: Both>() {
     let handle = opened_with::<K>(Shape::for_keys(200, 1), &odd);
     for count in [0, 1, 2, 15, 16, 17, 33, 64, 65, 199] {
         let keys: Vec<u64> = (0..count).collect();
-        let mut answers = vec![Err(Refusal::NoSlot); keys.len()];
-        handle.has_all(&keys, &mut answers, BUDGET);
+        let mut answers = vec![Err(OutOfSteps); keys.len()];
+        handle.has_all(&keys, &mut answers);
         assert!(answers.iter().zip(&keys).all(|(&answer, key)| answer == Ok(key % 2 == 1)));
     }
     let mut twice = [Ok(false); 3];
-    handle.has_all(&[7, 8, 7], &mut twice, BUDGET);
+    handle.has_all(&[7, 8, 7], &mut twice);
     assert_eq!(twice, [Ok(true), Ok(false), Ok(true)]);
 }
 
@@ -35,33 +33,33 @@ fn many_keys<K: Both>() {
 fn keys_are_refused_by_themselves<K: Both>() {
     let handle = opened_with::<K>(Shape::new(100, 1, 100), &[1, 2, 3]);
     let mut answers = [Ok(false); 5];
-    handle.has_all(&[1, 2, 0, 3, 1], &mut answers, 20);
-    let refused = Err(Refusal::OutOfSteps);
+    handle.has_all_within(&[1, 2, 0, 3, 1], &mut answers, Steps::new(20));
+    let refused = Err(OutOfSteps);
     assert_eq!(answers, [Ok(true), refused, Ok(false), refused, Ok(true)]);
 }
 
 #[test]
 fn values() {
-    let some: Vec<Entry> = (0..50).map(|i| Entry { key: 2 * i + 1, value: value_of(2 * i + 1) }).collect();
-    let handle = Map::open_with(Shape::for_keys(200, 1), 1, &some).expect("a map").remove(0);
+    let some: Vec<_> = (0..50).map(|i| entry_of(2 * i + 1)).collect();
+    let handle = Map::handles_with(Shape::for_keys(200, 1), &some).expect("a map").remove(0);
     let keys: Vec<u64> = (0..100).rev().collect();
-    let mut values = vec![Err(Refusal::NoSlot); 100];
-    handle.get_all(&keys, &mut values, BUDGET);
+    let mut values = vec![Err(OutOfSteps); 100];
+    handle.get_all(&keys, &mut values);
     assert!(values.iter().zip(&keys).all(|(&value, &key)| value == Ok((key % 2 == 1).then(|| value_of(key)))));
-    handle.get_all(&keys, &mut values, 10);
-    assert!(values.iter().all(|&value| value == Err(Refusal::OutOfSteps)));
+    handle.get_all_within(&keys, &mut values, Steps::new(10));
+    assert!(values.iter().all(|&value| value == Err(OutOfSteps)));
 }
 
 #[test]
 #[should_panic(expected = "as many answers as keys")]
 fn fewer_answers_than_keys() {
-    let handle = Set::open(Shape::for_keys(8, 1), 1).expect("a set").remove(0);
-    handle.has_all(&[1, 2], &mut [Ok(false)], BUDGET);
+    let handle = Set::handles(Shape::for_keys(8, 1)).expect("a set").remove(0);
+    handle.has_all(&[1, 2], &mut [Ok(false)]);
 }
 
 #[test]
 #[should_panic(expected = "as many answers as keys")]
 fn more_values_than_keys() {
-    let handle: HandleOf<Entries> = Map::open(Shape::for_keys(8, 1), 1).expect("a map").remove(0);
-    handle.get_all(&[1], &mut [Ok(None); 2], BUDGET);
+    let handle = Map::<u64, u64>::handles(Shape::for_keys(8, 1)).expect("a map").remove(0);
+    handle.get_all(&[1], &mut [Ok(None); 2]);
 }

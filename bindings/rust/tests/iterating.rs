@@ -1,35 +1,43 @@
 //! Walks over all keys of sets and all entries of maps: their order, the budgets that are just enough, what a refused call
 //! leaves, and what they give while other threads make calls. Each test is made of sets and of maps.
+#![allow(clippy::cast_possible_truncation, reason = "the numbers are small")]
 mod both;
 
 use both::{entry_of, key_of, value_of, Both};
 use std::collections::BTreeSet;
+use std::fmt::Debug;
 use std::iter::FusedIterator;
 use std::sync::atomic::{AtomicU64, Ordering};
 use std::thread;
-use vbr::{Cursor, HandleOf, Map, Refusal, Set, Shape, Table, MAX_EPOCH};
-
-const BUDGET: u32 = 1 << 20;
+use vbr::{Cursor, HandleOf, Map, OutOfSteps, Set, Shape, Steps, Table, MAX_EPOCH};
 
 /// The keys from 1 to 9 as they come in four buckets with seed 0: a key's is the upper two bits of its product with 2^64 over
 /// the golden ratio, 0x9e3779b97f4a7c15.
 const ORDER: [u64; 9] = [2, 5, 4, 7, 1, 6, 9, 3, 8];
 
-fn keys_of<K: Both>(handle: &HandleOf<K>, budget: u32) -> impl FusedIterator<Item = Result<u64, Refusal>> + '_ {
-    handle.iter(budget).map(|given| given.map(K::key))
+fn keys_of<K: Both>(handle: &HandleOf<K>, steps: Steps) -> impl FusedIterator<Item = Result<u64, OutOfSteps>> + '_ {
+    handle.iter_within(steps).map(|given| given.map(K::key))
 }
 
 /// A whole walk, none of whose calls is refused for good.
-fn all_keys<K: Both>(handle: &HandleOf<K>, budget: u32) -> Vec<u64> {
-    keys_of(handle, budget).collect::<Result<_, _>>().expect("steps")
+fn all_keys_within<K: Both>(handle: &HandleOf<K>, steps: Steps) -> Vec<u64> {
+    keys_of(handle, steps).collect::<Result<_, _>>().expect("steps")
 }
 
-fn next_key<K: Both>(handle: &HandleOf<K>, cursor: &mut Cursor, budget: u32) -> Result<Option<u64>, Refusal> {
-    Ok(handle.next(cursor, budget)?.map(K::key))
+fn all_keys<K: Both>(handle: &HandleOf<K>) -> Vec<u64> {
+    all_keys_within(handle, Steps::AMPLE)
+}
+
+fn next_key_within<K: Both>(handle: &HandleOf<K>, cursor: &mut Cursor, steps: Steps) -> Result<Option<u64>, OutOfSteps> {
+    Ok(handle.next_within(cursor, steps)?.map(K::key))
+}
+
+fn next_key<K: Both>(handle: &HandleOf<K>, cursor: &mut Cursor) -> Result<Option<u64>, OutOfSteps> {
+    next_key_within(handle, cursor, Steps::AMPLE)
 }
 
 fn open<K: Both>(shape: Shape, handles: usize, keys: &[u64]) -> Vec<HandleOf<K>> {
-    Table::open_with(shape.with_seed(0), handles, &K::items(keys)).expect("a set")
+    Table::handles_with(shape.with_seed(0).with_handles(handles), &K::items(keys)).expect("a set")
 }
 
 of_sets_and_maps! {
@@ -44,13 +52,13 @@ of_sets_and_maps! {
 
 fn keys_come_bucket_by_bucket<K: Both>() {
     let keys: Vec<u64> = (1..10).collect();
-    assert_eq!(all_keys(&open::<K>(Shape::new(16, 4, 10), 1, &keys)[0], BUDGET), ORDER);
-    assert_eq!(all_keys(&open::<K>(Shape::new(16, 1, 10), 1, &keys)[0], BUDGET), keys);
-    assert_eq!(all_keys(&open::<K>(Shape::new(16, 4, 10), 1, &[])[0], BUDGET), []);
+    assert_eq!(all_keys(&open::<K>(Shape::new(16, 4, 10), 1, &keys)[0]), ORDER);
+    assert_eq!(all_keys(&open::<K>(Shape::new(16, 1, 10), 1, &keys)[0]), keys);
+    assert_eq!(all_keys(&open::<K>(Shape::new(16, 4, 10), 1, &[])[0]), []);
     let handle = open::<K>(Shape::new(8, 1, 10), 1, &[0, u64::MAX]).remove(0);
     let mut cursor = Cursor::first();
     for key in [Some(0), Some(u64::MAX), None, None] {
-        assert_eq!(next_key(&handle, &mut cursor, BUDGET), Ok(key));
+        assert_eq!(next_key(&handle, &mut cursor), Ok(key));
     }
 }
 
@@ -61,24 +69,24 @@ fn budgets_that_are_just_enough<K: Both>() {
     let mut cursor = Cursor::first();
     for (key, least, stays) in [(Some(4), 14, false), (Some(7), 16, true), (Some(1), 11, true), (None, 8, true)] {
         let mut short = cursor;
-        assert_eq!(next_key(&handle, &mut short, least - 1), Err(Refusal::OutOfSteps));
+        assert_eq!(next_key_within(&handle, &mut short, Steps::new(least - 1)), Err(OutOfSteps));
         assert_eq!(short == cursor, stays);
-        let again = next_key(&handle, &mut short, least - 1);
-        assert_eq!(again, if stays { Err(Refusal::OutOfSteps) } else { Ok(key) });
-        assert_eq!(next_key(&handle, &mut cursor, least), Ok(key));
+        let again = next_key_within(&handle, &mut short, Steps::new(least - 1));
+        assert_eq!(again, if stays { Err(OutOfSteps) } else { Ok(key) });
+        assert_eq!(next_key_within(&handle, &mut cursor, Steps::new(least)), Ok(key));
         assert_eq!(short == cursor, !stays);
     }
-    assert_eq!(next_key(&handle, &mut cursor, 0), Ok(None));
+    assert_eq!(next_key_within(&handle, &mut cursor, Steps::new(0)), Ok(None));
 }
 
 /// A remove with sixteen steps marks its node and leaves it. A walk passes it in three.
 fn a_marked_node_is_passed<K: Both>() {
     let mut handle = open::<K>(Shape::new(8, 4, 10), 1, &[4, 7]).remove(0);
-    assert_eq!(K::remove(&mut handle, 4, 16), Ok(true));
+    assert_eq!(K::remove_within(&mut handle, 4, Steps::new(16)), Ok(true));
     let mut cursor = Cursor::first();
-    assert_eq!(next_key(&handle, &mut cursor.clone(), 16), Err(Refusal::OutOfSteps));
-    assert_eq!(next_key(&handle, &mut cursor, 17), Ok(Some(7)));
-    assert_eq!(all_keys(&handle, BUDGET), [7]);
+    assert_eq!(next_key_within(&handle, &mut cursor.clone(), Steps::new(16)), Err(OutOfSteps));
+    assert_eq!(next_key_within(&handle, &mut cursor, Steps::new(17)), Ok(Some(7)));
+    assert_eq!(all_keys(&handle), [7]);
 }
 
 /// A call with 100 steps passes 31 buckets that are empty, one with 8 a single one.
@@ -88,15 +96,15 @@ fn empty_buckets_that_one_call_cannot_pass<K: Both>() {
         let mut cursor = Cursor::first();
         for _ in 0..refusals {
             let before = cursor;
-            assert_eq!(next_key(&handle, &mut cursor, budget), Err(Refusal::OutOfSteps));
+            assert_eq!(next_key_within(&handle, &mut cursor, Steps::new(budget)), Err(OutOfSteps));
             assert_ne!(cursor, before);
         }
-        assert_eq!(next_key(&handle, &mut cursor, budget), Ok(None));
-        assert_eq!(all_keys(&handle, budget), []);
+        assert_eq!(next_key_within(&handle, &mut cursor, Steps::new(budget)), Ok(None));
+        assert_eq!(all_keys_within(&handle, Steps::new(budget)), []);
     }
     let handle = open::<K>(Shape::new(8, 1 << 20, 10), 1, &[2, 3, 4]).remove(0);
     for budget in [11, 100, 100_000] {
-        assert_eq!(all_keys(&handle, budget), [2, 4, 3]);
+        assert_eq!(all_keys_within(&handle, Steps::new(budget)), [2, 4, 3]);
     }
 }
 
@@ -105,23 +113,23 @@ fn a_budget_that_is_too_small<K: Both>() {
     let keys: Vec<u64> = (1..10).collect();
     let mut handles = open::<K>(Shape::new(16, 1, 10), 2, &keys);
     let mut other = handles.remove(1);
-    let mut walk = keys_of(&handles[0], 21);
-    let mut takes = |key| assert_eq!(K::remove(&mut other, key, BUDGET), Ok(true));
+    let mut walk = keys_of(&handles[0], Steps::new(21));
+    let mut takes = |key| assert_eq!(K::remove(&mut other, key), Ok(true));
     for key in 1..4 {
         assert_eq!(walk.next(), Some(Ok(key)));
     }
     for key in 4..6 {
-        assert_eq!(walk.next(), Some(Err(Refusal::OutOfSteps)));
-        assert_eq!(walk.next(), Some(Err(Refusal::OutOfSteps)));
+        assert_eq!(walk.next(), Some(Err(OutOfSteps)));
+        assert_eq!(walk.next(), Some(Err(OutOfSteps)));
         takes(key - 3);
         assert_eq!(walk.next(), Some(Ok(key)));
     }
     (6..10).for_each(takes);
     assert_eq!((walk.next(), walk.next()), (None, None));
     drop(walk);
-    assert_eq!(all_keys(&handles[0], BUDGET), [3, 4, 5]);
-    assert_eq!(handles[0].iter(21).count(), 3);
-    assert_eq!(handles[0].iter(7).next(), Some(Err(Refusal::OutOfSteps)));
+    assert_eq!(all_keys(&handles[0]), [3, 4, 5]);
+    assert_eq!(handles[0].iter_within(Steps::new(21)).count(), 3);
+    assert_eq!(handles[0].iter_within(Steps::new(7)).next(), Some(Err(OutOfSteps)));
 }
 
 /// Each key that comes is taken out, and another one put in, which comes too unless its place is passed.
@@ -130,15 +138,15 @@ fn calls_between_those_of_a_walk<K: Both>() {
     let mut handle = open::<K>(Shape::for_keys(1_000, 1), 1, &keys).remove(0);
     let mut given = BTreeSet::new();
     let mut cursor = Cursor::first();
-    while let Some(key) = next_key(&handle, &mut cursor, BUDGET).expect("steps") {
+    while let Some(key) = next_key(&handle, &mut cursor).expect("steps") {
         assert!(given.insert(key), "{key} twice");
-        assert_eq!(K::remove(&mut handle, key, BUDGET), Ok(true));
+        assert_eq!(K::remove(&mut handle, key), Ok(true));
         if key < 1_000 {
-            assert_eq!(K::insert(&mut handle, key + 1_000, BUDGET), Ok(true));
+            assert_eq!(K::insert(&mut handle, key + 1_000), Ok(true));
         }
     }
     assert!(given.is_superset(&keys.into_iter().collect()));
-    let left: BTreeSet<_> = all_keys(&handle, BUDGET).into_iter().collect();
+    let left: BTreeSet<_> = all_keys(&handle).into_iter().collect();
     assert!(!left.is_empty() && given.len() > 1_000);
     assert!(left.is_disjoint(&given));
     assert!(left.union(&given).copied().eq(0..2_000));
@@ -170,14 +178,14 @@ impl Writer {
             if round >= ROUNDS && is_over() {
                 return;
             }
-            self.tells(0, round, || K::insert(handle, key_of_round(number, round), BUDGET));
+            self.tells(0, round, || K::insert(handle, key_of_round(number, round)));
             if round >= BEHIND {
-                self.tells(1, round - BEHIND, || K::remove(handle, key_of_round(number, round - BEHIND), BUDGET));
+                self.tells(1, round - BEHIND, || K::remove(handle, key_of_round(number, round - BEHIND)));
             }
         }
     }
 
-    fn tells(&self, kind: usize, round: u64, call: impl FnOnce() -> Result<bool, Refusal>) {
+    fn tells<E: PartialEq + Debug>(&self, kind: usize, round: u64, call: impl FnOnce() -> Result<bool, E>) {
         self.begun[kind].store(round + 1, Ordering::Release);
         assert_eq!(call(), Ok(true));
         self.done[kind].store(round + 1, Ordering::Release);
@@ -189,7 +197,7 @@ impl Writer {
 fn walk_and_check<K: Both>(handle: &HandleOf<K>, writers: &[Writer]) {
     let loads = |of: &[AtomicU64; 2]| of.each_ref().map(|it| it.load(Ordering::Acquire));
     let before: Vec<_> = writers.iter().map(|it| loads(&it.done)).collect();
-    let all = all_keys(handle, BUDGET);
+    let all = all_keys(handle);
     let given: BTreeSet<_> = all.iter().copied().collect();
     assert_eq!(given.len(), all.len(), "a key twice");
     assert!((0..LASTING).all(|round| given.contains(&key_of_round(WRITERS, round))), "a lasting key is missing");
@@ -235,7 +243,7 @@ fn what_threads_leave_alone_and_what_they_change<K: Both>() {
 #[test]
 fn values_are_of_the_time_of_the_walk() {
     const KEYS: usize = 16;
-    let mut handles = Map::open(Shape::new(256, 4, MAX_EPOCH), 2).expect("a map");
+    let mut handles = Map::handles(Shape::new(256, 4, MAX_EPOCH).with_handles(2)).expect("a map");
     let (mut writer, walker) = (handles.pop().expect("two handles"), handles.pop().expect("two handles"));
     let [begun, done] = [(); 2].map(|()| [const { AtomicU64::new(0) }; KEYS]);
     let loads = |of: &[AtomicU64; KEYS]| of.each_ref().map(|it| it.load(Ordering::Acquire));
@@ -244,45 +252,46 @@ fn values_are_of_the_time_of_the_walk() {
         scope.spawn(move || {
             for value in 1..=ROUNDS {
                 for key in 0..KEYS {
-                    let before = writer.remove(key as u64, BUDGET).expect("steps");
+                    let before = writer.remove(key as u64).expect("steps");
                     assert_eq!(before, (value > 1).then_some(value - 1));
                     begun[key].store(value, Ordering::Release);
-                    assert_eq!(writer.insert(key as u64, value, BUDGET), Ok(true));
+                    assert_eq!(writer.try_insert(key as u64, value), Ok(true));
                     done[key].store(value, Ordering::Release);
                 }
             }
         });
         while done[KEYS - 1].load(Ordering::Relaxed) < ROUNDS {
             let before = loads(done);
-            let given: Vec<_> = walker.iter(BUDGET).collect::<Result<_, _>>().expect("steps");
+            let given: Vec<_> = walker.iter().collect::<Result<_, _>>().expect("steps");
             let after = loads(begun);
             for (key, value) in given {
                 assert!((before[key as usize]..=after[key as usize]).contains(&value), "a value of another time");
             }
         }
     });
-    assert!(walker.iter(BUDGET).all(|entry| entry.expect("steps").1 == ROUNDS));
-    assert_eq!(walker.iter(BUDGET).count(), KEYS);
+    assert!(walker.iter().all(|entry| entry.expect("steps").1 == ROUNDS));
+    assert_eq!(walker.iter().count(), KEYS);
 }
 
 #[test]
 fn walks_by_loans() {
     let (set, map) = (
-        Set::lending_with(Shape::new(16, 4, 10).with_seed(0), 2, &[1, 2, 3, 4, 5, 6, 7, 8, 9]).expect("a set"),
-        Map::lending_with(Shape::new(16, 4, 10).with_seed(0), 2, &[1, 2, 3, 4, 5, 6, 7, 8, 9].map(entry_of)).expect("a map"),
+        Set::open_with(Shape::new(16, 4, 10).with_seed(0).with_handles(2), &[1, 2, 3, 4, 5, 6, 7, 8, 9]).expect("a set"),
+        Map::open_with(Shape::new(16, 4, 10).with_seed(0).with_handles(2), &[1, 2, 3, 4, 5, 6, 7, 8, 9].map(entry_of))
+            .expect("a map"),
     );
     let mine = (set.lend().expect("a free handle"), map.lend().expect("a free handle"));
     let mut cursors = [Cursor::first(); 2];
     for key in ORDER {
         // each call by a loan of its own
-        assert_eq!(set.lend().expect("a free handle").next(&mut cursors[0], BUDGET), Ok(Some(key)));
-        assert_eq!(map.lend().expect("a free handle").next(&mut cursors[1], BUDGET), Ok(Some((key, value_of(key)))));
+        assert_eq!(set.lend().expect("a free handle").next(&mut cursors[0]), Ok(Some(key)));
+        assert_eq!(map.lend().expect("a free handle").next(&mut cursors[1]), Ok(Some((key, value_of(key)))));
     }
-    assert_eq!(mine.0.iter(BUDGET).collect::<Result<Vec<_>, _>>().expect("steps"), ORDER);
-    assert!(mine.1.iter(BUDGET).map(|entry| entry.map(key_of)).eq(ORDER.map(Ok)));
-    set.lend().expect("a free handle").remove(9, BUDGET).expect("steps");
-    for key in mine.0.iter(BUDGET) {
-        assert_eq!(mine.0.has(key.expect("steps"), BUDGET), Ok(true));
+    assert_eq!(mine.0.iter().collect::<Result<Vec<_>, _>>().expect("steps"), ORDER);
+    assert!(mine.1.iter().map(|entry| entry.map(key_of)).eq(ORDER.map(Ok)));
+    set.lend().expect("a free handle").remove(9).expect("steps");
+    for key in mine.0.iter() {
+        assert_eq!(mine.0.has(key.expect("steps")), Ok(true));
     }
-    assert_eq!(mine.0.iter(BUDGET).count(), 8);
+    assert_eq!(mine.0.iter().count(), 8);
 }

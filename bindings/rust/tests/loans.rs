@@ -1,5 +1,6 @@
 //! Handles that are lent: at once or not at all, or as soon as one is free; to one thread at a time, and to no other set. And
 //! renewals, which wait for all loans while others wait for one.
+#![allow(clippy::cast_possible_truncation, reason = "the numbers are small")]
 mod both;
 
 use both::Both;
@@ -10,10 +11,9 @@ use std::sync::atomic::{compiler_fence, AtomicBool, AtomicU32, AtomicU64, Orderi
 use std::sync::Arc;
 use std::thread;
 use std::time::{Duration, Instant};
-use vbr::{ample_budget, Keys, Lent, OpenError, OwnedLent, Pass, RenewError, Set, Shape, ShapeError, Table, MAX_EPOCH};
+use vbr::{Keys, Lent, LentBy, OwnedLent, Pass, RenewError, Set, Shape, ShapeError, Table, MAX_EPOCH};
 
 const SOME: u64 = 64;
-const BUDGET: u32 = 100_000;
 const AT_LAST: Duration = Duration::from_secs(600);
 
 of_sets_and_maps! {
@@ -33,11 +33,11 @@ of_sets_and_maps! {
 }
 
 fn lending<K: Both>(handles: usize, keys: &[u64]) -> Table<K> {
-    Table::lending_with(Shape::for_keys(100, handles), handles, &K::items(keys)).expect("a set")
+    Table::open_with(Shape::for_keys(100, handles), &K::items(keys)).expect("a set")
 }
 
 fn keys_of<K: Both>(set: Table<K>) -> Vec<u64> {
-    K::report(set.close().expect("a report")).0.keys
+    K::report(set.close().expect("a report")).keys
 }
 
 fn each_handle_once<K: Both>() {
@@ -49,25 +49,23 @@ fn each_handle_once<K: Both>() {
     assert!(again.is_some() && set.lend().is_none());
     drop((first, again, third));
     assert_eq!(keys_of(set), []);
-    let all = lending::<K>(64, &[1, 2]);
-    let loans: Vec<_> = (0..64).map(|_| all.lend().expect("a free handle")).collect();
-    let mut numbers: Vec<_> = loans.iter().map(|it| it.number()).collect();
-    numbers.sort();
-    assert!(all.lend().is_none() && numbers.into_iter().eq(0..64));
+    let all = lending::<K>(100, &[1, 2]);
+    let loans: Vec<_> = (0..100).map(|_| all.lend().expect("a free handle")).collect();
+    let mut numbers: Vec<_> = loans.iter().map(LentBy::number).collect();
+    numbers.sort_unstable();
+    assert!(all.lend().is_none() && numbers.into_iter().eq(0..100));
     drop(loans);
     assert_eq!(keys_of(all), [1, 2]);
-    assert_eq!(Table::<K>::lending(Shape::for_keys(100, 1), 0).unwrap_err(), OpenError::Handles);
-    assert_eq!(Table::<K>::lending_with(Shape::for_keys(100, 1), 1, &K::items(&[2, 1])).unwrap_err(), OpenError::Keys);
 }
 
 fn what_a_set_was_opened_with<K: Both>() {
-    let set = Table::<K>::lending(Shape::new(100, 8, 50), 3).expect("a set");
+    let set = Table::<K>::open(Shape::new(100, 8, 50).with_handles(3)).expect("a set");
     let loans = [set.lend(), set.lend(), set.lend()];
-    assert_eq!((set.slots(), set.buckets(), set.last_epoch(), set.handles()), (100, 8, 50, 3));
+    assert_eq!((set.slots(), set.buckets(), set.last_epoch(), set.handle_count()), (100, 8, 50, 3));
     let lent = loans[0].as_ref().expect("a free handle");
     assert_eq!((lent.slots(), lent.buckets(), lent.last_epoch()), (100, 8, 50));
-    let other = Table::<K>::lending(Shape::for_keys(1, 1), 1).expect("a set");
-    assert_eq!((other.slots(), other.buckets(), other.last_epoch(), other.handles()), (65, 1, MAX_EPOCH, 1));
+    let other = Table::<K>::open(Shape::for_keys(1, 1)).expect("a set");
+    assert_eq!((other.slots(), other.buckets(), other.last_epoch(), other.handle_count()), (65, 1, MAX_EPOCH, 1));
 }
 
 /// Each loan goes back where it is from; what it lends can't be swapped, as the page of a pass shows.
@@ -75,7 +73,7 @@ fn loans_that_are_swapped<K: Both>() {
     let (one, other) = (lending::<K>(1, &[1]), lending::<K>(1, &[2]));
     let (mut lent, mut another) = (one.lend().expect("a free handle"), other.lend().expect("a free handle"));
     mem::swap(&mut lent, &mut another);
-    assert_eq!((lent.has(2, BUDGET), K::insert(&mut another, 3, BUDGET)), (Ok(true), Ok(true)));
+    assert_eq!((lent.has(2), K::insert(&mut another, 3)), (Ok(true), Ok(true)));
     drop(lent);
     assert!(one.lend().is_none() && other.lend().is_some());
     drop(another);
@@ -86,11 +84,11 @@ fn loans_that_are_swapped<K: Both>() {
 fn loans_that_are_forgotten<K: Both>() {
     let set = lending::<K>(2, &[1]);
     let mut forgotten = set.lend().expect("two are free");
-    assert_eq!(K::insert(&mut forgotten, 5, BUDGET), Ok(true));
+    assert_eq!(K::insert(&mut forgotten, 5), Ok(true));
     mem::forget(forgotten);
     for _ in 0..3 {
         let mut lent = set.lend().expect("one is free");
-        assert!(K::insert(&mut lent, 6, BUDGET).is_ok() && set.lend().is_none());
+        assert!(K::insert(&mut lent, 6).is_ok() && set.lend().is_none());
     }
     assert!(set.lend_timeout(Duration::ZERO).is_some());
     assert_eq!(keys_of(set), [1, 5, 6]);
@@ -100,12 +98,12 @@ fn loans_that_other_threads_drop<K: Both>() {
     let set = lending::<K>(2, &[]);
     for key in 0..20 {
         let mut lent = set.lend().expect("two are free");
-        K::insert(&mut lent, key, BUDGET).expect("room");
+        K::insert(&mut lent, key).expect("room");
         thread::scope(|scope| {
             scope.spawn(move || drop(lent));
         });
         let both = [set.lend().expect("two are free"), set.lend().expect("one is free")];
-        assert!(both.iter().all(|it| it.has(key, BUDGET) == Ok(true)) && set.lend().is_none());
+        assert!(both.iter().all(|it| it.has(key) == Ok(true)) && set.lend().is_none());
     }
     assert_eq!(keys_of(set).len(), 20);
 }
@@ -125,8 +123,8 @@ fn a_loan_that_is_waited_for<K: Both>() {
                     let mut lent = if round % 2 == 0 { set.lend_wait() } else { set.lend_timeout(AT_LAST).expect("in time") };
                     let calls = &beside.0[lent.number()];
                     calls.set(calls.get() + 1);
-                    assert_eq!(K::insert(&mut lent, thread, BUDGET), Ok(true));
-                    assert_eq!(K::remove(&mut lent, thread, BUDGET), Ok(true));
+                    assert_eq!(K::insert(&mut lent, thread), Ok(true));
+                    assert_eq!(K::remove(&mut lent, thread), Ok(true));
                     if round % 64 == 0 {
                         thread::yield_now();
                     }
@@ -165,7 +163,7 @@ impl Step {
 fn a_return_as_another_begins_to_wait() {
     const ROUNDS: u64 = 5_000;
     let set = lending::<Keys>(1, &[]);
-    let [lent, waits, done] = [(); 3].map(|_| Step(AtomicU64::new(0)));
+    let [lent, waits, done] = [(); 3].map(|()| Step(AtomicU64::new(0)));
     let lines: Vec<Step> = (0..128).map(|_| Step(AtomicU64::new(0))).collect();
     let write_all = |round| lines.iter().for_each(|it| it.0.store(round, Ordering::Relaxed));
     thread::scope(|scope| {
@@ -228,11 +226,11 @@ fn loans_that_own_their_set<K: Both>() {
     assert_ne!(first.number(), second.number());
     drop(second);
     let set = Arc::try_unwrap(set).expect_err("a loan has a share");
-    let task = thread::spawn(move || K::insert(&mut first, 5, BUDGET));
+    let task = thread::spawn(move || K::insert(&mut first, 5));
     assert_eq!(task.join().expect("a task that ends"), Ok(true));
     assert_eq!(keys_of(Arc::into_inner(set).expect("no loan is left")), [1, 5]);
     let last = Arc::new(lending::<K>(1, &[7])).lend_owned_wait();
-    assert_eq!(thread::spawn(move || last.has(7, BUDGET)).join().expect("a task that ends"), Ok(true));
+    assert_eq!(thread::spawn(move || last.has(7)).join().expect("a task that ends"), Ok(true));
 }
 
 /// More tasks than handles, each with a loan of its own that was waited for before it began.
@@ -242,24 +240,26 @@ fn tasks_that_wait<K: Both>() {
         .map(|key| {
             let (mut lent, made) = (set.lend_owned_wait(), Arc::clone(&made));
             thread::spawn(move || {
-                assert_eq!(K::insert(&mut lent, key, BUDGET), Ok(true));
+                assert_eq!(K::insert(&mut lent, key), Ok(true));
                 made.fetch_add(1, Ordering::Relaxed);
             })
         })
         .collect();
-    tasks.into_iter().for_each(|task| task.join().expect("a task that ends"));
+    for task in tasks {
+        task.join().expect("a task that ends");
+    }
     assert_eq!((made.load(Ordering::Relaxed), keys_of(Arc::into_inner(set).expect("no loan is left")).len()), (60, 60));
 }
 
 fn a_renewal_keeps_what_is_in<K: Both>() {
     let (set, large) = (lending::<K>(2, &[1, 2]), Shape::for_keys(4_000, 2));
-    assert_eq!(K::insert(&mut set.lend_wait(), 3, BUDGET), Ok(true));
+    assert_eq!(K::insert(&mut set.lend_wait(), 3), Ok(true));
     assert_eq!(set.renew(large), Ok(()));
-    assert_eq!((set.slots(), set.buckets(), set.last_epoch(), set.handles()), (4_128, 4_096, MAX_EPOCH, 2));
+    assert_eq!((set.slots(), set.buckets(), set.last_epoch(), set.handle_count()), (4_128, 4_096, MAX_EPOCH, 2));
     {
         let (one, mut other) = (set.lend().expect("two are free"), set.lend().expect("one is free"));
         assert_eq!((one.slots(), one.epoch(), one.balance() + other.balance()), (4_128, 1, 3));
-        assert_eq!((one.has(3, BUDGET), K::remove(&mut other, 2, BUDGET)), (Ok(true), Ok(true)));
+        assert_eq!((one.has(3), K::remove(&mut other, 2)), (Ok(true), Ok(true)));
     }
     assert_eq!(set.renew_timeout(Shape::new(2, 1, 50), Duration::ZERO), Ok(()));
     assert_eq!((set.slots(), set.buckets(), set.last_epoch()), (2, 1, 50));
@@ -272,7 +272,7 @@ fn a_renewal_that_is_refused<K: Both>() {
     let still = |lent: usize| {
         let loans = [set.lend(), set.lend()];
         assert_eq!((loans.iter().flatten().count(), set.slots()), (lent, 228));
-        assert!(loans.iter().flatten().all(|it| it.slots() == 228 && it.has(2, BUDGET) == Ok(true)));
+        assert!(loans.iter().flatten().all(|it| it.slots() == 228 && it.has(2) == Ok(true)));
     };
     assert_eq!(set.renew(Shape::new(0, 1, 1)), Err(RenewError::Shape(ShapeError::Slots(0))));
     assert_eq!(set.renew(Shape::new(1, 1, 100)), Err(RenewError::Slots));
@@ -300,9 +300,9 @@ fn none_is_lent_while_a_renewal_waits<K: Both>() {
         assert_eq!(set.renew_timeout(wanted, Duration::from_millis(5)), Err(RenewError::Lent)); // another one is waiting
         let waits = scope.spawn(|| {
             let mine = set.lend_wait();
-            (mine.slots(), mine.has(7, BUDGET), mine.has(8, BUDGET))
+            (mine.slots(), mine.has(7), mine.has(8))
         });
-        assert_eq!((set.slots(), kept.slots(), K::insert(&mut kept, 8, BUDGET)), (228, 228, Ok(true)));
+        assert_eq!((set.slots(), kept.slots(), K::insert(&mut kept, 8)), (228, 228, Ok(true)));
         scope.spawn(move || drop(kept));
         assert_eq!(renews.join().expect("a thread that ends"), Ok(()));
         assert_eq!(waits.join().expect("a thread that ends"), (300, Ok(true), Ok(true)));
@@ -347,9 +347,9 @@ fn renewals_while_others_wait<K: Both>() {
                         if let Some(other) = &mut other {
                             mem::swap(&mut mine, other);
                         }
-                        assert_eq!(K::insert(&mut mine, key, BUDGET), Ok(true));
-                        assert_eq!(other.as_ref().map_or(Ok(true), |it| it.has(key, BUDGET)), Ok(true));
-                        assert_eq!(K::remove(&mut mine, key, BUDGET), Ok(true));
+                        assert_eq!(K::insert(&mut mine, key), Ok(true));
+                        assert_eq!(other.as_ref().map_or(Ok(true), |it| it.has(key)), Ok(true));
+                        assert_eq!(K::remove(&mut mine, key), Ok(true));
                         if round % 100 == 0 {
                             scope.spawn(move || drop((other, mine)));
                         }
@@ -360,7 +360,9 @@ fn renewals_while_others_wait<K: Both>() {
                 })
             })
             .collect();
-        borrowers.into_iter().for_each(|it| it.join().expect("a thread that ends"));
+        for it in borrowers {
+            it.join().expect("a thread that ends");
+        }
         ends.store(true, Ordering::Relaxed);
     });
     assert!(lent.load(Ordering::Relaxed) >= 8 * 400 && renewed.load(Ordering::Relaxed) > 0);
@@ -375,20 +377,20 @@ fn renewals_while_others_wait<K: Both>() {
 fn loans_are_sent() {
     fn is_sent<T: Send>() {}
     fn is_a_task<T: Send + 'static>() {}
+    fn visits(pass: &mut Pass) -> bool {
+        pass.insert(5).is_ok_and(|_| pass.has(5) == Ok(true))
+    }
     is_sent::<Lent<'_>>();
     is_a_task::<OwnedLent>();
-    fn visits(pass: &mut Pass) -> bool {
-        pass.insert(5, BUDGET).is_ok_and(|_| pass.has(5, BUDGET) == Ok(true))
-    }
-    let set = Arc::new(Set::lending(Shape::for_keys(8, 1), 1).expect("a set"));
+    let set = Arc::new(Set::open(Shape::for_keys(8, 1)).expect("a set"));
     assert!(visits(&mut set.lend_wait()) && visits(&mut set.lend_owned_wait()));
-    assert!(visits(&mut Set::open(Shape::for_keys(8, 1), 1).expect("a set")[0]));
+    assert!(visits(&mut Set::handles(Shape::for_keys(8, 1)).expect("a set")[0]));
 }
 
 #[test]
 fn the_answers_of_many_borrowers_balance() {
     let shape = Shape::for_keys(SOME as u32, 3);
-    let (set, budget) = (Set::lending(shape, 3).expect("a set"), ample_budget(shape.slots));
+    let set = Set::open(shape).expect("a set");
     let mut sum = BTreeMap::new();
     thread::scope(|scope| {
         let threads: Vec<_> = (0..8u64)
@@ -404,9 +406,9 @@ fn the_answers_of_many_borrowers_balance() {
                         random ^= random << 17;
                         let key = (random >> 32) % SOME;
                         if random >> 40 & 1 == 0 {
-                            *balance.entry(key).or_insert(0) += i32::from(handle.insert(key, budget).expect("room"));
+                            *balance.entry(key).or_insert(0) += i32::from(handle.insert(key).expect("room"));
                         } else {
-                            *balance.entry(key).or_insert(0) -= i32::from(handle.remove(key, budget).expect("steps"));
+                            *balance.entry(key).or_insert(0) -= i32::from(handle.remove(key).expect("steps"));
                         }
                     }
                     balance

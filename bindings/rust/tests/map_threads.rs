@@ -1,13 +1,13 @@
 //! Four threads on one map, whose epoch is spent again and again: each value tells the call that stored it, and is given only
 //! as the answers allow. And threads that count in the same entries.
+#![allow(clippy::cast_possible_truncation, reason = "the numbers are small")]
 use std::collections::HashSet;
 use std::sync::atomic::{AtomicBool, Ordering};
 use std::thread;
-use vbr::{Compared, Entry, Map, MapHandle, MapPass, Refusal, Shape, MAX_EPOCH};
+use vbr::{Compared, Map, MapHandle, MapPass, Refusal, Shape, MAX_EPOCH};
 
 const THREADS: u64 = 4;
 const KEYS: u64 = 64;
-const BUDGET: u32 = 1 << 20;
 const ROUNDS: u64 = 100_000;
 
 /// What a thread has, and what it was told.
@@ -63,7 +63,7 @@ impl Worker {
 
     fn insert(&mut self, handle: &mut MapPass, key: u64) -> Result<(), Refusal> {
         let value = self.value_of(key);
-        if handle.insert(key, value, BUDGET)? {
+        if handle.try_insert(key, value)? {
             self.stored.push(value);
         }
         Ok(())
@@ -71,7 +71,7 @@ impl Worker {
 
     /// Takes a key out, or, if it is to compare, takes it out with the value that it found.
     fn remove(&mut self, handle: &mut MapPass, key: u64, compares: bool) -> Result<(), Refusal> {
-        let removed = if compares { self.compared(handle, key)? } else { handle.remove(key, BUDGET)? };
+        let removed = if compares { self.compared(handle, key)? } else { handle.remove(key)? };
         self.take(key, removed);
         Ok(())
     }
@@ -80,7 +80,7 @@ impl Worker {
         let Some(value) = self.find(handle, key)? else {
             return Ok(None);
         };
-        match handle.remove_if(key, value, BUDGET)? {
+        match handle.remove_if(key, value)? {
             Compared::Equal => return Ok(Some(value)),
             Compared::Other(other) => assert_ne!(other, value),
             Compared::Absent => {}
@@ -94,7 +94,7 @@ impl Worker {
 
     fn replace(&mut self, handle: &mut MapPass, key: u64) -> Result<(), Refusal> {
         let value = self.value_of(key);
-        let before = handle.replace(key, value, BUDGET)?;
+        let before = handle.replace(key, value)?;
         self.stored.extend(before.map(|_| value));
         self.take(key, before);
         Ok(())
@@ -102,7 +102,7 @@ impl Worker {
 
     fn put(&mut self, handle: &mut MapPass, key: u64) -> Result<(), Refusal> {
         let value = self.value_of(key);
-        let before = handle.put(key, value, BUDGET)?;
+        let before = handle.put(key, value)?;
         self.stored.push(value);
         self.take(key, before);
         Ok(())
@@ -110,7 +110,7 @@ impl Worker {
 
     fn get_or_insert(&mut self, handle: &mut MapPass, key: u64) -> Result<(), Refusal> {
         let value = self.value_of(key);
-        match handle.get_or_insert(key, value, BUDGET)? {
+        match handle.get_or_insert(key, value)? {
             Some(there) => self.found(key, there),
             None => self.stored.push(value),
         }
@@ -119,14 +119,14 @@ impl Worker {
 
     fn exchange(&mut self, handle: &mut MapPass, key: u64) -> Result<(), Refusal> {
         let value = self.value_of(key);
-        let before = handle.fetch_update(key, |_| Some(value), BUDGET)?;
+        let before = handle.fetch_update(key, |_| Some(value))?;
         self.stored.extend(before.map(|_| value));
         self.take(key, before);
         Ok(())
     }
 
     fn find(&mut self, handle: &mut MapPass, key: u64) -> Result<Option<u64>, Refusal> {
-        let there = handle.get(key, BUDGET)?;
+        let there = handle.get(key)?;
         if let Some(value) = there {
             self.found(key, value);
         }
@@ -153,9 +153,9 @@ impl Worker {
 }
 
 /// Lets all threads work, and renews the map where its epoch is spent: the entries that are left, and how many renewals.
-fn play(workers: &mut [Worker], shape: Shape) -> (Vec<Entry>, u32) {
+fn play(workers: &mut [Worker], shape: Shape) -> (Vec<(u64, u64)>, u32) {
     let is_spent = AtomicBool::new(false);
-    let mut handles = Map::open(shape, workers.len()).expect("a map");
+    let mut handles = Map::handles(shape.with_handles(workers.len())).expect("a map");
     for renewals in 0.. {
         thread::scope(|scope| {
             for (worker, handle) in workers.iter_mut().zip(&mut handles) {
@@ -169,13 +169,13 @@ fn play(workers: &mut [Worker], shape: Shape) -> (Vec<Entry>, u32) {
             return (report.entries, renewals);
         }
         assert_eq!(report.epoch, shape.last_epoch);
-        handles = Map::open_with(shape, workers.len(), &report.entries).expect("a map");
+        handles = Map::handles_with(shape.with_handles(workers.len()), &report.entries).expect("a map");
     }
     unreachable!("the calls end")
 }
 
 /// Each value that was given was stored, each is removed once at most, and those that are left are in the report.
-fn check(workers: &[Worker], left: Vec<Entry>) {
+fn check(workers: &[Worker], left: Vec<(u64, u64)>) {
     let stored: HashSet<u64> = workers.iter().flat_map(|it| &it.stored).copied().collect();
     assert_eq!(stored.len(), workers.iter().map(|it| it.stored.len()).sum::<usize>());
     assert!(workers.iter().all(|it| it.got.is_subset(&stored)), "a value that a call gave and didn't store");
@@ -183,9 +183,9 @@ fn check(workers: &[Worker], left: Vec<Entry>) {
     for value in workers.iter().flat_map(|it| &it.removed) {
         assert!(there.remove(value), "a value that nobody stored, or that was taken out twice");
     }
-    assert!(left.iter().all(|entry| entry.value >> 48 == entry.key));
-    assert!(left.windows(2).all(|pair| pair[0].key < pair[1].key));
-    assert_eq!(left.into_iter().map(|entry| entry.value).collect::<HashSet<_>>(), there);
+    assert!(left.iter().all(|(key, value)| value >> 48 == *key));
+    assert!(left.windows(2).all(|pair| pair[0].0 < pair[1].0));
+    assert_eq!(left.into_iter().map(|(_, value)| value).collect::<HashSet<_>>(), there);
 }
 
 #[test]
@@ -206,7 +206,7 @@ fn the_values_balance_over_renewals() {
 
 #[test]
 fn the_values_of_many_borrowers_balance() {
-    let map = Map::lending(Shape::for_keys(KEYS as u32, 3), 3).expect("a map");
+    let map = Map::open(Shape::for_keys(KEYS as u32, 3)).expect("a map");
     let mut workers: Vec<_> = (0..2 * THREADS).map(Worker::new).collect();
     let never = AtomicBool::new(false);
     thread::scope(|scope| {
@@ -232,19 +232,17 @@ fn the_values_of_many_borrowers_balance() {
 #[test]
 fn no_update_is_lost() {
     const EACH: u64 = 30_000;
-    let entries: Vec<_> = (0..3).map(|key| Entry { key, value: 0 }).collect();
-    let mut handles = Map::open_with(Shape::for_keys(8, THREADS as usize), THREADS as usize, &entries).expect("a map");
+    let entries: Vec<_> = (0..3).map(|key| (key, 0)).collect();
+    let mut handles =
+        Map::handles_with(Shape::for_keys(8, THREADS as usize).with_handles(THREADS as usize), &entries).expect("a map");
     thread::scope(|scope| {
         for handle in &mut handles {
             scope.spawn(|| {
                 for turn in 0..EACH {
-                    assert!(handle
-                        .fetch_update(turn % 3, |count| Some(count + 1), BUDGET)
-                        .expect("steps and slots")
-                        .is_some());
+                    assert!(handle.fetch_update(turn % 3, |count| Some(count + 1)).expect("steps and slots").is_some());
                 }
             });
         }
     });
-    assert!((0..3).all(|key| handles[0].get(key, BUDGET) == Ok(Some(THREADS * EACH / 3))));
+    assert!((0..3).all(|key| handles[0].get(key) == Ok(Some(THREADS * EACH / 3))));
 }

@@ -6,7 +6,7 @@ use both::Both;
 use std::alloc::{GlobalAlloc, Layout, System};
 use std::cell::Cell;
 use std::ffi::c_void;
-use vbr::{CloseError, OpenError, RenewError, Shape, Table};
+use vbr::{CloseError, OpenError, RenewError, Set, Shape, Table};
 
 /// Counts what this thread asks for, and refuses it while it is told to.
 struct Counting;
@@ -105,16 +105,21 @@ of_sets_and_maps! {
 /// How many bytes a key of a report takes, and an entry.
 #[test]
 fn bytes_of_a_report() {
-    assert_eq!((size_of::<u64>(), size_of::<vbr::Entry>()), (8, 16));
+    assert_eq!((size_of::<u64>(), size_of::<(u64, u64)>()), (8, 16));
 }
 
 fn one_report_and_no_loss<K: Both>() {
     let shape = Shape::for_keys(1_000, 3);
-    assert_eq!(refused(|| Table::<K>::open(shape, 3).err()), Some(OpenError::Memory));
-    assert!(matches!(refused(|| Table::<K>::lending(shape, 3).err()), Some(OpenError::Memory)));
-    let mut handles = Table::<K>::open(shape, 3).expect("a set");
-    assert_eq!(K::insert(&mut handles[0], 5, 100_000), Ok(true));
-    assert_eq!(K::insert(&mut handles[2], 7, 100_000), Ok(true));
+    assert_eq!(refused(|| Table::<K>::handles(shape).err()), Some(OpenError::Memory));
+    let mut blocks = 0;
+    while let Err(error) = granted(blocks, || Table::<K>::open(shape)) {
+        assert_eq!(error, OpenError::Memory);
+        blocks += 1;
+    }
+    assert_eq!(blocks, 7); // four of the handles, and what a set that lends them has: their places, its shape, and who waits
+    let mut handles = Table::<K>::handles(shape).expect("a set");
+    assert_eq!(K::insert(&mut handles[0], 5), Ok(true));
+    assert_eq!(K::insert(&mut handles[2], 7), Ok(true));
     let before = ASKED.get();
     let last = refused(|| {
         let last = handles.pop().expect("three handles");
@@ -126,31 +131,47 @@ fn one_report_and_no_loss<K: Both>() {
     let Err(CloseError::Memory(unclosed)) = refused(|| last.close()) else {
         panic!("a report without memory");
     };
+    assert_eq!(format!("{unclosed:?}"), "Unclosed { .. }");
     let mut handle = unclosed.into_handle();
-    assert_eq!(handle.has(5, 100_000), Ok(true));
-    assert_eq!(K::insert(&mut handle, 6, 100_000), Ok(true));
+    assert_eq!(handle.has(5), Ok(true));
+    assert_eq!(K::insert(&mut handle, 6), Ok(true));
     let before = ASKED.get();
     let report = handle.close().expect("memory").expect("the last handle");
     assert_eq!(ASKED.get() - before, size_of::<K::Item>() * (1_000 + 3 * 64 + 3));
-    let (report, room) = K::report(report);
-    assert_eq!((report.keys, room), (vec![5, 6, 7], 3));
+    let told = K::report(report);
+    assert_eq!((told.keys, told.room), (vec![5, 6, 7], 3));
 }
 
 fn a_report_that_there_is_no_memory_to_shorten<K: Both>() {
-    let handle = Table::<K>::open_with(Shape::for_keys(1_000, 1), 1, &K::items(&[5, 7])).expect("a set").remove(0);
+    let handle = Table::<K>::handles_with(Shape::for_keys(1_000, 1), &K::items(&[5, 7])).expect("a set").remove(0);
     let report = granted(1, || handle.close()).expect("memory for the report").expect("the only handle");
-    let (report, room) = K::report(report);
-    assert_eq!((report.keys, room), (vec![5, 7], 1_000 + 64));
+    let told = K::report(report);
+    assert_eq!((told.keys, told.room), (vec![5, 7], 1_000 + 64));
+}
+
+/// Keys whose layout isn't that of `u64` have room of their own, which there is before the set is closed.
+#[test]
+fn a_report_of_small_keys() {
+    let mut handle = Set::handles_with(Shape::for_keys(1_000, 1), &[5_u8, 7]).expect("a set").remove(0);
+    for blocks in 0..2 {
+        let Err(CloseError::Memory(unclosed)) = granted(blocks, || handle.close()) else {
+            panic!("a report without memory");
+        };
+        handle = unclosed.into_handle();
+        assert_eq!(handle.has(7), Ok(true));
+    }
+    let report = granted(2, || handle.close()).expect("memory for the report").expect("the only handle");
+    assert_eq!((report.keys.as_slice(), report.keys.capacity()), (&[5, 7][..], 1_000 + 64));
 }
 
 fn a_close_that_the_library_refuses<K: Both>() {
     let shape = Shape::for_keys(1_000, 3);
-    assert_eq!(refused_in_the_library(|| Table::<K>::open(shape, 3).err()), Some(OpenError::Memory));
+    assert_eq!(refused_in_the_library(|| Table::<K>::handles(shape).err()), Some(OpenError::Memory));
     let items = K::items(&[1, 2]);
-    assert_eq!(refused_in_the_library(|| Table::<K>::open_with(shape, 3, &items).err()), Some(OpenError::Memory));
-    let mut handles = Table::<K>::open(shape, 3).expect("a set");
+    assert_eq!(refused_in_the_library(|| Table::<K>::handles_with(shape, &items).err()), Some(OpenError::Memory));
+    let mut handles = Table::<K>::handles(shape).expect("a set");
     for (key, handle) in (5..).zip(&mut handles) {
-        assert_eq!(K::insert(handle, key, 100_000), Ok(true));
+        assert_eq!(K::insert(handle, key), Ok(true));
     }
     let mut handle = handles.remove(1);
     drop(handles);
@@ -159,18 +180,18 @@ fn a_close_that_the_library_refuses<K: Both>() {
             panic!("a report without memory");
         };
         handle = unclosed.into_handle();
-        assert_eq!((handle.has(5, 100_000), K::insert(&mut handle, key, 100_000)), (Ok(true), Ok(true)));
+        assert_eq!((handle.has(5), K::insert(&mut handle, key)), (Ok(true), Ok(true)));
     }
-    let (report, _) = K::report(handle.close().expect("memory").expect("the last handle"));
+    let report = K::report(handle.close().expect("memory").expect("the last handle"));
     assert_eq!((report.keys, report.free), (vec![5, 6, 7, 8, 9], shape.slots - 5));
-    let mut handles = Table::<K>::open(shape, 2).expect("a set");
+    let mut handles = Table::<K>::handles(shape.with_handles(2)).expect("a set");
     drop(handles.pop());
     assert!(refused_in_the_library(|| handles.remove(0).close()).is_err());
 }
 
 fn a_set_that_lends_its_handles_closes_all_or_none<K: Both>() {
     let shape = Shape::for_keys(1_000, 3);
-    let mut set = Table::<K>::lending_with(shape, 3, &K::items(&[1, 2])).expect("a set");
+    let mut set = Table::<K>::open_with(shape, &K::items(&[1, 2])).expect("a set");
     std::mem::forget(set.lend());
     for (key, by_the_library) in [(5, false), (6, true), (7, true)] {
         let told = if by_the_library { refused_in_the_library(|| set.close()) } else { refused(|| set.close()) };
@@ -179,33 +200,37 @@ fn a_set_that_lends_its_handles_closes_all_or_none<K: Both>() {
         };
         set = unclosed.into_table();
         let (mut first, second) = (set.lend().expect("two are free"), set.lend().expect("one is free"));
-        assert_eq!((K::insert(&mut first, key, 100_000), second.has(key, 100_000)), (Ok(true), Ok(true)));
+        assert_eq!((K::insert(&mut first, key), second.has(key)), (Ok(true), Ok(true)));
         assert!(set.lend().is_none());
     }
-    let (report, _) = K::report(set.close().expect("memory"));
+    let report = K::report(set.close().expect("memory"));
     assert_eq!((report.keys, report.free), (vec![1, 2, 5, 6, 7], shape.slots - 5));
-    let dropped = Table::<K>::lending(shape, 3).expect("a set");
+    let dropped = Table::<K>::open(shape).expect("a set");
     assert!(refused_in_the_library(|| dropped.close()).is_err());
+    let ended = Table::<K>::open_with(shape, &K::items(&[1, 2])).expect("a set");
+    let before = ASKED.get();
+    refused(|| refused_in_the_library(|| ended.end()));
+    assert_eq!(ASKED.get(), before);
 }
 
 /// Each block that a renewal asks for is refused in turn; the crate asks for none.
 fn a_set_that_lends_its_handles_is_renewed_or_not<K: Both>() {
     let (shape, wanted) = (Shape::for_keys(1_000, 3), Shape::for_keys(2_000, 3));
-    let set = Table::<K>::lending_with(shape, 3, &K::items(&[1, 2])).expect("a set");
-    let shape_of = || Shape::new(set.slots(), set.buckets(), set.last_epoch());
+    let set = Table::<K>::open_with(shape, &K::items(&[1, 2])).expect("a set");
+    let shape_of = || Shape::new(set.slots(), set.buckets(), set.last_epoch()).with_handles(set.handle_count());
     for blocks in 0.. {
         LIBRARY_GRANTED.set(blocks);
         let told = refused(|| set.renew(wanted));
         LIBRARY_GRANTED.set(usize::MAX);
         let loans = [(); 3].map(|()| set.lend().expect("all are free"));
         assert_eq!(shape_of(), if told.is_ok() { wanted } else { shape });
-        assert!(loans.iter().all(|it| it.slots() == set.slots() && it.has(2, 100_000) == Ok(true)));
+        assert!(loans.iter().all(|it| it.slots() == set.slots() && it.has(2) == Ok(true)));
         if told.is_ok() {
             assert!(blocks >= 4);
             break;
         }
         assert_eq!(told, Err(RenewError::Memory));
     }
-    let (report, _) = K::report(set.close().expect("memory"));
+    let report = K::report(set.close().expect("memory"));
     assert_eq!((report.keys, report.free), (vec![1, 2], wanted.slots - 2));
 }

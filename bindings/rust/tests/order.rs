@@ -1,6 +1,7 @@
 //! Four threads that tell each other by channels, locks and joins what they did, and each answer checked against what the
 //! program's own order says: a key that is known to be inserted and never removed is there, and one that is known to be
 //! removed for good is not.
+#![allow(clippy::cast_possible_truncation, reason = "the numbers are small")]
 use std::sync::mpsc::{channel, Receiver, Sender};
 use std::sync::Mutex;
 use std::thread;
@@ -9,7 +10,6 @@ use vbr::{Handle, Set, Shape, MAX_EPOCH};
 const THREADS: usize = 4;
 const ROUNDS: u64 = 10_000;
 const BEHIND: u64 = 8;
-const BUDGET: u32 = 1 << 20;
 
 /// How many keys of each thread are inserted, and below which of them the odd ones are removed.
 #[derive(Clone, Copy, Default)]
@@ -27,13 +27,13 @@ impl Known {
         for (id, (inserted, removed)) in (0..).zip(self.0) {
             if inserted > 0 {
                 let newest = key(id, (inserted - 1) & !1);
-                assert_eq!(handle.has(newest, BUDGET), Ok(true));
-                assert_eq!(handle.insert(newest, BUDGET), Ok(false));
+                assert_eq!(handle.has(newest), Ok(true));
+                assert_eq!(handle.insert(newest), Ok(false));
             }
             if removed > 1 {
                 let newest = key(id, (removed - 2) | 1);
-                assert_eq!(handle.has(newest, BUDGET), Ok(false));
-                assert_eq!(handle.remove(newest, BUDGET), Ok(false));
+                assert_eq!(handle.has(newest), Ok(false));
+                assert_eq!(handle.remove(newest), Ok(false));
             }
         }
     }
@@ -45,13 +45,13 @@ fn key(id: u64, round: u64) -> u64 {
 
 /// Inserts keys, removes the odd ones later, and tells the next thread what it knows: by a channel, and every third time
 /// by a lock for all.
-fn work(mut handle: Handle, id: usize, from: Receiver<Known>, to: Sender<Known>, board: &Mutex<Known>) -> (Handle, Known) {
+fn work(mut handle: Handle, id: usize, from: &Receiver<Known>, to: &Sender<Known>, board: &Mutex<Known>) -> (Handle, Known) {
     let mut known = Known::default();
     for round in 0..ROUNDS {
-        assert_eq!(handle.insert(key(id as u64, round), BUDGET), Ok(true));
+        assert_eq!(handle.insert(key(id as u64, round)), Ok(true));
         known.0[id].0 = round + 1;
         if round >= BEHIND && (round - BEHIND) % 2 == 1 {
-            assert_eq!(handle.remove(key(id as u64, round - BEHIND), BUDGET), Ok(true));
+            assert_eq!(handle.remove(key(id as u64, round - BEHIND)), Ok(true));
             known.0[id].1 = round - BEHIND + 1;
         }
         to.send(known).expect("a thread that listens");
@@ -69,7 +69,7 @@ fn work(mut handle: Handle, id: usize, from: Receiver<Known>, to: Sender<Known>,
 #[test]
 fn answers_keep_the_order_of_the_program() {
     let slots = (THREADS as u64 * (ROUNDS + 64)) as u32;
-    let handles = Set::open(Shape::new(slots, 16_384, MAX_EPOCH), THREADS).expect("a set");
+    let handles = Set::handles(Shape::new(slots, 16_384, MAX_EPOCH).with_handles(THREADS)).expect("a set");
     let (to, mut from): (Vec<_>, Vec<_>) = (0..THREADS).map(|_| channel()).unzip();
     from.rotate_right(1);
     let board = Mutex::new(Known::default());
@@ -83,7 +83,7 @@ fn answers_keep_the_order_of_the_program() {
             .map(|(id, handle, from, to)| {
                 scope.spawn({
                     let board = &board;
-                    move || work(handle, id, from, to, board)
+                    move || work(handle, id, &from, &to, board)
                 })
             })
             .collect();

@@ -2,7 +2,7 @@
 mod both;
 
 use both::Both;
-use vbr::{random_seed, HandleOf, Refusal, Shape, Table};
+use vbr::{random_seed, HandleOf, OutOfSteps, Shape, Steps, Table};
 
 /// The inverse of the number that keys are multiplied by with seed 0, 2^64 over the golden ratio.
 const INVERSE: u64 = 0xf1de_83e1_9937_733d;
@@ -10,11 +10,11 @@ const INVERSE: u64 = 0xf1de_83e1_9937_733d;
 const BUCKETS: u32 = 1 << 12;
 
 fn open<K: Both>(shape: Shape, handles: usize, keys: &[u64]) -> Vec<HandleOf<K>> {
-    Table::open_with(shape, handles, &K::items(keys)).expect("a set")
+    Table::handles_with(shape.with_handles(handles), &K::items(keys)).expect("a set")
 }
 
 fn walk<K: Both>(handle: &HandleOf<K>) -> Vec<u64> {
-    handle.iter(1 << 20).map(|given| K::key(given.expect("steps"))).collect()
+    handle.iter().map(|given| K::key(given.expect("steps"))).collect()
 }
 
 of_sets_and_maps! {
@@ -52,7 +52,7 @@ fn chosen_keys<K: Both>() {
     keys.sort_unstable();
     let last = keys[keys.len() - 1];
     let shape = Shape { buckets: BUCKETS, ..Shape::for_keys(2_000, 1) };
-    assert_eq!(open::<K>(shape.with_seed(0), 1, &keys)[0].has(last, 5 * 1_999), Err(Refusal::OutOfSteps));
+    assert_eq!(open::<K>(shape.with_seed(0), 1, &keys)[0].has_within(last, Steps::new(5 * 1_999)), Err(OutOfSteps));
     let spread = &open::<K>(shape, 1, &keys)[0];
-    assert!(keys.iter().all(|&key| spread.has(key, 5 * 64 + 11) == Ok(true)));
+    assert!(keys.iter().all(|&key| spread.has_within(key, Steps::new(5 * 64 + 11)) == Ok(true)));
 }

@@ -4,7 +4,6 @@ use std::thread;
 use vbr::{Handle, Set, Shape, MAX_EPOCH};
 
 const KEYS: u64 = 64;
-const BUDGET: u32 = 1 << 20;
 const ROUNDS: u32 = 200_000;
 
 /// Makes calls at random, and counts the inserts that were answered yes, less such removes.
@@ -17,9 +16,9 @@ fn work(mut handle: Handle, seed: u64) -> (Handle, BTreeMap<u64, i32>) {
         random ^= random << 17;
         let key = (random >> 8) % KEYS;
         match random % 3 {
-            0 if handle.insert(key, BUDGET).expect("room") => *balance.entry(key).or_insert(0) += 1,
-            1 if handle.remove(key, BUDGET).expect("steps") => *balance.entry(key).or_insert(0) -= 1,
-            _ => drop(handle.has(key, BUDGET).expect("steps")),
+            0 if handle.insert(key).expect("room") => *balance.entry(key).or_insert(0) += 1,
+            1 if handle.remove(key).expect("steps") => *balance.entry(key).or_insert(0) -= 1,
+            _ => drop(handle.has(key).expect("steps")),
         }
     }
     (handle, balance)
@@ -27,7 +26,7 @@ fn work(mut handle: Handle, seed: u64) -> (Handle, BTreeMap<u64, i32>) {
 
 #[test]
 fn the_answers_balance() {
-    let handles = Set::open(Shape::new(512, 16, MAX_EPOCH), 4).expect("a set");
+    let handles = Set::handles(Shape::new(512, 16, MAX_EPOCH).with_handles(4)).expect("a set");
     let threads: Vec<_> =
         handles.into_iter().zip(0..).map(|(handle, seed)| thread::spawn(move || work(handle, seed))).collect();
     let mut sum = BTreeMap::new();

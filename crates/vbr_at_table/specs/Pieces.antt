@@ -39,7 +39,9 @@ pub record FallsShort (p q : PassView) (budget before most : ℕ) (told : Refusa
 
 -- ---- a slot for the own pool
 
--- the pass looked for one: it made no call, and no step that would advance the epoch; no slot of it is lost; its own pool grew, if it changed; it put none into the shared pool, unless its own pool is full but for one place; and it tried to take one from there only where its own pool was empty
+-- the pass looked for a slot: it made no call, and no step that would advance the epoch
+-- No slot of it is lost; its own pool grew, if it changed. It put none into the shared pool, unless its own is full but for one place.
+-- It tried to take one from there only where its own pool was empty.
 pub record Probes (p q : PassView) : Type 0 where
   pub quiet : Quiet p.trace q.trace
   pub count : advances q.trace ≡ advances p.trace

@@ -56,7 +56,10 @@ abbrev pub TellsSpent : Refusal → Type 0
 TellsSpent (EpochSpent epoch) = Unit {0}
 TellsSpent _ = ⊥
 
--- no slot was taken, for what the refusal says, and none is in hand; with a slot in the own pool and a budget of 80 it says that the epoch is spent, and to a pass that was alone it says so of a budget that has no room for the steps that it takes, as to any other, but for one more for each slot that others took out of the shared pool, where its own was empty
+-- no slot was taken, for what the refusal says, and none is in hand
+-- With a slot in the own pool and a budget of 80 it says that the epoch is spent.
+-- To a pass that was alone it lacks steps only with a budget that has no room for those that taking one costs.
+-- To any other pass the same holds, but for one more for each slot that others took out of the shared pool, where its own was empty.
 pub record RefusesTake (p q : PassView) (budget : ℕ) (refusal : Refusal) : Type 0 where
   pub why : TakeIsRefused p q budget refusal
   pub pool : LeavesPool p q

@@ -38,7 +38,10 @@ steps_to_retire pool = if is_kept pool then 2 else 3
 abbrev pub know_retired : Know → ℕ → ℕ → Bool → Know
 know_retired know epoch slot kept = with_own (read_epoch know epoch) slot (if kept then Some (Free epoch) else None)
 
--- the slot was stamped in so many steps, and is in the own pool, or in the shared one where that has no place but the one for a hand; no call was made, no slot was taken, and a pass that had unlinked in turn has done so since; no list was changed; and a pass that was alone left the lists as they were
+-- the slot was stamped in so many steps, and is in a pool again
+-- It is in the own pool, or in the shared one where the own one has no place but the one for a hand.
+-- No call was made, no slot was taken, and a pass that had unlinked in turn has done so since.
+-- No list was changed, and a pass that was alone left the lists as they were.
 pub record Retires (p q : PassView) (slot steps : ℕ) : Type 0 where
   pub took : Took p.trace q.trace steps
   pub count : steps ≡ steps_to_retire p.pool

@@ -8,7 +8,10 @@ use Rattle.vbr_handles.specs.declared.closing.CloseRefusal.{CloseRefusal}
 use Rattle.vbr_handles.specs.declared.closing.CloseRefusal.TheVariants.{Empty, Lost, Memory, Room}
 
 module _ {R I : Type 0} (tells : TableView → List PassView → R → Type 0) (L : Listing R I) where
-  -- an empty handle stays so, and is told; a full one becomes empty, but where there is no memory, or where its report has more keys than there is room for, and is then as it was; a report tells the end of its set with all passes that were opened, its own among them; and the handle of a set that was opened for one is the last, and no pass of it is lost
+  -- what a close leaves of a handle, by its answer
+  -- An empty handle stays so, and is told. A full one becomes empty, but where there is no memory, or its report has more keys than there is room for; then it is as it was.
+  -- A report tells the end of its set with all passes that were opened, its own among them.
+  -- The handle of a set that was opened for one is the last, and no pass of it is lost.
   abbrev pub ClosesAs : Option Member → Option Member → ℕ → Result (Option R) (CloseRefusal R) → Type 0
   ClosesAs None after room answer = (after ≡ None) × (answer ≡ Err Empty)
   ClosesAs (Some m) after room (Ok None) = (after ≡ None) × (m.set.passes ≢ 1)

@@ -38,7 +38,12 @@ LeavesAt p q slot = (node : ℕ) → IsHeldIncarnation (nodes p) (knows p).epoch
 abbrev pub LeavesReplaced : Trace → Trace → ℕ → Type 0
 LeavesReplaced p q key = ReplacedLeft p.start p.seen q.seen p.who key
 
--- what a remove promises besides: it advances no epoch and loses no slot; where it answers yes, the node that it marked has left its list, unless its steps leave no room in the budget for one more piece; it is refused for want of steps alone, and alone it has steps enough with a budget that is known before, and its answer costs no more than is known before, and with two steps more one that is yes leaves fewer nodes in the list; and a pass that was disturbed so often has steps enough with a budget for that, and its answer costs no more than that allows
+-- what a remove promises besides its answer: about slots, refusals, steps, and the node that it marked
+-- It advances no epoch, loses no slot, and is refused for want of steps alone.
+-- Where it answers yes, the node that it marked has left its list, unless its steps leave no room in the budget for one more piece.
+-- Alone it has steps enough with a budget that is known before, and its answer costs no more than is known before.
+-- With two steps more, one that is answered yes leaves fewer nodes in the list.
+-- A pass that was disturbed so often has steps enough with a budget for that, and its answer costs no more than that allows.
 pub record SparesRemove {A : Type 0} (yes : A → Bool) (p q : PassView) (key budget : ℕ) (answer : Result A Refusal) : Type 0 where
   pub takes_no_slot : TakesNoSlot p q
   pub unlists : IfOk answer (λ removed. yes removed ≡ true → LeavesRoom p q budget → Leaves p.trace q.trace key)

@@ -50,7 +50,10 @@ enough_to_seek p bucket = 5 * listed_in p bucket + 11
 abbrev pub seek_costs : Trace → ℕ → ℕ
 seek_costs p bucket = 5 * listed_in p bucket + 3 + steps_to_value_of p.start
 
--- the pass told what it was to tell, or was refused for want of steps alone; it made no call, and loads alone, added nothing to the chronicle, and has what slots it had; it made no more steps than its budget; alone it has steps enough with a budget that is known before, and what is told costs no more than is known before; and so it is of a pass that was disturbed so often
+-- the pass told what it was to tell, or was refused for want of steps alone
+-- It made no call, and loads alone, added nothing to the chronicle, and has the slots that it had. It made no more steps than its budget.
+-- Alone it has steps enough with a budget that is known before, and what it tells costs no more than is known before.
+-- That holds of a pass that was disturbed so often, too.
 pub record Seeks {A : Type 0} (Tells : A → Type 0) (p q : PassView) (bucket budget : ℕ) (answer : Result A Refusal) : Type 0 where
   pub told : IfOk answer Tells
   pub quiet : Quiet p.trace q.trace

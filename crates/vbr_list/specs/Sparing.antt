@@ -21,7 +21,13 @@ use Rattle.vbr_list.specs.Refusals.{IsRefusedInsert, IsTired}
 use Rattle.vbr_list.specs.Told.{given_call, stored_call}
 use Rattle.vbr_at_table.specs.declared.refusal.Refusal.{Refusal}
 
--- what an insert promises besides: it advances the epoch only where that is needed, loses no slot, has each that it had but for the one that it published, puts one into the shared pool only where its own has no more than two places left, looks for one there only where its own is empty and the key was absent at a moment, and is refused where it must be; alone it has steps enough with a budget that is known before, and with a slot in the own pool it is answered, unless the epoch is spent; and alone its answer costs no more than is known before; and so it is of a pass that was disturbed so often, where with an empty own pool one step more is counted for each slot that others took out of the shared pool
+-- what an insert promises besides its answer: about slots, refusals and steps
+-- It advances the epoch only where that is needed, loses no slot, and has each that it had but for the one that it published.
+-- It puts a slot into the shared pool only where its own has no more than two places left.
+-- It looks for one there only where its own is empty and the key was absent at a moment. It is refused only where it must be.
+-- Alone it has steps enough with a budget that is known before. With a slot in the own pool it is then answered, unless the epoch is spent.
+-- Alone its answer costs no more than is known before. All that holds of a pass that was disturbed so often, too.
+-- With an empty own pool one step more is then counted for each slot that others took out of the shared pool.
 pub record SparesInsert (p q : PassView) (key budget : ℕ) (answer : Result Bool Refusal) : Type 0 where
   pub advances : AdvancesWhereNeeded p q
   pub kept : KeepsSlots p q
@@ -35,7 +41,10 @@ pub record SparesInsert (p q : PassView) (key budget : ℕ) (answer : Result Boo
   pub costs : IfOk answer (λ reply. IsAlone p.trace q.trace → TookWithin p.trace q.trace (insert_costs p key))
   pub disturbed_costs : IfOk answer (λ reply. TookWithin p.trace q.trace (insert_costs_among (listed_for p.trace key) (disturbed p.trace q.trace key) (steps_for_slot p q.trace) (steps_to_value p.trace.start.shape.values)))
 
--- what a call that looks a key up promises besides: all its steps are loads, and its answer is all that it adds to the chronicle; it advances no epoch, loses no slot, and is refused for want of steps alone; alone it has steps enough with a budget that is known before, and its answer costs no more than is known before, with so many steps to read a value; and so it is of a pass that was disturbed so often, by updates of others in the key's bucket and advances of the epoch
+-- what a call that looks a key up promises besides its answer: that it only loads, and about slots, refusals and steps
+-- Its answer is all that it adds to the chronicle. It advances no epoch, loses no slot, and is refused for want of steps alone.
+-- Alone it has steps enough with a budget that is known before, and its answer costs no more than is known before, with so many steps to read a value.
+-- That holds of a pass, too, that was disturbed so often, by updates of others in the key's bucket and by advances of the epoch.
 pub record SparesLookUp {A : Type 0} (told : A → Call) (reading : ℕ) (p q : PassView) (key budget : ℕ) (answer : Result A Refusal) : Type 0 where
   pub only_loads : OnlyLoads p.trace q.trace
   pub adds : IfOk answer (λ reply. AddsAnswer (told reply) p.trace q.trace)

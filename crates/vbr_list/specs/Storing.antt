@@ -75,7 +75,14 @@ IsRefusedStore wanted p q key budget (EpochSpent epoch) = WantedAndSpent wanted 
 
 -- ---- the call
 
--- what a store promises besides: it advances the epoch only where that is needed, has each slot that it had but for the one that it published, puts one into the shared pool only where its own has no more than two places left, looks for one there only where its own is empty and the key was as it is wanted at a moment, and is refused where it must be; alone it has steps enough with a budget that is known before, and with a slot in the own pool it is answered, unless the epoch is spent; where it replaced a node, that has left its list, unless its steps leave no room in the budget for one more piece, and alone it has with a budget that is known before; and alone its answer costs no more than is known before; and so it is of a pass that was disturbed so often, where with an empty own pool one step more is counted for each slot that others took out of the shared pool
+-- what a store promises besides its answer: about slots, refusals, steps, and the node that it replaced
+-- It advances the epoch only where that is needed, and has each slot that it had but for the one that it published.
+-- It puts a slot into the shared pool only where its own has no more than two places left.
+-- It looks for one there only where its own is empty and the key was as it is wanted at a moment. It is refused only where it must be.
+-- Alone it has steps enough with a budget that is known before. With a slot in the own pool it is then answered, unless the epoch is spent.
+-- A node that it replaced has left its list, unless its steps leave no room in the budget for one more piece; alone it has with a budget that is known before.
+-- Alone its answer costs no more than is known before. All that holds of a pass that was disturbed so often, too.
+-- With an empty own pool one step more is then counted for each slot that others took out of the shared pool.
 pub record SparesStore (wanted : Wanted) (p q : PassView) (key budget : ℕ) (answer : Result (Option ℕ) Refusal) : Type 0 where
   pub advances : AdvancesWhereNeeded p q
   pub had : HasUnstored wanted p q answer

@@ -86,7 +86,9 @@ BearsAfter start run pass _ = Unit {0}
 abbrev pub KnowsLast : Incarnations → ℕ → Know → ℕ → Type 0
 KnowsLast a pass know s = OwnFits a pass know.epoch (know.own s) (a.place s) (a.last s) (a.stamp s)
 
--- what a pass knows after a run is right: it is what its notes say; each incarnation that it holds is late for its epoch, and it holds one at a slot; each slot that it holds has such an incarnation, and only one; its checked reads are right; and so is what it knows of its slots, and of what was born in them last
+-- what a pass knows after a run is right: it is what its notes say, and agrees with the incarnations
+-- Each incarnation that it holds is late for its epoch, and it holds one at a slot. Each slot that it holds has such an incarnation, and only one.
+-- Its checked reads are right. So is what it knows of its slots, and of what was born in them last.
 pub record KnowsRight (start : Start) (run : List Event) (pass : ℕ) : Type 0 where
   pub epoch : ((world_after start run).know pass).epoch ≤ (world_after start run).epoch
   pub pending : ((world_after start run).know pass).pending ≡ reads_of (notes_after start run pass).pending
@@ -98,7 +100,10 @@ pub record KnowsRight (start : Start) (run : List Event) (pass : ℕ) : Type 0 w
   pub own : (s : ℕ) → IsOwnerRight (world_after start run) pass s (((world_after start run).know pass).own s)
   pub last : (s : ℕ) → KnowsLast (incarnations_after start run) pass ((world_after start run).know pass) s
 
--- a run is safe: its chronicle is lawful, and the words are its image; its calls are those of the chronicle, and legal, and give the values that were stored; births are counted; the epoch is at most the last one, and each link fits into a word; what each pass knows is right; each slot is in exactly one place; each exchange of a link that an event wins is right; and no event bears in a slot whose last incarnation isn't over
+-- a run is safe: it is what a lawful chronicle of incarnations stands for, and each of its exchanges and reads is right
+-- The words are the image of the chronicle. The calls are those of the chronicle, legal, and give the values that were stored. Births are counted.
+-- The epoch is at most the last one, and each link fits into a word. What each pass knows is right, and each slot is in exactly one place.
+-- Each exchange of a link that an event wins is right. No event bears in a slot whose last incarnation isn't over.
 pub record IsSafe (start : Start) (run : List Event) : Type 0 where
   pub lawful : IsLawful start (opening_keys start) (at_opening start) (chronicle start run)
   pub image : IsImage (world_after start run) (incarnations_after start run)

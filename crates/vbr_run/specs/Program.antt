@@ -154,7 +154,9 @@ abbrev pub Explains : Bool → ProgramRun → Type 0
 Explains true run = IsShown run ⊎ IsCutShort run
 Explains _ run = IsFault run
 
--- what a command line without a fault asks for, by the name of what it wants explained, what is wrong with its shape, the file that it names, and the kind of its script, is done: something is explained, or it is told that there is no such shape, or the script on standard input or in the file is played
+-- what a command line without a fault asks for is done
+-- It may want something explained, name a shape that there isn't, or name a file; else the script is on standard input. The kind is that of its script.
+-- So something is explained, or it is told that there is no such shape, or the script is played.
 abbrev pub IsDone : Option Text → Option ShapeError → Option Text → Kind → Settings → Option (List ℕ) → Opening → ProgramRun → Type 0
 IsDone (Some name) shape file kind settings input opens run = Explains (is_explained name) run
 IsDone None (Some error) file kind settings input opens run = IsUnshaped error run

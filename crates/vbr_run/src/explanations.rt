@@ -54,7 +54,7 @@ const SCRIPT_1: &str = "\
 vbr_run: script fault 1 at line M
 
 Line M has neither three words nor the one word sync or renew. A line is a worker, an
-operation and a key, as in: 0 insert 5. With --map an insert may have a value behind
+operation and a key, as in: 0 insert 5. With --map an insert may have a value after
 its key, as in: 0 insert 5 70. There are no comments; lines without words are skipped.
 ";
 
@@ -69,7 +69,7 @@ const SCRIPT_3: &str = "\
 vbr_run: script fault 3 at line M
 
 The second word of line M is none of insert, remove and has, in small letters. With
---map it may be get too, and of these insert alone may have a value behind its key.
+--map it may be get too, and of these insert alone may have a value after its key.
 ";
 
 const SCRIPT_4: &str = "\
@@ -111,7 +111,7 @@ permission denied  it may not be read
 can't be opened    it could not be opened, for another reason
 can't be read      it is a directory, or reading failed, or it has above 67108864 bytes
 
-A name that begins with - stands behind --, as in: vbr_run -- -a.script
+A name that begins with - stands after --, as in: vbr_run -- -a.script
 ";
 
 const WRITE: &str = "\

@@ -30,16 +30,17 @@ fn play_small<T: Threads + Wait, R: Read, W: Write>(
     play(rt, alloc, config, reader, writer, &NoGate)
 }
 
-/// A reader that gives its bytes one at a time, and then an error.
+/// A reader that gives its bytes one at a time, and then an error of this kind.
 #[derive(Drop)]
 struct BrittleReader {
     bytes: &'static [u8],
+    kind: ErrorKind,
 }
 
 impl Read for BrittleReader {
     fn read(&mut self, buf: &mut [u8]) -> io::Result<usize> {
         let Some((first, rest)) = self.bytes.split_first() else {
-            return Err(io::Error::from(ErrorKind::Other));
+            return Err(io::Error::from(self.kind));
         };
         if buf.is_empty() {
             return Ok(0);
@@ -68,7 +69,7 @@ impl Read for Spaces {
 /// What a writer does when its room is used up.
 #[derive(Clone, Copy, PartialEq, Eq)]
 enum AtEnd {
-    Fails,
+    Fails(ErrorKind),
     TakesNone,
 }
 
@@ -78,7 +79,8 @@ struct SmallWriter {
     taken: Vec<u8>,
     room: usize,
     at_end: AtEnd,
-    can_flush: bool,
+    // The kind of error of a flush that fails.
+    flush: Option<ErrorKind>,
 }
 
 impl SmallWriter {
@@ -87,7 +89,7 @@ impl SmallWriter {
             taken: Vec::new(alloc),
             room,
             at_end,
-            can_flush: true,
+            flush: None,
         }
     }
 }
@@ -99,7 +101,7 @@ impl Write for SmallWriter {
         };
         if self.room == 0 {
             return match self.at_end {
-                AtEnd::Fails => Err(io::Error::from(ErrorKind::Other)),
+                AtEnd::Fails(kind) => Err(io::Error::from(kind)),
                 AtEnd::TakesNone => Ok(0),
             };
         }
@@ -109,24 +111,37 @@ impl Write for SmallWriter {
     }
 
     fn flush(&mut self) -> io::Result<()> {
-        if self.can_flush {
-            Ok(())
-        } else {
-            Err(io::Error::from(ErrorKind::Other))
+        match self.flush {
+            None => Ok(()),
+            Some(kind) => Err(io::Error::from(kind)),
         }
     }
 }
 
+// An interrupted call isn't tried again: it is a fault as any other error is.
+const KINDS: [ErrorKind; 2] = [ErrorKind::Other, ErrorKind::Interrupted];
+
+// Plays a beginning of the script, after which the reader fails, which is a read fault.
+fn expect_read_fault<T: Threads + Wait + Abort>(
+    rt: &T,
+    alloc: Global,
+    kind: ErrorKind,
+    bytes: &'static [u8],
+) {
+    let n = bytes.len();
+    let mut reader = BrittleReader { bytes, kind };
+    let mut output = Vec::new(alloc);
+    let played = play_small(rt, alloc, &mut reader, &mut output);
+    assert_eq!(rt; played.err(), Some(RunError::Read), "after {n} bytes");
+    assert!(rt; output.is_empty());
+}
+
 #[test]
 fn a_failing_reader_is_a_read_fault(rt: HostRuntime) {
-    for n in 0..=SCRIPT.len() {
-        let mut reader = BrittleReader {
-            bytes: &SCRIPT[..n],
-        };
-        let mut output = Vec::new(rt.alloc());
-        let played = play_small(&rt, rt.alloc(), &mut reader, &mut output);
-        assert_eq!(rt; played.err(), Some(RunError::Read), "after {n} bytes");
-        assert!(rt; output.is_empty());
+    for kind in KINDS {
+        for n in 0..=SCRIPT.len() {
+            expect_read_fault(&rt, rt.alloc(), kind, &SCRIPT[..n]);
+        }
     }
 }
 
@@ -160,7 +175,11 @@ fn expect_write_fault<T: Threads + Wait + Abort>(
 
 #[test]
 fn a_failing_writer_is_a_write_fault(rt: HostRuntime) {
-    for at_end in [AtEnd::Fails, AtEnd::TakesNone] {
+    for at_end in [
+        AtEnd::Fails(ErrorKind::Other),
+        AtEnd::Fails(ErrorKind::Interrupted),
+        AtEnd::TakesNone,
+    ] {
         for n in 0..OUTPUT.len() {
             expect_write_fault(&rt, rt.alloc(), at_end, &OUTPUT[..n]);
         }
@@ -170,7 +189,7 @@ fn a_failing_writer_is_a_write_fault(rt: HostRuntime) {
 #[test]
 fn a_slow_writer_gets_the_whole_text(rt: HostRuntime) -> Result<(), Fail> {
     let mut reader = SCRIPT;
-    let mut writer = SmallWriter::new(rt.alloc(), OUTPUT.len(), AtEnd::Fails);
+    let mut writer = SmallWriter::new(rt.alloc(), OUTPUT.len(), AtEnd::Fails(ErrorKind::Other));
     let totals = play_small(&rt, rt.alloc(), &mut reader, &mut writer)?;
     assert_eq!(rt; writer.taken.as_slice(), OUTPUT);
     expect_totals(&rt, &totals, [1, 1, 1, 0], 1, &[]);
@@ -179,12 +198,14 @@ fn a_slow_writer_gets_the_whole_text(rt: HostRuntime) -> Result<(), Fail> {
 
 #[test]
 fn a_flush_that_fails_is_a_write_fault(rt: HostRuntime) {
-    let mut reader = SCRIPT;
-    let mut writer = SmallWriter::new(rt.alloc(), OUTPUT.len(), AtEnd::Fails);
-    writer.can_flush = false;
-    let played = play_small(&rt, rt.alloc(), &mut reader, &mut writer);
-    assert_eq!(rt; played.err(), Some(RunError::Write));
-    assert_eq!(rt; writer.taken.as_slice(), OUTPUT);
+    for kind in KINDS {
+        let mut reader = SCRIPT;
+        let mut writer = SmallWriter::new(rt.alloc(), OUTPUT.len(), AtEnd::TakesNone);
+        writer.flush = Some(kind);
+        let played = play_small(&rt, rt.alloc(), &mut reader, &mut writer);
+        assert_eq!(rt; played.err(), Some(RunError::Write));
+        assert_eq!(rt; writer.taken.as_slice(), OUTPUT);
+    }
 }
 
 /// A writer of standard error that fails is ignored.
@@ -193,7 +214,7 @@ fn failing_errors_are_ignored(rt: HostRuntime) {
     let arguments = ["vbr_run"];
     let mut reader = b"0 insert".as_slice();
     let mut output = Vec::new(rt.alloc());
-    let mut errors = SmallWriter::new(rt.alloc(), 9, AtEnd::Fails);
+    let mut errors = SmallWriter::new(rt.alloc(), 9, AtEnd::Fails(ErrorKind::Other));
     let status = vbr_run::run(
         &rt,
         rt.alloc(),
@@ -216,7 +237,10 @@ fn no_file(_name: &str) -> io::Result<&'static [u8]> {
 
 // A file that gives an error behind its script.
 fn brittle_file(_name: &str) -> io::Result<BrittleReader> {
-    Ok(BrittleReader { bytes: SCRIPT })
+    Ok(BrittleReader {
+        bytes: SCRIPT,
+        kind: ErrorKind::Other,
+    })
 }
 
 /// A file that can't be read to its end is told by its name, and standard input is left as it was.

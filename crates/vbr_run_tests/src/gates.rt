@@ -1,30 +1,77 @@
 //! The gate of the player: that the workers of a phase run at the same time, and that each is told of
 //! its own calls.
-use crate::player::expect_totals;
+use crate::player::{expect_map_totals, expect_totals};
 use std::alloc::Global;
 use std::hint::spin_loop;
+use std::process::Abort;
 use std::sync::Wait;
 use std::sync::atomic::{AtomicBool, AtomicU32, Ordering};
 use std::test::Fail;
 use std::thread::Threads;
-use vbr_run::{Config, Gate, Reply, Totals, play};
-use vbr_words::Shape;
+use vbr_run::{Config, Gate, MapTotals, Reply, RunError, Totals, play, play_map};
 use vbr_words::shape::MAX_EPOCH;
+use vbr_words::{Entries, Keys, Shape};
 
 // How often a wait looks at its flag before it gives up.
 const LOOKS: u32 = 1_000_000_000;
 
+/// Nodes of a set or a map that a script is played on.
+trait Played {
+    /// The totals of a run.
+    type Totals: Drop;
+
+    /// Plays a script.
+    fn play<T: Threads + Wait, G: Gate + Sync>(
+        rt: &T,
+        alloc: Global,
+        config: Config,
+        script: &[u8],
+        output: &mut Vec<u8>,
+        gate: &G,
+    ) -> Result<Self::Totals, RunError>;
+}
+
+impl Played for Keys {
+    type Totals = Totals;
+
+    fn play<T: Threads + Wait, G: Gate + Sync>(
+        rt: &T,
+        alloc: Global,
+        config: Config,
+        mut script: &[u8],
+        output: &mut Vec<u8>,
+        gate: &G,
+    ) -> Result<Totals, RunError> {
+        play(rt, alloc, config, &mut script, output, gate)
+    }
+}
+
+impl Played for Entries {
+    type Totals = MapTotals;
+
+    fn play<T: Threads + Wait, G: Gate + Sync>(
+        rt: &T,
+        alloc: Global,
+        config: Config,
+        mut script: &[u8],
+        output: &mut Vec<u8>,
+        gate: &G,
+    ) -> Result<MapTotals, RunError> {
+        play_map(rt, alloc, config, &mut script, output, gate)
+    }
+}
+
 // Plays a script for two workers at a gate: what is written, and the totals.
-fn play_at<T: Threads + Wait, G: Gate + Sync>(
+fn play_at<N: Played, T: Threads + Wait, G: Gate + Sync>(
     rt: &T,
     alloc: Global,
-    mut script: &[u8],
+    script: &[u8],
     gate: &G,
-) -> Result<(Vec<u8>, Totals), Fail> {
+) -> Result<(Vec<u8>, N::Totals), Fail> {
     let shape = Shape::new(1024, 16, MAX_EPOCH)?;
     let config = Config::new(shape, 2, 100_000, false)?;
     let mut output = Vec::new(alloc);
-    let totals = play(rt, alloc, config, &mut script, &mut output, gate)?;
+    let totals = N::play(rt, alloc, config, script, &mut output, gate)?;
     Ok((output, totals))
 }
 
@@ -78,38 +125,75 @@ impl Gate for Crossing {
     }
 }
 
-/// With a player that has one worker play at a time, a wait gives up.
+// Plays a script of an insert by each worker at a crossing, and compares what is written. With a player
+// that has one worker play at a time, a wait gives up.
+fn cross<N: Played, T: Threads + Wait + Abort>(
+    rt: &T,
+    alloc: Global,
+    script: &[u8],
+    wanted: &[u8],
+) -> Result<N::Totals, Fail> {
+    let gate = Crossing::new();
+    let (output, totals) = play_at::<N, T, Crossing>(rt, alloc, script, &gate)?;
+    assert!(rt; !gate.gave_up.load(Ordering::SeqCst));
+    assert_eq!(rt; output.as_slice(), wanted);
+    Ok(totals)
+}
+
+const INSERTS: &[u8] = b"0 insert 1\n1 insert 2\n";
+
+const INSERTS_OUTPUT: &[u8] = b"yes\nyes\ninserted 2\nremoved 0\nfound 0\nrefused 0\nkeys 1 2\n";
+
 #[test]
 fn workers_run_at_the_same_time(rt: HostRuntime) -> Result<(), Fail> {
-    let gate = Crossing::new();
-    let (output, totals) = play_at(&rt, rt.alloc(), b"0 insert 1\n1 insert 2\n", &gate)?;
-    assert!(rt; !gate.gave_up.load(Ordering::SeqCst));
-    assert_eq!(rt;
-        output.as_slice(),
-        b"yes\nyes\ninserted 2\nremoved 0\nfound 0\nrefused 0\nkeys 1 2\n".as_slice()
-    );
+    let totals = cross::<Keys, HostRuntime>(&rt, rt.alloc(), INSERTS, INSERTS_OUTPUT)?;
     expect_totals(&rt, &totals, [2, 0, 0, 0], 1, &[1, 2]);
     Ok(())
 }
 
-// A script of three phases, on a set and a renewed one; of each of its operations the worker, and what
-// it is answered.
+const STORES: &[u8] = b"0 insert 1 70\n1 insert 2 71\n";
+
+const STORES_OUTPUT: &[u8] =
+    b"yes\nyes\ninserted 2\nremoved 0\nfound 0\nrefused 0\nentries 1=70 2=71\n";
+
+#[test]
+fn workers_of_a_map_run_at_the_same_time(rt: HostRuntime) -> Result<(), Fail> {
+    let totals = cross::<Entries, HostRuntime>(&rt, rt.alloc(), STORES, STORES_OUTPUT)?;
+    expect_map_totals(&rt, &totals, [2, 0, 0, 0], 1, &[(1, 70), (2, 71)]);
+    Ok(())
+}
+
+/// Of each operation of a script its worker, and what it is answered.
+type Calls = [(u32, Reply); 4];
+
+// A script of three phases, on a set and a renewed one.
 const SCRIPT: &[u8] = b"0 insert 1\n1 insert 2\nsync\n1 has 1\nrenew\n0 remove 5\n";
 
-const CALLS: [(u32, Reply); 4] = [
+const CALLS: Calls = [
     (0, Reply::Yes),
     (1, Reply::Yes),
     (1, Reply::Yes),
     (0, Reply::No),
 ];
 
-// The phase of each operation of the script.
+// The same phases on a map, of which a worker is given what the other has stored.
+const MAP_SCRIPT: &[u8] = b"0 insert 1 70\n1 insert 2 71\nsync\n1 get 1\nrenew\n0 remove 2\n";
+
+const MAP_CALLS: Calls = [
+    (0, Reply::Yes),
+    (1, Reply::Yes),
+    (1, Reply::Value(70)),
+    (0, Reply::Value(71)),
+];
+
+// The phase of each operation of these scripts.
 const PHASES: [u32; 4] = [0, 0, 1, 2];
 
 /// A gate that counts how often it is rightly told of each line of the script, before its call and
 /// behind it, and of each phase before it begins.
 #[derive(Drop)]
 struct Recorder {
+    calls: Calls,
     phases: AtomicU32,
     begun: [AtomicU32; 4],
     answered: [AtomicU32; 4],
@@ -117,8 +201,9 @@ struct Recorder {
 }
 
 impl Recorder {
-    fn new() -> Self {
+    fn new(calls: Calls) -> Self {
         Recorder {
+            calls,
             phases: AtomicU32::new(0),
             begun: counts(),
             answered: counts(),
@@ -154,7 +239,7 @@ impl Gate for Recorder {
     }
 
     fn before(&self, worker: u32, line: u64) {
-        let call = CALLS.get(line as usize);
+        let call = self.calls.get(line as usize);
         let phase = PHASES.get(line as usize);
         let is_right = matches!((call, phase), (Some((who, _)), Some(phase))
             if *who == worker && *phase + 1 == self.phases.load(Ordering::SeqCst));
@@ -162,22 +247,36 @@ impl Gate for Recorder {
     }
 
     fn after(&self, worker: u32, line: u64, reply: Reply) {
-        let call = CALLS.get(line as usize);
+        let call = self.calls.get(line as usize);
         let is_right = call == Some(&(worker, reply));
         self.count(&self.answered, line, is_right);
     }
 }
 
-/// A gate is told of each phase before its lines; and each worker tells of each of its lines once before
-/// the call and once behind it, with its reply.
-#[test]
-fn a_gate_is_told_of_each_phase_and_call(rt: HostRuntime) -> Result<(), Fail> {
-    let gate = Recorder::new();
-    play_at(&rt, rt.alloc(), SCRIPT, &gate)?;
+// Plays a script whose calls these are at a recorder, which is told of each phase before its lines; and
+// each worker tells of each of its lines once before the call and once behind it, with its reply.
+fn record<N: Played, T: Threads + Wait + Abort>(
+    rt: &T,
+    alloc: Global,
+    script: &[u8],
+    calls: Calls,
+) -> Result<(), Fail> {
+    let gate = Recorder::new(calls);
+    play_at::<N, T, Recorder>(rt, alloc, script, &gate)?;
     assert!(rt; !gate.was_misled.load(Ordering::SeqCst));
     assert_eq!(rt; gate.phases.load(Ordering::SeqCst), 3);
     for count in gate.begun.iter().chain(gate.answered.iter()) {
         assert_eq!(rt; count.load(Ordering::SeqCst), 1);
     }
     Ok(())
+}
+
+#[test]
+fn a_gate_is_told_of_each_phase_and_call(rt: HostRuntime) -> Result<(), Fail> {
+    record::<Keys, HostRuntime>(&rt, rt.alloc(), SCRIPT, CALLS)
+}
+
+#[test]
+fn a_gate_is_told_of_each_phase_and_call_on_a_map(rt: HostRuntime) -> Result<(), Fail> {
+    record::<Entries, HostRuntime>(&rt, rt.alloc(), MAP_SCRIPT, MAP_CALLS)
 }

@@ -1,6 +1,6 @@
 //! Scripts of maps that are played: which values are told, and which are left.
+use crate::player::expect_map_totals;
 use std::alloc::Global;
-use std::process::Abort;
 use std::sync::Wait;
 use std::test::Fail;
 use std::thread::Threads;
@@ -157,19 +157,10 @@ fn a_renewal_keeps_each_value(rt: HostRuntime) -> Result<(), Fail> {
 
 const TOTALLED: &[u8] = b"0 insert 7 72\n0 insert 5 70\n0 remove 7\n0 insert 9 71\n0 get 9\n";
 
-// Whether totals are those of that script.
-fn expect_totals(rt: &impl Abort, totals: &MapTotals) {
-    assert_eq!(rt; totals.entries.as_slice(), [(5, 70), (9, 71)].as_slice());
-    assert_eq!(rt; totals.inserted, 3);
-    assert_eq!(rt; totals.removed, 1);
-    assert_eq!(rt; totals.found, 1);
-    assert_eq!(rt; totals.epoch, 2);
-}
-
 #[test]
 fn totals_have_the_entries_that_are_left(rt: HostRuntime) -> Result<(), Fail> {
     let (_output, totals) = play_on(&rt, rt.alloc(), FOUR_SLOTS, TOTALLED)?;
-    expect_totals(&rt, &totals);
+    expect_map_totals(&rt, &totals, [3, 1, 1, 0], 2, &[(5, 70), (9, 71)]);
     Ok(())
 }
 

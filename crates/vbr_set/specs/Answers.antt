@@ -15,7 +15,10 @@ pub record Follows (first calls history : List Call) : Type 0 where
   pub more : List Call
   pub stands : history ≡ (first ++ between) ++ (calls ++ more)
 
--- the pass has then seen a run that begins with all that it had seen; the calls of this run, of all passes, are a legal history of a set that opened with the keys of its start; the pass's own calls in it are those that it had made, and then these, which stand next to each other, after all calls that it had seen; each exchange of a link that was won in it, and each checked read, was of the incarnations that the pass held, and none of an earlier incarnation of their slots
+-- the pass has then seen a run that begins with all that it had seen, in which these calls stand
+-- The calls of this run, of all passes, are a legal history of a set that opened with the keys of its start.
+-- The pass's own calls in it are those that it had made, and then these, which stand next to each other, after all calls that it had seen.
+-- Each exchange of a link that was won in it, and each checked read, was of the incarnations that the pass held, and none of an earlier one of their slots.
 pub record AnswersAll (calls : List Call) (p q : Trace) : Type 0 where
   pub same : IsSame p q
   pub begins : Begins p.seen q.seen

@@ -13,6 +13,7 @@ pub mod Messages
 pub mod Walking
 pub mod Mailboxes
 pub mod Members
+pub mod AtSets
 pub mod Batches
 pub mod Iterating
 pub mod Sharing

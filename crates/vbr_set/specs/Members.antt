@@ -36,7 +36,9 @@ pub record AreNew (start : Start) (count : ℕ) (members : List MemberView) : Ty
 abbrev pub one : {A : Type 0} → (A → Call) → A → List Call
 one told reply = told reply ∷ []
 
--- the member is the same pass of the same set or map; where the call was answered, what the answer tells leaves what answers leave, and alone it has the replies of a plain set; where it was refused, it made no call; in each case what its pass has then seen is a safe run; it has no slot in hand; and it made no more steps than its budget
+-- what a call leaves of its member, which is the same pass of the same set or map
+-- Where the call was answered, what the answer tells leaves what answers leave, and alone it has the replies of a plain set. Where it was refused, it made no call.
+-- In each case what its pass has then seen is a safe run. It has no slot in hand, and made no more steps than its budget.
 pub record CalledBy {A : Type 0} (Leave : List Call → Trace → Trace → Type 0) (told : A → List Call) (SparesSo : Result A Refusal → Type 0) (m n : MemberView) (budget : ℕ) (answer : Result A Refusal) : Type 0 where
   pub set : n.set ≡ m.set
   pub same : IsSame m.pass.trace n.pass.trace

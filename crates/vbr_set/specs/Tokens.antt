@@ -38,7 +38,10 @@ pub record IsTokenOf (set : TableView) (p : Trace) (token : SeenView) : Type 0 w
 abbrev pub EachFollows : List Call → Trace → Type 0
 EachFollows first q = (calls : List Call) (r s : Trace) → IsSame q r → Begins q.seen r.seen → AnswersAll calls r s → Follows first calls (calls_of s.start s.seen)
 
--- the pass, which is of the set, made no step and no call: it has seen what others did since, and knows and keeps what it knew and kept; what it has then seen is a safe run that begins with what the token tells; its calls are legal from the opening keys, and begin with those that the token tells; and each call that the pass is answered from now on stands behind all of these
+-- the pass has taken in what the token holds: what it has then seen is a safe run that begins with that
+-- It is of the set, and made no step and no call. It has seen what others did since, and knows and keeps what it knew and kept.
+-- The calls of the run are legal from the opening keys, and begin with those that the token holds.
+-- Each call that the pass is answered from now on stands after all of these.
 pub record CatchesUp (set : TableView) (p : PassView) (token : SeenView) (q : PassView) : Type 0 where
   pub pass : IsOf q.trace set
   pub since : Since p.trace q.trace

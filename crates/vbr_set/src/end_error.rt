@@ -6,12 +6,13 @@ use std::fmt;
 /// Why the last member of a set got no report, or that of a map, whose members `M` then are.
 #[derive(Drop)]
 pub enum EndError<M = Member> {
-    /// A pass never came back. The set is gone. A member that is dropped gives its pass back, so no
-    /// program is known to get this. A contract says that it doesn't come to the member of a set that
-    /// was opened for one; of several, tests do.
+    /// A pass never came back. The set is gone. A member that is closed or dropped gives its pass back, so
+    /// no program is known to get this. A contract says that it doesn't come to the member of a set that
+    /// was opened for one; of several, tests do, also where memory lacks.
     Lost,
-    /// There is no memory for the report. The member is as it was, with what it had of its set: it can make
-    /// calls, and be closed again.
+    /// There is no memory for the report. The member comes back, by its contract the same pass of the same
+    /// set: it can make calls, and be closed again. That it still has what the other members gave back is
+    /// tested: its next close is told the report.
     Memory(M),
 }
 

@@ -1,4 +1,6 @@
 //! The set, and the map.
+mod at_set;
+pub mod batches;
 pub mod calls;
 pub mod closing;
 pub mod giving_slots_back;

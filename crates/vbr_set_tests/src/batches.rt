@@ -1,9 +1,15 @@
 //! Look-ups in batches, of sets and of maps: the answers stand at the places of their keys, for any number of
 //! keys, and each key is refused by itself.
+ghost use Rattle.std.specs.Prelude.{◌≡◌, None};
+ghost use Rattle.vbr_slots.specs.Views.{IsOf};
+
+use crate::alone::open_alone;
 use std::alloc::Global;
 use std::process::Abort;
 use std::test::Fail;
-use vbr_set::{MapMember, Member, Refusal, Shape};
+use vbr_set::set::VbrSet;
+use vbr_set::{MapMember, Member, Pass, Refusal, Shape};
+use vbr_words::{Entries, Keys, Nodes};
 
 const BUDGET: u32 = 1_000;
 
@@ -124,5 +130,37 @@ fn keys_are_refused_by_themselves(rt: HostRuntime) -> Result<(), Fail> {
     assert_eq!(rt; answers[2], Ok(false));
     assert_eq!(rt; answers[3], refused);
     assert_eq!(rt; answers[4], Ok(true));
+    Ok(())
+}
+
+// With twenty steps 9, the second key of its bucket, is refused, and the keys behind it are answered. The pass
+// then goes on.
+fn expect_by_a_pass<N: Nodes>(rt: &impl Abort, set: &VbrSet<N>, pass: &mut Pass)
+    requires own { IsOf pass.old.trace set.now }
+    requires empty_hand { pass.old.hand ≡ None }
+    ensures own { IsOf pass.new.trace set.now }
+    ensures empty_hand { pass.new.hand ≡ None }
+{
+    let mut answers = [Ok(false); 3];
+    set.has_all(pass, &[9, 2, 1], &mut answers, 20);
+    assert_eq!(rt; answers[0], Err(Refusal::OutOfSteps { used: 13 }));
+    assert_eq!(rt; answers[1], Ok(false));
+    assert_eq!(rt; answers[2], Ok(true));
+    assert_eq!(rt; set.has(pass, 9, BUDGET), Ok(true));
+}
+
+/// The same by a pass beside its set, or its map, which has the values too.
+#[test]
+fn keys_by_a_pass(rt: HostRuntime) -> Result<(), Fail> {
+    let shape = Shape::new(8, 8, 100)?;
+    let (set, mut pass) = open_alone::<Keys>(rt.alloc(), shape, &[1, 9])?;
+    expect_by_a_pass(&rt, &set, &mut pass);
+    let (map, mut pass) = open_alone::<Entries>(rt.alloc(), shape, &[(1, 10), (9, 90)])?;
+    expect_by_a_pass(&rt, &map, &mut pass);
+    let mut values = [Ok(None); 3];
+    map.get_all(&mut pass, &[9, 2, 1], &mut values, 20);
+    assert_eq!(rt; values[0], Err(Refusal::OutOfSteps { used: 13 }));
+    assert_eq!(rt; values[1], Ok(None));
+    assert_eq!(rt; values[2], Ok(Some(10)));
     Ok(())
 }

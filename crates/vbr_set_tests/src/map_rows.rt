@@ -89,6 +89,26 @@ fn open_two(alloc: Global, shape: (u32, u32, u64)) -> Result<(VbrMap, Pass, Pass
     Ok((map, first, second))
 }
 
+// Closes a map with its two passes, and compares what is left in it.
+fn expect_left(
+    rt: &impl Abort,
+    alloc: Global,
+    map: VbrMap,
+    a: Pass,
+    b: Pass,
+    left: Left,
+) -> Result<(), Fail>
+    requires two { map.passes ≡ 2 }
+    requires own { IsOf a.trace map × IsOf b.trace map }
+{
+    let report = map.close(alloc, Vec::from_array(alloc, [a, b])?)?;
+    let (entries, epoch, counts) = left;
+    assert_eq!(rt; report.entries.as_slice(), entries);
+    assert_eq!(rt; report.epoch, epoch);
+    assert_eq!(rt; (report.live, report.marked, report.free), counts);
+    Ok(())
+}
+
 // Makes rows on a fresh map with two passes, closes it, and compares what is left in it.
 fn expect(
     rt: &impl Abort,
@@ -100,13 +120,8 @@ fn expect(
     let (map, a, b) = open_two(alloc, shape)?;
     let (mut a, mut b) = (map.with_pass(a), map.with_pass(b));
     play(rt, &mut a, &mut b, rows);
-    let passes = Vec::from_array(alloc, [a.into_pass(), b.into_pass()])?;
-    let report = map.close(alloc, passes)?;
-    let (entries, epoch, counts) = left;
-    assert_eq!(rt; report.entries.as_slice(), entries);
-    assert_eq!(rt; report.epoch, epoch);
-    assert_eq!(rt; (report.live, report.marked, report.free), counts);
-    Ok(())
+    let (a, b) = (a.into_pass(), b.into_pass());
+    expect_left(rt, alloc, map, a, b, left)
 }
 
 /// A remove that can't unlink within its budget leaves the node to the next call that meets it.
@@ -217,4 +232,62 @@ fn one_of_two_passes_renews_no_map(rt: HostRuntime) -> Result<(), Fail> {
     assert_eq!(rt; report.entries.as_slice(), [(2, 71), (5, 70)].as_slice());
     assert_eq!(rt; (report.live, report.marked, report.free), (2, 0, 2));
     Ok(())
+}
+
+// How many keys fill the map of sixty-four slots.
+const SLOTS: u64 = 64;
+
+// Stores the keys 1 to 64, each with a hundred more for its value.
+fn fill(rt: &impl Abort, caller: &mut VbrMapRef)
+    ensures { caller.new.set ≡ caller.old.set }
+{
+    for key in 1..SLOTS + 1 {
+        assert_eq!(rt; caller.insert(key, key + 100, 100_000), Ok(true));
+    }
+}
+
+// Takes them out in the same order, each with its value.
+fn empty(rt: &impl Abort, caller: &mut VbrMapRef)
+    ensures { caller.new.set ≡ caller.old.set }
+{
+    for key in 1..SLOTS + 1 {
+        assert_eq!(rt; caller.remove(key, 100_000), Ok(Some(key + 100)));
+    }
+}
+
+// The own pool of a pass has the slots from this one to 62, the oldest first, and its epoch is this one.
+fn expect_pool(rt: &impl Abort, pass: &Pass, first: u32, epoch: u64) {
+    assert!(rt; pass.pool().iter().copied().eq(first..63));
+    assert_eq!(rt; pass.epoch(), epoch);
+}
+
+// The first caller takes its oldest slot again, for which it advances the epoch; the second one finds the slot
+// that the first has given away.
+fn take_again(rt: &impl Abort, a: &mut VbrMapRef, b: &mut VbrMapRef)
+    ensures first { a.new.set ≡ a.old.set }
+    ensures second { b.new.set ≡ b.old.set }
+{
+    let rows = [
+        Row::Call(0, 1_000, Made::Insert(1, 201, Ok(true))),
+        Row::Steps(77),
+        Row::Call(1, 1_000, Made::Insert(2, 202, Ok(true))),
+        Row::Call(1, 1_000, Made::Remove(2, Ok(Some(202)))),
+        Row::Pool(&[63]),
+    ];
+    play(rt, a, b, &rows);
+    expect_pool(rt, a.pass(), 1, 2);
+}
+
+/// A pass keeps 63 of the slots that it unlinked, and gives the next one to the shared pool. The first that it
+/// takes again is the oldest, with another value.
+#[test]
+fn sixty_four_slots_filled_and_emptied(rt: HostRuntime) -> Result<(), Fail> {
+    let (map, a, b) = open_two(rt.alloc(), (64, 1, 10))?;
+    let (mut a, mut b) = (map.with_pass(a), map.with_pass(b));
+    fill(&rt, &mut a);
+    empty(&rt, &mut a);
+    expect_pool(&rt, a.pass(), 0, 1);
+    take_again(&rt, &mut a, &mut b);
+    let (a, b) = (a.into_pass(), b.into_pass());
+    expect_left(&rt, rt.alloc(), map, a, b, (&[(1, 201)], 2, (1, 0, 63)))
 }

@@ -1,5 +1,5 @@
 //! Rounds over the calls that take memory, as tests. A call that finds no memory must leave all as it
-//! was, and give what it should when it is made again. `tests/calls` runs each of them with each
+//! was, and give what it should when it is made again. `tests/refused-memory` runs each of them with each
 //! allocation refused in turn.
 mod maps;
 mod members_of_maps;

@@ -53,7 +53,7 @@ here of the set and its keys holds of the map, and besides:
 VALUE is a number as KEY is, and 0 where none is written. An insert that is answered
 yes stores it with the key, and one that is answered no leaves the value that is
 there. A get is a look-up that gives the value: it and a remove are answered yes with
-the value behind it, as in yes 70. The last total is entries, with KEY=VALUE for each
+the value after it, as in yes 70. The last total is entries, with KEY=VALUE for each
 key that is left.
 
 Where standard error is a terminal, a line there tells which phase of a long script
@@ -139,8 +139,7 @@ const EPOCH_HELP: &str = "Prints the epoch of the set in the end";
 
 const MAP_HELP: &str = "Plays the script on a map, whose keys have values, and not on a set";
 
-const EXPLAIN_HELP: &str =
-    "Plays nothing, and tells what a fault or a refusal means, and what helps";
+const EXPLAIN_HELP: &str = "Plays nothing, and explains a fault or a refusal, and what helps";
 
 const FILE_HELP: &str = "The file that the script is read from; - is standard input";
 

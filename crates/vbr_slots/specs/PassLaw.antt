@@ -7,7 +7,9 @@ use Rattle.vbr_slots.specs.Pools.{OwnPool}
 use Rattle.vbr_slots.specs.declared.pass.TheConstants.{POOL}
 use Rattle.vbr_slots.specs.Views.{PassView, knows}
 
--- what the pass has seen is a run from a start, by a pass of that number, and a safe one: the calls in it, of all passes, are one legal history of a set, and each exchange that was won in it, and each checked read, was of the incarnations held; what the pass knows of its slots agrees with its pool and its hand; and its pool has no more slots than it has room for
+-- what the pass has seen is a safe run from a start, by a pass of that number
+-- So the calls in it, of all passes, are one legal history of a set; and each exchange that was won in it, and each checked read, was of the incarnations held.
+-- What the pass knows of its slots agrees with its pool and its hand. Its pool has no more slots than it has room for.
 pub record PassLaw (p : PassView) : Type 0 where
   pub start : IsStart p.trace.start
   pub low : p.trace.who < p.trace.passes

@@ -102,7 +102,9 @@ times_in who (v ∷ vs) = times who v + times_in who vs
 
 -- ---- the rule
 
--- the words are those of the world after a run; what each witness of each seat has seen begins this run and has all its own events; nothing has happened, or some witness that is none of a token has seen all of it; and each number but that of tokens stands as often in all seats as at the opening
+-- the words are those of the world after a run, which the seats have seen
+-- What each witness of each seat has seen begins this run and has all its own events. Nothing has happened, or some witness that is none of a token has seen all of it.
+-- Each number but that of tokens stands as often in all seats as at the opening.
 pub record Kept (opening : TableStart) (s : Standing (Unit {0}) (List Witness)) : Type 0 where
   pub run : List Event
   pub is_run : IsRun opening.start opening.passes run

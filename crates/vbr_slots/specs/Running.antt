@@ -17,7 +17,9 @@ abbrev pub EachKnows : Start → List Event → List Witness → Type 0
 EachKnows start run [] = Unit {0}
 EachKnows start run (m ∷ ms) = (know_after start m.seen m.who ≡ know_after start run m.who) × EachKnows start run ms
 
--- the table is the state of a run of the core: the run is safe, so its chronicle is lawful, what each pass knows and owns agrees with it, and each incarnation that a pass holds is late for the pass's epoch; the words of the table are the words after the run, which are the image of its chronicle; what each pass has seen begins the run and has all its own events, and the pass knows from it what it knows after the run; the run is what some pass has seen, or nothing has happened; and no pass stands in two seats, which may be said of every number but that of tokens
+-- the table is the state of a safe run of the machine
+-- The words of the table are those after the run. What each pass has seen begins the run and has all its own events, and the pass knows from it what it knows after the run.
+-- Some pass has seen the whole run, or nothing has happened. No pass stands in two seats, which may be said of every number but that of tokens.
 pub record IsRunning (opening : TableStart) (s : Standing (Unit {0}) (List Witness)) : Type 0 where
   pub run : List Event
   pub is_run : IsRun opening.start opening.passes run

@@ -2,17 +2,17 @@
 ghost use Rattle.std.specs.Prelude.{◌≡◌, ◌<◌, ◌≤◌, true, IfOk};
 ghost use Rattle.vbr_slots.specs.Views.{IsOf, new_passes};
 
-use crate::retiring::read_one;
-use crate::running_table::{expect_closed, expect_pass, two_passes};
+use crate::retiring::{read_one, read_value};
+use crate::running_table::{Opened, expect_closed, expect_pass, two_passes};
 use std::alloc::Global;
 use std::process::Abort;
 use std::test::Fail;
-use vbr_access::{Held, Marked, Rollback, checkpoint, first, mark_entry, next, value_of};
+use vbr_access::{Held, Marked, Rollback, checkpoint, first, mark_entry, next};
 use vbr_slots::{OpenError, Pass, Slots};
-use vbr_words::{At, Entries, Shape};
+use vbr_words::{At, Entries, Keys, Nodes, Shape};
 
 // The epoch moves between a checkpoint and the read of a head.
-fn roll_back(rt: &impl Abort, slots: &Slots, pass: &mut Pass, other: &mut Pass)
+fn roll_back<N: Nodes>(rt: &impl Abort, slots: &Slots<N>, pass: &mut Pass, other: &mut Pass)
     requires own { IsOf pass.old.trace slots.now }
     requires other { IsOf other.old.trace slots.now }
     requires shape { (0 < slots.now.start.shape.buckets) × (1 < slots.now.start.shape.last_epoch) }
@@ -27,7 +27,7 @@ fn roll_back(rt: &impl Abort, slots: &Slots, pass: &mut Pass, other: &mut Pass)
 
 // The head of bucket 0, which is empty, is read after a new checkpoint in epoch 2. There is no step to
 // a node behind it.
-fn read_head(rt: &impl Abort, slots: &Slots, pass: &mut Pass)
+fn read_head<N: Nodes>(rt: &impl Abort, slots: &Slots<N>, pass: &mut Pass)
     requires own { IsOf pass.old.trace slots.now }
     requires bucket { 0 < slots.now.start.shape.buckets }
     ensures own { IsOf pass.new.trace slots.now }
@@ -46,14 +46,19 @@ fn read_head(rt: &impl Abort, slots: &Slots, pass: &mut Pass)
     assert!(rt; pass.steps() == steps);
 }
 
+fn roll_back_and_read<R: Abort, N: Opened>(rt: &R, alloc: Global) {
+    let (slots, mut pass, mut other) = two_passes::<R, N>(rt, alloc, 1, 10);
+    roll_back(rt, &slots, &mut pass, &mut other);
+    expect_pass(rt, &pass, (0, 2, 3));
+    read_head(rt, &slots, &mut pass);
+    expect_pass(rt, &pass, (0, 2, 6));
+}
+
 /// The epoch moves between a checkpoint and the read of a head: the read rolls back.
 #[test]
 fn a_moved_epoch_rolls_back(rt: HostRuntime) {
-    let (slots, mut pass, mut other) = two_passes(&rt, rt.alloc(), 1, 10);
-    roll_back(&rt, &slots, &mut pass, &mut other);
-    expect_pass(&rt, &pass, (0, 2, 3));
-    read_head(&rt, &slots, &mut pass);
-    expect_pass(&rt, &pass, (0, 2, 6));
+    roll_back_and_read::<HostRuntime, Keys>(&rt, rt.alloc());
+    roll_back_and_read::<HostRuntime, Entries>(&rt, rt.alloc());
 }
 
 // Opens a table with one pass and one entry, 7 with 107. What found no memory left nothing, so it is
@@ -82,8 +87,7 @@ fn mark_one_entry(rt: &impl Abort, slots: &Slots<Entries>, pass: &mut Pass) -> M
     ensures own { IsOf pass.new.trace slots.now }
 {
     let (_, node) = read_one(rt, slots, pass);
-    let value = value_of(slots, pass, &node).expect(rt, "the epoch has not moved");
-    assert_eq!(rt; value, 107);
+    read_value(rt, slots, pass, &node);
     mark_entry(slots, pass, &node).expect(rt, "the link is unmarked")
 }
 

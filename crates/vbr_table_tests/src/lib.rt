@@ -13,6 +13,8 @@ mod list;
 #[cfg(test)]
 mod listed_calls;
 #[cfg(test)]
+mod lost_exchanges;
+#[cfg(test)]
 mod lost_stores;
 #[cfg(test)]
 mod plain_map;

@@ -1,8 +1,9 @@
 //! A reader stands on a node while another pass replaces its value: what its next calls tell.
-ghost use Rattle.std.specs.Prelude.{◌≡◌, ◌<◌, ◌≤◌, true, None, IfOk};
+ghost use Rattle.std.specs.Prelude.{◌≡◌, ◌<◌, true, None, IfOk};
 ghost use Rattle.vbr_words.specs.declared.place.At.TheVariants.{Slot};
 ghost use Rattle.vbr_slots.specs.Views.{IsOf, knows};
-ghost use Rattle.vbr_at_table.specs.Held.{IsHeld};
+ghost use Rattle.vbr_at_table.specs.Exchanges.{IsUnmarked};
+ghost use Rattle.vbr_at_table.specs.Held.{IsHeld, Names};
 ghost use Rattle.vbr_at_table.specs.Keeping.{KeepsOwn};
 ghost use Rattle.vbr_at_table.specs.Replacing.{IsReplaceable};
 
@@ -29,8 +30,9 @@ fn last_node(
     requires head { IsHeld (knows pass.old.trace) head.now }
     ensures own { IsOf pass.new.trace slots.now }
     ensures keeps { KeepsOwn pass.old pass.new }
+    ensures head { IsHeld (knows pass.new.trace) head.now }
     ensures node { IsHeld (knows pass.new.trace) result }
-    ensures at { result.at ≡ Slot slot }
+    ensures named { Names head.now slot × (result.at ≡ Slot slot) }
     ensures word { result.word ≡ 33_554_432 }
 {
     let node = next(slots, pass, head)
@@ -41,23 +43,23 @@ fn last_node(
     node
 }
 
-// The one node, which stands in this slot and has key 7 and this value: 3 steps to the head, 3 to the node, 2 for
-// the key and 2 for the value.
-fn read_entry(
+// The one node, which stands in this slot and has key 7 and this value, behind the head that names it: 3 steps to the
+// head, 3 to the node, 2 for the key and 2 for the value.
+pub fn read_entry(
     rt: &impl Abort,
     slots: &Slots<Entries>,
     pass: &mut Pass,
     slot: u32,
     value: u64,
-) -> Held
+) -> (Held, Held)
     requires own { IsOf pass.old.trace slots.now }
-    requires bucket { 0 < slots.now.start.shape.buckets }
-    requires values { slots.now.start.shape.values ≡ true }
-    requires slot { slot ≤ 2 }
+    requires shape { (0 < slots.now.start.shape.buckets) × (slots.now.start.shape.values ≡ true) }
     ensures own { IsOf pass.new.trace slots.now }
     ensures keeps { KeepsOwn pass.old pass.new }
-    ensures node { IsReplaceable pass.new.trace result 7 0 }
-    ensures at { result.at ≡ Slot slot }
+    ensures head { IsUnmarked (knows pass.new.trace) result.0 }
+    ensures node { IsReplaceable pass.new.trace result.1 7 0 }
+    ensures at { result.1.at ≡ Slot slot }
+    ensures names { Names result.0 slot }
 {
     let head = head_of(rt, slots, pass, 33_554_433 + u64::from(slot));
     let node = last_node(rt, slots, pass, &head, slot);
@@ -65,7 +67,7 @@ fn read_entry(
     assert!(rt; key == 7);
     let told = value_of(slots, pass, &node).expect(rt, "the epoch has not moved");
     assert!(rt; told == value);
-    node
+    (head, node)
 }
 
 // The node in slot 0 was replaced since it was read. It keeps its value, but a get by it is lost to its marked link,
@@ -95,7 +97,7 @@ fn stand_on_replaced(rt: &impl Abort, slots: &Slots<Entries>, a: &mut Pass, b: &
     ensures first { IsOf a.new.trace slots.now }
     ensures second { IsOf b.new.trace slots.now }
 {
-    let node = read_entry(rt, slots, b, 0, 107);
+    let (_, node) = read_entry(rt, slots, b, 0, 107);
     assert_eq!(rt;
         store(slots, a, 7, 207, Wanted::Present, 100),
         Ok(Some(107))
@@ -110,14 +112,18 @@ fn stand_on_replaced(rt: &impl Abort, slots: &Slots<Entries>, a: &mut Pass, b: &
     assert_eq!(rt; get(slots, b, 7, 100), Ok(Some(307)));
 }
 
-// A map with two slots, in which pass 0 has inserted 7 with 107, in slot 0.
-fn one_entry(rt: &impl Abort, alloc: Global) -> Result<(Slots<Entries>, Pass, Pass), Fail>
+// A map with so many slots and one bucket, in which pass 0 has inserted 7 with 107, in slot 0.
+pub fn one_entry(
+    rt: &impl Abort,
+    alloc: Global,
+    slots: u32,
+) -> Result<(Slots<Entries>, Pass, Pass), Fail>
     ensures start { IfOk result
         (λ r. (r.0.start.shape.buckets ≡ 1) × (r.0.start.shape.values ≡ true)) }
     ensures first { IfOk result (λ r. IsOf r.1.trace r.0 × (r.1.hand ≡ None)) }
     ensures second { IfOk result (λ r. IsOf r.2.trace r.0 × (r.2.hand ≡ None)) }
 {
-    let shape = Shape::new(2, 1, 10)?.with_values();
+    let shape = Shape::new(slots, 1, 10)?.with_values();
     let (slots, mut a, b) = open_two::<Entries>(alloc, shape).expect(rt, "there is memory");
     assert_eq!(rt; insert_entry(&slots, &mut a, 7, 107, 100), Ok(true));
     Ok((slots, a, b))
@@ -127,7 +133,7 @@ fn one_entry(rt: &impl Abort, alloc: Global) -> Result<(Slots<Entries>, Pass, Pa
 /// lost to the marked link. Once a second replacement has moved the epoch, to use slot 0 again, its read rolls back.
 #[test]
 fn a_reader_on_a_replaced_node(rt: HostRuntime) -> Result<(), Fail> {
-    let (slots, mut a, mut b) = one_entry(&rt, rt.alloc())?;
+    let (slots, mut a, mut b) = one_entry(&rt, rt.alloc(), 2)?;
     stand_on_replaced(&rt, &slots, &mut a, &mut b);
     // epoch, shape and head; then link, birth, stamp, key and value of each slot; and the flags
     let words = [

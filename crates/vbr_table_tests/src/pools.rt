@@ -1,19 +1,21 @@
 //! The pools: rows call by call.
-ghost use Rattle.std.specs.Prelude.{◌≡◌, false, None};
+ghost use Rattle.std.specs.Prelude.{◌≡◌, None};
 ghost use Rattle.vbr_slots.specs.Views.{IsOf};
 
 use crate::retiring::{insert_one, remove_one};
-use crate::running_table::{expect_pool, two_passes};
+use crate::running_table::{Opened, expect_pool, two_passes};
+use std::alloc::Global;
 use std::process::Abort;
 use vbr_pools::{TakeRefusal, give_back, retire, take};
 use vbr_slots::{Pass, Slots};
+use vbr_words::{Entries, Keys, Nodes};
 
 // Takes a slot within a budget and gives it back: compares which one it was, with its birth, or the
 // refusal, and how many steps that took. Between the two calls the slot is in the pass's hand and not
 // in its pool.
-pub fn expect_taken(
+pub fn expect_taken<N: Nodes>(
     rt: &impl Abort,
-    slots: &Slots,
+    slots: &Slots<N>,
     pass: &mut Pass,
     budget: u32,
     wanted: Result<(u32, u64), TakeRefusal>,
@@ -39,36 +41,51 @@ pub fn expect_taken(
     assert_eq!(rt; pass.steps().saturating_sub(before), steps);
 }
 
+fn take_and_give_back<R: Abort, N: Opened>(rt: &R, alloc: Global) {
+    let (slots, mut a, _b) = two_passes::<R, N>(rt, alloc, 2, 10);
+    expect_taken(rt, &slots, &mut a, 100, Ok((0, 1)), 4);
+    expect_pool(rt, &a, &[0]);
+    expect_taken(rt, &slots, &mut a, 100, Ok((0, 1)), 3);
+}
+
 #[test]
 fn a_slot_is_taken_and_given_back(rt: HostRuntime) {
-    let (slots, mut a, _b) = two_passes(&rt, rt.alloc(), 2, 10);
-    expect_taken(&rt, &slots, &mut a, 100, Ok((0, 1)), 4);
-    expect_pool(&rt, &a, &[0]);
-    expect_taken(&rt, &slots, &mut a, 100, Ok((0, 1)), 3);
+    take_and_give_back::<HostRuntime, Keys>(&rt, rt.alloc());
+    take_and_give_back::<HostRuntime, Entries>(&rt, rt.alloc());
+}
+
+fn take_with_few_steps<R: Abort, N: Opened>(rt: &R, alloc: Global) {
+    let (slots, mut a, mut b) = two_passes::<R, N>(rt, alloc, 2, 10);
+    let none = Err(TakeRefusal::OutOfSteps { used: 0 });
+    expect_taken(rt, &slots, &mut b, 0, none, 0);
+    expect_pool(rt, &b, &[]);
+    let three = Err(TakeRefusal::OutOfSteps { used: 3 });
+    expect_taken(rt, &slots, &mut a, 10, three, 3);
+    expect_pool(rt, &a, &[0]);
 }
 
 #[test]
 fn a_small_budget_takes_no_slot(rt: HostRuntime) {
-    let (slots, mut a, mut b) = two_passes(&rt, rt.alloc(), 2, 10);
-    let none = Err(TakeRefusal::OutOfSteps { used: 0 });
-    expect_taken(&rt, &slots, &mut b, 0, none, 0);
-    expect_pool(&rt, &b, &[]);
-    let three = Err(TakeRefusal::OutOfSteps { used: 3 });
-    expect_taken(&rt, &slots, &mut a, 10, three, 3);
-    expect_pool(&rt, &a, &[0]);
+    take_with_few_steps::<HostRuntime, Keys>(&rt, rt.alloc());
+    take_with_few_steps::<HostRuntime, Entries>(&rt, rt.alloc());
+}
+
+fn take_where_none_is<R: Abort, N: Opened>(rt: &R, alloc: Global) {
+    let (slots, mut a, mut b) = two_passes::<R, N>(rt, alloc, 1, 10);
+    let hand = take(&slots, &mut a, 100).expect(rt, "a slot is in the shared pool");
+    expect_taken(rt, &slots, &mut b, 100, Err(TakeRefusal::NoSlot), 1);
+    expect_pool(rt, &b, &[]);
+    give_back(&mut a, hand);
 }
 
 #[test]
 fn the_only_slot_is_in_another_hand(rt: HostRuntime) {
-    let (slots, mut a, mut b) = two_passes(&rt, rt.alloc(), 1, 10);
-    let hand = take(&slots, &mut a, 100).expect(&rt, "a slot is in the shared pool");
-    expect_taken(&rt, &slots, &mut b, 100, Err(TakeRefusal::NoSlot), 1);
-    expect_pool(&rt, &b, &[]);
-    give_back(&mut a, hand);
+    take_where_none_is::<HostRuntime, Keys>(&rt, rt.alloc());
+    take_where_none_is::<HostRuntime, Entries>(&rt, rt.alloc());
 }
 
 // Inserts a key into the one bucket, which is empty, removes it, and retires its slot, which is slot 0.
-fn use_a_slot(rt: &impl Abort, slots: &Slots, pass: &mut Pass)
+fn use_a_slot<N: Nodes>(rt: &impl Abort, slots: &Slots<N>, pass: &mut Pass)
     requires own { IsOf pass.old.trace slots.now }
     requires empty_hand { pass.old.hand ≡ None }
     requires bucket { slots.now.start.shape.buckets ≡ 1 }
@@ -81,18 +98,30 @@ fn use_a_slot(rt: &impl Abort, slots: &Slots, pass: &mut Pass)
     expect_pool(rt, pass, &[0]);
 }
 
+// Uses the one slot of a table with this last epoch, and takes it again: compares what that tells, and how many steps
+// it took.
+fn take_once_used<R: Abort, N: Opened>(
+    rt: &R,
+    alloc: Global,
+    last_epoch: u64,
+    wanted: Result<(u32, u64), TakeRefusal>,
+    steps: u64,
+) {
+    let (slots, mut a, _b) = two_passes::<R, N>(rt, alloc, 1, last_epoch);
+    use_a_slot(rt, &slots, &mut a);
+    expect_taken(rt, &slots, &mut a, 80, wanted, steps);
+    assert_eq!(rt; a.epoch(), last_epoch);
+}
+
 #[test]
 fn the_last_epoch_is_spent(rt: HostRuntime) {
-    let (slots, mut a, _b) = two_passes(&rt, rt.alloc(), 1, 1);
-    use_a_slot(&rt, &slots, &mut a);
     let spent = Err(TakeRefusal::EpochSpent { epoch: 1 });
-    expect_taken(&rt, &slots, &mut a, 80, spent, 2);
+    take_once_used::<HostRuntime, Keys>(&rt, rt.alloc(), 1, spent, 2);
+    take_once_used::<HostRuntime, Entries>(&rt, rt.alloc(), 1, spent, 2);
 }
 
 #[test]
 fn a_retired_slot_is_born_in_the_next_epoch(rt: HostRuntime) {
-    let (slots, mut a, _b) = two_passes(&rt, rt.alloc(), 1, 2);
-    use_a_slot(&rt, &slots, &mut a);
-    expect_taken(&rt, &slots, &mut a, 80, Ok((0, 2)), 5);
-    assert_eq!(rt; a.epoch(), 2);
+    take_once_used::<HostRuntime, Keys>(&rt, rt.alloc(), 2, Ok((0, 2)), 5);
+    take_once_used::<HostRuntime, Entries>(&rt, rt.alloc(), 2, Ok((0, 2)), 5);
 }

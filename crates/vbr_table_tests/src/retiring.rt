@@ -7,14 +7,18 @@ ghost use Rattle.vbr_slots.specs.Views.{IsOf, knows};
 ghost use Rattle.vbr_at_table.specs.Answering.{IsPresent};
 ghost use Rattle.vbr_at_table.specs.Exchanges.{IsUnmarked};
 ghost use Rattle.vbr_at_table.specs.Held.{IsHeld, Names};
-ghost use Rattle.vbr_at_table.specs.Keeping.{KeepsOwn};
+ghost use Rattle.vbr_at_table.specs.Keeping.{Keeps, KeepsOwn};
+ghost use Rattle.vbr_at_table.specs.Values.{IsValued};
 
-use crate::running_table::{expect_words, two_passes};
+use crate::running_table::{Opened, expect_pass, expect_words, two_passes};
+use std::alloc::Global;
 use std::process::Abort;
-use vbr_access::{Held, checkpoint, first, key_of, mark, next, unlink, update};
+use vbr_access::{
+    Held, checkpoint, first, key_of, mark_entry, next, unlink, update_entry, value_of,
+};
 use vbr_pools::{Unlinked, retire, take};
 use vbr_slots::{Pass, Slots};
-use vbr_words::{At, Nodes};
+use vbr_words::{At, Entries, Keys, Nodes};
 
 // The head of bucket 0, which has this word, read after a new checkpoint in epoch 1.
 pub fn head_of<N: Nodes>(rt: &impl Abort, slots: &Slots<N>, pass: &mut Pass, word: u64) -> Held
@@ -70,8 +74,27 @@ pub fn read_one<N: Nodes>(rt: &impl Abort, slots: &Slots<N>, pass: &mut Pass) ->
     (head, node)
 }
 
-// Takes slot 0, and inserts 7 into the one bucket, which is empty.
-pub fn insert_one(rt: &impl Abort, slots: &Slots, pass: &mut Pass)
+// Reads the value of a node, which is 107, where nodes have values.
+pub fn read_value<N: Nodes>(rt: &impl Abort, slots: &Slots<N>, pass: &mut Pass, node: &Held)
+    requires own { IsOf pass.old.trace slots.now }
+    requires node { IsPresent (knows pass.old.trace) node.now }
+    requires at { node.now.at ≡ Slot 0 }
+    ensures own { IsOf pass.new.trace slots.now }
+    ensures hand { pass.new.hand ≡ pass.old.hand }
+    ensures keeps { Keeps (knows pass.old.trace) (knows pass.new.trace) }
+    ensures valued { IsValued pass.new.trace node.now.at }
+{
+    slots.kind();
+    if !N::VALUES {
+        return;
+    }
+    let value = value_of(slots, pass, node).expect(rt, "the epoch has not moved");
+    assert_eq!(rt; value, 107);
+}
+
+// Takes slot 0, and inserts 7 into the one bucket, which is empty; with 107, where nodes have values. It takes 4 steps
+// for the slot, 3 to the head, and 3 to link it, or 4 with the value.
+pub fn insert_one<N: Nodes>(rt: &impl Abort, slots: &Slots<N>, pass: &mut Pass)
     requires own { IsOf pass.old.trace slots.now }
     requires bucket { slots.now.start.shape.buckets ≡ 1 }
     requires empty_hand { pass.old.hand ≡ None }
@@ -84,14 +107,15 @@ pub fn insert_one(rt: &impl Abort, slots: &Slots, pass: &mut Pass)
     let None = next(slots, pass, &head).expect(rt, "there is no step") else {
         panic!(rt; "a node")
     };
-    match update(slots, pass, &head, None, 7, hand) {
+    match update_entry(slots, pass, &head, None, 7, 107, hand) {
         Ok(()) => {}
         Err(_refused) => panic!(rt; "not inserted"),
     }
 }
 
-// Marks and unlinks the one node, which is in slot 0.
-pub fn remove_one(rt: &impl Abort, slots: &Slots, pass: &mut Pass) -> Unlinked
+// Marks and unlinks the one node, which is in slot 0: 8 steps to read it, 2 more where it has a value, a mark, and an
+// exchange.
+pub fn remove_one<N: Nodes>(rt: &impl Abort, slots: &Slots<N>, pass: &mut Pass) -> Unlinked
     requires own { IsOf pass.old.trace slots.now }
     requires bucket { 0 < slots.now.start.shape.buckets }
     ensures own { IsOf pass.new.trace slots.now }
@@ -100,24 +124,33 @@ pub fn remove_one(rt: &impl Abort, slots: &Slots, pass: &mut Pass) -> Unlinked
     ensures unlinked { IsUnlinked ((knows pass.new.trace).own result.slot) }
 {
     let (head, node) = read_one(rt, slots, pass);
-    let marked = mark(slots, pass, &node).expect(rt, "the link is unmarked");
+    read_value(rt, slots, pass, &node);
+    let marked = mark_entry(slots, pass, &node).expect(rt, "the link is unmarked");
     let (unlinked, head) = unlink(slots, pass, &head, marked).expect(rt, "the node is linked");
     assert_eq!(rt; (head.at, head.word), (At::Head(0), 0));
     assert!(rt; unlinked.slot() == 0);
     unlinked
 }
 
-/// The epoch moves between an unlinking and the return of the slot: the stamp is the new epoch.
-#[test]
-fn a_stamp_is_read_after_the_unlinking(rt: HostRuntime) {
-    let (slots, mut a, mut b) = two_passes(&rt, rt.alloc(), 1, 10);
-    insert_one(&rt, &slots, &mut a);
-    let unlinked = remove_one(&rt, &slots, &mut a);
+// Pass 0 inserts, removes and unlinks, and pass 1 moves the epoch, before the slot is retired. Compares how many steps
+// pass 0 made in all, and the words of the closing.
+fn retire_late<R: Abort, N: Opened>(rt: &R, alloc: Global, steps: u64, words: &[u64]) {
+    let (slots, mut a, mut b) = two_passes::<R, N>(rt, alloc, 1, 10);
+    insert_one(rt, &slots, &mut a);
+    let unlinked = remove_one(rt, &slots, &mut a);
     assert!(rt; slots.read_epoch(&mut b) == 1);
     assert!(rt; slots.advance(&mut b, 1));
     assert_eq!(rt; retire(&slots, &mut a, unlinked), 2);
-    assert_eq!(rt; a.epoch(), 2);
+    expect_pass(rt, &a, (0, 2, steps));
     assert_eq!(rt; a.pool(), [0].as_slice());
+    expect_words(rt, alloc, slots, a, b, words);
+}
+
+/// The epoch moves between an unlinking and the return of the slot: the stamp is the new epoch.
+#[test]
+fn a_stamp_is_read_after_the_unlinking(rt: HostRuntime) {
     let words = [2, 167_772_161, 0, 50_331_648, 1, 2, 7, 0];
-    expect_words(&rt, rt.alloc(), slots, a, b, &words);
+    retire_late::<HostRuntime, Keys>(&rt, rt.alloc(), 22, &words);
+    let words = [2, 167_772_161, 0, 50_331_648, 1, 2, 7, 107, 0];
+    retire_late::<HostRuntime, Entries>(&rt, rt.alloc(), 25, &words);
 }

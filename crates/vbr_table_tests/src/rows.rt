@@ -65,8 +65,8 @@ fn make<R: Abort, C: Call>(
     pass.steps().saturating_sub(before)
 }
 
-// Makes rows one after another.
-fn play<R: Abort, C: Call>(
+/// Makes rows one after another.
+pub fn play<R: Abort, C: Call>(
     rt: &R,
     slots: &Slots<C::Nodes>,
     a: &mut Pass,

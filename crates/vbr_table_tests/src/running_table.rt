@@ -89,7 +89,9 @@ impl Opened for Entries {
 
 /// A shape of so many slots and buckets and with this last epoch, for nodes of a kind.
 pub fn shape_of<N: Nodes>(numbers: (u32, u32, u64)) -> Result<Shape, ShapeError>
-    ensures { IfOk result (λ shape. (shape.slots ≡ numbers.0) × (shape.values ≡ N.VALUES)) }
+    ensures numbers { IfOk result (λ shape. (shape.slots ≡ numbers.0)
+        × (shape.buckets ≡ numbers.1) × (shape.last_epoch ≡ numbers.2)) }
+    ensures kind { IfOk result (λ shape. shape.values ≡ N.VALUES) }
 {
     let (slots, buckets, last_epoch) = numbers;
     let shape = Shape::new(slots, buckets, last_epoch)?;
@@ -140,21 +142,21 @@ pub fn open_two<N: Opened>(alloc: Global, shape: Shape) -> Option<(Slots<N>, Pas
 }
 
 // A fresh table with two passes, of so many slots and one bucket.
-pub fn two_passes(
-    rt: &impl Abort,
+pub fn two_passes<R: Abort, N: Opened>(
+    rt: &R,
     alloc: Global,
     slots: u32,
     last_epoch: u64,
-) -> (Slots, Pass, Pass)
+) -> (Slots<N>, Pass, Pass)
     ensures shape { (result.0.start.shape.slots ≡ slots) × (result.0.start.shape.buckets ≡ 1)
         × (result.0.start.shape.last_epoch ≡ last_epoch) }
-    ensures bare { result.0.start.shape.values ≡ false }
+    ensures kind { result.0.start.shape.values ≡ N.VALUES }
     ensures passes { result.0.passes ≡ 2 }
     ensures first { result.1 ≡ new_pass result.0 0 }
     ensures second { result.2 ≡ new_pass result.0 1 }
 {
-    let shape = Shape::new(slots, 1, last_epoch).expect(rt, "a shape");
-    open_two::<Keys>(alloc, shape).expect(rt, "there is memory")
+    let shape = shape_of::<N>((slots, 1, last_epoch)).expect(rt, "a shape");
+    open_two::<N>(alloc, shape).expect(rt, "there is memory")
 }
 
 // An empty vector with room for two passes. What found no memory left nothing, so it is tried again.
@@ -518,7 +520,7 @@ fn expect_shared<N: Nodes>(
 
 #[test]
 fn two_passes_share_a_slot(rt: HostRuntime) {
-    let (slots, a, b) = two_passes(&rt, rt.alloc(), 2, 10);
+    let (slots, a, b) = two_passes::<HostRuntime, Keys>(&rt, rt.alloc(), 2, 10);
     let wanted = [
         2,
         167_772_162,
@@ -537,9 +539,8 @@ fn two_passes_share_a_slot(rt: HostRuntime) {
 }
 
 #[test]
-fn two_passes_share_a_slot_with_a_value(rt: HostRuntime) -> Result<(), Fail> {
-    let shape = Shape::new(2, 1, 10)?.with_values();
-    let (slots, a, b) = open_two::<Entries>(rt.alloc(), shape).expect(&rt, "there is memory");
+fn two_passes_share_a_slot_with_a_value(rt: HostRuntime) {
+    let (slots, a, b) = two_passes::<HostRuntime, Entries>(&rt, rt.alloc(), 2, 10);
     let wanted = [
         2,
         167_772_162,
@@ -557,7 +558,6 @@ fn two_passes_share_a_slot_with_a_value(rt: HostRuntime) -> Result<(), Fail> {
         2,
     ];
     expect_shared(&rt, rt.alloc(), slots, a, b, &wanted);
-    Ok(())
 }
 
 // Takes slot 0, loads its stamp, and bears in it.

@@ -1,19 +1,21 @@
 //! Maps: the plain one, the world of the core, the running table, the map itself, and its script.
-ghost use Rattle.std.specs.Prelude.{◌≡◌, ◌≤◌, length, IfSome};
-ghost use Rattle.vbr_slots.specs.Closing.{AllOf};
+ghost use Rattle.std.specs.Prelude.{◌≡◌, ◌≤◌, IfSome};
 ghost use Rattle.vbr_slots.specs.Views.{new_passes};
 
 use crate::refusals::round::is_right;
+use crate::refusals::set::{close, open_with, tell};
+use crate::refusals::table::{close as close_table, read};
+use crate::refusals::world::births;
 use std::alloc::Global;
 use vbr_core::{CoreRefusal, World, WorldRefusal, replay_with_entries};
 use vbr_machine::{Op, PlainMap};
 use vbr_script::{ScriptError, parse_map_script};
-use vbr_set::{CloseError, MapReport, OpenError, Pass, Shape, VbrMap};
+use vbr_set::{MapReport, OpenError, Pass, Shape};
 use vbr_slots::Slots;
 use vbr_words::Entries;
 
 // What each opening has.
-const ENTRIES: [(u64, u64); 3] = [(2, 70), (5, 71), (9, 70)];
+pub const ENTRIES: [(u64, u64); 3] = [(2, 70), (5, 71), (9, 70)];
 
 // How often a call is made: two refusals that follow one another are got over.
 const ATTEMPTS: u32 = 3;
@@ -100,13 +102,14 @@ fn world_opens_with_three_entries_of_keys(rt: HostRuntime) {
     is_right(&rt, world_opens(rt.alloc()));
 }
 
-// Replays a list without events from three entries.
+// Replays events from three entries on: a fourth incarnation is born.
 fn world_replays(alloc: Global) -> Option<bool> {
     let shape = Shape::new(4, 2, 10).ok()?.with_values();
+    let events = births(3);
     for refusals in 0..ATTEMPTS {
-        match replay_with_entries(alloc, shape, 2, &ENTRIES, &[]) {
-            Ok(world) => return (world.incarnations() == 3).then_some(refusals > 0),
-            Err((0, CoreRefusal::NoMemory)) => {}
+        match replay_with_entries(alloc, shape, 2, &ENTRIES, &events) {
+            Ok(world) => return (world.incarnations() == 4).then_some(refusals > 0),
+            Err((_, CoreRefusal::NoMemory)) => {}
             Err(_) => return None,
         }
     }
@@ -123,7 +126,8 @@ fn world_replays_from_entries_of_keys(rt: HostRuntime) {
 // A table with three entries and its pass, and whether memory was refused.
 fn open_table(alloc: Global, shape: Shape) -> Option<(Slots<Entries>, Vec<Pass>, bool)>
     requires { 3 ≤ shape.slots }
-    ensures { IfSome result (λ r. AllOf r.0 r.1.items) }
+    ensures count { IfSome result (λ r. r.0.passes ≡ 1) }
+    ensures passes { IfSome result (λ r. r.1.items ≡ new_passes r.0 0 1) }
 {
     for refusals in 0..ATTEMPTS {
         match Slots::open_with_entries(alloc, shape, 1, &ENTRIES) {
@@ -135,29 +139,37 @@ fn open_table(alloc: Global, shape: Shape) -> Option<(Slots<Entries>, Vec<Pass>,
     None
 }
 
-// The words of a table that is closed, and whether memory was refused.
-fn close_table(slots: Slots<Entries>, alloc: Global, passes: Vec<Pass>) -> Option<(Vec<u64>, bool)>
-    requires { AllOf slots passes.items }
-{
-    match slots.close(alloc, passes) {
-        Ok(words) => Some((words, false)),
-        Err(CloseError::Memory(slots, passes)) => match slots.close(alloc, passes) {
-            Ok(words) => Some((words, true)),
-            Err(CloseError::Memory(slots, passes)) => {
-                Some((slots.close(alloc, passes).ok()?, true))
-            }
-            Err(CloseError::Missing(..)) => None,
-        },
-        Err(CloseError::Missing(..)) => None,
-    }
-}
+// The words of a table that opens with the three entries in three slots, one after another in one list.
+const TABLE: [u64; 19] = [
+    1,
+    167_772_163,
+    33_554_433,
+    33_554_434,
+    1,
+    0,
+    2,
+    70,
+    33_554_435,
+    1,
+    0,
+    5,
+    71,
+    33_554_432,
+    1,
+    0,
+    9,
+    70,
+    0,
+];
 
-// Opens a table with three entries, and closes it at once.
+// Opens a table with three entries, reads its words, and closes it.
 fn table_opens(alloc: Global) -> Option<bool> {
     let shape = Shape::new(3, 1, 10).ok()?;
-    let (slots, passes, refused) = open_table(alloc, shape)?;
+    let (slots, mut passes, refused) = open_table(alloc, shape)?;
+    let (told, refused_snapshot) = read(&slots, alloc, &mut passes)?;
     let (words, refused_close) = close_table(slots, alloc, passes)?;
-    (words.len() == 19).then_some(refused | refused_close)
+    let are_right = told.as_slice() == TABLE.as_slice() && words.as_slice() == TABLE.as_slice();
+    are_right.then_some(refused | refused_snapshot | refused_close)
 }
 
 #[test]
@@ -167,63 +179,18 @@ fn table_opens_with_entries_of_keys(rt: HostRuntime) {
 
 // ---- the map
 
-// A map with three entries and its two passes, and whether memory was refused.
-fn open_map(alloc: Global, shape: Shape) -> Option<(VbrMap, Vec<Pass>, bool)>
-    requires { 3 ≤ shape.slots }
-    ensures count { IfSome result (λ r. r.0.passes ≡ 2) }
-    ensures passes { IfSome result (λ r. r.1.items ≡ new_passes r.0 0 2) }
-{
-    for refusals in 0..ATTEMPTS {
-        match VbrMap::open_with(alloc, shape, 2, &ENTRIES) {
-            Ok((map, passes)) => return Some((map, passes, refusals > 0)),
-            Err(OpenError::Memory) => {}
-            Err(OpenError::Passes) => return None,
-        }
-    }
-    None
-}
-
-// The report of a map that is closed, and whether memory was refused.
-fn close_map(map: VbrMap, alloc: Global, passes: Vec<Pass>) -> Option<(MapReport, bool)>
-    requires { AllOf map passes.items }
-{
-    match map.close(alloc, passes) {
-        Ok(report) => Some((report, false)),
-        Err(CloseError::Memory(map, passes)) => match map.close(alloc, passes) {
-            Ok(report) => Some((report, true)),
-            Err(CloseError::Memory(map, passes)) => Some((map.close(alloc, passes).ok()?, true)),
-            Err(CloseError::Missing(..)) => None,
-        },
-        Err(CloseError::Missing(..)) => None,
-    }
-}
-
-// What is in a map that stays open, and whether memory was refused.
-fn tell(map: &VbrMap, alloc: Global, passes: &mut Vec<Pass>) -> Option<(MapReport, bool)>
-    requires of_map { AllOf map.now passes.old.items }
-    requires all { map.now.passes ≤ length passes.old.items }
-    ensures { passes.new.items ≡ passes.old.items }
-{
-    if let Ok(report) = map.report(alloc, passes) {
-        return Some((report, false));
-    }
-    if let Ok(report) = map.report(alloc, passes) {
-        return Some((report, true));
-    }
-    Some((map.report(alloc, passes).ok()?, true))
-}
-
 // Whether a report is that of the three entries in four slots.
-fn has_three(report: &MapReport) -> bool {
+pub fn has_three(report: &MapReport) -> bool {
     report.entries.as_slice() == ENTRIES.as_slice()
         && (report.epoch, report.live, report.marked, report.free) == (1, 3, 0, 1)
 }
 
 // Opens a map with three entries, tells what is in it, and closes it.
 fn map_tells_and_closes(alloc: Global) -> Option<bool> {
-    let (map, mut passes, refused) = open_map(alloc, Shape::new(4, 2, 10).ok()?)?;
+    let shape = Shape::new(4, 2, 10).ok()?;
+    let (map, mut passes, refused) = open_with::<Entries>(alloc, shape, &ENTRIES)?;
     let (told, refused_report) = tell(&map, alloc, &mut passes)?;
-    let (report, refused_close) = close_map(map, alloc, passes)?;
+    let (report, refused_close) = close(map, alloc, passes)?;
     (has_three(&told) && has_three(&report)).then_some(refused | refused_report | refused_close)
 }
 

@@ -1,21 +1,30 @@
 //! Members of a map.
 ghost use Rattle.std.specs.Prelude.{◌≡◌, [], ◌∷◌, IfSome};
 ghost use Rattle.vbr_machine.specs.Maps.{map_start};
+ghost use Rattle.vbr_set.specs.AllMembers.{AreOfOneSet};
 ghost use Rattle.vbr_set.specs.Members.{AreNew};
 
 use crate::refusals::round::is_right;
 use std::alloc::Global;
-use vbr_set::{CloseAllError, EndError, MapMember, MapReport, OpenError, Shape};
+use vbr_set::{
+    CloseAllError, EndError, ListError, MapMember, MapReport, OpenError, RenewAllError, Shape,
+};
+
+// How often a call is made: two refusals that follow one another are got over.
+const ATTEMPTS: u32 = 3;
 
 // The members of an empty map, in the order of their numbers, and whether memory was refused.
 fn open(alloc: Global, shape: Shape, passes: u32) -> Option<(Vec<MapMember>, bool)>
     ensures { IfSome result (λ r. AreNew (map_start shape []) passes r.0.items) }
 {
-    match MapMember::open(alloc, shape, passes) {
-        Ok(members) => Some((members, false)),
-        Err(OpenError::Memory) => Some((MapMember::open(alloc, shape, passes).ok()?, true)),
-        Err(OpenError::Passes) => None,
+    for refusals in 0..ATTEMPTS {
+        match MapMember::open(alloc, shape, passes) {
+            Ok(members) => return Some((members, refusals > 0)),
+            Err(OpenError::Memory) => {}
+            Err(OpenError::Passes) => return None,
+        }
     }
+    None
 }
 
 // The two members of an empty map, and whether memory was refused.
@@ -85,15 +94,24 @@ fn members_of_map_close_in_turn(rt: HostRuntime) {
     is_right(&rt, closes_in_turn(rt.alloc()));
 }
 
+// Room for two members, and whether memory was refused.
+fn room_for_two(alloc: Global) -> Option<(Vec<MapMember>, bool)>
+    ensures { IfSome result (λ r. r.0.items ≡ []) }
+{
+    for refusals in 0..ATTEMPTS {
+        if let Ok(members) = Vec::with_capacity(alloc, 2) {
+            return Some((members, refusals > 0));
+        }
+    }
+    None
+}
+
 // The members of one map in a vector, and whether memory was refused.
 fn both(alloc: Global, one: MapMember, other: MapMember) -> Option<(Vec<MapMember>, bool)>
     requires { other.set ≡ one.set }
     ensures { IfSome result (λ r. r.0.items ≡ one ∷ other ∷ []) }
 {
-    let (mut members, refused) = match Vec::with_capacity(alloc, 2) {
-        Ok(members) => (members, false),
-        Err(_) => (Vec::with_capacity(alloc, 2).ok()?, true),
-    };
+    let (mut members, refused) = room_for_two(alloc)?;
     members.push(one).ok()?;
     members.push(other).ok()?;
     Some((members, refused))
@@ -161,4 +179,81 @@ fn opens_with_two(alloc: Global) -> Option<bool> {
 #[test]
 fn members_of_map_open_with_keys(rt: HostRuntime) {
     is_right(&rt, opens_with_two(rt.alloc()));
+}
+
+// Lets the members of a map go on over one of another shape, and says whether memory was refused.
+fn renew(alloc: Global, members: Vec<MapMember>, shape: Shape) -> Option<(Vec<MapMember>, bool)>
+    requires { AreOfOneSet members.items }
+{
+    match MapMember::renew_all(alloc, members, shape) {
+        Ok(fresh) => Some((fresh, false)),
+        Err(RenewAllError::Memory(members)) => {
+            match MapMember::renew_all(alloc, members, shape) {
+                Ok(fresh) => Some((fresh, true)),
+                Err(RenewAllError::Memory(members)) => {
+                    Some((MapMember::renew_all(alloc, members, shape).ok()?, true))
+                }
+                Err(_) => None,
+            }
+        }
+        Err(_) => None,
+    }
+}
+
+// Opens a map, stores two entries, and goes on over a map of another shape, which has them.
+fn are_renewed(alloc: Global) -> Option<bool> {
+    let (mut one, mut other, refused) = open_two(alloc)?;
+    let is_answered = one.insert(2, 71, 100) == Ok(true) && other.insert(9, 70, 100) == Ok(true);
+    let (members, refused_room) = both(alloc, one, other)?;
+    let (fresh, refused_renewal) = renew(alloc, members, Shape::new(8, 4, 20).ok()?)?;
+    let [mut one, mut other] = <[MapMember; 2]>::try_from(fresh).ok()?;
+    let is_told = (one.balance(), one.shape().slots()) == (2, 8);
+    let is_there = one.get(9, 100) == Ok(Some(70)) && other.get(2, 100) == Ok(Some(71));
+    (is_answered && is_told && is_there).then_some(refused | refused_room | refused_renewal)
+}
+
+#[test]
+fn members_of_map_are_renewed_with_keys(rt: HostRuntime) {
+    is_right(&rt, are_renewed(rt.alloc()));
+}
+
+// The entries of a map while it is in use, and whether memory was refused.
+fn entries_of(alloc: Global, member: &mut MapMember) -> Option<(Vec<(u64, u64)>, bool)> {
+    for refusals in 0..ATTEMPTS {
+        match member.entries_now(alloc, 100) {
+            Ok(entries) => return Some((entries, refusals > 0)),
+            Err(ListError::Memory) => {}
+            Err(ListError::Refused(_)) => return None,
+        }
+    }
+    None
+}
+
+// Its keys, likewise.
+fn keys_of(alloc: Global, member: &mut MapMember) -> Option<(Vec<u64>, bool)> {
+    for refusals in 0..ATTEMPTS {
+        match member.keys_now(alloc, 100) {
+            Ok(keys) => return Some((keys, refusals > 0)),
+            Err(ListError::Memory) => {}
+            Err(ListError::Refused(_)) => return None,
+        }
+    }
+    None
+}
+
+// Stores two entries, of which each is in a bucket of its own, and lists them.
+fn lists(alloc: Global) -> Option<bool> {
+    let (mut member, refused) = open_alone(alloc)?;
+    let is_answered = member.insert(5, 71, 100) == Ok(true)
+        && member.insert(2, 70, 100) == Ok(true);
+    let (entries, refused_entries) = entries_of(alloc, &mut member)?;
+    let (keys, refused_keys) = keys_of(alloc, &mut member)?;
+    let are_told = entries.as_slice() == [(2, 70), (5, 71)].as_slice()
+        && keys.as_slice() == [2, 5].as_slice();
+    (is_answered && are_told).then_some(refused | refused_entries | refused_keys)
+}
+
+#[test]
+fn member_of_map_lists(rt: HostRuntime) {
+    is_right(&rt, lists(rt.alloc()));
 }

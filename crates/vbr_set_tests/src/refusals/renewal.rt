@@ -1,58 +1,100 @@
-//! Renewals of a set.
-ghost use Rattle.std.specs.Prelude.{◌≡◌, None, IfSome};
+//! Renewals of a set and of a map.
+ghost use Rattle.std.specs.Prelude.{◌≡◌, ◌≤◌, length, IfSome};
+ghost use Rattle.std.specs.List.Sorted.{IsStrictlyIncreasing};
 ghost use Rattle.vbr_slots.specs.Closing.{AllOf};
-ghost use Rattle.vbr_slots.specs.Views.{IsOf, new_passes};
+ghost use Rattle.vbr_slots.specs.Views.{new_passes};
 
+use crate::refusals::maps::ENTRIES;
 use crate::refusals::round::is_right;
-use crate::refusals::set::{close, has_three, open};
+use crate::refusals::set::{close, open_with};
+use crate::refusals::{maps, set};
 use std::alloc::Global;
-use vbr_set::{Pass, RenewError, Shape, VbrSet};
+use vbr_set::set::VbrSet;
+use vbr_set::{Kind, MapReport, Pass, RenewError, Report, Shape};
+use vbr_words::{Entries, Keys};
 
-// Inserts three keys, and says whether each was absent.
-fn insert_three(set: &VbrSet, pass: &mut Pass) -> bool
-    requires own { IsOf pass.old.trace set.now }
-    requires empty_hand { pass.old.hand ≡ None }
-    ensures { IsOf pass.new.trace set.now }
-{
-    set.insert(pass, 5, 100) == Ok(true)
-        && set.insert(pass, 2, 100) == Ok(true)
-        && set.insert(pass, 9, 100) == Ok(true)
+// Nodes of a set or a map that is renewed.
+trait Renewed: Kind {
+    // Whether a report is that of its three items in four slots.
+    fn has_three(report: &Self::Report) -> bool;
 }
 
-// A fresh set with the keys of this one, and whether memory was refused. Where nothing is left of the
-// set, the keys of its report go on.
-fn renew(alloc: Global, set: VbrSet, passes: Vec<Pass>) -> Option<(VbrSet, Vec<Pass>, bool)>
+impl Renewed for Keys {
+    fn has_three(report: &Report) -> bool {
+        set::has_three(report)
+    }
+}
+
+impl Renewed for Entries {
+    fn has_three(report: &MapReport) -> bool {
+        maps::has_three(report)
+    }
+}
+
+// A fresh set with the three items that are in this one, which has this shape, and whether memory was refused.
+// Where nothing is left of the set, its report lists them, and they go on.
+fn renew<N: Renewed>(
+    alloc: Global,
+    set: VbrSet<N>,
+    passes: Vec<Pass>,
+    shape: Shape,
+    items: &[N::Item],
+) -> Option<(VbrSet<N>, Vec<Pass>, bool)>
     requires own { AllOf set passes.items }
     requires two { set.passes ≡ 2 }
+    requires ascending { IsStrictlyIncreasing (N.kind.keys items.now) }
+    requires few { length items.now ≤ shape.slots }
     ensures { IfSome result (λ r. r.1.items ≡ new_passes r.0 0 2) }
 {
-    let shape = set.shape();
     match set.renew(alloc, passes) {
         Ok((set, passes)) => Some((set, passes, false)),
         Err(RenewError::Missing(..)) => None,
         Err(RenewError::Memory(set, passes)) => {
-            let (set, passes) = set.renew(alloc, passes).ok()?;
+            let (set, passes) = renew_again(alloc, set, passes)?;
             Some((set, passes, true))
         }
         Err(RenewError::Closed(report)) => {
-            let (set, passes) = VbrSet::open_with(alloc, shape, 2, &report.keys).ok()?;
-            has_three(&report).then_some((set, passes, true))
+            let (set, passes, _) = open_with::<N>(alloc, shape, items)?;
+            N::has_three(&report).then_some((set, passes, true))
         }
     }
 }
 
-// Opens a set, inserts three keys, renews it, and closes it.
-fn renews_and_closes(alloc: Global) -> Option<bool> {
+// The same where it was refused once. A refusal that follows comes before anything is changed.
+fn renew_again<N: Kind>(
+    alloc: Global,
+    set: VbrSet<N>,
+    passes: Vec<Pass>,
+) -> Option<(VbrSet<N>, Vec<Pass>)>
+    requires own { AllOf set passes.items }
+    requires two { set.passes ≡ 2 }
+    ensures { IfSome result (λ r. r.1.items ≡ new_passes r.0 0 2) }
+{
+    match set.renew(alloc, passes) {
+        Ok(renewed) => Some(renewed),
+        Err(RenewError::Memory(set, passes)) => set.renew(alloc, passes).ok(),
+        Err(_) => None,
+    }
+}
+
+// Opens a set with three items, renews it, and closes it.
+fn renews_and_closes<N: Renewed>(alloc: Global, items: &[N::Item]) -> Option<bool>
+    requires ascending { IsStrictlyIncreasing (N.kind.keys items.now) }
+    requires three { length items.now ≡ 3 }
+{
     let shape = Shape::new(4, 2, 10).ok()?;
-    let (set, mut passes, refused) = open(alloc, shape)?;
-    let is_answered = insert_three(&set, &mut passes[0]);
-    let (set, passes, refused_renewal) = renew(alloc, set, passes)?;
+    let (set, passes, refused) = open_with::<N>(alloc, shape, items)?;
+    let (set, passes, refused_renewal) = renew(alloc, set, passes, shape, items)?;
     let (report, refused_close) = close(set, alloc, passes)?;
-    let is_right = is_answered && has_three(&report);
-    is_right.then_some(refused | refused_renewal | refused_close)
+    N::has_three(&report).then_some(refused | refused_renewal | refused_close)
 }
 
 #[test]
 fn set_is_renewed(rt: HostRuntime) {
-    is_right(&rt, renews_and_closes(rt.alloc()));
+    is_right(&rt, renews_and_closes::<Keys>(rt.alloc(), &[2, 5, 9]));
+}
+
+#[test]
+fn map_is_renewed_with_keys(rt: HostRuntime) {
+    is_right(&rt, renews_and_closes::<Entries>(rt.alloc(), &ENTRIES));
 }

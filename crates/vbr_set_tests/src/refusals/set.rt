@@ -1,14 +1,78 @@
-//! The set.
+//! The set; and how a set or a map is opened with items, told and closed.
 ghost use Rattle.std.specs.Prelude.{◌≡◌, ◌≤◌, None, length, IfSome};
+ghost use Rattle.std.specs.List.Sorted.{IsStrictlyIncreasing};
 ghost use Rattle.vbr_slots.specs.Closing.{AllOf};
 ghost use Rattle.vbr_slots.specs.Views.{IsOf, new_passes};
 
 use crate::refusals::round::is_right;
 use std::alloc::Global;
-use vbr_set::{CloseError, OpenError, Pass, Report, Shape, VbrSet};
+use vbr_set::{CloseError, Kind, OpenError, Pass, Report, Shape, VbrSet, set};
+use vbr_words::Keys;
 
-// A set with its two passes, and whether memory was refused.
-pub fn open(alloc: Global, shape: Shape) -> Option<(VbrSet, Vec<Pass>, bool)>
+// How often a call is made: two refusals that follow one another are got over.
+const ATTEMPTS: u32 = 3;
+
+// A set or a map with these items and its two passes, and whether memory was refused.
+pub fn open_with<N: Kind>(
+    alloc: Global,
+    shape: Shape,
+    items: &[N::Item],
+) -> Option<(set::VbrSet<N>, Vec<Pass>, bool)>
+    requires ascending { IsStrictlyIncreasing (N.kind.keys items.now) }
+    requires few { length items.now ≤ shape.slots }
+    ensures count { IfSome result (λ r. r.0.passes ≡ 2) }
+    ensures passes { IfSome result (λ r. r.1.items ≡ new_passes r.0 0 2) }
+{
+    for refusals in 0..ATTEMPTS {
+        match set::VbrSet::<N>::open_with(alloc, shape, 2, items) {
+            Ok((set, passes)) => return Some((set, passes, refusals > 0)),
+            Err(OpenError::Memory) => {}
+            Err(OpenError::Passes) => return None,
+        }
+    }
+    None
+}
+
+// The report of a set or a map that is closed, and whether memory was refused.
+pub fn close<N: Kind>(
+    set: set::VbrSet<N>,
+    alloc: Global,
+    passes: Vec<Pass>,
+) -> Option<(N::Report, bool)>
+    requires { AllOf set passes.items }
+{
+    match set.close(alloc, passes) {
+        Ok(report) => Some((report, false)),
+        Err(CloseError::Memory(set, passes)) => match set.close(alloc, passes) {
+            Ok(report) => Some((report, true)),
+            Err(CloseError::Memory(set, passes)) => Some((set.close(alloc, passes).ok()?, true)),
+            Err(CloseError::Missing(..)) => None,
+        },
+        Err(CloseError::Missing(..)) => None,
+    }
+}
+
+// What is in a set or a map that stays open, and whether memory was refused.
+pub fn tell<N: Kind>(
+    set: &set::VbrSet<N>,
+    alloc: Global,
+    passes: &mut Vec<Pass>,
+) -> Option<(N::Report, bool)>
+    requires of_set { AllOf set.now passes.old.items }
+    requires all { set.now.passes ≤ length passes.old.items }
+    ensures { passes.new.items ≡ passes.old.items }
+{
+    match set.report(alloc, passes) {
+        Ok(report) => Some((report, false)),
+        Err(_) => match set.report(alloc, passes) {
+            Ok(report) => Some((report, true)),
+            Err(_) => Some((set.report(alloc, passes).ok()?, true)),
+        },
+    }
+}
+
+// An empty set with its two passes, and whether memory was refused.
+fn open(alloc: Global, shape: Shape) -> Option<(VbrSet, Vec<Pass>, bool)>
     ensures count { IfSome result (λ r. r.0.passes ≡ 2) }
     ensures passes { IfSome result (λ r. r.1.items ≡ new_passes r.0 0 2) }
 {
@@ -19,29 +83,6 @@ pub fn open(alloc: Global, shape: Shape) -> Option<(VbrSet, Vec<Pass>, bool)>
             Some((set, passes, true))
         }
         Err(OpenError::Passes) => None,
-    }
-}
-
-// The report of a set that is closed, and whether memory was refused.
-pub fn close(set: VbrSet, alloc: Global, passes: Vec<Pass>) -> Option<(Report, bool)>
-    requires { AllOf set passes.items }
-{
-    match set.close(alloc, passes) {
-        Ok(report) => Some((report, false)),
-        Err(CloseError::Memory(set, passes)) => Some((set.close(alloc, passes).ok()?, true)),
-        Err(CloseError::Missing(..)) => None,
-    }
-}
-
-// What is in a set that stays open, and whether memory was refused.
-fn tell(set: &VbrSet, alloc: Global, passes: &mut Vec<Pass>) -> Option<(Report, bool)>
-    requires of_set { AllOf set.now passes.old.items }
-    requires all { set.now.passes ≤ length passes.old.items }
-    ensures { passes.new.items ≡ passes.old.items }
-{
-    match set.report(alloc, passes) {
-        Ok(report) => Some((report, false)),
-        Err(_) => Some((set.report(alloc, passes).ok()?, true)),
     }
 }
 
@@ -100,21 +141,6 @@ fn opens_and_closes(alloc: Global) -> Option<bool> {
     (is_answered && is_told).then_some(refused | refused_close)
 }
 
-// A set with three keys and its two passes, and whether memory was refused.
-fn open_with_three(alloc: Global, shape: Shape) -> Option<(VbrSet, Vec<Pass>, bool)>
-    requires { 3 ≤ shape.slots }
-    ensures { IfSome result (λ r. r.1.items ≡ new_passes r.0 0 2) }
-{
-    match VbrSet::open_with(alloc, shape, 2, &[2, 5, 9]) {
-        Ok((set, passes)) => Some((set, passes, false)),
-        Err(OpenError::Memory) => {
-            let (set, passes) = VbrSet::open_with(alloc, shape, 2, &[2, 5, 9]).ok()?;
-            Some((set, passes, true))
-        }
-        Err(OpenError::Passes) => None,
-    }
-}
-
 // Whether a report is that of three keys in four slots.
 pub fn has_three(report: &Report) -> bool {
     report.keys.as_slice() == [2, 5, 9].as_slice()
@@ -124,7 +150,7 @@ pub fn has_three(report: &Report) -> bool {
 // Opens a set with three keys, and closes it at once.
 fn opens_with_three_and_closes(alloc: Global) -> Option<bool> {
     let shape = Shape::new(4, 2, 10).ok()?;
-    let (set, passes, refused) = open_with_three(alloc, shape)?;
+    let (set, passes, refused) = open_with::<Keys>(alloc, shape, &[2, 5, 9])?;
     let (report, refused_close) = close(set, alloc, passes)?;
     has_three(&report).then_some(refused | refused_close)
 }

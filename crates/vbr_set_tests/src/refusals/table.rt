@@ -1,11 +1,12 @@
 //! The running table.
-ghost use Rattle.std.specs.Prelude.{◌≡◌, ◌≤◌, IfSome};
+ghost use Rattle.std.specs.Prelude.{◌≡◌, ◌≤◌, length, IfSome};
 ghost use Rattle.vbr_slots.specs.Closing.{AllOf};
+ghost use Rattle.vbr_slots.specs.Views.{new_passes};
 
 use crate::refusals::round::is_right;
 use std::alloc::Global;
 use vbr_slots::{CloseError, OpenError, Pass, Slots};
-use vbr_words::Shape;
+use vbr_words::{Nodes, Shape};
 
 // A table with its passes, and whether memory was refused.
 fn open(alloc: Global, shape: Shape) -> Option<(Slots, Vec<Pass>, bool)>
@@ -22,13 +23,42 @@ fn open(alloc: Global, shape: Shape) -> Option<(Slots, Vec<Pass>, bool)>
 }
 
 // The words of a table that is closed, and whether memory was refused.
-fn close(slots: Slots, alloc: Global, passes: Vec<Pass>) -> Option<(Vec<u64>, bool)>
+pub fn close<N: Nodes>(
+    slots: Slots<N>,
+    alloc: Global,
+    passes: Vec<Pass>,
+) -> Option<(Vec<u64>, bool)>
     requires { AllOf slots passes.items }
 {
     match slots.close(alloc, passes) {
         Ok(words) => Some((words, false)),
-        Err(CloseError::Memory(slots, passes)) => Some((slots.close(alloc, passes).ok()?, true)),
+        Err(CloseError::Memory(slots, passes)) => match slots.close(alloc, passes) {
+            Ok(words) => Some((words, true)),
+            Err(CloseError::Memory(slots, passes)) => {
+                Some((slots.close(alloc, passes).ok()?, true))
+            }
+            Err(CloseError::Missing(..)) => None,
+        },
         Err(CloseError::Missing(..)) => None,
+    }
+}
+
+// The words of a table that stays open, and whether memory was refused.
+pub fn read<N: Nodes>(
+    slots: &Slots<N>,
+    alloc: Global,
+    passes: &mut Vec<Pass>,
+) -> Option<(Vec<u64>, bool)>
+    requires of_table { AllOf slots.now passes.old.items }
+    requires all { slots.now.passes ≤ length passes.old.items }
+    ensures { passes.new.items ≡ passes.old.items }
+{
+    match slots.snapshot(alloc, passes) {
+        Ok(words) => Some((words, false)),
+        Err(_) => match slots.snapshot(alloc, passes) {
+            Ok(words) => Some((words, true)),
+            Err(_) => Some((slots.snapshot(alloc, passes).ok()?, true)),
+        },
     }
 }
 
@@ -44,7 +74,8 @@ fn opens_and_closes(alloc: Global) -> Option<bool> {
 // A table with three keys and its pass, and whether memory was refused.
 fn open_with_three(alloc: Global, shape: Shape) -> Option<(Slots, Vec<Pass>, bool)>
     requires { 3 ≤ shape.slots }
-    ensures { IfSome result (λ r. AllOf r.0 r.1.items) }
+    ensures count { IfSome result (λ r. r.0.passes ≡ 1) }
+    ensures passes { IfSome result (λ r. r.1.items ≡ new_passes r.0 0 1) }
 {
     match Slots::open_with(alloc, shape, 1, &[2, 5, 9]) {
         Ok((slots, passes)) => Some((slots, passes, false)),
@@ -56,30 +87,34 @@ fn open_with_three(alloc: Global, shape: Shape) -> Option<(Slots, Vec<Pass>, boo
     }
 }
 
-// Opens a table with three keys, and closes it at once.
+// The words of a table that opens with the three keys in three slots, one after another in one list.
+const THREE: [u64; 16] = [
+    1,
+    167_772_163,
+    33_554_433,
+    33_554_434,
+    1,
+    0,
+    2,
+    33_554_435,
+    1,
+    0,
+    5,
+    33_554_432,
+    1,
+    0,
+    9,
+    0,
+];
+
+// Opens a table with three keys, reads its words, and closes it.
 fn opens_with_three_and_closes(alloc: Global) -> Option<bool> {
     let shape = Shape::new(3, 1, 10).ok()?;
-    let (slots, passes, refused) = open_with_three(alloc, shape)?;
+    let (slots, mut passes, refused) = open_with_three(alloc, shape)?;
+    let (told, refused_snapshot) = read(&slots, alloc, &mut passes)?;
     let (words, refused_close) = close(slots, alloc, passes)?;
-    let wanted = [
-        1,
-        167_772_163,
-        33_554_433,
-        33_554_434,
-        1,
-        0,
-        2,
-        33_554_435,
-        1,
-        0,
-        5,
-        33_554_432,
-        1,
-        0,
-        9,
-        0,
-    ];
-    (words.as_slice() == wanted.as_slice()).then_some(refused | refused_close)
+    let are_right = told.as_slice() == THREE.as_slice() && words.as_slice() == THREE.as_slice();
+    are_right.then_some(refused | refused_snapshot | refused_close)
 }
 
 #[test]

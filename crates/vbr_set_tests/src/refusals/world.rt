@@ -58,36 +58,25 @@ fn opens_and_steps(alloc: Global) -> Option<bool> {
     Some(refused)
 }
 
-// A list of events that grows the lists of a world.
-const EVENTS: [Event; 5] = [
-    Event {
-        pass: 0,
-        step: Step::ReadEpoch,
-    },
-    Event {
-        pass: 0,
-        step: Step::TakeFlag { slot: 0 },
-    },
-    Event {
-        pass: 0,
-        step: Step::StoreBirth { slot: 0, birth: 1 },
-    },
-    Event {
-        pass: 0,
-        step: Step::LoadLink { at: At::Head(0) },
-    },
-    Event {
-        pass: 0,
-        step: Step::ReadEpoch,
-    },
-];
+// Events that grow the lists of a world: an incarnation is born in a slot, which is free, and a link is read.
+pub fn births(slot: u32) -> [Event; 5] {
+    let steps = [
+        Step::ReadEpoch,
+        Step::TakeFlag { slot },
+        Step::StoreBirth { slot, birth: 1 },
+        Step::LoadLink { at: At::Head(0) },
+        Step::ReadEpoch,
+    ];
+    steps.map(|step| Event { pass: 0, step })
+}
 
 // The world that a list of events leads to.
 fn replays(alloc: Global) -> Option<bool> {
     let shape = Shape::new(3, 1, 10).ok()?;
-    let (world, refused) = match replay(alloc, shape, 2, &EVENTS) {
+    let events = births(0);
+    let (world, refused) = match replay(alloc, shape, 2, &events) {
         Ok(world) => (world, false),
-        Err((_, CoreRefusal::NoMemory)) => (replay(alloc, shape, 2, &EVENTS).ok()?, true),
+        Err((_, CoreRefusal::NoMemory)) => (replay(alloc, shape, 2, &events).ok()?, true),
         Err(_) => return None,
     };
     (world.incarnations() == 1).then_some(refused)

@@ -1,6 +1,6 @@
 -- What is held stays held through the calls of a test that answered, and a key stands behind the head of the one bucket.
 use Rattle.std.proofs.Common.{◌≡◌, ℕ, refl, sym, subst, arith}
-use Rattle.std.specs.Prelude.{false, Result, Ok, IfOk}
+use Rattle.std.specs.Prelude.{Bool, true, false, Result, Ok, Err, IfOk, IfErr}
 use Rattle.vbr_machine.specs.Start.{Start}
 use Rattle.vbr_words.specs.Words.{link_of}
 use Rattle.vbr_words.specs.declared.place.At.{At}
@@ -9,10 +9,17 @@ use Rattle.vbr_words.specs.Buckets.{bucket_of}
 use Rattle.vbr_words.proofs.Lemmas.{bucket_of-lt}
 use Rattle.vbr_machine.specs.Knowledge.{Know}
 use Rattle.vbr_machine.specs.Membership.{StandsBehind}
+use Rattle.vbr_slots.specs.Views.{IsOf, TableView, Trace, knows}
+use Rattle.vbr_at_table.specs.Answering.{IsPresent}
+use Rattle.vbr_at_table.specs.Exchanges.{LosesExchange}
 use Rattle.vbr_at_table.specs.Held.{IsHeld}
 use Rattle.vbr_at_table.specs.Keeping.{Keeps}
+use Rattle.vbr_at_table.specs.Values.{IsValued, RemovesEntry, ValueAt}
 use Rattle.vbr_at_table.specs.declared.held.Held.{Held}
-use Rattle.vbr_at_table.proofs.Lemmas.{held_kept}
+use Rattle.vbr_at_table.specs.declared.held.Marked.{Marked}
+use Rattle.vbr_at_table.specs.declared.rollback.Rollback.{Rollback}
+use Rattle.vbr_at_table.proofs.Lemmas.{held_kept, key_on}
+use Rattle.vbr_list.proofs.Lemmas.{of_on}
 
 -- what was held before a call that answered is held after it
 pub held_through : {T E : Type 0} {P : T → Type 0} {know later : Know} (held : Held) (r : Result T E) (x : T) → r ≡ Ok x → IfOk r P → ((y : T) → P y → Keeps know later) → IsHeld know held → IsHeld later held
@@ -31,3 +38,22 @@ behind_head start know at key head one = let P : At → Type 0 = λ at. StandsBe
 pub is_unmarked : (word : ℕ) → word ≡ 33554432 → (link_of word).mark ≡ false
 unfolding link_of
 is_unmarked word is = rw is refl
+
+-- ---- a node whose value was read, where nodes have values
+
+-- what is known where a flag is up is known of some number
+of_some : (P : ℕ → Type 0) (flag : Bool) → (flag ≡ true → (value : ℕ) × P value) → (value : ℕ) × (flag ≡ true → P value)
+of_some P true known = let one = known refl in (one.0, λ _. one.1)
+of_some P false known = (0, λ is. absurd (let z : false ≡ true = is in cc))
+
+-- a present node stays present
+pub present_kept : {know later : Know} (node : Held) → Keeps know later → IsPresent know node → IsPresent later node
+present_kept node keeps is = record { held = held_kept node keeps is.held; key = (is.key.0, key_on node.at is.key.0 keeps is.key.1); unmarked = is.unmarked }
+
+-- a pass is its table's once it has marked the node, or has lost that
+pub own_marked : (p q : Trace) {t : TableView} (node : Held) (r : Result Marked Rollback) → IfOk r (RemovesEntry p q node) → IfErr r (LosesExchange p q node) → IsPresent (knows p) node → IsValued p node.at → IsOf p t → IsOf q t
+own_marked p q node (Ok marked) removed lost is valued own =
+    let P : ℕ → Type 0 = λ value. ValueAt (knows p) node.at value in
+    let value = of_some P p.start.shape.values valued in
+    of_on (removed.made is.key.0 value.0 is.key.1 value.1).same own
+own_marked p q node (Err rollback) removed lost is valued own = of_on lost.quiet.same own

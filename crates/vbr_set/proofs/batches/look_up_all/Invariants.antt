@@ -1,4 +1,4 @@
-use Rattle.std.proofs.Common.{◌≡◌, ℕ, length}
+use Rattle.std.proofs.Common.{◌≡◌, length}
 use Rattle.vbr_set.proofs.InTurn.{SoFar}
 use Rattle.vbr_set.proofs.batches.look_up_all.Given as goal
 

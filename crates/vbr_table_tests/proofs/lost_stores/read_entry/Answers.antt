@@ -1,4 +1,4 @@
--- The node stays held, its key and its value are known, and its link isn't marked and names nothing.
+-- The head and the node stay held, the node's key and value are known, and its link isn't marked and names nothing.
 use Rattle.std.proofs.Common.{◌≡◌, ℕ, refl, subst, sym, rules}
 use Rattle.std.specs.Prelude.{None}
 use Rattle.vbr_words.specs.Words.{link_of}
@@ -28,6 +28,13 @@ none_named know word is = subst (λ slot. BirthNamed know slot 0) (sym (names_no
 
 pub value_of-requires-clause-held : goal.value_of-requires-clause-held
 value_of-requires-clause-held g c = held_through c.last_node-node.result c.key_of.result _ c.expect-key.ensures c.key_of.ensures.key (λ key read. read.keeps) c.last_node-node.ensures.node
+
+pub returns-clause-head : goal.returns-clause-head
+returns-clause-head g c =
+    let head = c.head_of-head.result in
+    let held = held_through head c.key_of.result _ c.expect-key.ensures c.key_of.ensures.key (λ key read. read.keeps) c.last_node-node.ensures.head in
+    let value : IsValueRead c.key_of.new.pass c.value_of.new.pass c.last_node-node.result.at c.expect-told.result = search rules in
+    record { held = held_kept head value.keeps held; unmarked = c.head_of-head.ensures.unmarked }
 
 pub returns-clause-node : goal.returns-clause-node
 returns-clause-node g c =

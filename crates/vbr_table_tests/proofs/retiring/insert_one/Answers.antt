@@ -4,8 +4,8 @@ use Rattle.vbr_slots.specs.Views.{knows}
 use Rattle.vbr_table_tests.proofs.retiring.HeldThrough.{held_through, behind_head}
 use Rattle.vbr_table_tests.proofs.retiring.insert_one.Goals as goal
 
-pub update-requires-clause-gap : goal.update-requires-clause-gap
-update-requires-clause-gap g c =
+pub update_entry-requires-clause-gap : goal.update_entry-requires-clause-gap
+update_entry-requires-clause-gap g c =
     let one : c.next.new.pass.trace.start.shape.buckets ≡ 1 = search rules in
     record {
       held = held_through c.head_of-head.result c.next.result _ c.expect.ensures c.next.ensures.next (λ node read. read.keeps) c.head_of-head.ensures.held;

@@ -1,4 +1,4 @@
-"""What is tried of the library and the program once they stand in target/, as commands for tools/side_by_side.py."""
+"""What is tried of the library and the program once they stand in target/, as tasks of side_by_side.py."""
 import side_by_side
 
 
@@ -12,7 +12,7 @@ def short(library, program):
         trial("tools", ["tests/tools"]),
         trial("clients", ["bindings/test"], library),
         trial("streams", ["tests/program", "target/vbr_run"], program),
-        trial("scripts", ["tests/runs", "target/vbr_run"], program),
+        trial("scripts", ["tests/four-workers", "target/vbr_run"], program),
         trial("kept-inputs", ["tests/fuzz/run", "--kept"], library, program),
     ]
 

@@ -86,7 +86,7 @@ def check_form(texts):
                 faults.append((path, line, what))
     for crate in OPEN:
         if crate not in wide:
-            faults.append(("tools/contracts.py", 1, f"the contracts of {crate} keep the form now: take it out of OPEN"))
+            faults.append(("tools/lib/contracts.py", 1, f"the contracts of {crate} keep the form now: take it out of OPEN"))
     return faults, [it for it in OPEN if it in wide]
 
 
@@ -130,9 +130,9 @@ def check_shared_words(texts):
             seen |= {(path, name)} if wanted else set()
             if calls != wanted:
                 does = "hands the shared words on" if calls is None else f"calls {', '.join(calls) or 'nothing'} on the shared words"
-                faults.append((path, line, f"{name} {does}, where tools/contracts.py has {', '.join(wanted) or 'nothing'}: what is proved of look-ups is that their events are loads, and that these are loads in the code is seen here"))
+                faults.append((path, line, f"{name} {does}, where tools/lib/contracts.py has {', '.join(wanted) or 'nothing'}: what is proved of look-ups is that their events are loads, and that these are loads in the code is seen here"))
     for file, known in ON_SHARED_WORDS.items():
         for name in known:
             if (SLOTS + file, name) not in seen:
-                faults.append(("tools/contracts.py", 1, f"ON_SHARED_WORDS has {name}, and {SLOTS}{file} has no such function"))
+                faults.append(("tools/lib/contracts.py", 1, f"ON_SHARED_WORDS has {name}, and {SLOTS}{file} has no such function"))
     return faults

@@ -1,11 +1,12 @@
-"""Tools without .py in their names, as modules of other tools."""
+"""Commands of tools/, which have no .py in their names, as modules of other tools."""
 import importlib.machinery
 import importlib.util
-import os
+
+from crates import ROOT
 
 
 def load(name):
-    loader = importlib.machinery.SourceFileLoader(name, f"{os.path.dirname(os.path.abspath(__file__))}/{name}")
+    loader = importlib.machinery.SourceFileLoader(name, f"{ROOT}/tools/{name}")
     module = importlib.util.module_from_spec(importlib.util.spec_from_loader(name, loader))
     loader.exec_module(module)
     return module

@@ -137,7 +137,7 @@ def run(tasks, lanes=None, memory=float("inf"), say=lambda task: None):
             if not ended and running:
                 time.sleep(0.05)
             elif left and not running and not ended:
-                sys.exit(f"tools/side_by_side.py: {left[0].name} waits for what never comes")
+                sys.exit(f"tools/lib/side_by_side.py: {left[0].name} waits for what never comes")
         return failed
     finally:
         for it in running:

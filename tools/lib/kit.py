@@ -18,7 +18,7 @@ def said(word):
     try:
         return subprocess.run([RT, word], stdout=subprocess.PIPE, text=True, check=True).stdout.strip()
     except (OSError, subprocess.CalledProcessError):
-        sys.exit(f"tools/kit.py: `{RT} {word}` doesn't run: put the directory of Rattle's command rt on the PATH, or name it by RT")
+        sys.exit(f"tools/lib/kit.py: `{RT} {word}` doesn't run: put the directory of Rattle's command rt on the PATH, or name it by RT")
 
 
 @functools.lru_cache(maxsize=None)
@@ -28,7 +28,7 @@ def folder():
     if found not in MADE_FOR and os.environ.get("ANY_KIT") != "1":
         sys.exit(
             f"{os.path.relpath(sys.argv[0])}: it was made for {' and '.join(MADE_FOR)}, whose own Python and LLVM tools it uses, and `{RT}` is {found}. "
-            "Use one of those; or set ANY_KIT=1 to go on with this one, and once all works put its version into MADE_FOR of tools/kit.py"
+            "Use one of those; or set ANY_KIT=1 to go on with this one, and once all works put its version into MADE_FOR of tools/lib/kit.py"
         )
     return os.path.dirname(said("doc"))
 

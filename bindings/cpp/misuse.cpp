@@ -1,0 +1,117 @@
+// What must not compile. Each line that is said to be refused is, by each compiler, and no other line is: bindings/headers sees to it.
+#include "vbr.hpp"
+
+#include <string>
+
+struct padded {
+    std::uint8_t one;
+    std::uint32_t other;
+};
+
+struct padded_too {
+    std::uint64_t one : 40;
+};
+
+struct large {
+    std::uint64_t one, other;
+};
+
+constexpr vbr::shape shape = vbr::shape::for_keys(8, 1);
+constexpr vbr::steps few{1000};
+
+// A budget is no plain number, and comes last; no key or value is taken for one.
+void budgets(vbr::handle &set, vbr::map_handle &map) {
+    static_cast<void>(set.insert_within(5, few));
+    static_cast<void>(map.insert_within(5, 70, few));
+    static_cast<void>(set.insert_within(5, 1000)); // refused
+    static_cast<void>(set.insert_within(5, {1000})); // refused
+    static_cast<void>(set.insert_within(few, 5)); // refused
+    static_cast<void>(set.insert(5, 1000)); // refused
+    static_cast<void>(set.insert(5, few)); // refused
+    static_cast<void>(set.insert(few)); // refused
+    static_cast<void>(set.keys(1000)); // refused
+    static_cast<void>(map.insert(5)); // refused
+    static_cast<void>(map.insert(5, few)); // refused
+    static_cast<void>(map.insert(5, 100000, 70)); // refused
+    static_cast<void>(map.insert(5, 70, 100000)); // refused
+    static_cast<void>(map.insert_within(5, 70, 100000)); // refused
+    static_cast<void>(map.insert_within(5, few, 70)); // refused
+    static_cast<void>(map.get(5, 100000)); // refused
+    static_cast<void>(map.compare_exchange(5, 70, 71, 100000)); // refused
+    set.set_steps(1000); // refused
+    set.set_steps(few);
+    vbr::steps from_number = 1000; // refused
+    std::uint64_t to_number = few; // refused
+}
+
+// Nothing that a call answers is thrown away.
+void thrown_away(vbr::handle &set, vbr::map_handle &map, vbr::lender &lender, std::vector<vbr::handle> &handles) {
+    set.insert(5); // refused
+    set.has(5); // refused
+    set.keys(); // refused
+    set.close(); // refused
+    set.insert(5).error(); // refused
+    map.get(5); // refused
+    map.put(5, 70); // refused
+    map.compare_exchange(5, 70, 71); // refused
+    *map.compare_exchange(5, 70, 71); // refused
+    lender.lend(); // refused
+    lender.renew(shape); // refused
+    lender.end_all(); // refused
+    vbr::open(shape, 1); // refused
+    vbr::handle::renew_all(handles, shape); // refused
+    vbr::handle::report_all(handles); // refused
+    set.spare();
+    vbr::handle::end_all(handles);
+}
+
+// No refusal is taken for a no or an absence, and no absence for a yes.
+int taken_for_no(vbr::handle &set, vbr::map_handle &map, vbr::loan &loan) {
+    if (set.insert(5)) return 1; // refused
+    if (!set.has(5)) return 1; // refused
+    if (map.get(5)) return 1; // refused
+    if (map.compare_exchange(5, 70, 71)) return 1; // refused
+    if (set.close()) return 1; // refused
+    if (vbr::refusal::no_slot) return 1; // refused
+    bool added = set.insert(5); // refused
+    int number = set.insert(5); // refused
+    std::optional<std::uint64_t> got = map.get(5); // refused
+    std::vector<vbr::handle> opened = vbr::open(shape, 1); // refused
+    bool lent = loan; // refused
+    if (set.insert(5).value() && *set.has(5) && map.get(5).value() && *map.compare_exchange(5, 70, 71) && loan) return 1;
+    return 0;
+}
+
+// Handles aren't copied, and one of another type, or a loan, doesn't take the place of one.
+void handles(vbr::handle &set, vbr::map_handle &map, vbr::set<std::uint32_t>::handle &small, vbr::lender &lender, vbr::loan &loan,
+             std::vector<vbr::handle> &all) {
+    vbr::handle copied = set; // refused
+    vbr::loan lent = loan; // refused
+    set = std::move(small); // refused
+    set = std::move(map); // refused
+    vbr::handle from_small(std::move(small)); // refused
+    vbr::pass &pass_of_small = small; // refused
+    vbr::pass &pass_of_map = map; // refused
+    lender = vbr::map_lender(); // refused
+    vbr::lender not_moved(all); // refused
+    static_cast<void>(vbr::set<std::uint32_t>::handle::report_all(all)); // refused
+    std::swap(*loan, *loan); // refused
+    static_cast<void>(loan->close()); // refused
+    loan->set_steps(few); // refused
+    vbr::pass &pass = *loan;
+    static_cast<void>(pass.insert(5));
+}
+
+// Keys and values have no padding and at most 64 bits, and those of a range fit without doubt.
+void keys(vbr::map<std::uint32_t, double>::handle &map) {
+    static_cast<void>(vbr::set<padded>::open(shape, 1)); // refused
+    static_cast<void>(vbr::set<large>::open(shape, 1)); // refused
+    static_cast<void>(vbr::set<double>::open(shape, 1)); // refused
+    static_cast<void>(vbr::set<std::string>::open(shape, 1)); // refused
+    static_cast<void>(vbr::map<std::uint64_t, padded_too>::open(shape, 1)); // refused
+    static_cast<void>(vbr::open_with(shape, 1, std::vector<int>{5})); // refused
+    static_cast<void>(vbr::set<std::uint32_t>::open_with(shape, 1, std::vector<std::uint64_t>{5})); // refused
+    static_cast<void>(vbr::set<std::uint64_t>::open_with(shape, 1, std::vector<std::uint32_t>{5}));
+    static_cast<void>(map.insert(5, 0.5));
+    static_cast<void>(map.insert(5, "0.5")); // refused
+}

@@ -1,0 +1,474 @@
+//! Passes: the calls that sets and maps have alike.
+use crate::library::{answer_all, looked_up, Raw};
+use crate::{order, Bits, Cursor, Iter, Kind, OutOfSteps, Steps};
+use core::cell::UnsafeCell;
+use core::fmt;
+use core::marker::PhantomData;
+use core::{ptr, slice};
+
+/// The calls that a handle makes: the right of one thread at a time to make them. A [`HandleOf`](crate::HandleOf) owns its pass, and a loan
+/// ([`LentBy`](crate::LentBy)) has that of the handle on loan; both deref to it, so a function that takes a pass takes either.
+///
+/// A pass is reached by reference alone. It has no size, so that none can be put in the place of another: handles stay in the
+/// sets that lend them, whatever a borrower does. It is neither `Clone` nor `Sync`.
+///
+/// A call has the budget of the handle ([`PassOf::steps`]), and one with `_within` in its name another one, for itself.
+///
+/// ```
+/// use vbr::{Pass, Refusal, Set, Shape};
+///
+/// fn visit(pass: &mut Pass, page: u64) -> Result<bool, Refusal> {
+///     pass.insert(page)
+/// }
+///
+/// let mut handle = Set::handles(Shape::for_keys(8, 1))?.remove(0);
+/// assert!(visit(&mut handle, 5)?);
+/// let set = Set::open(Shape::for_keys(8, 1))?;
+/// let mut lent = set.lend().expect("a free handle");
+/// assert!(visit(&mut lent, 5)?);
+/// # Ok::<(), Box<dyn std::error::Error>>(())
+/// ```
+///
+/// ```compile_fail,E0277
+/// # let shape = vbr::Shape::for_keys(8, 1);
+/// let (one, other) = (vbr::Set::<u64>::open(shape).unwrap(), vbr::Set::<u64>::open(shape).unwrap());
+/// let (mut lent, mut another) = (one.lend().unwrap(), other.lend().unwrap());
+/// std::mem::swap(&mut *lent, &mut *another);
+/// ```
+///
+/// ```compile_fail,E0277
+/// fn is_sync<T: ?Sized + Sync>() {}
+/// is_sync::<vbr::Pass>();
+/// ```
+#[repr(transparent)]
+pub struct PassOf<T: Kind> {
+    kind: PhantomData<T>,
+    /// The handle as the library has it, the only one of the slice.
+    raw: [UnsafeCell<Raw>],
+}
+
+// SAFETY: the library proves `Send` of its `Handle`, which `raw` is. It has no key and no value: each that it gives is made of bits by
+// the thread that makes the call.
+unsafe impl<T: Kind> Send for PassOf<T> {}
+
+impl<T: Kind> PassOf<T> {
+    /// The pass of a handle.
+    #[inline]
+    pub(crate) fn of(raw: &UnsafeCell<Raw>) -> &PassOf<T> {
+        // SAFETY: a pass is a slice of such cells by another name.
+        unsafe { &*(ptr::from_ref(slice::from_ref(raw)) as *const PassOf<T>) }
+    }
+
+    /// The same, for calls that change something.
+    #[inline]
+    pub(crate) fn of_mut(raw: &mut UnsafeCell<Raw>) -> &mut PassOf<T> {
+        // SAFETY: a pass is a slice of such cells by another name, and `&mut` is exclusive.
+        unsafe { &mut *(ptr::from_mut(slice::from_mut(raw)) as *mut PassOf<T>) }
+    }
+    /// The handle as the calls of the library take it. A call may have it where nothing else does meanwhile: the pass isn't
+    /// `Sync`, and no call lends it to anybody.
+    #[inline]
+    pub(crate) fn raw(&self) -> *mut Raw {
+        UnsafeCell::raw_get(self.raw.as_ptr())
+    }
+}
+
+/// The calls that sets and maps have alike.
+impl<T: Kind> PassOf<T> {
+    /// The budget that each call of the handle has; of a loan that of the set that lends it.
+    ///
+    /// ```
+    /// # use vbr::{Set, Shape, Steps};
+    /// let shape = Shape::for_keys(8, 1);
+    /// assert_eq!(Set::<u64>::handles(shape)?[0].steps(), Steps::AMPLE);
+    /// assert_eq!(Set::<u64>::handles(shape.with_steps(Steps::new(500)))?[0].steps(), Steps::new(500));
+    /// # Ok::<(), vbr::OpenError>(())
+    /// ```
+    #[inline]
+    pub fn steps(&self) -> Steps {
+        // SAFETY: it is written through `&mut` alone.
+        Steps::new(unsafe { (*self.raw()).steps })
+    }
+
+    /// Whether a key is there. All steps are loads; while the other handles stand still, 5n + 11 are enough, with n nodes in the
+    /// bucket of the key. `contains` of a set and `contains_key` of a map are other names of it.
+    ///
+    /// It changes what the handle owns, and nothing that another handle sees, so it takes `&self` of a type that is not `Sync`.
+    ///
+    /// ```
+    /// # use vbr::{Set, Shape};
+    /// let handle = Set::handles_with(Shape::for_keys(8, 1), &[5])?.remove(0);
+    /// assert!(handle.has(5)? && !handle.has(6)?);
+    /// # Ok::<(), Box<dyn std::error::Error>>(())
+    /// ```
+    ///
+    /// # Errors
+    ///
+    /// [`OutOfSteps`]. No call was made then.
+    #[inline]
+    pub fn has(&self, key: T::Key) -> Result<bool, OutOfSteps> {
+        self.has_within(key, self.steps())
+    }
+
+    /// As [`PassOf::has`], with a budget of its own.
+    ///
+    /// ```
+    /// # use vbr::{OutOfSteps, Set, Shape, Steps};
+    /// let handle = Set::handles_with(Shape::for_keys(8, 1), &[5])?.remove(0);
+    /// assert_eq!(handle.has_within(5, Steps::new(5 + 11)), Ok(true));
+    /// assert_eq!(handle.has_within(5, Steps::new(1)), Err(OutOfSteps));
+    /// # Ok::<(), vbr::OpenError>(())
+    /// ```
+    ///
+    /// # Errors
+    ///
+    /// [`OutOfSteps`]. No call was made then.
+    #[inline]
+    pub fn has_within(&self, key: T::Key, steps: Steps) -> Result<bool, OutOfSteps> {
+        let key = key.to_bits();
+        // SAFETY: one thread at a time has the pass, which is not `Sync`, and the call lends it to nobody.
+        looked_up(order::finds(key, || unsafe { T::HAS(self.raw(), key, steps.count()) }))
+    }
+
+    /// Looks keys up in their order, each with the budget of the handle, and writes what [`PassOf::has`] answers to each at its
+    /// place. Each is a call of its own, so a refusal says nothing of the keys after it.
+    ///
+    /// It is for many keys of a set that is larger than the cache: their look-ups wait for memory together.
+    ///
+    /// ```
+    /// # use vbr::{Set, Shape};
+    /// let handle = Set::handles_with(Shape::for_keys(8, 1), &[5, 7])?.remove(0);
+    /// let mut answers = [Ok(false); 3];
+    /// handle.has_all(&[5, 6, 7], &mut answers);
+    /// assert_eq!(answers, [Ok(true), Ok(false), Ok(true)]);
+    /// # Ok::<(), Box<dyn std::error::Error>>(())
+    /// ```
+    ///
+    /// # Panics
+    ///
+    /// Where there aren't as many answers as keys. No call was made then.
+    #[inline]
+    pub fn has_all(&self, keys: &[T::Key], answers: &mut [Result<bool, OutOfSteps>]) {
+        self.has_all_within(keys, answers, self.steps());
+    }
+
+    /// As [`PassOf::has_all`], each key with this budget.
+    ///
+    /// ```
+    /// # use vbr::{OutOfSteps, Set, Shape, Steps};
+    /// # let handle = Set::handles_with(Shape::for_keys(8, 1), &[5, 7])?.remove(0);
+    /// let mut answers = [Ok(false); 2];
+    /// handle.has_all_within(&[5, 6], &mut answers, Steps::new(1));
+    /// assert_eq!(answers, [Err(OutOfSteps); 2]);
+    /// # Ok::<(), vbr::OpenError>(())
+    /// ```
+    ///
+    /// # Panics
+    ///
+    /// Where there aren't as many answers as keys. No call was made then.
+    #[inline]
+    pub fn has_all_within(&self, keys: &[T::Key], answers: &mut [Result<bool, OutOfSteps>], steps: Steps) {
+        // SAFETY: as for `has_within`; there is room for as many answers as keys.
+        let call = |keys: &[u64], told: &mut [i32]| unsafe {
+            T::HAS_ALL(self.raw(), keys.as_ptr(), keys.len(), told.as_mut_ptr(), steps.count());
+        };
+        answer_all(keys, answers, call, looked_up);
+    }
+
+    /// Goes over all keys while other threads make calls: a walk, each of whose calls has the budget of the handle. All its steps
+    /// are loads.
+    ///
+    /// Each key that is in the set from the first call of the walk to the last is given, once. No key is given twice, and none
+    /// that wasn't in the set at a moment of the call that gives it. Keys come bucket by bucket, and those of a bucket ascend.
+    /// What isn't said is that they were there together at one moment, as those of a report were: a key that is inserted or
+    /// removed meanwhile is given or not.
+    ///
+    /// The walk borrows the handle, which can look keys up meanwhile. Other handles make any calls; with [`PassOf::next`] this
+    /// one does too.
+    ///
+    /// ```
+    /// # use vbr::{OutOfSteps, Set, Shape};
+    /// fn count_even(pass: &vbr::Pass) -> Result<u64, OutOfSteps> {
+    ///     let mut count = 0;
+    ///     for key in pass {
+    ///         count += u64::from(key? % 2 == 0);
+    ///     }
+    ///     Ok(count)
+    /// }
+    ///
+    /// let handle = Set::handles_with(Shape::for_keys(8, 1), &[2, 5, 9])?.remove(0);
+    /// assert_eq!(count_even(&handle)?, 1);
+    /// let mut keys = handle.iter().collect::<Result<Vec<_>, _>>()?;
+    /// keys.sort();
+    /// assert_eq!(keys, [2, 5, 9]);
+    /// # Ok::<(), Box<dyn std::error::Error>>(())
+    /// ```
+    ///
+    /// Of a map it gives each key with its value. The two were in the map together at a moment of the call that gives them.
+    ///
+    /// ```
+    /// # use vbr::{Map, Shape};
+    /// let handle = Map::handles_with(Shape::for_keys(8, 1), &[(5, 70), (7, 71)])?.remove(0);
+    /// let mut entries = handle.iter().collect::<Result<Vec<_>, _>>()?;
+    /// entries.sort();
+    /// assert_eq!(entries, [(5, 70), (7, 71)]);
+    /// for entry in &handle {
+    ///     let (key, value) = entry?;
+    ///     assert_eq!(handle.get(key)?, Some(value)); // as nobody else makes calls
+    /// }
+    /// # Ok::<(), Box<dyn std::error::Error>>(())
+    /// ```
+    ///
+    /// # Errors
+    ///
+    /// An item is [`OutOfSteps`] where a whole call didn't come to a later bucket, as [`Iter`] says. While the other handles stand
+    /// still that is so only if the budget is below 5n + 11, with n nodes in the bucket.
+    #[inline]
+    pub fn iter(&self) -> Iter<'_, T> {
+        self.iter_within(self.steps())
+    }
+
+    /// As [`PassOf::iter`], each of whose calls has this budget.
+    ///
+    /// ```
+    /// # use vbr::{OutOfSteps, Set, Shape, Steps};
+    /// let handle = Set::handles_with(Shape::for_keys(8, 1), &[2, 5, 9])?.remove(0);
+    /// assert_eq!(handle.iter_within(Steps::new(100)).count(), 3);
+    /// assert_eq!(handle.iter_within(Steps::new(1)).next(), Some(Err(OutOfSteps)));
+    /// # Ok::<(), vbr::OpenError>(())
+    /// ```
+    #[inline]
+    pub fn iter_within(&self, steps: Steps) -> Iter<'_, T> {
+        Iter::new(self, steps)
+    }
+
+    /// The next key of a walk; `None` at its end. The cursor is after the key then. A walk begins at [`Cursor::first`], and what
+    /// [`PassOf::iter`] says of one is so of these calls of one handle.
+    ///
+    /// It makes three steps for each bucket that it enters, three for a removed node that is still in its list, and five for
+    /// another; and of a map two more, to read the value. After the last node of a bucket the cursor is before the next bucket.
+    ///
+    /// Between two of them the handle makes any other calls.
+    ///
+    /// ```
+    /// # use vbr::{Cursor, Set, Shape};
+    /// let mut handle = Set::handles_with(Shape::for_keys(8, 1), &[2, 5, 9])?.remove(0);
+    /// let mut cursor = Cursor::first();
+    /// while let Some(key) = handle.next(&mut cursor)? {
+    ///     if key % 2 == 1 {
+    ///         handle.remove(key)?;
+    ///     }
+    /// }
+    /// assert_eq!(handle.close()?.expect("the only handle").keys, [2]);
+    /// # Ok::<(), Box<dyn std::error::Error>>(())
+    /// ```
+    ///
+    /// ```
+    /// # use vbr::{Cursor, Map, Shape};
+    /// # let mut handle = Map::handles_with(Shape::for_keys(8, 1), &[(5, 70), (7, 71)])?.remove(0);
+    /// # let mut cursor = Cursor::first();
+    /// while let Some((key, value)) = handle.next(&mut cursor)? {
+    ///     if value > 70 {
+    ///         handle.remove(key)?;
+    ///     }
+    /// }
+    /// # assert_eq!(handle.close()?.expect("the only handle").entries, [(5, 70)]);
+    /// # Ok::<(), Box<dyn std::error::Error>>(())
+    /// ```
+    ///
+    /// # Errors
+    ///
+    /// [`OutOfSteps`]. The cursor keeps how far it has come, so make the call again. While the other handles
+    /// stand still, it has come to a later bucket, or the budget was below 5n + 11, with n nodes in the cursor's bucket.
+    #[inline]
+    pub fn next(&self, cursor: &mut Cursor) -> Result<Option<T::Item>, OutOfSteps> {
+        self.next_within(cursor, self.steps())
+    }
+
+    /// As [`PassOf::next`], with a budget of its own.
+    ///
+    /// ```
+    /// # use vbr::{Cursor, OutOfSteps, Set, Shape, Steps};
+    /// let handle = Set::handles_with(Shape::for_keys(8, 1), &[5])?.remove(0);
+    /// let mut cursor = Cursor::first();
+    /// assert_eq!(handle.next_within(&mut cursor, Steps::new(1)), Err(OutOfSteps));
+    /// assert_eq!(handle.next_within(&mut cursor, Steps::new(100)), Ok(Some(5)));
+    /// # Ok::<(), vbr::OpenError>(())
+    /// ```
+    ///
+    /// # Errors
+    ///
+    /// [`OutOfSteps`], as of [`PassOf::next`].
+    #[inline]
+    pub fn next_within(&self, cursor: &mut Cursor, steps: Steps) -> Result<Option<T::Item>, OutOfSteps> {
+        let mut given = T::Plain::default();
+        // SAFETY: as for `has_within`; nothing else has the cursor and what is given.
+        let told = unsafe { T::NEXT(self.raw(), cursor, &mut given, steps.count()) };
+        if !looked_up(told)? {
+            return Ok(None);
+        }
+        order::finds(T::key(&given), || told);
+        Ok(Some(T::item(given)))
+    }
+
+    /// The next key of a walk, by as many calls as it takes, as long as each comes further.
+    #[inline]
+    pub(crate) fn walk_on(&self, cursor: &mut Cursor, steps: Steps) -> Result<Option<T::Item>, OutOfSteps> {
+        loop {
+            let before = *cursor;
+            let told = self.next_within(cursor, steps);
+            if told.is_ok() || *cursor == before {
+                return told;
+            }
+        }
+    }
+
+    /// The last epoch that the handle read in a call; 1 before its first. It makes no step, so others may have advanced the
+    /// epoch since. Renew the set before it comes to [`PassOf::last_epoch`].
+    ///
+    /// ```
+    /// # use vbr::{Set, Shape};
+    /// let handle = Set::<u64>::handles(Shape::new(8, 2, 100))?.remove(0);
+    /// let is_near = handle.epoch() + 10 >= handle.last_epoch(); // then renew the set
+    /// assert!(!is_near);
+    /// # Ok::<(), Box<dyn std::error::Error>>(())
+    /// ```
+    #[inline]
+    pub fn epoch(&self) -> u64 {
+        // SAFETY: as for `has_within`.
+        unsafe { T::EPOCH(self.raw()) }
+    }
+
+    /// The last epoch of the set.
+    ///
+    /// ```
+    /// # use vbr::{Set, Shape};
+    /// let handle = Set::<u64>::handles(Shape::new(8, 2, 100))?.remove(0);
+    /// assert_eq!(handle.last_epoch(), 100);
+    /// # Ok::<(), Box<dyn std::error::Error>>(())
+    /// ```
+    #[inline]
+    pub fn last_epoch(&self) -> u64 {
+        // SAFETY: as for `has_within`.
+        unsafe { T::LAST_EPOCH(self.raw()) }
+    }
+
+    /// How many slots the set has.
+    ///
+    /// ```
+    /// # use vbr::{Set, Shape};
+    /// let handle = Set::<u64>::handles(Shape::new(640, 2, 100))?.remove(0);
+    /// assert_eq!(handle.slots(), 640);
+    /// # Ok::<(), Box<dyn std::error::Error>>(())
+    /// ```
+    #[inline]
+    pub fn slots(&self) -> u32 {
+        // SAFETY: as for `has_within`.
+        unsafe { T::SLOTS(self.raw()) }
+    }
+
+    /// How many buckets the set has.
+    ///
+    /// ```
+    /// # use vbr::{Set, Shape};
+    /// let handle = Set::<u64>::handles(Shape::for_keys(1_000, 1))?.remove(0);
+    /// assert_eq!(handle.buckets(), 1_024);
+    /// # Ok::<(), Box<dyn std::error::Error>>(())
+    /// ```
+    #[inline]
+    pub fn buckets(&self) -> u32 {
+        // SAFETY: as for `has_within`.
+        unsafe { T::BUCKETS(self.raw()) }
+    }
+
+    /// The seed that spreads the keys of the set over its buckets, drawn or given: the one that it was opened with, or, of one
+    /// from 2^63 on, the one 2^63 less, which is its like. With it a set has each key in the same bucket, where it has as many.
+    ///
+    /// ```
+    /// # use vbr::{Set, Shape};
+    /// let handle = Set::<u64>::handles(Shape::for_keys(1_000, 1).with_seed(7))?.remove(0);
+    /// assert_eq!(handle.seed(), 7);
+    /// # Ok::<(), Box<dyn std::error::Error>>(())
+    /// ```
+    #[inline]
+    pub fn seed(&self) -> u64 {
+        // SAFETY: as for `has_within`.
+        unsafe { T::SEED(self.raw()) }
+    }
+
+    /// How many keys the calls of the handle have added, less those that they took out: the inserts that were answered yes, less
+    /// the removes that were. The first of the handles that were opened together begins with the keys that the set opened with,
+    /// and the others with 0. A call that changes a value leaves it as it was. It makes no step.
+    ///
+    /// So while no call is under way the balances of all handles of a set add up to the number of its keys. A handle takes its
+    /// balance along when it is closed. While threads run, let each put the balance of its handle where the others read it: the
+    /// sum of these is off by at most the calls that are under way or end while it is made.
+    ///
+    /// ```
+    /// # use vbr::{Set, Shape};
+    /// let mut handles = Set::handles_with(Shape::for_keys(8, 2), &[5, 7])?;
+    /// assert!(handles[0].insert(6)? && handles[1].remove(5)?);
+    /// assert_eq!(handles.iter().map(|handle| handle.balance()).collect::<Vec<_>>(), [3, -1]);
+    /// assert_eq!(handles.iter().map(|handle| handle.balance()).sum::<i64>(), 2);
+    /// # Ok::<(), Box<dyn std::error::Error>>(())
+    /// ```
+    #[inline]
+    pub fn balance(&self) -> i64 {
+        // SAFETY: as for `has_within`.
+        unsafe { T::BALANCE(self.raw()) }
+    }
+
+    /// Puts the slots that the handle keeps to itself, at most 64, into the pool that all handles share, where any of them
+    /// finds them, and returns how many they were. It makes a step for each, and can't fail. A handle that is closed or
+    /// dropped does so by itself: call it of one that inserts nothing for a time.
+    ///
+    /// A slot stays which an insert of the handle had taken when it was refused with [`Refusal::OutOfSteps`], or found that
+    /// another had just added its key, until an insert of the handle takes it again.
+    ///
+    /// ```
+    /// # use vbr::{Refusal, Set, Shape};
+    /// let mut handles = Set::handles(Shape::new(1, 1, 100).with_handles(2))?;
+    /// assert!(handles[0].insert(5)? && handles[0].remove(5)?);
+    /// assert_eq!(handles[1].insert(6), Err(Refusal::NoSlot)); // the first handle has the only slot
+    /// assert_eq!(handles[0].spare(), 1);
+    /// assert!(handles[1].insert(6)?);
+    /// # Ok::<(), Box<dyn std::error::Error>>(())
+    /// ```
+    ///
+    /// [`Refusal::OutOfSteps`]: crate::Refusal::OutOfSteps
+    #[inline]
+    pub fn spare(&mut self) -> u32 {
+        // SAFETY: as for `has_within`.
+        unsafe { T::SPARE(self.raw()) }
+    }
+
+    /// Takes slots out of the pool that all handles share until the handle keeps `wanted` to itself, or 63 if that is less, and
+    /// returns how many it took: fewer only where it finds no more on a way once round the slots. It makes a step for each slot
+    /// that it takes or that others take before it, and for each 64 slots that it passes. Call it of a handle that from now on
+    /// takes a key out before each that it puts in, as a cache does that is full: with 32 slots in reserve it advances the epoch
+    /// in about one of 33 inserts, and with none in nearly each. Inserts take slots of the handle first, so those that fill the
+    /// set use up a reserve that was taken before. It makes no call of the set, takes no memory and can't fail.
+    /// [`PassOf::spare`] gives the slots back.
+    ///
+    /// ```
+    /// # use vbr::{Set, Shape};
+    /// let mut handles = Set::handles(Shape::new(100, 8, 1_000))?;
+    /// assert_eq!(handles[0].reserve(32), 32);
+    /// for key in 0..330 {
+    ///     assert!(handles[0].insert(key)? && handles[0].remove(key)?);
+    /// }
+    /// assert!(handles[0].epoch() <= 11);
+    /// # Ok::<(), Box<dyn std::error::Error>>(())
+    /// ```
+    #[inline]
+    pub fn reserve(&mut self, wanted: u32) -> u32 {
+        // SAFETY: as for `has_within`.
+        unsafe { T::RESERVE(self.raw(), wanted) }
+    }
+}
+
+impl<T: Kind> fmt::Debug for PassOf<T> {
+    fn fmt(&self, f: &mut fmt::Formatter<'_>) -> fmt::Result {
+        f.debug_struct(T::NAMES[2]).finish_non_exhaustive()
+    }
+}

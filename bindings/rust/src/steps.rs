@@ -1,0 +1,83 @@
+//! Budgets of calls.
+
+/// A budget: the most steps that a call may make, each one atomic operation on one word that threads share.
+///
+/// A handle has one for all its calls, [`Steps::AMPLE`] unless its shape ([`Shape::with_steps`](crate::Shape::with_steps)) or
+/// [`HandleOf::set_steps`](crate::HandleOf::set_steps) gave it another. Each call has a form beside it, with `_within` in its name,
+/// that takes a budget for itself.
+///
+/// ```
+/// use vbr::{Refusal, Set, Shape, Steps};
+///
+/// let mut handle = Set::handles(Shape::for_keys(8, 1))?.remove(0);
+/// assert_eq!(handle.steps(), Steps::AMPLE);
+/// assert_eq!(handle.insert_within(5, Steps::new(1)), Err(Refusal::OutOfSteps));
+/// assert_eq!(handle.insert_within(5, Steps::new(1_000)), Ok(true));
+/// handle.set_steps(Steps::new(1));
+/// assert!(handle.has(5).is_err());
+/// # Ok::<(), vbr::OpenError>(())
+/// ```
+#[derive(Clone, Copy, Debug, PartialEq, Eq, PartialOrd, Ord, Hash)]
+#[must_use = "a budget does nothing before it is given to a call, a handle or a shape"]
+pub struct Steps(u32);
+
+impl Steps {
+    /// So many that no call runs out of them in short buckets: 400,000, which is no less than 100,000 and a step for each 64 of
+    /// the most slots that there may be.
+    ///
+    /// ```
+    /// assert!(vbr::Steps::AMPLE.count() >= 100_000 + vbr::MAX_SLOTS / 64);
+    /// ```
+    pub const AMPLE: Steps = Steps(400_000);
+
+    /// A budget of so many steps.
+    ///
+    /// ```
+    /// assert_eq!(vbr::Steps::new(1_000).count(), 1_000);
+    /// ```
+    #[inline]
+    pub const fn new(count: u32) -> Steps {
+        Steps(count)
+    }
+
+    /// How many steps they are.
+    ///
+    /// ```
+    /// assert_eq!(vbr::Steps::AMPLE.count(), 400_000);
+    /// ```
+    #[must_use]
+    #[inline]
+    pub const fn count(self) -> u32 {
+        self.0
+    }
+
+    /// Twice as many, for the next try of a call that ran out of steps.
+    ///
+    /// ```
+    /// use vbr::{Pass, Refusal, Steps};
+    ///
+    /// /// Adds a page, with few steps at first, and with more only where these are too few.
+    /// fn visit(pass: &mut Pass, page: u64) -> Result<bool, Refusal> {
+    ///     let mut steps = Steps::new(64);
+    ///     loop {
+    ///         match pass.insert_within(page, steps) {
+    ///             Err(Refusal::OutOfSteps) if steps < Steps::AMPLE => steps = steps.doubled(),
+    ///             told => return told,
+    ///         }
+    ///     }
+    /// }
+    /// # let mut handle = vbr::Set::handles(vbr::Shape::for_keys(8, 1))?.remove(0);
+    /// # assert!(visit(&mut handle, 5)?);
+    /// # Ok::<(), Box<dyn std::error::Error>>(())
+    /// ```
+    pub const fn doubled(self) -> Steps {
+        Steps(self.0.saturating_mul(2))
+    }
+}
+
+impl Default for Steps {
+    /// [`Steps::AMPLE`].
+    fn default() -> Steps {
+        Steps::AMPLE
+    }
+}

@@ -1,0 +1,169 @@
+//! Keys and values of each type that has `Bits`: their bits, which are worked by hand, come back, and keep the order of the type.
+use std::collections::HashSet;
+use std::fmt::Debug;
+use std::num::{NonZeroI32, NonZeroU64, NonZeroU8};
+use std::panic::{catch_unwind, AssertUnwindSafe};
+use std::thread;
+use vbr::{Bits, ByBits, Compared, Map, MapHandle, OpenError, Set, Shape};
+
+/// Sees that these values, which ascend, have bits that ascend, and come back, from bits, a set and a map.
+fn comes_back<T: Bits + Ord>(values: &[T]) {
+    assert!(values.windows(2).all(|pair| pair[0] < pair[1] && pair[0].to_bits() < pair[1].to_bits()));
+    assert!(values.iter().all(|&value| T::from_bits(value.to_bits()) == value));
+    let shape = Shape::for_keys(64, 1);
+    let mut set = Set::handles(shape).expect("a set").remove(0);
+    for &value in values.iter().rev() {
+        assert_eq!((set.insert(value), set.insert(value), set.has(value)), (Ok(true), Ok(false), Ok(true)));
+    }
+    let walked: HashSet<u64> = set.iter().map(|key| key.expect("steps").to_bits()).collect();
+    assert_eq!(walked, values.iter().map(|value| value.to_bits()).collect());
+    assert_eq!(set.close().expect("a report").expect("the only handle").keys, values);
+    let entries: Vec<_> = values.iter().copied().zip(values.iter().copied().rev()).collect();
+    let mut map = Map::handles_with(shape, &entries).expect("a map").remove(0);
+    for &(key, value) in &entries {
+        assert_eq!((map.get(key), map.replace(key, value)), (Ok(Some(value)), Ok(Some(value))));
+        assert_eq!(map.compare_exchange(key, value, key), Ok(Compared::Equal));
+        assert_eq!(map.compare_exchange(key, key, value), Ok(Compared::Equal));
+    }
+    let mut answers = vec![Ok(None); values.len()];
+    map.get_all(values, &mut answers);
+    assert!(answers.iter().zip(&entries).all(|(answer, entry)| *answer == Ok(Some(entry.1))));
+    assert_eq!(map.close().expect("a report").expect("the only handle").entries, entries);
+}
+
+#[test]
+fn each_type_comes_back_in_its_order() {
+    comes_back(&[0, 1, u8::MAX]);
+    comes_back(&[0, 1, u16::MAX]);
+    comes_back(&[0, 1, u32::MAX]);
+    comes_back(&[0, 1, u64::MAX]);
+    comes_back(&[0, 1, usize::MAX]);
+    comes_back(&[i8::MIN, -1, 0, 1, i8::MAX]);
+    comes_back(&[i16::MIN, -1, 0, 1, i16::MAX]);
+    comes_back(&[i32::MIN, -1, 0, 1, i32::MAX]);
+    comes_back(&[i64::MIN, -1, 0, 1, i64::MAX]);
+    comes_back(&[isize::MIN, -1, 0, 1, isize::MAX]);
+    comes_back(&[false, true]);
+    comes_back(&['\0', 'k', char::MAX]);
+    comes_back(&[(0, 0), (0, u32::MAX), (1, 0), (u32::MAX, u32::MAX)]);
+    comes_back(&[[0; 8], *b"abcdefgh", *b"abcdefgi", *b"b\0\0\0\0\0\0\0", [255; 8]]);
+    comes_back(&[NonZeroU8::MIN, NonZeroU8::MAX]);
+    comes_back(&[NonZeroU64::MIN, NonZeroU64::MAX]);
+    comes_back(&[NonZeroI32::MIN, NonZeroI32::new(-1).expect("not 0"), NonZeroI32::MAX]);
+    let (nan, tiny) = (f64::from_bits(0x7ff8_0000_0000_0001), f64::from_bits(1));
+    let numbers = [-nan, f64::NEG_INFINITY, -1.5, -tiny, -0.0, 0.0, tiny, 1.5, f64::INFINITY, nan];
+    comes_back(&numbers.map(ByBits));
+}
+
+#[test]
+fn bits_that_are_worked_by_hand() {
+    assert_eq!((200_u8.to_bits(), u64::MAX.to_bits(), true.to_bits(), 'k'.to_bits()), (200, u64::MAX, 1, 0x6b));
+    assert_eq!(((-1_i8).to_bits(), 0_i8.to_bits(), i64::MIN.to_bits(), 1_i64.to_bits()), (0x7f, 0x80, 0, (1 << 63) + 1));
+    assert_eq!(((7_u32, 9_u32).to_bits(), [0, 0, 0, 0, 0, 0, 1, 2].to_bits()), ((7 << 32) + 9, 0x102));
+    assert_eq!((ByBits(0.0).to_bits(), ByBits(-0.0).to_bits()), (1 << 63, (1 << 63) - 1));
+}
+
+#[test]
+fn numbers_by_their_bits() {
+    let nan = ByBits(f64::NAN);
+    assert!(nan == nan && ByBits(0.0) != ByBits(-0.0) && ByBits(-0.0) < ByBits(0.0));
+    assert_eq!(HashSet::from([nan, nan, ByBits(0.0), ByBits(-0.0)]).len(), 3);
+    assert_eq!(f64::from(ByBits::from(1.5)).to_bits(), 1.5_f64.to_bits());
+}
+
+/// What a program makes of bits by itself, of fewer bits than 64, and in an order of its own.
+#[derive(Clone, Copy, Debug, PartialEq, Eq)]
+enum Colour {
+    Red,
+    Green,
+    Blue,
+}
+
+impl Bits for Colour {
+    fn to_bits(self) -> u64 {
+        match self {
+            Colour::Red => 30,
+            Colour::Green => 20,
+            Colour::Blue => 10,
+        }
+    }
+
+    fn from_bits(bits: u64) -> Colour {
+        match bits {
+            30 => Colour::Red,
+            20 => Colour::Green,
+            10 => Colour::Blue,
+            _ => unreachable!("bits of another type"),
+        }
+    }
+}
+
+#[test]
+fn a_type_of_a_program() {
+    let shape = Shape::for_keys(8, 2);
+    let set = Set::open_with(shape, &[Colour::Blue, Colour::Green]).expect("a set");
+    thread::scope(|scope| {
+        scope.spawn(|| assert_eq!(set.lend_wait().insert(Colour::Red), Ok(true)));
+    });
+    assert_eq!(set.lend_wait().remove(Colour::Blue), Ok(true));
+    assert_eq!(set.close().expect("a report").keys, [Colour::Green, Colour::Red]);
+    assert!(matches!(Set::open_with(shape, &[Colour::Red, Colour::Blue]), Err(OpenError::Keys(_))));
+    let mut map: Vec<MapHandle<Colour, char>> = Map::handles(shape).expect("a map");
+    assert_eq!(map[0].put(Colour::Red, 'r'), Ok(None));
+    assert_eq!(map[1].get_or_insert(Colour::Red, 's'), Ok(Some('r')));
+    assert_eq!(map[1].remove_if(Colour::Red, 's'), Ok(Compared::Other('r')));
+    assert_eq!(map[1].fetch_update(Colour::Red, |letter| letter.to_uppercase().next()), Ok(Some('r')));
+    assert_eq!(MapHandle::report_all(&mut map).expect("a report").entries, [(Colour::Red, 'R')]);
+    MapHandle::renew_all(&mut map, Shape::for_keys(100, 2)).expect("a fresh map");
+    assert_eq!(map[0].get(Colour::Red), Ok(Some('R')));
+}
+
+/// Types whose layout is another than that of the bits, as entries of a report.
+#[test]
+fn reports_of_any_layout() {
+    fn told<K: Bits, V: Bits + Debug>(entries: &[(K, V)]) {
+        let map = Map::open_with(Shape::for_keys(100, 1), entries).expect("a map");
+        let report = map.close().expect("a report");
+        assert_eq!(report.entries, entries);
+        assert_eq!(report.entries.capacity(), entries.len());
+        assert!(report.iter().eq(entries) && (&report).into_iter().eq(entries) && report.into_iter().eq(entries.to_vec()));
+    }
+    told(&[(1_u8, 'a'), (2, 'b'), (3, 'c')]);
+    told(&[(1_u64, false), (2, true)]);
+    told(&[((1, 1), [1_u8; 8]), ((1, 2), [2; 8])]);
+    told::<u64, u64>(&[]);
+    let keys = Set::open_with(Shape::for_keys(8, 1), &[false, true]).expect("a set").close().expect("a report");
+    assert!(keys.iter().eq(&[false, true]) && (&keys).into_iter().eq(&[false, true]) && keys.into_iter().eq([false, true]));
+}
+
+/// One whose bits are given back by a panic: it is not the crate's fault, and nothing is freed twice or kept.
+#[derive(Clone, Copy, Debug, PartialEq, Eq)]
+struct Broken;
+
+impl Bits for Broken {
+    fn to_bits(self) -> u64 {
+        5
+    }
+
+    fn from_bits(_: u64) -> Broken {
+        panic!("a type that is wrong")
+    }
+}
+
+#[test]
+fn a_type_that_panics() {
+    fn panics<R>(call: impl FnOnce() -> R) {
+        assert!(catch_unwind(AssertUnwindSafe(call)).is_err());
+    }
+    let shape = Shape::for_keys(8, 2);
+    let set = Set::open(shape).expect("a set");
+    assert_eq!(set.lend_wait().insert(Broken), Ok(true));
+    panics(|| set.lend_wait().iter().count());
+    assert_eq!(set.lend_wait().has(Broken), Ok(true));
+    panics(|| set.close());
+    let mut handles: Vec<MapHandle<u64, Broken>> = Map::handles_with(shape, &[(5, Broken)]).expect("a map");
+    panics(|| MapHandle::report_all(&mut handles));
+    panics(|| handles[1].get(5));
+    assert_eq!((handles[0].has(5), handles[1].try_insert(6, Broken)), (Ok(true), Ok(true)));
+    panics(|| handles.into_iter().map(MapHandle::close).count());
+}

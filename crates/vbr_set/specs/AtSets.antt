@@ -1,0 +1,19 @@
+-- A pass at its set: what it is, and what look-ups leave of it.
+use Rattle.std.specs.Prelude.{◌≡◌, ℕ}
+use Rattle.vbr_words.specs.declared.nodes.Nodes.{Ghosts}
+use Rattle.vbr_set.specs.declared.set.at_set.AtSet.{AtSet}
+use Rattle.vbr_set.specs.Members.{MemberView, as_member}
+
+-- the pass, as a member of the set
+abbrev pub member_at : {N : Type 0} {kind : Ghosts N} → AtSet N kind → MemberView
+member_at at = as_member at.set.now at.pass.now
+
+-- it is the same pass at the same set
+pub record IsSameSet {N : Type 0} {kind : Ghosts N} (c d : AtSet N kind) : Type 0 where
+  pub pass : d.pass.ghost_name ≡ c.pass.ghost_name
+  pub set : d.set ≡ c.set
+
+-- it looks a key up, which is such a call of the pass
+pub record LooksUpAt {N A : Type 0} {kind : Ghosts N} (Calls : MemberView → MemberView → ℕ → ℕ → A → Type 0) (c d : AtSet N kind) (key budget : ℕ) (answer : A) : Type 0 where
+  pub same : IsSameSet c d
+  pub call : Calls (member_at c) (member_at d) key budget answer

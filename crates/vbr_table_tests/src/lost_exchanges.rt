@@ -1,0 +1,520 @@
+//! Stores that lose their exchange: pass 1 stands before it, with a slot in hand, while pass 0 is first, and goes on
+//! over what that left.
+ghost use Rattle.std.specs.Prelude.{◌≡◌, ◌<◌, true, None, IfOk, IfErr};
+ghost use Rattle.vbr_slots.specs.AtTables.{IsSameTable, pass_of, trace_of};
+ghost use Rattle.vbr_slots.specs.Calls.{Took};
+ghost use Rattle.vbr_slots.specs.Views.{IsOf, knows};
+ghost use Rattle.vbr_at_table.specs.Exchanges.{GivesBack};
+ghost use Rattle.vbr_at_table.specs.Hands.{IsHandOf};
+ghost use Rattle.vbr_at_table.specs.Keeping.{Keeps, KeepsOwn};
+ghost use Rattle.vbr_at_table.specs.Replacing.{IsReplaceable, ReplacesEntry};
+
+use crate::entries::Made;
+use crate::lost_stores::{one_entry, read_entry};
+use crate::rows::{Call, Row, play};
+use crate::running_table::{close_two, expect_pass, expect_pool, expect_words};
+use std::alloc::Global;
+use std::process::Abort;
+use std::test::Fail;
+use vbr_access::{Held, Marked, Rollback, confirm_present_entry, unlink};
+use vbr_at_table::replace;
+use vbr_list::{Wanted, get};
+use vbr_machine::Op;
+use vbr_pools::{Hand, give_back, retire, take};
+use vbr_slots::{AtTable, Pass, Slots, Stepper};
+use vbr_words::Entries;
+
+// What pass 0 does first, call by call, each with its budget; and the link word that it leaves in slot 0.
+#[derive(Clone, Copy)]
+struct First<'a> {
+    calls: &'a [(u32, Made)],
+    found: u64,
+}
+
+// Pass 0 gives the key 207, in slot 2, and the old node leaves its list.
+const REPLACED: First<'static> = First {
+    calls: &[(100, Made::Store(7, 207, Wanted::Present, Ok(Some(107))))],
+    found: 50_331_651,
+};
+
+// Pass 0 does the same, and has no steps left to unlink the old node, which stands in its list, marked.
+const STILL_LINKED: First<'static> = First {
+    calls: &[(34, Made::Store(7, 207, Wanted::Present, Ok(Some(107))))],
+    found: 50_331_651,
+};
+
+// Pass 0 gives the key 207, in slot 2, and then 107 again, in slot 0, for which it moves the epoch.
+const BACK: First<'static> = First {
+    calls: &[
+        (100, Made::Store(7, 207, Wanted::Present, Ok(Some(107)))),
+        (100, Made::Store(7, 107, Wanted::Present, Ok(Some(207)))),
+    ],
+    found: 67_108_864,
+};
+
+// Pass 0 removes the key.
+const REMOVED: First<'static> = First {
+    calls: &[(100, Made::Remove(7, Ok(Some(107))))],
+    found: 50_331_648,
+};
+
+// Pass 0 inserts another key behind the node, in slot 2.
+const INSERTED: First<'static> = First {
+    calls: &[(100, Made::Insert(9, 109, Ok(true)))],
+    found: 33_554_435,
+};
+
+// Replaces a node of key 7 that names none, at its table; and in how many steps: the key, the value, the link and the
+// exchange.
+fn replace_at(
+    at: &mut AtTable<'_, Entries>,
+    node: &Held,
+    value: u64,
+    hand: Hand,
+) -> (Result<Marked, (Hand, Rollback)>, u32)
+    requires node { IsReplaceable (trace_of at.old) node.now 7 0 }
+    requires hand { IsHandOf (pass_of at.old) hand }
+    ensures table { IsSameTable at.old at.new }
+    ensures took { Took (trace_of at.old) (trace_of at.new) result.1 }
+    ensures keeps { Keeps (knows (trace_of at.old)) (knows (trace_of at.new)) }
+    ensures replaced { IfOk result.0
+        (ReplacesEntry (pass_of at.old) (pass_of at.new) node.now 7 value) }
+    ensures lost { IfErr result.0 (GivesBack (pass_of at.old) (pass_of at.new) node.now hand) }
+{
+    (replace(at, node, 0, 7, value, hand), 4)
+}
+
+// The same by what makes the steps, which is lent.
+fn replace_by(
+    slots: &Slots<Entries>,
+    stepper: &mut Stepper,
+    node: &Held,
+    value: u64,
+    hand: Hand,
+) -> (Result<Marked, (Hand, Rollback)>, u32)
+    requires own { IsOf stepper.old.trace slots.now }
+    requires node { IsReplaceable stepper.old.trace node.now 7 0 }
+    requires hand { IsHandOf stepper.old hand }
+    ensures took { Took stepper.old.trace stepper.new.trace result.1 }
+    ensures keeps { Keeps (knows stepper.old.trace) (knows stepper.new.trace) }
+    ensures replaced { IfOk result.0 (ReplacesEntry stepper.old stepper.new node.now 7 value) }
+    ensures lost { IfErr result.0 (GivesBack stepper.old stepper.new node.now hand) }
+{
+    replace_at(&mut AtTable { slots, stepper }, node, value, hand)
+}
+
+// The same by a pass, whose steps are counted.
+fn replace_entry(
+    slots: &Slots<Entries>,
+    pass: &mut Pass,
+    node: &Held,
+    value: u64,
+    hand: Hand,
+) -> Result<Marked, (Hand, Rollback)>
+    requires own { IsOf pass.old.trace slots.now }
+    requires node { IsReplaceable pass.old.trace node.now 7 0 }
+    requires hand { IsHandOf pass.old hand }
+    ensures keeps { Keeps (knows pass.old.trace) (knows pass.new.trace) }
+    ensures replaced { IfOk result (ReplacesEntry pass.old pass.new node.now 7 value) }
+    ensures lost { IfErr result (GivesBack pass.old pass.new node.now hand) }
+{
+    pass.during_with(
+        hand,
+        |stepper, hand|
+            requires own { IsOf stepper.old.trace slots.now }
+            requires node { IsReplaceable stepper.old.trace node.now 7 0 }
+            requires hand { IsHandOf stepper.old hand }
+            ensures took { Took stepper.old.trace stepper.new.trace result.1 }
+            ensures keeps { Keeps (knows stepper.old.trace) (knows stepper.new.trace) }
+            ensures replaced { IfOk result.0
+                (ReplacesEntry stepper.old stepper.new node.entry.now 7 value) }
+            ensures lost { IfErr result.0 (GivesBack stepper.old stepper.new node.entry.now hand) }
+        { replace_by(slots, stepper, node, value, hand) },
+    )
+}
+
+// Finds 107 in slot 0, takes slot 1, and finds 107 again, as a compare_exchange of 107 does: 10 steps, 5 and 10. A
+// replacement reads no value before it takes the slot, which is 2 steps fewer.
+fn stand_before_exchange(rt: &impl Abort, slots: &Slots<Entries>, pass: &mut Pass) -> (Held, Hand)
+    requires own { IsOf pass.old.trace slots.now }
+    requires shape { (0 < slots.now.start.shape.buckets) × (slots.now.start.shape.values ≡ true) }
+    requires empty_hand { pass.old.hand ≡ None }
+    ensures own { IsOf pass.new.trace slots.now }
+    ensures node { IsReplaceable pass.new.trace result.0 7 0 }
+    ensures hand { IsHandOf pass.new result.1 }
+{
+    read_entry(rt, slots, pass, 0, 107);
+    let hand = take(slots, pass, 100).expect(rt, "a slot is in the shared pool");
+    assert_eq!(rt; (hand.slot(), hand.birth()), (1, 1));
+    let (_, node) = read_entry(rt, slots, pass, 0, 107);
+    (node, hand)
+}
+
+// The exchange of the node is lost, in four steps, to this link word, and the hand comes back.
+fn lose_exchange(
+    rt: &impl Abort,
+    slots: &Slots<Entries>,
+    pass: &mut Pass,
+    node: &Held,
+    hand: Hand,
+    found: u64,
+) -> Hand
+    requires own { IsOf pass.old.trace slots.now }
+    requires node { IsReplaceable pass.old.trace node.now 7 0 }
+    requires hand { IsHandOf pass.old hand }
+    ensures own { IsOf pass.new.trace slots.now }
+    ensures hand { IsHandOf pass.new result }
+{
+    match replace_entry(slots, pass, node, 307, hand) {
+        Ok(_) => panic!(rt; "replaced twice"),
+        Err((back, told)) => {
+            assert_eq!(rt; told, Rollback::LostExchange { found });
+            back
+        }
+    }
+}
+
+// Makes the calls of a pass one after another.
+fn make_all(rt: &impl Abort, slots: &Slots<Entries>, pass: &mut Pass, calls: &[(u32, Made)])
+    requires own { IsOf pass.old.trace slots.now }
+    requires empty_hand { pass.old.hand ≡ None }
+    ensures own { IsOf pass.new.trace slots.now }
+    ensures empty_hand { pass.new.hand ≡ None }
+{
+    for (budget, call) in calls {
+        call.make(rt, slots, pass, *budget);
+    }
+}
+
+// Pass 1 loses its exchange to what pass 0 does first, after 29 steps, and has its slot in hand.
+fn lose(rt: &impl Abort, slots: &Slots<Entries>, a: &mut Pass, b: &mut Pass, first: First) -> Hand
+    requires shape { (0 < slots.now.start.shape.buckets) × (slots.now.start.shape.values ≡ true) }
+    requires first { IsOf a.old.trace slots.now × (a.old.hand ≡ None) }
+    requires second { IsOf b.old.trace slots.now × (b.old.hand ≡ None) }
+    ensures first { IsOf a.new.trace slots.now × (a.new.hand ≡ None) }
+    ensures second { IsOf b.new.trace slots.now }
+    ensures hand { IsHandOf b.new result }
+{
+    let (node, hand) = stand_before_exchange(rt, slots, b);
+    make_all(rt, slots, a, first.calls);
+    let back = lose_exchange(rt, slots, b, &node, hand, first.found);
+    expect_pass(rt, b, (1, 1, 29));
+    back
+}
+
+// Gives a slot back to an empty pool.
+fn put_back(rt: &impl Abort, pass: &mut Pass, hand: Hand)
+    requires hand { IsHandOf pass.old hand }
+    ensures trace { pass.new.trace ≡ pass.old.trace }
+    ensures empty_hand { pass.new.hand ≡ None }
+{
+    assert!(rt; pass.pool().is_empty());
+    give_back(pass, hand);
+}
+
+// Pass 1 loses its exchange, gives its slot back, and these rows are made; gives the words of the closing.
+fn words_left(
+    rt: &impl Abort,
+    alloc: Global,
+    first: First,
+    rows: &[Row<Made>],
+) -> Result<Vec<u64>, Fail> {
+    let (slots, mut a, mut b) = one_entry(rt, alloc, 3)?;
+    let hand = lose(rt, &slots, &mut a, &mut b, first);
+    put_back(rt, &mut b, hand);
+    play(rt, &slots, &mut a, &mut b, rows);
+    Ok(close_two(alloc, slots, a, b).ok_or("not closed")?)
+}
+
+// A store of 307 by pass 1 that goes on after its lost exchange, with what it is answered: the least budget that is
+// enough, and the steps that it makes with that.
+#[derive(Clone, Copy)]
+struct Stored {
+    wanted: Wanted,
+    there: Option<u64>,
+    least: u32,
+    steps: u64,
+}
+
+// Makes the store after the lost exchange, with each budget that is too few and with the least that is enough:
+// refused it leaves the map as it was.
+fn expect_after(rt: &impl Abort, alloc: Global, first: First, stored: Stored) -> Result<(), Fail> {
+    let there = Ok(stored.there);
+    for budget in 0..stored.least {
+        let rows = [
+            Row::Call(1, budget, Made::Tired(7, 307, stored.wanted)),
+            Row::Call(0, 100, Made::Get(7, there)),
+        ];
+        words_left(rt, alloc, first, &rows)?;
+    }
+    let rows = [
+        Row::Call(1, stored.least, Made::Store(7, 307, stored.wanted, there)),
+        Row::Steps(stored.steps),
+    ];
+    words_left(rt, alloc, first, &rows)?;
+    Ok(())
+}
+
+/// A replacement that was lost to another goes on over the new node: a search takes 8 steps, the slot that was given
+/// back 3, a second search 8, the value 2, and the exchange 4. It answers the value that the other one stored. Where
+/// the old node still stands, it is helped out first, in 8 steps.
+#[test]
+fn a_replacement_after_another(rt: HostRuntime) -> Result<(), Fail> {
+    let stored = Stored {
+        wanted: Wanted::Present,
+        there: Some(207),
+        least: 27,
+        steps: 25,
+    };
+    expect_after(&rt, rt.alloc(), REPLACED, stored)?;
+    let stored = Stored {
+        least: 35,
+        steps: 33,
+        ..stored
+    };
+    expect_after(&rt, rt.alloc(), STILL_LINKED, stored)
+}
+
+/// A compare_exchange that had found its value, and lost its exchange to a replacement, answers the value that it
+/// finds then, by a get: a search takes 8 steps, the value 2, and a load 1.
+#[test]
+fn a_compare_exchange_after_a_replacement(rt: HostRuntime) -> Result<(), Fail> {
+    let stored = Stored {
+        wanted: Wanted::Value(107),
+        there: Some(207),
+        least: 16,
+        steps: 11,
+    };
+    expect_after(&rt, rt.alloc(), REPLACED, stored)?;
+    let stored = Stored {
+        least: 24,
+        steps: 19,
+        ..stored
+    };
+    expect_after(&rt, rt.alloc(), STILL_LINKED, stored)
+}
+
+/// The same node comes back in the same slot, with the value that was expected: its birth is another one, so the
+/// exchange is lost. The value is found again and exchanged then: a search takes 8 steps, the value 2, a slot 3, a
+/// second search 8, the value 2, and the exchange 4.
+#[test]
+fn a_compare_exchange_after_the_same_value(rt: HostRuntime) -> Result<(), Fail> {
+    let stored = Stored {
+        wanted: Wanted::Value(107),
+        there: Some(107),
+        least: 29,
+        steps: 27,
+    };
+    expect_after(&rt, rt.alloc(), BACK, stored)
+}
+
+/// An insert behind the node changes its link, so the exchange is lost, but not what is there: the value is exchanged
+/// then, in 2 steps more, for the birth of the node behind.
+#[test]
+fn an_exchange_after_an_insert(rt: HostRuntime) -> Result<(), Fail> {
+    let stored = Stored {
+        wanted: Wanted::Value(107),
+        there: Some(107),
+        least: 29,
+        steps: 29,
+    };
+    expect_after(&rt, rt.alloc(), INSERTED, stored)?;
+    let stored = Stored {
+        wanted: Wanted::Present,
+        least: 27,
+        steps: 27,
+        ..stored
+    };
+    expect_after(&rt, rt.alloc(), INSERTED, stored)
+}
+
+/// The key was removed, so it is found absent, in a search of 3 steps, and a load answers a get.
+#[test]
+fn an_exchange_after_a_remove(rt: HostRuntime) -> Result<(), Fail> {
+    let stored = Stored {
+        wanted: Wanted::Value(107),
+        there: None,
+        least: 11,
+        steps: 4,
+    };
+    expect_after(&rt, rt.alloc(), REMOVED, stored)?;
+    let stored = Stored {
+        wanted: Wanted::Present,
+        ..stored
+    };
+    expect_after(&rt, rt.alloc(), REMOVED, stored)
+}
+
+// The words of the closing where pass 0's replacement alone has changed the map: 207 is in slot 2, and slot 0, which
+// names it, is marked and unlinked. Slot 1 was filled in hand. Behind the epoch, the shape and the head, there are
+// link, birth, stamp, key and value of each slot; and the flags.
+const REPLACED_ONCE: [u64; 19] = [
+    1,
+    167_772_163,
+    33_554_435,
+    50_331_651,
+    1,
+    1,
+    7,
+    107,
+    33_554_432,
+    1,
+    0,
+    7,
+    307,
+    33_554_432,
+    1,
+    0,
+    7,
+    207,
+    0,
+];
+
+// The words where pass 1 has then put 307, in slot 1, in the place of 207: slot 2, which names it, is marked and
+// unlinked too.
+const REPLACED_TWICE: [u64; 19] = [
+    1,
+    167_772_163,
+    33_554_434,
+    50_331_651,
+    1,
+    1,
+    7,
+    107,
+    33_554_432,
+    1,
+    0,
+    7,
+    307,
+    50_331_650,
+    1,
+    1,
+    7,
+    207,
+    0,
+];
+
+// Makes a call of pass 1 after its lost exchange, and compares the own pools, of pass 0 and of pass 1, and the words
+// of the closing.
+fn expect_left(
+    rt: &impl Abort,
+    alloc: Global,
+    first: First,
+    call: (u32, Made),
+    pools: [&[u32]; 2],
+    words: [u64; 19],
+) -> Result<(), Fail> {
+    let (budget, made) = call;
+    let [of_first, of_second] = pools;
+    let rows = [
+        Row::Call(1, budget, made),
+        Row::Pool(0, of_first),
+        Row::Pool(1, of_second),
+    ];
+    let told = words_left(rt, alloc, first, &rows)?;
+    assert_eq!(rt; told.as_slice(), words.as_slice());
+    Ok(())
+}
+
+/// What was in hand goes back to the own pool, and the old node's slot is with the pass that unlinked it.
+#[test]
+fn what_a_lost_compare_exchange_leaves(rt: HostRuntime) -> Result<(), Fail> {
+    let made = Made::Store(7, 307, Wanted::Value(107), Ok(Some(207)));
+    let pools: [&[u32]; 2] = [&[0], &[1]];
+    expect_left(&rt, rt.alloc(), REPLACED, (16, made), pools, REPLACED_ONCE)?;
+    let pools: [&[u32]; 2] = [&[], &[1, 0]];
+    expect_left(
+        &rt,
+        rt.alloc(),
+        STILL_LINKED,
+        (24, made),
+        pools,
+        REPLACED_ONCE,
+    )
+}
+
+/// The new node is in the slot that was in hand. With 8 steps more than the least budget its old node leaves too, and
+/// its slot is with the pass that unlinked it.
+#[test]
+fn what_a_lost_replacement_leaves(rt: HostRuntime) -> Result<(), Fail> {
+    let made = Made::Store(7, 307, Wanted::Present, Ok(Some(207)));
+    let pools: [&[u32]; 2] = [&[0], &[2]];
+    expect_left(&rt, rt.alloc(), REPLACED, (33, made), pools, REPLACED_TWICE)?;
+    let pools: [&[u32]; 2] = [&[], &[0, 2]];
+    expect_left(
+        &rt,
+        rt.alloc(),
+        STILL_LINKED,
+        (41, made),
+        pools,
+        REPLACED_TWICE,
+    )
+}
+
+// Pass 1 goes on with its slot in hand: it finds 207 in slot 2, in 10 steps, replaces that in 4, and takes the old
+// node out of its list in 5.
+fn replace_another(rt: &impl Abort, slots: &Slots<Entries>, pass: &mut Pass, hand: Hand)
+    requires own { IsOf pass.old.trace slots.now }
+    requires shape { (0 < slots.now.start.shape.buckets) × (slots.now.start.shape.values ≡ true) }
+    requires hand { IsHandOf pass.old hand }
+    ensures own { IsOf pass.new.trace slots.now }
+{
+    let (head, node) = read_entry(rt, slots, pass, 2, 207);
+    let marked = match replace_entry(slots, pass, &node, 307, hand) {
+        Ok(marked) => marked,
+        Err(_refused) => panic!(rt; "not replaced"),
+    };
+    let (unlinked, _) = unlink(slots, pass, &head, marked).expect(rt, "the node is linked");
+    assert_eq!(rt; unlinked.slot(), 2);
+    retire(slots, pass, unlinked);
+    expect_pass(rt, pass, (1, 1, 48));
+    expect_pool(rt, pass, &[2]);
+}
+
+/// Step by step, with the slot in hand: the exchange is lost, and the next one, over the new node, is won.
+#[test]
+fn a_lost_replacement_step_by_step(rt: HostRuntime) -> Result<(), Fail> {
+    let (slots, mut a, mut b) = one_entry(&rt, rt.alloc(), 3)?;
+    let hand = lose(&rt, &slots, &mut a, &mut b, REPLACED);
+    replace_another(&rt, &slots, &mut b, hand);
+    assert_eq!(rt; get(&slots, &mut a, 7, 100), Ok(Some(307)));
+    expect_words(&rt, rt.alloc(), slots, a, b, &REPLACED_TWICE);
+    Ok(())
+}
+
+// Answers a get by a node, in one step.
+fn answer_get(rt: &impl Abort, slots: &Slots<Entries>, pass: &mut Pass, node: &Held)
+    requires own { IsOf pass.old.trace slots.now }
+    requires node { IsReplaceable pass.old.trace node.now 7 0 }
+    ensures own { IsOf pass.new.trace slots.now }
+    ensures keeps { KeepsOwn pass.old pass.new }
+{
+    let told = confirm_present_entry(slots, pass, Op::Get, node);
+    assert_eq!(rt; told, Ok(()));
+}
+
+// Pass 1 goes on with its slot in hand: it finds 207 in slot 2, in 10 steps, and so answers a get, in one.
+fn tell_another(rt: &impl Abort, slots: &Slots<Entries>, pass: &mut Pass, hand: Hand)
+    requires own { IsOf pass.old.trace slots.now }
+    requires shape { (0 < slots.now.start.shape.buckets) × (slots.now.start.shape.values ≡ true) }
+    requires hand { IsHandOf pass.old hand }
+    ensures own { IsOf pass.new.trace slots.now }
+{
+    let (_, node) = read_entry(rt, slots, pass, 2, 207);
+    answer_get(rt, slots, pass, &node);
+    put_back(rt, pass, hand);
+    expect_pass(rt, pass, (1, 1, 40));
+    expect_pool(rt, pass, &[1]);
+}
+
+/// Step by step, with the slot in hand: the value that was expected has gone, so nothing is changed, and the slot goes
+/// back.
+#[test]
+fn a_lost_compare_exchange_step_by_step(rt: HostRuntime) -> Result<(), Fail> {
+    let (slots, mut a, mut b) = one_entry(&rt, rt.alloc(), 3)?;
+    let hand = lose(&rt, &slots, &mut a, &mut b, REPLACED);
+    tell_another(&rt, &slots, &mut b, hand);
+    assert_eq!(rt; get(&slots, &mut a, 7, 100), Ok(Some(207)));
+    expect_words(&rt, rt.alloc(), slots, a, b, &REPLACED_ONCE);
+    Ok(())
+}
