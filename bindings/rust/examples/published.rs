@@ -60,9 +60,9 @@ fn read_each(set: &Handle<usize>, records: &[Record], is_careless: bool) -> Resu
 }
 
 /// Takes a record by a remove, changes it, and gives it back by an insert.
-fn take_in_turn(set: &mut Handle<usize>, record: &Record) -> Result<(), Refusal> {
+fn take_in_turn(set: &mut Handle<usize>, record: &Record, count: u64) -> Result<(), Refusal> {
     let mut turns = 0;
-    while turns < TURNS {
+    while turns < count {
         if set.remove(RECORDS)? {
             record.write(record.read() + 1);
             assert!(set.insert(RECORDS)?);
@@ -98,6 +98,7 @@ fn read_named(map: &MapHandle<u32, usize>, records: &[Record]) -> Result<(), Ref
 
 fn main() -> Result<(), Box<dyn Error>> {
     let is_careless = std::env::args().nth(1).is_some_and(|word| word == "careless");
+    let turns = if is_careless { 0 } else { TURNS }; // the sanitizer forgets what was long ago
     let (records, named) = (&Record::some(RECORDS + 1), &Record::some(RECORDS));
     let (taken, published) = records.split_last().ok_or("no records")?;
     let [mut first, mut second, third] =
@@ -105,15 +106,17 @@ fn main() -> Result<(), Box<dyn Error>> {
     let [mut writer, reader] = Map::handles_with(Shape::for_keys(8, 2), &[(5, 0)])?.try_into().expect("two handles");
     thread::scope(|scope| {
         let threads = [
-            scope.spawn(move || publish(&mut first, published).and_then(|()| take_in_turn(&mut first, taken))),
-            scope.spawn(move || read_each(&second, published, is_careless).and_then(|()| take_in_turn(&mut second, taken))),
+            scope.spawn(move || publish(&mut first, published).and_then(|()| take_in_turn(&mut first, taken, turns))),
+            scope.spawn(move || {
+                read_each(&second, published, is_careless).and_then(|()| take_in_turn(&mut second, taken, turns))
+            }),
             scope.spawn(move || read_each(&third, published, false)),
             scope.spawn(move || change(&mut writer, named)),
             scope.spawn(move || read_named(&reader, named)),
         ];
         threads.into_iter().try_for_each(|it| it.join().expect("a thread that ends"))
     })?;
-    assert_eq!(taken.read(), 2 * TURNS);
+    assert_eq!(taken.read(), 2 * turns);
     println!("published records in Rust: passed, each was read as it was written");
     Ok(())
 }

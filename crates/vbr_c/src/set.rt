@@ -282,11 +282,11 @@ pub extern "C" fn vbr_close(
 /// set held and its keys, ascending, in front of `keys`. These are what the calls of all handles leave. It
 /// has no budget, and makes no call of the set. It asks that the handles which are full are of one set.
 ///
-/// Refusals, which leave the handles as they were: -4, one of them is empty; -12, they are fewer than were
-/// opened with the set, or none; -8, there is no memory for the report; -11, the set has more keys than
-/// there is room for; -13, they are of different sets, which is a probe that no contract speaks of. With
-/// -11 the report is written without the keys, so `live` tells how many they are; with the others nothing
-/// is written.
+/// Refusals, tested in this order, which leave the handles as they were: -4, one of them is empty; -12, they are
+/// fewer than were opened with the set, or none; -13, they are of different sets, which is a probe: no contract says
+/// when it comes, but after these tests; -8, there is no memory for the report; -11, the set has more keys than there
+/// is room for. With -11 the report is written without the keys, so `live` tells how many they are; with the others
+/// nothing is written.
 ///
 /// ```c file=bindings/c/answers.c
 /// CHECK(vbr_close_all(three, 3, keys, 4, &report) == VBR_YES);
@@ -336,10 +336,10 @@ pub extern "C" fn vbr_report_all(
 /// library makes this call with that of the set as it was (bindings/seeds.c). It has no budget, and makes no call of the set. The fresh set is
 /// opened before the other one is given up. It asks that the handles which are full are of one set.
 ///
-/// Refusals, which leave the handles as they were: -6, the numbers are no shape; -4, one of the handles is
-/// empty; -12, they are not as many as were opened with the set; -11, there are more keys than slots; -8,
-/// there is no memory for the report or the fresh set; -13, they are of different sets, which is a probe that
-/// no contract speaks of.
+/// Refusals, which leave the handles as they were: -6, the numbers are no shape; -4, one of the handles is empty;
+/// -12, they are not as many as were opened with the set; -13, they are of different sets, which is a probe: no
+/// contract says when it comes, but after these tests, which are made in this order; -11, there are more keys than
+/// slots; -8, there is no memory for the report or the fresh set.
 ///
 /// ```c file=bindings/c/seeds.c
 /// vbr_answer renewed = vbr_renew_all_seeded(handle, 2, 2048 + 2 * 64, 2048, VBR_MAX_EPOCH, vbr_random_seed());

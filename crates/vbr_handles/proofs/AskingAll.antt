@@ -1,6 +1,6 @@
 -- Members that were asked come back to their handles.
-use Rattle.std.proofs.Common.{◌≡◌, ℕ, zero, suc, ◌+◌, ◌<◌, false, List, [], ◌∷◌, ◌++◌, length, map, drop, refl, sym, ap, ◌∙◌, subst, arith}
-use Rattle.std.specs.Prelude.{IsSome, Option, None, Some, slice_index_or, slice_set}
+use Rattle.std.proofs.Common.{◌≡◌, ℕ, zero, suc, ◌+◌, ◌<◌, ◌≤◌, ◌≢◌, false, List, [], ◌∷◌, ◌++◌, length, map, drop, refl, sym, ap, ◌∙◌, subst, arith}
+use Rattle.std.specs.Prelude.{IfSome, IsSome, Option, None, Some, slice_index_or, slice_set}
 use Rattle.std.proofs.lemmas.Bool.{false≢true}
 use Rattle.std.proofs.lemmas.List.{length-map}
 use Rattle.std.proofs.lemmas.List.Elements.{All-head, All-rest, All-same, All-tail}
@@ -9,7 +9,8 @@ use Rattle.vbr_machine.specs.Start.{start_with}
 use Rattle.vbr_slots.specs.Views.{PassView, TableView, new_passes}
 use Rattle.vbr_set.specs.Kinds.{KindOf}
 use Rattle.vbr_set.specs.Members.{MemberView as Member, new_members}
-use Rattle.vbr_set.specs.RenewingAll.{HasNoRoom, RenewsAllBy}
+use Rattle.vbr_set.specs.AllMembers.{AreTooFew}
+use Rattle.vbr_set.specs.RenewingAll.{AreNotAll, HasNoRoom, RenewsAllBy}
 use Rattle.vbr_handles.specs.AllHandles.{AreFull, StaySo, joined, members_by}
 use Rattle.vbr_handles.specs.Listings.{Listing}
 use Rattle.vbr_handles.specs.Opening.{spread_shape}
@@ -87,6 +88,49 @@ module _ {H : Type 0} (member : H → Option Member) where
           ap (λ (o : Option Member). map Some (joined o (members_by member hs))) is
           ∙ ap (λ (ms : List (Option Member)). Some m ∷ ms) rest
           ∙ ap (λ (o : Option Member). o ∷ map member hs) (sym is)
+
+  -- what full handles count: the first has the first member, and there are as many members
+  pub record Counted (passes : ℕ) (handles : List H) : Type 0 where
+    pub first : Member
+    pub others : List Member
+    pub are : members_by member handles ≡ first ∷ others
+    pub many : length handles ≡ length (first ∷ others)
+    pub opened : passes ≡ first.set.passes
+
+  pub counted : (passes : ℕ) (handles : List H) (d : H) → 0 < length handles → AreFull member handles → IfSome (member (slice_index_or handles 0 d)) (λ m. passes ≡ m.set.passes) → Counted passes handles
+  counted passes handles d within full = go (member first) refl (here_full member handles 0 d within full)
+    where
+      first : H
+      first = slice_index_or handles 0 d
+
+      others : List H
+      others = drop 1 handles
+
+      split : handles ≡ first ∷ others
+      split = from_here member handles 0 d within
+
+      many : length handles ≡ length (members_by member handles)
+      many = sym (length-map handles member) ∙ sym (ap (λ (os : List (Option Member)). length os) (all_members handles full)) ∙ length-map (members_by member handles) Some
+
+      go : (o : Option Member) → member first ≡ o → IsSome o → IfSome o (λ m. passes ≡ m.set.passes) → Counted passes handles
+      go None is some told = absurd (false≢true some)
+      go (Some m) is some told =
+          let are : members_by member handles ≡ m ∷ members_by member others =
+          ap (members_by member) split ∙ ap (λ (o : Option Member). joined o (members_by member others)) is in
+          record { first = m; others = members_by member others; are = are; many = many ∙ ap (λ (ms : List Member). length ms) are; opened = told }
+
+  -- so they are fewer than a report wants, or not, and not as many as a renewal does, or just as many
+  pub too_few : (passes : ℕ) (handles : List H) → Counted passes handles → length handles < passes → AreTooFew (members_by member handles)
+  too_few passes handles c less = let many = c.many in let opened = c.opened in subst AreTooFew (sym c.are) (omega (arith, less, many, opened))
+
+  pub enough : (passes : ℕ) (handles : List H) → Counted passes handles → passes ≤ length handles → ¬ (AreTooFew (members_by member handles))
+  enough passes handles c most few = let many = c.many in let opened = c.opened in let less : length (c.first ∷ c.others) < c.first.set.passes = subst AreTooFew c.are few in omega (arith, less, many, opened, most)
+
+  pub not_all : (passes : ℕ) (handles : List H) → Counted passes handles → length handles ≢ passes → AreNotAll (members_by member handles)
+  not_all passes handles c differ = subst AreNotAll (sym c.are) (λ (same : length (c.first ∷ c.others) ≡ c.first.set.passes). differ (c.many ∙ same ∙ sym c.opened))
+
+  pub just_all : (passes : ℕ) (handles : List H) → Counted passes handles → length handles ≡ passes → ¬ (AreNotAll (members_by member handles))
+  just_all passes handles c same not = subst AreNotAll c.are not (sym c.many ∙ same ∙ c.opened)
 
   -- so they stay as they were where their members come back
   pub stays : (before after : List H) (came : List Member) → AreFull member before → came ≡ members_by member before → map member after ≡ map Some came → StaySo member before after

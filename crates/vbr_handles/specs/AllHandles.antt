@@ -8,7 +8,7 @@ use Rattle.vbr_handles.specs.Opening.{AreEmpty}
 use Rattle.vbr_handles.specs.declared.handle.Handle.{Handle}
 use Rattle.vbr_handles.specs.declared.handle.MapHandle.{MapHandle}
 use Rattle.vbr_handles.specs.declared.closing_all.CloseAllRefusal.{CloseAllRefusal}
-use Rattle.vbr_handles.specs.declared.closing_all.CloseAllRefusal.TheVariants.{Empty, Mixed, Missing, Memory, Room}
+use Rattle.vbr_handles.specs.declared.closing_all.CloseAllRefusal.TheVariants.{Empty, Missing, Mixed, Memory, Room}
 
 -- the members of the handles that have one, in their order
 abbrev pub joined : Option Member → List Member → List Member
@@ -39,6 +39,10 @@ module _ {H : Type 0} (member : H → Option Member) where
   abbrev pub AreFull : List H → Type 0
   AreFull handles = All (λ h. IsSome (member h)) handles
 
+  -- each handle has a member, and they are no fewer than were opened with their set
+  abbrev pub AreEnough : List H → Type 0
+  AreEnough handles = AreFull handles × ¬ (AreTooFew (members_by member handles))
+
   -- each handle has the member that it had
   abbrev pub StaySo : List H → List H → Type 0
   StaySo before after = map member after ≡ map member before
@@ -53,17 +57,17 @@ module _ {H : Type 0} (member : H → Option Member) where
     -- why a set tells nothing by these handles
     abbrev pub IsWhyNot : List H → ℕ → CloseAllRefusal R → Type 0
     IsWhyNot handles room Empty = ¬ (AreFull handles)
-    IsWhyNot handles room Mixed = AreFull handles
     IsWhyNot handles room Missing = AreFull handles × AreTooFew (members_by member handles)
-    IsWhyNot handles room Memory = AreFull handles
-    IsWhyNot handles room (Room report) = AreFull handles × ReportsAllBy tells (members_by member handles) report × (room < length (L.items report))
+    IsWhyNot handles room Mixed = AreEnough handles
+    IsWhyNot handles room Memory = AreEnough handles
+    IsWhyNot handles room (Room report) = AreEnough handles × ReportsAllBy tells (members_by member handles) report × (room < length (L.items report))
 
     -- the handles are all of a set, which tells this report, whose keys have room; and in each case they are as they were
     abbrev pub ReportsAllOf : List H → List H → ℕ → Result R (CloseAllRefusal R) → Type 0
-    ReportsAllOf before after room (Ok report) = StaySo before after × AreFull before × ReportsAllBy tells (members_by member before) report × (length (L.items report) ≤ room)
+    ReportsAllOf before after room (Ok report) = StaySo before after × AreEnough before × ReportsAllBy tells (members_by member before) report × (length (L.items report) ≤ room)
     ReportsAllOf before after room (Err refusal) = StaySo before after × IsWhyNot before room refusal
 
     -- the handles are all of a set, and it ends with this report; and else they are as they were
     abbrev pub ClosesAll : List H → List H → ℕ → Result R (CloseAllRefusal R) → Type 0
-    ClosesAll before after room (Ok report) = AreFull before × EndsAll (members_by member before) after room report
+    ClosesAll before after room (Ok report) = AreEnough before × EndsAll (members_by member before) after room report
     ClosesAll before after room (Err refusal) = StaySo before after × IsWhyNot before room refusal

@@ -13,22 +13,26 @@ use Rattle.vbr_handles.specs.declared.asking_all.Question.TheVariants as questio
 use Rattle.vbr_handles.specs.declared.asking_all.Told.{Told}
 use Rattle.vbr_handles.specs.declared.asking_all.Told.TheVariants as told
 
+-- there are fewer members than a report wants, or not as many as a renewal does
+abbrev pub Lack : Question → List Member → Type 0
+Lack question.Report members = AreTooFew members
+Lack (question.Renew shape) members = AreNotAll members
+
 module _ {Item R : Type 0} (kind : KindOf Item R) where
   -- members that are asked for their report come back as they were, with it or with why there is none; those that are to be renewed are, or come back as they were with why not
   abbrev pub Tells : Question → List Member → List Member → Told R → Type 0
   Tells question.Report members back (told.Report report) = (back ≡ members) × ReportsAllBy (ClosesBy kind) members report
-  Tells question.Report members back told.Missing = (back ≡ members) × AreTooFew members
   Tells question.Report members back told.Memory = back ≡ members
   Tells question.Report members back _ = ⊥
   Tells (question.Renew shape) members back told.Renewed = RenewsAllBy kind members shape back
-  Tells (question.Renew shape) members back told.Missing = (back ≡ members) × AreNotAll members
   Tells (question.Renew shape) members back told.Room = (back ≡ members) × HasNoRoom kind members shape
   Tells (question.Renew shape) members back told.Memory = back ≡ members
   Tells (question.Renew shape) members back _ = ⊥
 
   module _ {H : Type 0} (member : H → Option Member) (asked : Question) where
-    -- the members of handles were asked, and each handle has the one that came back for it
+    -- the members of handles, of which none lack, were asked, and each handle has the one that came back for it
     pub record AsksThem (before after : List H) (answer : Told R) : Type 0 where
+      pub enough : ¬ (Lack asked (members_by member before))
       pub came : List Member
       pub tells : Tells asked (members_by member before) came answer
       pub full : map member after ≡ map Some came
@@ -36,8 +40,9 @@ module _ {Item R : Type 0} (kind : KindOf Item R) where
     -- why they were asked nothing
     abbrev pub IsWhyUnasked : List H → AskRefusal → Type 0
     IsWhyUnasked handles asking.Empty = ¬ (AreFull member handles)
-    IsWhyUnasked handles asking.Mixed = AreFull member handles
-    IsWhyUnasked handles asking.Memory = AreFull member handles
+    IsWhyUnasked handles asking.Missing = AreFull member handles × Lack asked (members_by member handles)
+    IsWhyUnasked handles asking.Mixed = AreFull member handles × ¬ (Lack asked (members_by member handles))
+    IsWhyUnasked handles asking.Memory = AreFull member handles × ¬ (Lack asked (members_by member handles))
 
     -- the members of handles were asked; and else the handles are as they were
     abbrev pub AsksAllOf : List H → List H → Result (Told R) AskRefusal → Type 0

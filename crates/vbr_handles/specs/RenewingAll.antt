@@ -11,7 +11,7 @@ use Rattle.vbr_handles.specs.Listings.{Listing}
 use Rattle.vbr_handles.specs.Opening.{AreOpened, listed_start, spread_shape}
 use Rattle.vbr_handles.specs.declared.opening.ShapeNumbers.{ShapeNumbers}
 use Rattle.vbr_handles.specs.declared.renewing_all.RenewAllRefusal.{RenewAllRefusal}
-use Rattle.vbr_handles.specs.declared.renewing_all.RenewAllRefusal.TheVariants.{Shape, Empty, Mixed, Missing, Room, Memory}
+use Rattle.vbr_handles.specs.declared.renewing_all.RenewAllRefusal.TheVariants.{Shape, Empty, Missing, Mixed, Room, Memory}
 
 module _ {Item R I : Type 0} (kind : KindOf Item R) (L : Listing R I) where
   -- a report tells more of all members than there would be slots
@@ -27,16 +27,20 @@ module _ {Item R I : Type 0} (kind : KindOf Item R) (L : Listing R I) where
       pub reports : ReportsAllBy (ClosesBy kind) members report
       pub opened : AreOpened member (listed_start L numbers (L.items report)) after
 
+    -- each handle has a member, and they are as many as were opened with their set
+    abbrev pub AreJustAll : List H → Type 0
+    AreJustAll handles = AreFull member handles × ¬ (AreNotAll (members_by member handles))
+
     -- why handles are not renewed
     abbrev pub IsWhyUnrenewed : List H → ShapeNumbers → RenewAllRefusal → Type 0
     IsWhyUnrenewed handles numbers Shape = ¬ (IsShape (spread_shape numbers L.values))
     IsWhyUnrenewed handles numbers Empty = ¬ (AreFull member handles)
-    IsWhyUnrenewed handles numbers Mixed = AreFull member handles
     IsWhyUnrenewed handles numbers Missing = AreFull member handles × AreNotAll (members_by member handles)
-    IsWhyUnrenewed handles numbers Room = AreFull member handles × HasMoreThanSlots (members_by member handles) numbers
-    IsWhyUnrenewed handles numbers Memory = AreFull member handles
+    IsWhyUnrenewed handles numbers Mixed = AreJustAll handles
+    IsWhyUnrenewed handles numbers Room = AreJustAll handles × HasMoreThanSlots (members_by member handles) numbers
+    IsWhyUnrenewed handles numbers Memory = AreJustAll handles
 
     -- the handles are all of a set, and go on over the fresh one; and else they are as they were
     abbrev pub RenewsAll : List H → List H → ShapeNumbers → Result (Unit {0}) RenewAllRefusal → Type 0
-    RenewsAll before after numbers (Ok done) = AreFull member before × RenewsTo (members_by member before) numbers after
+    RenewsAll before after numbers (Ok done) = AreJustAll before × RenewsTo (members_by member before) numbers after
     RenewsAll before after numbers (Err refusal) = StaySo member before after × IsWhyUnrenewed before numbers refusal

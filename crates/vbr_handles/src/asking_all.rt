@@ -3,7 +3,7 @@ ghost use Rattle.std.specs.Prelude.{◌≡◌, ◌≤◌, [], true, false, lengt
 ghost use Rattle.std.specs.Vec.{vec_capacity};
 ghost use Rattle.vbr_set.specs.AllMembers.{AreOfOneSet};
 ghost use Rattle.vbr_handles.specs.AllHandles.{AreFull, members_by};
-ghost use Rattle.vbr_handles.specs.AskingAll.{AsksAllOf, Tells};
+ghost use Rattle.vbr_handles.specs.AskingAll.{AsksAllOf, Lack, Tells};
 
 use crate::handle_of::HandleOf;
 use crate::owner::Owner;
@@ -18,8 +18,11 @@ use vbr_words::Nodes;
 pub enum AskRefusal {
     /// One of the handles is empty.
     Empty,
+    /// For a report, there are fewer handles than were opened with their set; for a renewal, there are not as many.
+    /// Or there are none.
+    Missing,
     /// Two of the handles are of different sets in memory ([`Member::is_beside`]). It is a probe, and no
-    /// contract says when it comes.
+    /// contract says when it comes but that it doesn't before the others.
     Mixed,
     /// There is no memory to put the members side by side.
     Memory,
@@ -41,8 +44,6 @@ pub(crate) enum Told<R> {
     Report(R),
     /// That they were renewed.
     Renewed,
-    /// That they are not all members of their set.
-    Missing,
     /// That there are more keys than slots of the shape.
     Room,
     /// That there is no memory.
@@ -62,6 +63,9 @@ pub(crate) fn ask_all<N: Kind, H: HandleOf<N>>(
 {
     if !are_full::<N, H>(handles) {
         return Err(AskRefusal::Empty);
+    }
+    if lack::<N, H>(handles, &question) {
+        return Err(AskRefusal::Missing);
     }
     if !are_beside::<N, H>(handles) {
         return Err(AskRefusal::Mixed);
@@ -152,19 +156,20 @@ fn ask<N: Kind>(
     members: Vec<Member<N>>,
     question: Question,
 ) -> (Told<N::Report>, Vec<Member<N>>)
-    requires { AreOfOneSet members.items }
+    requires one_set { AreOfOneSet members.items }
+    requires enough { ¬ (Lack question members.items) }
     ensures many { length result.1.items ≡ length members.items }
     ensures tells { Tells N.kind question members.items result.1.items result.0 }
 {
     match question {
         Question::Report => match Member::<N>::report_all(alloc, members) {
             Ok((report, members)) => (Told::Report(report), members),
-            Err(CloseAllError::Missing(members)) => (Told::Missing, members),
+            Err(CloseAllError::Missing(_)) => unreachable!(),
             Err(CloseAllError::Memory(members)) => (Told::Memory, members),
         },
         Question::Renew(shape) => match Member::<N>::renew_all(alloc, members, shape) {
             Ok(fresh) => (Told::Renewed, fresh),
-            Err(RenewAllError::Missing(members)) => (Told::Missing, members),
+            Err(RenewAllError::Missing(_)) => unreachable!(),
             Err(RenewAllError::Room(members)) => (Told::Room, members),
             Err(RenewAllError::Memory(members)) => (Told::Memory, members),
         },
@@ -183,6 +188,24 @@ fn are_full<N: Nodes, H: HandleOf<N>>(handles: &mut [H]) -> bool
         }
     }
     true
+}
+
+// Whether handles, which are full, are fewer than what is asked of them wants, or not as many.
+fn lack<N: Nodes, H: HandleOf<N>>(handles: &mut [H], question: &Question) -> bool
+    requires { AreFull H.member handles.old }
+    ensures same { handles.new ≡ handles.old }
+    ensures yes { result ≡ true → Lack question.now (members_by H.member handles.old) }
+    ensures no { result ≡ false → ¬ (Lack question.now (members_by H.member handles.old)) }
+{
+    if handles.is_empty() {
+        return true;
+    }
+    let count = handles.len();
+    let passes = handles[0].passes() as usize;
+    match question {
+        Question::Report => count < passes,
+        Question::Renew(_) => count != passes,
+    }
 }
 
 // Whether the members of handles, which are full, have their shares of one set in memory.

@@ -14,17 +14,17 @@ use vbr_set::member::Member;
 use vbr_set::{Kind, Report};
 use vbr_words::Nodes;
 
-/// Why all handles of a set got no report; `R` is the report, that of a set by itself. The handles are as
-/// they were.
+/// Why all handles of a set got no report; `R` is the report, that of a set by itself. The tests are made in this order,
+/// and the handles are as they were.
 #[derive(Debug, Drop)]
 pub enum CloseAllRefusal<R = Report> {
     /// One of the handles is empty.
     Empty,
-    /// Two of the handles are of different sets in memory ([`Member::is_beside`]). It is a probe, and no
-    /// contract says when it comes.
-    Mixed,
-    /// There are fewer handles than were opened with the set, or none.
+    /// There are fewer handles than were opened with the set, or none. It comes just then, where none is empty.
     Missing,
+    /// Two of the handles are of different sets in memory ([`Member::is_beside`]). It is a probe: no contract says when
+    /// it comes, but that none is empty and they aren't too few.
+    Mixed,
     /// There is no memory for the report.
     Memory,
     /// This report has more keys than there is room for.
@@ -46,10 +46,10 @@ pub fn report_all<N: Kind, I: Listed<N>, H: HandleOf<N>>(
 {
     let report = match ask_all::<N, H>(alloc, handles, Question::Report) {
         Ok(Told::Report(report)) => report,
-        Ok(Told::Missing) => return Err(CloseAllRefusal::Missing),
         Ok(Told::Memory) => return Err(CloseAllRefusal::Memory),
         Ok(Told::Renewed | Told::Room) => unreachable!(),
         Err(AskRefusal::Empty) => return Err(CloseAllRefusal::Empty),
+        Err(AskRefusal::Missing) => return Err(CloseAllRefusal::Missing),
         Err(AskRefusal::Mixed) => return Err(CloseAllRefusal::Mixed),
         Err(AskRefusal::Memory) => return Err(CloseAllRefusal::Memory),
     };

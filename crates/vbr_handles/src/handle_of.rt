@@ -1,5 +1,5 @@
 //! What a handle does, whether it is one of a set or of a map.
-ghost use Rattle.std.specs.Prelude.{◌≡◌, true, false, ℕ, Option, None, IsSome};
+ghost use Rattle.std.specs.Prelude.{◌≡◌, true, false, ℕ, Option, None, IfSome, IsSome};
 ghost use Rattle.vbr_set.specs.Members.{MemberView};
 
 use crate::handle::{Handle, MapHandle};
@@ -18,6 +18,11 @@ pub trait HandleOf<N: Nodes>: Sized {
     fn is_empty(&mut self) -> bool
         ensures { (result ≡ false → IsSome (member self.old))
             × (result ≡ true → member self.old ≡ None) × (self.new ≡ self.old) };
+
+    /// How many passes the set of its member was opened with. It stays as it is.
+    fn passes(&mut self) -> u32
+        requires { IsSome (member self.old) }
+        ensures { IfSome (member self.old) (λ m. result ≡ m.set.passes) × (self.new ≡ self.old) };
 
     /// Whether its member is beside the other's, as [`Member::is_beside`] tells. Both stay as they are.
     fn is_beside(&mut self, other: &mut Self) -> bool
@@ -41,6 +46,10 @@ impl HandleOf<Keys> for Handle {
         self.owned.owner_mut().is_empty()
     }
 
+    fn passes(&mut self) -> u32 {
+        self.owned.owner_mut().passes()
+    }
+
     fn is_beside(&mut self, other: &mut Handle) -> bool {
         let one = self.owned.owner_mut();
         one.is_beside(other.owned.owner_mut())
@@ -58,6 +67,10 @@ impl HandleOf<Entries> for MapHandle {
 
     fn is_empty(&mut self) -> bool {
         self.owned.owner_mut().is_empty()
+    }
+
+    fn passes(&mut self) -> u32 {
+        self.owned.owner_mut().passes()
     }
 
     fn is_beside(&mut self, other: &mut MapHandle) -> bool {

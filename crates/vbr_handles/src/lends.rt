@@ -1,5 +1,5 @@
 //! A member that is lent out of its owner.
-ghost use Rattle.std.specs.Prelude.{◌≡◌, true, false, None, Some, IsSome};
+ghost use Rattle.std.specs.Prelude.{◌≡◌, true, false, None, Some, IfSome, IsSome};
 ghost use types.Logic.{sem};
 ghost use Rattle.vbr_handles.specs.Lent.{owner_follows};
 
@@ -26,6 +26,14 @@ impl<M> Owner<M> {
 }
 
 impl<N: Nodes> Owner<Member<N>> {
+    /// How many passes the set of its member was opened with ([`Member::passes`]).
+    pub fn passes(&mut self) -> u32
+        requires { IsSome self.old.member }
+        ensures { IfSome self.old.member (λ m. result ≡ m.set.passes) × (self.new ≡ self.old) }
+    {
+        self.member_mut().passes()
+    }
+
     /// Whether the members of two owners have their shares of one set in memory ([`Member::is_beside`]).
     pub fn is_beside(&mut self, other: &mut Owner<Member<N>>) -> bool
         requires one { IsSome self.old.member }

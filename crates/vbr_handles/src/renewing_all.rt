@@ -19,14 +19,15 @@ pub enum RenewAllRefusal {
     Shape,
     /// One of the handles is empty.
     Empty,
-    /// Two of the handles are of different sets in memory (`Member::is_beside` of `vbr_set`). It is a probe, and no
-    /// contract says when it comes.
-    Mixed,
-    /// There are not as many handles as were opened with the set.
+    /// There are not as many handles as were opened with the set. It comes just then, where none is empty and the
+    /// numbers are a shape.
     Missing,
+    /// Two of the handles are of different sets in memory (`Member::is_beside` of `vbr_set`). It is a probe: no contract
+    /// says when it comes, but that none is empty and they are as many as were opened with the set.
+    Mixed,
     /// There are more keys than slots of the shape.
     Room,
-    /// There is no memory. It may come before the tests of Missing and Room.
+    /// There is no memory. It may come before the test of Room.
     Memory,
 }
 
@@ -47,11 +48,11 @@ pub fn renew_all<N: Kind, I: Listed<N>, H: HandleOf<N>>(
     };
     match ask_all::<N, H>(alloc, handles, Question::Renew(shape)) {
         Ok(Told::Renewed) => Ok(()),
-        Ok(Told::Missing) => Err(RenewAllRefusal::Missing),
         Ok(Told::Room) => Err(RenewAllRefusal::Room),
         Ok(Told::Memory) => Err(RenewAllRefusal::Memory),
         Ok(Told::Report(_)) => unreachable!(),
         Err(AskRefusal::Empty) => Err(RenewAllRefusal::Empty),
+        Err(AskRefusal::Missing) => Err(RenewAllRefusal::Missing),
         Err(AskRefusal::Mixed) => Err(RenewAllRefusal::Mixed),
         Err(AskRefusal::Memory) => Err(RenewAllRefusal::Memory),
     }

@@ -139,8 +139,7 @@ const EPOCH_HELP: &str = "Prints the epoch of the set in the end";
 
 const MAP_HELP: &str = "Plays the script on a map, whose keys have values, and not on a set";
 
-const EXPLAIN_HELP: &str =
-    "Plays nothing, and explains a fault or a refusal, and what helps";
+const EXPLAIN_HELP: &str = "Plays nothing, and explains a fault or a refusal, and what helps";
 
 const FILE_HELP: &str = "The file that the script is read from; - is standard input";
 

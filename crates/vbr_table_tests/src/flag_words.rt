@@ -1,31 +1,41 @@
 //! The flag words of the shared pool, on seventy slots: sixty-four flags in one word, six in the next.
-ghost use Rattle.std.specs.Prelude.{◌≡◌, ◌≤◌, None};
+ghost use Rattle.std.specs.Prelude.{◌≡◌, ◌≤◌};
 ghost use Rattle.vbr_slots.specs.Views.{IsOf};
 
 use crate::pools::expect_taken;
-use crate::running_table::{close_two, two_passes};
+use crate::running_table::{Opened, close_two, two_passes};
 use std::alloc::Global;
 use std::process::Abort;
 use std::test::Fail;
 use vbr_core::World;
 use vbr_pools::TakeRefusal;
 use vbr_slots::{Pass, Slots};
-use vbr_words::{Place, Shape, place_index, word_count};
+use vbr_words::{Entries, Keys, Nodes, Place, Shape, place_index, word_count};
 
-#[test]
-fn seventy_flags_have_two_words(rt: HostRuntime) -> Result<(), Fail> {
-    let shape = Shape::new(70, 1, 10)?;
-    assert_eq!(rt; word_count(&shape), 285);
-    assert_eq!(rt; word_count(&shape.with_values()), 355);
-    assert_eq!(rt; place_index(&shape, Place::Flags(1)), 284);
-    let world = World::open(rt.alloc(), shape, 2)?;
+// A fresh world of this shape, which has seventy slots, has so many words; the last two have the flags, all up.
+fn expect_flags(rt: &impl Abort, alloc: Global, shape: Shape, words: usize) -> Result<(), Fail>
+    requires { shape.slots ≡ 70 }
+{
+    assert_eq!(rt; word_count(&shape), words);
+    assert_eq!(rt;
+        place_index(&shape, Place::Flags(1)),
+        words.saturating_sub(1)
+    );
+    let world = World::open(alloc, shape, 2)?;
     assert_eq!(rt; world.word(Place::Flags(0)), 18_446_744_073_709_551_615);
     assert_eq!(rt; world.word(Place::Flags(1)), 63);
     Ok(())
 }
 
+#[test]
+fn seventy_flags_have_two_words(rt: HostRuntime) -> Result<(), Fail> {
+    let shape = Shape::new(70, 1, 10)?;
+    expect_flags(&rt, rt.alloc(), shape, 285)?;
+    expect_flags(&rt, rt.alloc(), shape.with_values(), 355)
+}
+
 // Takes the slots from `first` up to `end` out of the shared pool, and says whether all were there.
-fn take_all(slots: &Slots, pass: &mut Pass, first: u32, end: u32) -> bool
+fn take_all<N: Nodes>(slots: &Slots<N>, pass: &mut Pass, first: u32, end: u32) -> bool
     requires own { IsOf pass.old.trace slots.now }
     requires end { end ≤ slots.now.start.shape.slots }
     ensures own { IsOf pass.new.trace slots.now }
@@ -39,27 +49,39 @@ fn take_all(slots: &Slots, pass: &mut Pass, first: u32, end: u32) -> bool
     true
 }
 
-// The two flag words of a table that is closed with its passes.
-fn closing_flags(alloc: Global, slots: Slots, first: Pass, second: Pass) -> Option<(u64, u64)>
+// The two flag words of a table that is closed with its passes, which come last.
+fn closing_flags<N: Nodes>(
+    alloc: Global,
+    slots: Slots<N>,
+    first: Pass,
+    second: Pass,
+) -> Option<(u64, u64)>
     requires { IsOf first.trace slots × IsOf second.trace slots }
 {
     let words = close_two(alloc, slots, first, second)?;
-    Some((*words.get(283)?, *words.get(284)?))
+    let last = words.len().checked_sub(1)?;
+    Some((*words.get(last.checked_sub(1)?)?, *words.get(last)?))
+}
+
+// Pass 0 takes the slots 0 and 1, and pass 1 tries slot 0.
+fn lose_a_flag<R: Abort, N: Opened>(rt: &R, alloc: Global) {
+    let (slots, mut a, mut b) = two_passes::<R, N>(rt, alloc, 70, 10);
+    assert!(rt; take_all(&slots, &mut a, 0, 2));
+    assert_eq!(rt; slots.take_flag(&mut b, 0), Err(18_446_744_073_709_551_612));
+    let flags = closing_flags(alloc, slots, a, b);
+    assert_eq!(rt; flags, Some((18_446_744_073_709_551_612, 63)));
 }
 
 #[test]
 fn a_lost_flag_shows_the_others_of_its_word(rt: HostRuntime) {
-    let (slots, mut a, mut b) = two_passes(&rt, rt.alloc(), 70, 10);
-    assert!(rt; take_all(&slots, &mut a, 0, 2));
-    assert_eq!(rt; slots.take_flag(&mut b, 0), Err(18_446_744_073_709_551_612));
-    let flags = closing_flags(rt.alloc(), slots, a, b);
-    assert_eq!(rt; flags, Some((18_446_744_073_709_551_612, 63)));
+    lose_a_flag::<HostRuntime, Keys>(&rt, rt.alloc());
+    lose_a_flag::<HostRuntime, Entries>(&rt, rt.alloc());
 }
 
 // Pass 0 takes the first slots, so many, and then pass 1 takes one and gives it back to its own pool:
 // compares what it is told and how many steps that took, and gives the flag words of the closing.
-fn take_behind(
-    rt: &impl Abort,
+fn take_behind<R: Abort, N: Opened>(
+    rt: &R,
     alloc: Global,
     count: u32,
     wanted: Result<(u32, u64), TakeRefusal>,
@@ -67,34 +89,50 @@ fn take_behind(
 ) -> Option<(u64, u64)>
     requires { count ≤ 70 }
 {
-    let (slots, mut a, mut b) = two_passes(rt, alloc, 70, 10);
+    let (slots, mut a, mut b) = two_passes::<R, N>(rt, alloc, 70, 10);
     assert!(rt; take_all(&slots, &mut a, 0, count));
     expect_taken(rt, &slots, &mut b, 100, wanted, steps);
     closing_flags(alloc, slots, a, b)
 }
 
+// The same on a set and on a map, which leaves the same flag words.
+fn expect_behind<R: Abort>(
+    rt: &R,
+    alloc: Global,
+    count: u32,
+    wanted: Result<(u32, u64), TakeRefusal>,
+    steps: u64,
+    flags: (u64, u64),
+)
+    requires { count ≤ 70 }
+{
+    let told = take_behind::<R, Keys>(rt, alloc, count, wanted, steps);
+    assert_eq!(rt; told, Some(flags));
+    let told = take_behind::<R, Entries>(rt, alloc, count, wanted, steps);
+    assert_eq!(rt; told, Some(flags));
+}
+
 #[test]
 fn the_lowest_flag_that_was_found_is_taken(rt: HostRuntime) {
-    take_behind(&rt, rt.alloc(), 2, Ok((2, 1)), 5);
+    let flags = (18_446_744_073_709_551_608, 63);
+    expect_behind(&rt, rt.alloc(), 2, Ok((2, 1)), 5, flags);
 }
 
 #[test]
 fn an_empty_word_leads_to_the_next(rt: HostRuntime) {
-    let flags = take_behind(&rt, rt.alloc(), 64, Ok((64, 1)), 5);
-    assert_eq!(rt; flags, Some((0, 62)));
+    expect_behind(&rt, rt.alloc(), 64, Ok((64, 1)), 5, (0, 62));
 }
 
 /// The bits past the last slot are no slots.
 #[test]
 fn no_slot_is_past_the_last(rt: HostRuntime) {
-    let flags = take_behind(&rt, rt.alloc(), 70, Err(TakeRefusal::NoSlot), 2);
-    assert_eq!(rt; flags, Some((0, 0)));
+    expect_behind(&rt, rt.alloc(), 70, Err(TakeRefusal::NoSlot), 2, (0, 0));
 }
 
 // Pass 0 takes the slots from `first` up to 70, and pass 1 tries slot 66 and then takes one and gives it
 // back to its own pool: compares what pass 1 is told and how many steps that took.
-fn take_from_the_second_word(
-    rt: &impl Abort,
+fn take_from_the_second_word<R: Abort, N: Opened>(
+    rt: &R,
     alloc: Global,
     first: u32,
     wanted: Result<(u32, u64), TakeRefusal>,
@@ -102,7 +140,7 @@ fn take_from_the_second_word(
 )
     requires { first ≤ 70 }
 {
-    let (slots, mut a, mut b) = two_passes(rt, alloc, 70, 10);
+    let (slots, mut a, mut b) = two_passes::<R, N>(rt, alloc, 70, 10);
     assert!(rt; take_all(&slots, &mut a, first, 70));
     assert_eq!(rt; slots.take_flag(&mut b, 66).is_ok(), first == 70);
     expect_taken(rt, &slots, &mut b, 100, wanted, steps);
@@ -110,43 +148,57 @@ fn take_from_the_second_word(
 
 #[test]
 fn a_search_begins_with_the_word_that_was_tried_last(rt: HostRuntime) {
-    take_from_the_second_word(&rt, rt.alloc(), 70, Ok((64, 1)), 4);
+    take_from_the_second_word::<HostRuntime, Keys>(&rt, rt.alloc(), 70, Ok((64, 1)), 4);
+    take_from_the_second_word::<HostRuntime, Entries>(&rt, rt.alloc(), 70, Ok((64, 1)), 4);
 }
 
 #[test]
 fn behind_the_last_word_comes_the_first(rt: HostRuntime) {
-    take_from_the_second_word(&rt, rt.alloc(), 64, Ok((0, 1)), 5);
+    take_from_the_second_word::<HostRuntime, Keys>(&rt, rt.alloc(), 64, Ok((0, 1)), 5);
+    take_from_the_second_word::<HostRuntime, Entries>(&rt, rt.alloc(), 64, Ok((0, 1)), 5);
 }
 
 #[test]
 fn a_search_ends_where_it_began(rt: HostRuntime) {
-    take_from_the_second_word(&rt, rt.alloc(), 0, Err(TakeRefusal::NoSlot), 2);
+    let none = Err(TakeRefusal::NoSlot);
+    take_from_the_second_word::<HostRuntime, Keys>(&rt, rt.alloc(), 0, none, 2);
+    take_from_the_second_word::<HostRuntime, Entries>(&rt, rt.alloc(), 0, none, 2);
 }
 
-/// A call that runs out of steps leaves the search where it was, and the next one goes on there: it makes
-/// two probes, where a search from the first word would make three.
-#[test]
-fn a_search_goes_on_where_it_stopped(rt: HostRuntime) {
-    let (slots, mut a, mut b) = two_passes(&rt, rt.alloc(), 70, 10);
+fn search_twice<R: Abort, N: Opened>(rt: &R, alloc: Global) {
+    let (slots, mut a, mut b) = two_passes::<R, N>(rt, alloc, 70, 10);
     assert!(rt; take_all(&slots, &mut a, 0, 69));
     if slots.take_flag(&mut a, 69).is_err() {
         panic!(rt; "not there")
     }
     assert!(rt; slots.take_flag(&mut b, 66).is_err());
     let short = Err(TakeRefusal::OutOfSteps { used: 1 });
-    expect_taken(&rt, &slots, &mut b, 8, short, 1);
+    expect_taken(rt, &slots, &mut b, 8, short, 1);
     slots.raise(&mut a, 69);
-    expect_taken(&rt, &slots, &mut b, 100, Ok((69, 1)), 5);
+    expect_taken(rt, &slots, &mut b, 100, Ok((69, 1)), 5);
+}
+
+/// A call that runs out of steps leaves the search where it was, and the next one goes on there: it makes
+/// two probes, where a search from the first word would make three.
+#[test]
+fn a_search_goes_on_where_it_stopped(rt: HostRuntime) {
+    search_twice::<HostRuntime, Keys>(&rt, rt.alloc());
+    search_twice::<HostRuntime, Entries>(&rt, rt.alloc());
+}
+
+fn raise_one<R: Abort, N: Opened>(rt: &R, alloc: Global) {
+    let (slots, mut a, b) = two_passes::<R, N>(rt, alloc, 70, 10);
+    if slots.take_flag(&mut a, 65).is_err() {
+        panic!(rt; "not there")
+    }
+    slots.raise(&mut a, 65);
+    let flags = closing_flags(alloc, slots, a, b);
+    assert_eq!(rt; flags, Some((18_446_744_073_709_551_615, 63)));
 }
 
 /// A flag that is raised leaves those of its neighbours.
 #[test]
 fn a_raised_flag_is_one(rt: HostRuntime) {
-    let (slots, mut a, b) = two_passes(&rt, rt.alloc(), 70, 10);
-    if slots.take_flag(&mut a, 65).is_err() {
-        panic!(rt; "not there")
-    }
-    slots.raise(&mut a, 65);
-    let flags = closing_flags(rt.alloc(), slots, a, b);
-    assert_eq!(rt; flags, Some((18_446_744_073_709_551_615, 63)));
+    raise_one::<HostRuntime, Keys>(&rt, rt.alloc());
+    raise_one::<HostRuntime, Entries>(&rt, rt.alloc());
 }

@@ -4,17 +4,18 @@ ghost use Rattle.vbr_words.specs.Words.{link_of};
 ghost use Rattle.vbr_slots.specs.Views.{IsOf, knows};
 ghost use Rattle.vbr_at_table.specs.Held.{IsHeld, HoldsMarked, Names};
 
-use crate::retiring::read_one;
+use crate::entries;
+use crate::retiring::{read_one, read_value};
 use crate::rows::{Call, Row, expect, expect_answer, words_after};
-use crate::running_table::open_two;
+use crate::running_table::{expect_pass, open_two, shape_of};
 use std::alloc::Global;
 use std::process::Abort;
 use std::test::Fail;
-use vbr_access::{Held, Marked, Rollback, mark, unlink};
+use vbr_access::{Held, Marked, Rollback, mark_entry, unlink};
 use vbr_list::{Refusal, find, has, insert, remove};
 use vbr_slots::{Pass, Slots};
 use vbr_words::shape::MAX_EPOCH;
-use vbr_words::{At, Keys, Shape};
+use vbr_words::{At, Keys, Nodes};
 
 // A call of a set, with its key, and what it is answered.
 #[derive(Clone, Copy)]
@@ -222,8 +223,13 @@ fn a_marked_node_is_helped_away(rt: HostRuntime) -> Result<(), Fail> {
     Ok(())
 }
 
-// Reads the one node, which has key 7, and marks it. The head comes with it, as it was read before.
-fn mark_one(rt: &impl Abort, slots: &Slots, pass: &mut Pass) -> Result<(Held, Marked), Rollback>
+// Reads the one node, which has key 7, and 107 where it has a value, and marks it. The head comes with it, as it was
+// read before.
+fn mark_one<N: Nodes>(
+    rt: &impl Abort,
+    slots: &Slots<N>,
+    pass: &mut Pass,
+) -> Result<(Held, Marked), Rollback>
     requires own { IsOf pass.old.trace slots.now }
     requires bucket { 0 < slots.now.start.shape.buckets }
     ensures own { IsOf pass.new.trace slots.now }
@@ -233,25 +239,42 @@ fn mark_one(rt: &impl Abort, slots: &Slots, pass: &mut Pass) -> Result<(Held, Ma
     ensures names { IfOk result (λ r. Names r.0 r.1.slot) }
 {
     let (head, node) = read_one(rt, slots, pass);
-    let marked = mark(slots, pass, &node)?;
+    read_value(rt, slots, pass, &node);
+    let marked = mark_entry(slots, pass, &node)?;
     Ok((head, marked))
 }
 
-/// A pass stands still between its mark and its unlinking. Another one unlinks the node and uses the
-/// slot again: the exchange through the old link is lost.
-#[test]
-fn a_standing_pass_loses_its_exchange(rt: HostRuntime) -> Result<(), Fail> {
-    let (slots, mut a, mut b) = open_two::<Keys>(rt.alloc(), Shape::new(1, 1, 10)?).expect(
-        &rt,
-        "there is memory",
-    );
-    Made::Insert(7, Ok(true)).make(&rt, &slots, &mut a, 100);
-    let (head, marked) = mark_one(&rt, &slots, &mut b)?;
-    Made::Has(7, Ok(false)).make(&rt, &slots, &mut a, 100);
-    Made::Insert(7, Ok(true)).make(&rt, &slots, &mut a, 100);
+// Pass 1 marks the node of key 7, pass 0 finds the key absent, unlinks the node and inserts the key again, and then
+// pass 1 goes on. Compares how many steps pass 1 made in all.
+fn stand_behind_a_mark<R: Abort, C: Call>(
+    rt: &R,
+    alloc: Global,
+    insert: C,
+    absent: C,
+    steps: u64,
+) -> Result<(), Fail> {
+    let shape = shape_of::<C::Nodes>((1, 1, 10))?;
+    let (slots, mut a, mut b) = open_two::<C::Nodes>(alloc, shape).expect(rt, "there is memory");
+    insert.make(rt, &slots, &mut a, 100);
+    let (head, marked) = mark_one(rt, &slots, &mut b)?;
+    absent.make(rt, &slots, &mut a, 100);
+    insert.make(rt, &slots, &mut a, 100);
     match unlink(&slots, &mut b, &head, marked) {
         Err(rollback) => { assert!(rt; rollback == Rollback::LostExchange { found: 67_108_865 }) }
         Ok(_) => panic!(rt; "unlinked twice"),
     }
+    expect_pass(rt, &b, (1, 1, steps));
     Ok(())
+}
+
+/// A pass stands still between its mark and its unlinking. Another one unlinks the node and uses the
+/// slot again: the exchange through the old link is lost. Where the node has a value, that was read before the mark,
+/// in 2 steps.
+#[test]
+fn a_standing_pass_loses_its_exchange(rt: HostRuntime) -> Result<(), Fail> {
+    let (insert, absent) = (Made::Insert(7, Ok(true)), Made::Has(7, Ok(false)));
+    stand_behind_a_mark(&rt, rt.alloc(), insert, absent, 10)?;
+    let insert = entries::Made::Insert(7, 107, Ok(true));
+    let absent = entries::Made::Get(7, Ok(None));
+    stand_behind_a_mark(&rt, rt.alloc(), insert, absent, 12)
 }

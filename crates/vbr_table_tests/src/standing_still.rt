@@ -4,7 +4,7 @@ ghost use Rattle.vbr_slots.specs.Views.{IsOf};
 
 use crate::listed_calls::table_after;
 use crate::pools::expect_taken;
-use crate::running_table::{Opened, open};
+use crate::running_table::{Opened, open, shape_of};
 use std::alloc::Global;
 use std::process::Abort;
 use std::test::Fail;
@@ -18,8 +18,15 @@ use vbr_words::{Entries, Keys, Nodes, Shape};
 
 // Nodes of a kind of which items are inserted and removed.
 trait Inserted: Opened {
-    // Inserts key 9, with this value where there are any, and removes it.
-    fn make_round<R: Abort>(rt: &R, slots: &Slots<Self>, pass: &mut Pass, value: u64)
+    // Inserts a key that is absent, with this value where there are any.
+    fn insert_one<R: Abort>(rt: &R, slots: &Slots<Self>, pass: &mut Pass, key: u64, value: u64)
+        requires own { IsOf pass.old.trace slots.now }
+        requires empty_hand { pass.old.hand ≡ None }
+        ensures own { IsOf pass.new.trace slots.now }
+        ensures hand { pass.new.hand ≡ None };
+
+    // Removes a key, which has this value where there are any.
+    fn remove_one<R: Abort>(rt: &R, slots: &Slots<Self>, pass: &mut Pass, key: u64, value: u64)
         requires own { IsOf pass.old.trace slots.now }
         requires empty_hand { pass.old.hand ≡ None }
         ensures own { IsOf pass.new.trace slots.now }
@@ -27,27 +34,34 @@ trait Inserted: Opened {
 }
 
 impl Inserted for Keys {
-    fn make_round<R: Abort>(rt: &R, slots: &Slots, pass: &mut Pass, _value: u64) {
-        assert!(rt; insert(slots, pass, 9, 1000) == Ok(true));
-        assert!(rt; remove(slots, pass, 9, 1000) == Ok(true));
+    fn insert_one<R: Abort>(rt: &R, slots: &Slots, pass: &mut Pass, key: u64, _value: u64) {
+        assert!(rt; insert(slots, pass, key, 100_000) == Ok(true));
+    }
+
+    fn remove_one<R: Abort>(rt: &R, slots: &Slots, pass: &mut Pass, key: u64, _value: u64) {
+        assert!(rt; remove(slots, pass, key, 100_000) == Ok(true));
     }
 }
 
 impl Inserted for Entries {
-    fn make_round<R: Abort>(rt: &R, slots: &Slots<Entries>, pass: &mut Pass, value: u64) {
-        assert!(rt; insert_entry(slots, pass, 9, value, 1000) == Ok(true));
-        assert!(rt; remove_entry(slots, pass, 9, 1000) == Ok(Some(value)));
+    fn insert_one<R: Abort>(rt: &R, slots: &Slots<Entries>, pass: &mut Pass, key: u64, value: u64) {
+        assert!(rt; insert_entry(slots, pass, key, value, 100_000) == Ok(true));
+    }
+
+    fn remove_one<R: Abort>(rt: &R, slots: &Slots<Entries>, pass: &mut Pass, key: u64, value: u64) {
+        assert!(rt; remove_entry(slots, pass, key, 100_000) == Ok(Some(value)));
     }
 }
 
-// A thousand rounds of an insert and a remove, each with a value of its own.
+// A thousand rounds of an insert and a remove of key 9, each with a value of its own.
 fn make_rounds<R: Abort, N: Inserted>(rt: &R, slots: &Slots<N>, pass: &mut Pass)
     requires own { IsOf pass.old.trace slots.now }
     requires empty_hand { pass.old.hand ≡ None }
     ensures own { IsOf pass.new.trace slots.now }
 {
     for value in 0..1000 {
-        N::make_round(rt, slots, pass, value);
+        N::insert_one(rt, slots, pass, 9, value);
+        N::remove_one(rt, slots, pass, 9, value);
     }
 }
 
@@ -236,18 +250,18 @@ fn behind_a_replacement(rt: HostRuntime) -> Result<(), Fail> {
     stand_behind_replacing(&rt, rt.alloc(), 42)
 }
 
-// Inserts the keys 1 to 64, and then removes them.
-fn fill_and_empty(rt: &impl Abort, slots: &Slots, pass: &mut Pass)
+// Inserts the keys 1 to 64, and then removes them. A value is its key and a hundred.
+fn fill_and_empty<R: Abort, N: Inserted>(rt: &R, slots: &Slots<N>, pass: &mut Pass)
     requires own { IsOf pass.old.trace slots.now }
     requires empty_hand { pass.old.hand ≡ None }
     ensures own { IsOf pass.new.trace slots.now }
     ensures empty_hand { pass.new.hand ≡ None }
 {
     for key in 1..65 {
-        assert!(rt; insert(slots, pass, key, 100_000) == Ok(true));
+        N::insert_one(rt, slots, pass, key, key + 100);
     }
     for key in 1..65 {
-        assert!(rt; remove(slots, pass, key, 100_000) == Ok(true));
+        N::remove_one(rt, slots, pass, key, key + 100);
     }
 }
 
@@ -259,16 +273,22 @@ fn expect_full_pool(rt: &impl Abort, pass: &Pass) {
     }
 }
 
+// Fills a table of sixty-four slots, empties it, and takes a slot.
+fn fill_sixty_four<R: Abort, N: Inserted>(rt: &R, alloc: Global) -> Result<(), Fail> {
+    let (slots, mut passes) = open::<N>(alloc, shape_of::<N>((64, 1, 10))?, 1)?;
+    let mut pass = passes.pop().expect(rt, "a pass");
+    fill_and_empty(rt, &slots, &mut pass);
+    expect_full_pool(rt, &pass);
+    assert_eq!(rt; pass.epoch(), 1);
+    expect_taken(rt, &slots, &mut pass, 80, Ok((0, 2)), 67);
+    assert_eq!(rt; slots.take_flag(&mut pass, 63), Ok(()));
+    Ok(())
+}
+
 /// A pass keeps 63 of the slots that it unlinked, and gives the next one to the shared pool; the first
 /// that it takes again is the oldest, in an epoch to which it advances.
 #[test]
 fn sixty_four_slots_filled_and_emptied(rt: HostRuntime) -> Result<(), Fail> {
-    let (slots, mut passes) = open::<Keys>(rt.alloc(), Shape::new(64, 1, 10)?, 1)?;
-    let mut pass = passes.pop().expect(&rt, "a pass");
-    fill_and_empty(&rt, &slots, &mut pass);
-    expect_full_pool(&rt, &pass);
-    assert_eq!(rt; pass.epoch(), 1);
-    expect_taken(&rt, &slots, &mut pass, 80, Ok((0, 2)), 67);
-    assert_eq!(rt; slots.take_flag(&mut pass, 63), Ok(()));
-    Ok(())
+    fill_sixty_four::<HostRuntime, Keys>(&rt, rt.alloc())?;
+    fill_sixty_four::<HostRuntime, Entries>(&rt, rt.alloc())
 }

@@ -95,6 +95,14 @@ impl<N: Nodes> Member<N> {
         self.share.set().shape()
     }
 
+    /// How many passes its set was opened with.
+    #[inline]
+    pub fn passes(&self) -> u32
+        ensures { result ≡ self.now.set.passes }
+    {
+        self.share.set().count
+    }
+
     /// Its pass, which tells its number, its steps and its own pool.
     #[inline]
     pub fn pass(&self) -> &Pass

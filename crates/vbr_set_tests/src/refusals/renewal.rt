@@ -31,18 +31,21 @@ impl Renewed for Entries {
     }
 }
 
-// A fresh set with what is in this one, and whether memory was refused. Where nothing is left of the set, what
-// its report lists goes on.
+// A fresh set with the three items that are in this one, which has this shape, and whether memory was refused.
+// Where nothing is left of the set, its report lists them, and they go on.
 fn renew<N: Renewed>(
     alloc: Global,
     set: VbrSet<N>,
     passes: Vec<Pass>,
+    shape: Shape,
+    items: &[N::Item],
 ) -> Option<(VbrSet<N>, Vec<Pass>, bool)>
     requires own { AllOf set passes.items }
     requires two { set.passes ≡ 2 }
+    requires ascending { IsStrictlyIncreasing (N.kind.keys items.now) }
+    requires few { length items.now ≤ shape.slots }
     ensures { IfSome result (λ r. r.1.items ≡ new_passes r.0 0 2) }
 {
-    let shape = set.shape();
     match set.renew(alloc, passes) {
         Ok((set, passes)) => Some((set, passes, false)),
         Err(RenewError::Missing(..)) => None,
@@ -51,7 +54,7 @@ fn renew<N: Renewed>(
             Some((set, passes, true))
         }
         Err(RenewError::Closed(report)) => {
-            let (set, passes, _) = open_with::<N>(alloc, shape, N::items(&report))?;
+            let (set, passes, _) = open_with::<N>(alloc, shape, items)?;
             N::has_three(&report).then_some((set, passes, true))
         }
     }
@@ -81,7 +84,7 @@ fn renews_and_closes<N: Renewed>(alloc: Global, items: &[N::Item]) -> Option<boo
 {
     let shape = Shape::new(4, 2, 10).ok()?;
     let (set, passes, refused) = open_with::<N>(alloc, shape, items)?;
-    let (set, passes, refused_renewal) = renew(alloc, set, passes)?;
+    let (set, passes, refused_renewal) = renew(alloc, set, passes, shape, items)?;
     let (report, refused_close) = close(set, alloc, passes)?;
     N::has_three(&report).then_some(refused | refused_renewal | refused_close)
 }

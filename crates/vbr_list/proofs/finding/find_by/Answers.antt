@@ -32,5 +32,5 @@ returns-in-None-clause-tired g c =
 
 pub returns-in-Some-clause-took : goal.returns-in-Some-clause-took
 returns-in-Some-clause-took g c =
-    let same : c.stepper-1.given.0 ≡ c.search.new.self.at.stepper.now = search rules in
-    rw same (took_all c.search.ensures.goes.goes.counts)
+    let left : c.stepper-1.given.0 ≡ c.search.new.self.at.stepper.now = search rules in
+    rw left (took_all c.search.ensures.goes.goes.counts)

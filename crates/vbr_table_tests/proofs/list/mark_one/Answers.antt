@@ -1,12 +1,17 @@
--- The head stays held through the marking.
+-- The node is present until it is marked, and the head stays held.
 use Rattle.vbr_at_table.proofs.Lemmas.{held_kept}
-use Rattle.vbr_list.proofs.Lemmas.{of_on}
+use Rattle.vbr_table_tests.proofs.retiring.HeldThrough.{own_marked, present_kept}
 use Rattle.vbr_table_tests.proofs.list.mark_one.Goals as goal
 
-pub returns-clause-head : goal.returns-clause-head
-returns-clause-head g c = held_kept c.read_one.result.0 c.mark.ensures.keeps.keeps c.read_one.ensures.head.held
+pub mark_entry-requires-clause-node : goal.mark_entry-requires-clause-node
+mark_entry-requires-clause-node g c = present_kept c.read_one.result.1 c.read_value.ensures.keeps c.read_one.ensures.node
 
 pub returns-clause-own : goal.returns-clause-own
 returns-clause-own g c =
-    let key = c.read_one.ensures.node.key in
-    of_on (c.in_ok-marked.ensures.removed.made key.0 key.1).same c.read_one.ensures.own
+    let node = c.read_one.result.1 in
+    own_marked c.read_value.new.pass.trace c.mark_entry.new.pass.trace node c.mark_entry.result c.mark_entry.ensures.removed c.mark_entry.ensures.lost (present_kept node c.read_value.ensures.keeps c.read_one.ensures.node) c.read_value.ensures.valued c.read_value.ensures.own
+
+pub returns-clause-head : goal.returns-clause-head
+returns-clause-head g c =
+    let head = c.read_one.result.0 in
+    held_kept head c.mark_entry.ensures.keeps.keeps (held_kept head c.read_value.ensures.keeps c.read_one.ensures.head.held)
