@@ -251,7 +251,7 @@ fn empty(rt: &impl Abort, caller: &mut VbrMapRef)
     ensures { caller.new.set ≡ caller.old.set }
 {
     for key in 1..SLOTS + 1 {
-        assert_eq!(rt; caller.remove(key, 100_000), Ok(Some(key + 100)));
+        expect_answer(rt, caller, 100_000, Made::Remove(key, Ok(Some(key + 100))));
     }
 }
 
