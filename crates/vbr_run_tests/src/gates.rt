@@ -8,70 +8,40 @@ use std::sync::Wait;
 use std::sync::atomic::{AtomicBool, AtomicU32, Ordering};
 use std::test::Fail;
 use std::thread::Threads;
-use vbr_run::{Config, Gate, MapTotals, Reply, RunError, Totals, play, play_map};
+use vbr_run::{Config, Gate, MapTotals, Reply, Totals, play, play_map};
+use vbr_words::Shape;
 use vbr_words::shape::MAX_EPOCH;
-use vbr_words::{Entries, Keys, Shape};
 
 // How often a wait looks at its flag before it gives up.
 const LOOKS: u32 = 1_000_000_000;
 
-/// Nodes of a set or a map that a script is played on.
-trait Played {
-    /// The totals of a run.
-    type Totals: Drop;
-
-    /// Plays a script.
-    fn play<T: Threads + Wait, G: Gate + Sync>(
-        rt: &T,
-        alloc: Global,
-        config: Config,
-        script: &[u8],
-        output: &mut Vec<u8>,
-        gate: &G,
-    ) -> Result<Self::Totals, RunError>;
-}
-
-impl Played for Keys {
-    type Totals = Totals;
-
-    fn play<T: Threads + Wait, G: Gate + Sync>(
-        rt: &T,
-        alloc: Global,
-        config: Config,
-        mut script: &[u8],
-        output: &mut Vec<u8>,
-        gate: &G,
-    ) -> Result<Totals, RunError> {
-        play(rt, alloc, config, &mut script, output, gate)
-    }
-}
-
-impl Played for Entries {
-    type Totals = MapTotals;
-
-    fn play<T: Threads + Wait, G: Gate + Sync>(
-        rt: &T,
-        alloc: Global,
-        config: Config,
-        mut script: &[u8],
-        output: &mut Vec<u8>,
-        gate: &G,
-    ) -> Result<MapTotals, RunError> {
-        play_map(rt, alloc, config, &mut script, output, gate)
-    }
+// How a script is played: two workers, on a set or a map of ample size.
+fn two_workers() -> Result<Config, Fail> {
+    let shape = Shape::new(1024, 16, MAX_EPOCH)?;
+    Ok(Config::new(shape, 2, 100_000, false)?)
 }
 
 // Plays a script for two workers at a gate: what is written, and the totals.
-fn play_at<N: Played, T: Threads + Wait, G: Gate + Sync>(
+fn play_at<T: Threads + Wait, G: Gate + Sync>(
     rt: &T,
     alloc: Global,
-    script: &[u8],
+    mut script: &[u8],
     gate: &G,
-) -> Result<(Vec<u8>, N::Totals), Fail> {
-    let shape = Shape::new(1024, 16, MAX_EPOCH)?;
-    let config = Config::new(shape, 2, 100_000, false)?;
+) -> Result<(Vec<u8>, Totals), Fail> {
     let mut output = Vec::new(alloc);
-    let totals = N::play(rt, alloc, config, script, &mut output, gate)?;
+    let totals = play(rt, alloc, two_workers()?, &mut script, &mut output, gate)?;
+    Ok((output, totals))
+}
+
+// The same of a script that is played on a map.
+fn play_map_at<T: Threads + Wait, G: Gate + Sync>(
+    rt: &T,
+    alloc: Global,
+    mut script: &[u8],
+    gate: &G,
+) -> Result<(Vec<u8>, MapTotals), Fail> {
+    let mut output = Vec::new(alloc);
+    let totals = play_map(rt, alloc, two_workers()?, &mut script, &mut output, gate)?;
     Ok((output, totals))
 }
 
@@ -125,19 +95,11 @@ impl Gate for Crossing {
     }
 }
 
-// Plays a script of an insert by each worker at a crossing, and compares what is written. With a player
-// that has one worker play at a time, a wait gives up.
-fn cross<N: Played, T: Threads + Wait + Abort>(
-    rt: &T,
-    alloc: Global,
-    script: &[u8],
-    wanted: &[u8],
-) -> Result<N::Totals, Fail> {
-    let gate = Crossing::new();
-    let (output, totals) = play_at::<N, T, Crossing>(rt, alloc, script, &gate)?;
+// Nobody gave up at a crossing, and this was written. With a player that has one worker play at a time, a wait
+// gives up.
+fn expect_crossed(rt: &impl Abort, gate: &Crossing, output: &[u8], wanted: &[u8]) {
     assert!(rt; !gate.gave_up.load(Ordering::SeqCst));
-    assert_eq!(rt; output.as_slice(), wanted);
-    Ok(totals)
+    assert_eq!(rt; output, wanted);
 }
 
 const INSERTS: &[u8] = b"0 insert 1\n1 insert 2\n";
@@ -146,7 +108,9 @@ const INSERTS_OUTPUT: &[u8] = b"yes\nyes\ninserted 2\nremoved 0\nfound 0\nrefuse
 
 #[test]
 fn workers_run_at_the_same_time(rt: HostRuntime) -> Result<(), Fail> {
-    let totals = cross::<Keys, HostRuntime>(&rt, rt.alloc(), INSERTS, INSERTS_OUTPUT)?;
+    let gate = Crossing::new();
+    let (output, totals) = play_at(&rt, rt.alloc(), INSERTS, &gate)?;
+    expect_crossed(&rt, &gate, &output, INSERTS_OUTPUT);
     expect_totals(&rt, &totals, [2, 0, 0, 0], 1, &[1, 2]);
     Ok(())
 }
@@ -158,7 +122,9 @@ const STORES_OUTPUT: &[u8] =
 
 #[test]
 fn workers_of_a_map_run_at_the_same_time(rt: HostRuntime) -> Result<(), Fail> {
-    let totals = cross::<Entries, HostRuntime>(&rt, rt.alloc(), STORES, STORES_OUTPUT)?;
+    let gate = Crossing::new();
+    let (output, totals) = play_map_at(&rt, rt.alloc(), STORES, &gate)?;
+    expect_crossed(&rt, &gate, &output, STORES_OUTPUT);
     expect_map_totals(&rt, &totals, [2, 0, 0, 0], 1, &[(1, 70), (2, 71)]);
     Ok(())
 }
@@ -253,30 +219,28 @@ impl Gate for Recorder {
     }
 }
 
-// Plays a script whose calls these are at a recorder, which is told of each phase before its lines; and
-// each worker tells of each of its lines once before the call and once behind it, with its reply.
-fn record<N: Played, T: Threads + Wait + Abort>(
-    rt: &T,
-    alloc: Global,
-    script: &[u8],
-    calls: Calls,
-) -> Result<(), Fail> {
-    let gate = Recorder::new(calls);
-    play_at::<N, T, Recorder>(rt, alloc, script, &gate)?;
+// A recorder was told of each phase before its lines; and each worker told it of each of its lines once before
+// the call and once after it, with its reply.
+fn expect_recorded(rt: &impl Abort, gate: &Recorder) {
     assert!(rt; !gate.was_misled.load(Ordering::SeqCst));
     assert_eq!(rt; gate.phases.load(Ordering::SeqCst), 3);
     for count in gate.begun.iter().chain(gate.answered.iter()) {
         assert_eq!(rt; count.load(Ordering::SeqCst), 1);
     }
-    Ok(())
 }
 
 #[test]
 fn a_gate_is_told_of_each_phase_and_call(rt: HostRuntime) -> Result<(), Fail> {
-    record::<Keys, HostRuntime>(&rt, rt.alloc(), SCRIPT, CALLS)
+    let gate = Recorder::new(CALLS);
+    play_at(&rt, rt.alloc(), SCRIPT, &gate)?;
+    expect_recorded(&rt, &gate);
+    Ok(())
 }
 
 #[test]
 fn a_gate_is_told_of_each_phase_and_call_on_a_map(rt: HostRuntime) -> Result<(), Fail> {
-    record::<Entries, HostRuntime>(&rt, rt.alloc(), MAP_SCRIPT, MAP_CALLS)
+    let gate = Recorder::new(MAP_CALLS);
+    play_map_at(&rt, rt.alloc(), MAP_SCRIPT, &gate)?;
+    expect_recorded(&rt, &gate);
+    Ok(())
 }
