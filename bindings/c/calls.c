@@ -145,7 +145,7 @@ static int given_up(void) {
     vbr_handle handle[2] = {{0}};
     vbr_report report = {0};
     if (vbr_open(handle, 2, 1024 + 2 * 64, 1024, VBR_MAX_EPOCH) != VBR_OK) return 1;
-    vbr_drop(&handle[0]); // the close of handle[1] is told the report
+    vbr_drop(&handle[0]); // the close of handle[1] gets the report
     CHECK(vbr_close(&handle[1], keys, 8, &report) == VBR_YES && report.live == 0);
     return 0;
 }

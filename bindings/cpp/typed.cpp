@@ -34,7 +34,7 @@ struct padded {
     std::uint32_t other;
 };
 
-template <> inline constexpr bool vbr::is_by_bits<float> = true; // in place of a key that is told apart by ==
+template <> inline constexpr bool vbr::is_by_bits<float> = true; // in place of a key that is compared by ==
 
 // What may be a key.
 static_assert(vbr::is_by_bits<colour> && vbr::is_by_bits<address> && vbr::is_by_bits<place> && vbr::is_by_bits<std::int64_t>);

@@ -18,9 +18,9 @@
 extern "C" {
 #endif
 
-/* Versions, and what compilers are told */
+/* Versions and attributes */
 
-/* The version of this header, and the same as one number. vbr_version tells that of the library.
+/* The version of this header, and the same as one number. vbr_version returns that of the library.
 
        if (VBR_VERSION < 3000) return 1; // the header is older than 0.3.0 */
 #define VBR_VERSION_MAJOR 0
@@ -88,7 +88,7 @@ VBR_NODISCARD uint32_t vbr_version(void) VBR_NOEXCEPT;
 #define VBR_AMPLE_STEPS 400000u
 #define VBR_AMPLE_BUDGET(slots) (100000u + (slots) / 64u) /* the old name of an ample budget, for one version */
 
-/* What a call answers. Numbers below 0 are refusals. It takes 32 bits, whatever a compiler is told of enums.
+/* What a call answers. Numbers below 0 are refusals. It takes 32 bits, whatever size a compiler gives to enums.
 
        uint32_t steps = 1;
        vbr_answer told = vbr_insert_within(&handle[0], 5, steps); // one step is too few
@@ -128,7 +128,7 @@ typedef enum vbr_answer {
                               set open (VBR_NO), so no program is known to get this */
     VBR_BAD_KEYS = -10,    /* open_with: the keys do not ascend, or there are more than slots; nothing
                               was done */
-    VBR_NO_ROOM = -11,     /* close: it is the last and stays as it was; the report tells how many keys; renew_all: there
+    VBR_NO_ROOM = -11,     /* close: it is the last and stays as it was; the report has how many keys; renew_all: there
                               are more keys than slots, and they are as they were */
     VBR_MISSING = -12,     /* report_all, close_all, renew_all: not all handles that were opened; they are as they were */
     VBR_EMPTY VBR_DEPRECATED("VBR_NO_HANDLE") = -4, /* the old name of VBR_NO_HANDLE, for one version */
@@ -199,7 +199,7 @@ VBR_NODISCARD vbr_answer vbr_open_with(vbr_handle *handles, size_t count, uint32
 /* Opens a set as vbr_open_with does, of `key_count` keys, which may be none, with its keys spread over the buckets by this seed:
    VBR_OK. What it answers else is what vbr_open_with answers, and means the same. With the same seed and number of buckets each key
    has the same bucket, so walks have the same order and calls take as many steps. With seed 0 keys are multiplied by 2^64 over the
-   golden ratio, as all libraries before 0.3.0 did. vbr(3) tells which seed to choose.
+   golden ratio, as all libraries before 0.3.0 did. vbr(3) says which seed to choose.
 
        if (vbr_open_seeded(handle, 2, 1024 + 2 * 64, 1024, VBR_MAX_EPOCH, 7, some, 3) != VBR_OK) return 1; */
 VBR_NODISCARD vbr_answer vbr_open_seeded(vbr_handle *handles, size_t count, uint32_t slots, uint32_t buckets, uint64_t last_epoch,
@@ -305,7 +305,7 @@ typedef struct vbr_cursor {
    the cursor keeps how far it has come: call again, and with twice the budget if that may have been too small. It enters the bucket
    of the cursor at its head, and makes three steps for each bucket that it enters, three for a removed node that is still in its
    list, and five for another. After the last node of a bucket the cursor is before the next bucket, so a walk doesn't enter the
-   bucket again. What a walk gives is told in vbr(3). It takes no memory and never waits.
+   bucket again. vbr(3) says what a walk gives. It takes no memory and never waits.
 
        do {
            told = vbr_next(&handle[0], &cursor, &key);
@@ -320,7 +320,7 @@ VBR_NODISCARD static inline vbr_answer vbr_next(vbr_handle *handle, vbr_cursor *
 VBR_NODISCARD vbr_answer vbr_next_within(vbr_handle *handle, vbr_cursor *cursor, uint64_t *key,
                                          uint32_t steps) VBR_NOEXCEPT VBR_NONNULL;
 
-/* What a handle tells */
+/* What a handle knows */
 
 /* The last epoch that the handle read in a call: 1 before its first, and 0 for an empty handle. It makes no step, so others may
    have advanced the epoch since. Renew the set before it comes to vbr_last_epoch.
@@ -351,7 +351,7 @@ VBR_NODISCARD uint64_t vbr_seed(const vbr_handle *handle) VBR_NOEXCEPT VBR_NONNU
 
 /* How many keys the calls of the handle have added, less those that they took out: its inserts that were answered VBR_YES, less its
    removes that were. The first of the handles that were opened together begins with the keys that the set opened with, the others
-   with 0; an empty handle has 0. It makes no step. vbr(3) tells what the sum of all is.
+   with 0; an empty handle has 0. It makes no step. vbr(3) says what the sum of all is.
 
        int64_t keys = vbr_balance(&handle[0]) + vbr_balance(&handle[1]); // no call is under way */
 VBR_NODISCARD int64_t vbr_balance(const vbr_handle *handle) VBR_NOEXCEPT VBR_NONNULL;
@@ -395,7 +395,7 @@ VBR_NODISCARD vbr_answer vbr_close(vbr_handle *handle, uint64_t *keys, size_t ro
    its keys, as vbr_close writes them. No other thread is in a call on one of them. The keys are what all calls on these handles
    leave. It takes the memory of a close. Else the handles stay as they were: VBR_NO_HANDLE, one is empty; VBR_MIXED, two are of
    different sets; VBR_MISSING, they are fewer than were opened, or count is 0; VBR_NO_MEMORY; VBR_NO_ROOM, as in a close. Handles
-   of different sets are told by a probe, which is tested and not proved: do not rely on it.
+   of different sets are found by a probe, which is tested and not proved: do not rely on it.
 
        vbr_answer closed = vbr_close_all(handle, 2, keys, 8, &report); // VBR_YES: report.live is 3, keys are 2, 5, 9 */
 VBR_NODISCARD vbr_answer vbr_close_all(vbr_handle *handles, size_t count, uint64_t *keys, size_t room,
@@ -427,10 +427,10 @@ VBR_NODISCARD vbr_answer vbr_renew_all_seeded(vbr_handle *handles, size_t count,
                                               uint64_t last_epoch, uint64_t seed) VBR_NOEXCEPT VBR_NONNULL;
 
 /* Gives a handle up, empty or full, and leaves it empty. Its slots and its pass are given back as by a close, and no report is
-   told: the last handle of the set that is closed still gets it, and with the last one dropped the set ends. It needs no memory.
+   made: the last handle of the set that is closed still gets it, and with the last one dropped the set ends. It needs no memory.
    With a null pointer it does nothing.
 
-       vbr_drop(&handle[0]); // the close of handle[1] is told the report */
+       vbr_drop(&handle[0]); // the close of handle[1] gets the report */
 void vbr_drop(vbr_handle *handle) VBR_NOEXCEPT;
 
 /* Gives all these handles up, in any order, each as vbr_drop does, and leaves them empty. With the last of a set its memory is
@@ -442,8 +442,8 @@ void vbr_end_all(vbr_handle *handles, size_t count) VBR_NOEXCEPT VBR_NONNULL;
 
 /* Handles and entries of maps */
 
-/* A handle to a map, as vbr_handle is one to a set. It is a type of its own, so that a compiler tells where a set's is given for
-   it.
+/* A handle to a map, as vbr_handle is one to a set. It is a type of its own, so that a compiler refuses a
+   set's in its place.
 
        vbr_map_handle map[2] = {{0}}; */
 typedef struct vbr_map_handle {
@@ -667,7 +667,7 @@ static inline void vbr_map_has_all(vbr_map_handle *handle, const uint64_t *keys,
 void vbr_map_has_all_within(vbr_map_handle *handle, const uint64_t *keys, size_t count, vbr_answer *answers,
                             uint32_t steps) VBR_NOEXCEPT VBR_NONNULL_FIRST;
 
-/* What vbr_map_get_all tells of a key.
+/* What vbr_map_get_all answers of a key.
 
        vbr_found given[3]; */
 typedef struct vbr_found {
@@ -709,7 +709,7 @@ VBR_NODISCARD static inline vbr_answer vbr_map_next(vbr_map_handle *handle, vbr_
 VBR_NODISCARD vbr_answer vbr_map_next_within(vbr_map_handle *handle, vbr_cursor *cursor, vbr_entry *entry,
                                              uint32_t steps) VBR_NOEXCEPT VBR_NONNULL;
 
-/* What a handle to a map tells, and its slots */
+/* What a handle to a map knows, and its slots */
 
 /* The last epoch that the handle read in a call: 1 before its first, and 0 for an empty handle. It makes no step, so others may
    have advanced the epoch since. Renew the map before it comes to vbr_map_last_epoch.
@@ -732,12 +732,12 @@ VBR_NODISCARD uint32_t vbr_map_slots(const vbr_map_handle *handle) VBR_NOEXCEPT 
        int is_crowded = 3 > 2 * vbr_map_buckets(&map[0]); // three keys, and more than two for each bucket */
 VBR_NODISCARD uint32_t vbr_map_buckets(const vbr_map_handle *handle) VBR_NOEXCEPT VBR_NONNULL;
 
-/* The seed that spreads the keys of the map, as vbr_seed tells of a set.
+/* The seed that spreads the keys of the map, as vbr_seed returns that of a set.
 
        uint64_t seed = vbr_map_seed(&map[0]); // opens a map whose keys have the same buckets */
 VBR_NODISCARD uint64_t vbr_map_seed(const vbr_map_handle *handle) VBR_NOEXCEPT VBR_NONNULL;
 
-/* How many keys the calls of the handle have added, less those that they took out, as vbr_balance tells of a set. A call that
+/* How many keys the calls of the handle have added, less those that they took out, as vbr_balance has it of a set. A call that
    changes a value leaves it as it was.
 
        int64_t entered = vbr_map_balance(&map[0]) + vbr_map_balance(&map[1]); // no call is under way */
@@ -773,7 +773,7 @@ VBR_NODISCARD vbr_answer vbr_map_close(vbr_map_handle *handle, vbr_entry *entrie
    its entries, as vbr_map_close writes them. No other thread is in a call on one of them. The entries are what all calls on these
    handles leave. It takes the memory of a close. Else the handles stay as they were: VBR_NO_HANDLE, one is empty; VBR_MIXED, two
    are of different maps; VBR_MISSING, they are fewer than were opened, or count is 0; VBR_NO_MEMORY; VBR_NO_ROOM, as in a close.
-   Handles of different maps are told by a probe, which is tested and not proved: do not rely on it.
+   Handles of different maps are found by a probe, which is tested and not proved: do not rely on it.
 
        vbr_answer closed = vbr_map_close_all(map, 2, entries, 8, &report); // VBR_YES: three entries, {2, 20} the first of them */
 VBR_NODISCARD vbr_answer vbr_map_close_all(vbr_map_handle *handles, size_t count, vbr_entry *entries, size_t room,
@@ -798,7 +798,7 @@ VBR_NODISCARD vbr_answer vbr_map_renew_all_seeded(vbr_map_handle *handles, size_
                                                   uint64_t last_epoch, uint64_t seed) VBR_NOEXCEPT VBR_NONNULL;
 
 /* Gives a handle up, empty or full, and leaves it empty. Its slots and its pass are given back as by a close, and no report is
-   told: the last handle of the map that is closed still gets it, and with the last one dropped the map ends. It needs no memory.
+   made: the last handle of the map that is closed still gets it, and with the last one dropped the map ends. It needs no memory.
    With a null pointer it does nothing.
 
        vbr_map_drop(&map[0]); // the close of map[1] is told the report */

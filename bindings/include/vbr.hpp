@@ -30,11 +30,11 @@
        std::vector<ports::handle> of = ports::open(vbr::shape::for_keys(1024, 2), 2).value();
 
    A handle has a budget, the ample one unless it is given another. Its calls make no more steps than that; those whose names end in
-   `_within` are given one of their own, the last of what they take. vbr(3) tells how many steps suffice.
+   `_within` are given one of their own, the last of what they take. vbr(3) says how many steps suffice.
 
    It is a header over the calls of vbr.h, which says what each asks and answers; vbr(3) has what holds of all. Only
    openings, closes and reports take memory; where a vector finds none they throw std::bad_alloc and leave all as it was. The
-   balances of all handles, added up while no call is under way, are how many keys are in the set; so does a report tell it. What is
+   balances of all handles, added up while no call is under way, are how many keys are in the set; so does a report say. What is
    said of sets and keys holds of maps and entries.
 
    A handle may go to another thread by whatever orders the two. Where a thread ends, or an exception leaves a function, the
@@ -112,7 +112,7 @@ struct shape {
     std::uint32_t slots = 0;
     std::uint32_t buckets = 0;
     std::uint64_t last_epoch = max_epoch;
-    /* What keys are spread by, as vbr(3) tells of seeds; without one an opening draws it, and a renewal keeps that of its set.
+    /* What keys are spread by, as vbr(3) says of seeds; without one an opening draws it, and a renewal keeps that of its set.
 
            vbr::shape seeded = vbr::shape::for_keys(1024, 2);
            seeded.seed = 7; */
@@ -355,7 +355,7 @@ struct [[nodiscard]] compared {
    such without padding; these may be keys and values. A program may say it of a type of its own, or of float or double as a key,
    whose 0.0 and -0.0 are then two keys.
 
-       template <> inline constexpr bool vbr::is_by_bits<float> = true; // in place of a key that is told apart by == */
+       template <> inline constexpr bool vbr::is_by_bits<float> = true; // in place of a key that is compared by == */
 template <class T>
 inline constexpr bool is_by_bits = std::has_unique_object_representations_v<T>;
 
@@ -740,7 +740,7 @@ public:
         return detail::yes_or_no(Kind::has(&raw, detail::word_of(key), budget.count()));
     }
 
-    /* Whether each of some keys is there: answers[i] is what `has` tells of keys[i], with this budget. Each is a call of its own,
+    /* Whether each of some keys is there: answers[i] is what `has` answers of keys[i], with this budget. Each is a call of its own,
        and they are made in the order of the keys. It is for many keys of a set that is larger than the cache: their look-ups wait
        for memory together.
 
@@ -781,7 +781,7 @@ public:
     std::uint32_t slots() const noexcept { return Kind::slots(&raw); }
     std::uint32_t buckets() const noexcept { return Kind::buckets(&raw); }
 
-    /* The seed that spreads the keys of the set, as vbr_seed tells it.
+    /* The seed that spreads the keys of the set, as vbr_seed returns it.
 
            again.seed = mine.seed(); // a shape whose sets have each key in the same bucket */
     std::uint64_t seed() const noexcept { return Kind::seed(&raw); }
@@ -910,7 +910,7 @@ public:
         return detail::value_by<Value>(told, value);
     }
 
-    /* The value of each of some keys: values[i] is what `get` tells of keys[i], as `has_all` asks for keys alone.
+    /* The value of each of some keys: values[i] is what `get` answers of keys[i], as `has_all` asks for keys alone.
 
            mine.get_all(wanted.data(), wanted.size(), values.data()); // values[i] is that of wanted[i] */
     void get_all(const Key *keys, std::size_t count, found *values) noexcept { get_all_within(keys, count, values, this->steps()); }
@@ -922,7 +922,7 @@ public:
         });
     }
 
-    /* Gives a key that is there another value, and tells the one that it had; if it was absent nothing is changed. No call finds
+    /* Gives a key that is there another value, and returns the one that it had; if it was absent nothing is changed. No call finds
        the key absent meanwhile.
 
            std::optional<std::uint64_t> was = mine.replace(6, 61).value(); // 6 had it, and has 61 */
@@ -933,7 +933,7 @@ public:
         return detail::value_by<Value>(told, had);
     }
 
-    /* Gives a key this value, and tells the one that it had; if it was absent it is inserted.
+    /* Gives a key this value, and returns the one that it had; if it was absent it is inserted.
 
            if (mine.put(7, 70).has_value()) puts++; // 7 has 70, whether it was there or not */
     found put(Key key, Value value) noexcept { return put_within(key, value, this->steps()); }
@@ -976,7 +976,7 @@ public:
         return detail::compared_by<Value>(told, had);
     }
 
-    /* Gives a key the value that `update` makes of the one that it has, and tells that one; none, and nothing is changed, if the key is
+    /* Gives a key the value that `update` makes of the one that it has, and returns that one; none, and nothing is changed, if the key is
        absent or `update` makes none. It returns a value, or an option. No update of another thread is lost: where one comes in
        between, `update` is asked again, with the value that it left. Each call that it takes has this budget.
 
@@ -1016,7 +1016,7 @@ public:
 };
 
 /* What a handle to a set and one to a map have in common; each may be empty. One thread at a time makes calls with it, by its pass. Its
-   end closes it without a report, which takes no memory and loses nothing: the handle that is closed last is told the keys.
+   end closes it without a report, which takes no memory and loses nothing: the handle that is closed last gets the keys.
 
        vbr::handle mine = std::move(handles[0]); // handles are moved, and never copied */
 template <class Pass>
@@ -1315,7 +1315,7 @@ private:
 } // namespace detail
 
 /* The sets of a type of keys: what opens them, and the types of their handles, passes, reports, lenders and loans. A key is trivially
-   copyable, of at most 64 bits, and told apart by its bits (is_by_bits).
+   copyable, of at most 64 bits, and compared by its bits (is_by_bits).
 
        using colours = vbr::set<colour>;
        colours::handle mine = std::move(colours::open(vbr::shape::for_keys(8, 1), 1)->front()); */

@@ -3,7 +3,7 @@ use crate::{Bits, Compared, MapPass, Refusal};
 use core::cell::LazyCell;
 
 /// A key of a map, there or not, as [`MapPass::entry`](crate::MapPass::entry) names it. It makes no call, and holds nobody up: what
-/// is to be done is told by its methods, and is done by their calls, at one moment for all threads.
+/// is to be done is what its methods say, and is done by their calls, at one moment for all threads.
 ///
 /// What they give is the value, and not a reference to it, since other threads may change it at any time.
 ///

@@ -175,7 +175,7 @@ impl<T: Kind> Unclosed<HandleOf<T>> {
     }
 }
 
-/// Why all handles of a set or a map tell no report. They stay as they were.
+/// Why all handles of a set or a map give no report. They stay as they were.
 ///
 /// ```
 /// # use vbr::{Handle, ReportError, Set, Shape};

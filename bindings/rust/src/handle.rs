@@ -111,7 +111,7 @@ impl<T: Kind> HandleOf<T> {
         self.raw.get_mut().steps = steps.count();
     }
 
-    /// Closes the handle. The answer is `None` while other handles of the set are open; the last one is told what is in the set.
+    /// Closes the handle. The answer is `None` while other handles of the set are open; the last one gets the report.
     /// It alone takes memory: for each slot 8 bytes of a set, 16 of a map, and where keys or entries aren't laid out as those of
     /// `u64` are, the size of one besides; what isn't needed is given back where there is memory for the keys alone. While it runs
     /// it takes as much as the words of the set, and 9 bytes for each slot, or 17 of a map.

@@ -27,7 +27,7 @@ pub trait Kind: Calls<<Self as Kind>::Item, <Self as Kind>::Report> + Sized + 's
     /// What a table opens with, a walk gives, and a report has: a key, or a key with its value.
     type Item: Copy + Debug + Eq + Send + Sync + 'static;
 
-    /// What the last close tells: a [`Report`](crate::Report), or a [`MapReport`](crate::MapReport).
+    /// What the last close returns: a [`Report`](crate::Report), or a [`MapReport`](crate::MapReport).
     type Report: Clone + Debug + Eq + Send + Sync + 'static;
 }
 

@@ -114,7 +114,7 @@ impl<T: Kind> Lender<T> {
         self.take().or_else(|| self.waiters.wait(deadline(), || self.take()))
     }
 
-    /// Closes all handles, and tells what was in the set. Where it is refused memory they stay as they were.
+    /// Closes all handles, and reports what was in the set. Where it is refused memory they stay as they were.
     pub(crate) fn close(&mut self) -> Result<T::Report, Unreported> {
         HandleOf::close_all(&mut self.places)
     }

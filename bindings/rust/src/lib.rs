@@ -17,7 +17,7 @@
 //! ```
 //!
 //! A [`Shape`] says how large the set is, and for how many handles. Each handle is moved to its thread and makes calls; none waits
-//! for another, and each ends within its budget of steps. The last handle that is closed is told what is in the set.
+//! for another, and each ends within its budget of steps. The last handle that is closed gets a report of what is in the set.
 //!
 //! # What to know before you take it
 //!
@@ -143,13 +143,13 @@
 //! ```
 //!
 //! Between the calls of [`PassOf::next`], which has a [`Cursor`] in place of an iterator, the handle itself makes other calls
-//! too. How many keys are in the set at one moment isn't told while threads run: add up the balances of the handles
+//! too. No call says how many keys are in the set at one moment while threads run: add up the balances of the handles
 //! ([`PassOf::balance`]), count the keys that a walk gives, or read a report.
 //!
 //! # Threads
 //!
 //! Where a call returns before another one begins, by a lock, a channel, a join, or a release and an acquire, it
-//! stands before that one in the history whose answers the later caller gets: once a thread is told that a
+//! stands before that one in the history whose answers the later caller gets: once a thread knows that a
 //! key was inserted, and nobody removes it, [`PassOf::has`] answers yes. What a thread wrote before it inserted a key can be read by
 //! a thread that then finds the key.
 //!
@@ -193,12 +193,12 @@
 //! # How it finds the library
 //!
 //! The crate links `libvbr.a` statically: that in the directory that `VBR_LIB_DIR` names, or else that which pkg-config names, if it
-//! is of the crate's version, or else that in `prebuilt/` of the repository that the crate lies in. A warning of cargo tells which,
+//! is of the crate's version, or else that in `prebuilt/` of the repository that the crate lies in. A warning of cargo says which,
 //! where you named none. The build ends in clear words where there is none, or the target isn't Linux on x86-64; an opening panics
 //! where the library that was linked is of another version ([`version`]).
 //!
-//! `ThreadSanitizer` doesn't see into the library, so it may tell of a race where threads are ordered by a set alone. With the feature
-//! `tsan` the crate tells it of that order; a program that is compiled for it (`-Zsanitizer=thread`) takes the feature, and no other.
+//! `ThreadSanitizer` doesn't see into the library, so it may report a race where threads are ordered by a set alone. With the feature
+//! `tsan` the crate makes that order known to it; a program that is compiled for it (`-Zsanitizer=thread`) takes the feature, and no other.
 #![warn(missing_docs)]
 
 extern crate alloc;

@@ -307,7 +307,7 @@ impl<T: Kind> Table<T> {
     /// handles' budgets. How many handles the shape is for isn't asked.
     ///
     /// Where another thread renews to the same shape while this one waits, one renewal serves both: so each thread may ask for one
-    /// that is told [`Refusal::EpochSpent`](crate::Refusal::EpochSpent), once it has dropped its loan.
+    /// that is refused by [`Refusal::EpochSpent`](crate::Refusal::EpochSpent), once it has dropped its loan.
     ///
     /// ```
     /// # use vbr::{Refusal, Set, Shape};
@@ -348,7 +348,7 @@ impl<T: Kind> Table<T> {
         self.lender.renew(shape, Instant::now().checked_add(limit))
     }
 
-    /// Closes all handles, those of loans that were forgotten too, and tells what was in the set.
+    /// Closes all handles, those of loans that were forgotten too, and reports what was in the set.
     ///
     /// ```
     /// # use vbr::{Entry, Map, Shape};
