@@ -309,7 +309,7 @@ private:
         return nullptr;
     }
 
-    /* There are no handles any more: who waits is told so. */
+    /* There are no handles any more; threads that wait return without one. */
     void end() noexcept {
         count.store(0, std::memory_order_relaxed);
         lends.store(0, std::memory_order_relaxed);

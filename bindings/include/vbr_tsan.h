@@ -1,4 +1,4 @@
-/* What ThreadSanitizer is told of sets and maps, which are compiled without it. vbr.h includes this where a program is compiled
+/* Tells ThreadSanitizer of sets and maps, which are compiled without it. vbr.h includes this where a program is compiled
    with -fsanitize=thread, in C and C++; a program needs no line for it.
 
    The calls go through functions that tell it
@@ -7,8 +7,8 @@
      before it removed one before what a thread does that then finds it absent;
    - that what was done before a handle was closed comes before what the last close tells, and that this one writes the report.
 
-   Of maps it is told the same, where a get is a look-up, and besides that a value was written. A call that may give a key
-   another value is told as a remove and an insert. A call of a walk is told to write its cursor, and one that gives a key finds
+   For maps it says the same, where a get is a look-up, and besides that a value was written. A call that may give a key
+   another value counts as a remove and an insert. A call of a walk counts as a write of its cursor, and one that gives a key finds
    it, and writes it. So a right program is silent, and one that reads what it didn't look up, or what is absent, is reported.
    What the library itself copies and frees while it closes, drops, reports and renews isn't told, since the sanitizer doesn't
    see the steps that order it: threads may close and drop handles of their own at the same time. The names of the calls within
@@ -30,7 +30,7 @@ void __tsan_release(void *address);
 void __tsan_read8(void *address);
 void __tsan_write8(void *address);
 void __tsan_write4(void *address);
-void __tsan_write_range(void *address, unsigned long size);
+void __tsan_write_range(void *address, long size); /* signed, as in GCC, where it is built in */
 void __tsan_ignore_thread_begin(void);
 void __tsan_ignore_thread_end(void);
 
@@ -205,10 +205,16 @@ VBR_NODISCARD static inline vbr_answer vbr_tsan_map_next_within(vbr_map_handle *
     return vbr_tsan_given(&entry->value, vbr_tsan_walked(cursor, &entry->key, vbr_map_next_within(handle, cursor, entry, steps)));
 }
 
+#ifdef __cplusplus
+#define VBR_TSAN_SIZE(size) static_cast<long>(size)
+#else
+#define VBR_TSAN_SIZE(size) ((long)(size))
+#endif
+
 /* What a call writes that may tell a report, whose items take so many bytes each. */
 static inline vbr_answer vbr_tsan_reported(void *items, size_t size, vbr_report *report, vbr_answer answer) {
     if (answer == VBR_YES || answer == VBR_NO_ROOM) __tsan_write_range(report, sizeof *report);
-    if (answer == VBR_YES && report->live > 0) __tsan_write_range(items, report->live * size);
+    if (answer == VBR_YES && report->live > 0) __tsan_write_range(items, VBR_TSAN_SIZE(report->live * size));
     return answer;
 }
 

@@ -5,7 +5,7 @@
 //! A map has the number of each word; words are of at most eight letters, so that they are keys as they are. A thread that meets a
 //! word takes the next number and puts both into the map, unless another has put the word there first (`get_or_insert`): then that
 //! one's number is the word's, and its own stays without a word. The words by their numbers are in an array, written before the
-//! number is in the map; so who is told a number may read its word.
+//! number is in the map; so a thread that got a number may read its word.
 //!
 //! The program interns one stream of words by four threads, and sees that no word has two numbers, no number two words, and each
 //! word comes back.

@@ -291,7 +291,7 @@ fn with_steps<T, E: Into<Refusal>>(tired: &mut u64, mut call: impl FnMut(Steps) 
     }
 }
 
-/// Closes the index by all its handles: the last one is told the entries.
+/// Closes the index by all its handles; the close of the last one returns the entries.
 fn close(handles: Vec<MapHandle>) -> Result<Vec<(u64, u64)>, Box<dyn Error>> {
     let mut report = None;
     for handle in handles {
@@ -414,7 +414,7 @@ struct Request {
     is_change: bool,
 }
 
-/// A request, or none behind the last one: a quarter of them are changes.
+/// A request, or none after the last one: a quarter of them are changes.
 fn request_of(number: u64) -> Option<Request> {
     (number < REQUESTS).then(|| Request { number, page: page_of(number), is_change: mixed(number) % 4 == 0 })
 }

@@ -5,7 +5,7 @@
 //!
 //! The map counts the requests of each session. To serve one, a thread borrows a handle and drops the loan, so a renewal, which
 //! waits for all loans, waits no longer than a request takes. Who wants a handle meanwhile waits until the map is there again.
-//! Where the last epoch is spent before the clock comes, the thread that is told so drops its loan and renews the map itself.
+//! Where the last epoch is spent before the clock comes, the thread that meets this drops its loan and renews the map itself.
 //!
 //! The last epoch is small here, so that the map is renewed often. The program sees that no request is lost: those of the sessions
 //! that ended, and those that are in the map at its end, are all that were made.

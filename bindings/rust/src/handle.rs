@@ -57,7 +57,7 @@ pub(crate) struct Shared {
 #[repr(C)]
 struct Parked {
     owned: AtomicPtr<c_void>,
-    /// The budget, which nobody reads, and what lies behind it.
+    /// The budget, which nobody reads, and the padding after it.
     steps: AtomicU64,
 }
 
@@ -77,7 +77,7 @@ impl<T: Kind> HandleOf<T> {
         }
         raw.resize_with(handles, || Raw::EMPTY);
         let seed = seed.unwrap_or_else(random_seed);
-        // SAFETY: the handles are empty, and nothing else reaches them; and `items` has as many as are told.
+        // SAFETY: the handles are empty, and nothing else reaches them; and `items` has as many as the call is given.
         let told =
             unsafe { T::OPEN(raw.as_mut_ptr(), handles, slots, buckets, last_epoch, seed, items.as_ptr(), items.len()) };
         if told != code::DONE {

@@ -299,7 +299,7 @@ const TOGETHER: usize = 64;
 /// The answers of look-ups of several keys, each of which `told` makes of what the library wrote for its key. It asks for as many
 /// answers as keys.
 ///
-/// `call` is given some of the keys, and room for what is told of each.
+/// `call` is given some of the keys, and room for the answer of each.
 #[inline]
 pub(crate) fn answer_all<K: Bits, T: Copy + Default + Answered, A>(
     keys: &[K],
@@ -322,7 +322,7 @@ pub(crate) fn answer_all<K: Bits, T: Copy + Default + Answered, A>(
     }
 }
 
-/// What is told of one of several keys, with its code.
+/// The answer for one of several keys, with its code.
 pub(crate) trait Answered {
     fn code(&self) -> i32;
 }

@@ -1,8 +1,8 @@
-//! What `ThreadSanitizer` is told of the order that sets and maps give, with the feature `tsan`. It doesn't see into the library,
-//! which is compiled without it; without the feature these functions make the call and nothing else.
+//! Tells `ThreadSanitizer` of the order that sets and maps give, with the feature `tsan`. It doesn't see into the library, which is
+//! compiled without it. Without the feature these functions make the call and nothing else.
 //!
 //! What a thread did before it inserted a key comes before what a thread does that then finds it, and what it did before it removed
-//! one before what a thread does that then finds it absent. A call that gives a key another value is told as a remove and an insert.
+//! one before what a thread does that then finds it absent. A call that gives a key another value counts as a remove and an insert.
 #![allow(unused_variables, reason = "a key is told with the feature alone")]
 
 #[cfg(feature = "tsan")]

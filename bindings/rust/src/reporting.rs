@@ -1,4 +1,4 @@
-//! Room for what is told of a set or a map, which is there before the library is asked.
+//! Room for the report of a set or a map, allocated before the library is asked.
 use crate::library::{code, ReportNumbers};
 use crate::{order, Kind};
 use alloc::vec::Vec;
