@@ -11,7 +11,7 @@ use clap::error::ErrorKind;
 use clap::{Arg, ArgAction, Command, Error};
 use std::alloc::Global;
 
-const VERSION: &str = "0.2.0";
+const VERSION: &str = "0.3.0";
 
 const ABOUT: &str =
     "Plays a script of calls of a concurrent set or map, and prints the replies and the totals.";
