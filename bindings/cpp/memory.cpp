@@ -1,5 +1,5 @@
 // Memory that vbr.hpp is refused: it throws std::bad_alloc, and all stays as it was; and the closes that need none ask for none.
-// Memory that the library is refused while it closes a set, or renews it: all handles stay as they were, those of a lender too, which
+// Memory that the library is refused while it opens a set, closes it, or renews it: all handles stay as they were, those of a lender too, which
 // lends on. A set is closed by vbr_close_all. Threads that ask for the same renewal share one.
 // Link with -Wl,--wrap=malloc,--wrap=realloc,--wrap=vbr_close,--wrap=vbr_map_close,--wrap=vbr_renew_all_seeded,--wrap=vbr_map_renew_all_seeded.
 #include "vbr.hpp"
@@ -171,6 +171,21 @@ static int sets() {
     return 0;
 }
 
+// An opening whose library is refused each allocation in turn, and all later ones, tells it; once none is refused it opens.
+template <class Open>
+static int opened(const Open &open) {
+    for (long blocks = 0;; blocks++) {
+        library_granted = blocks;
+        auto handles = open();
+        library_granted = -1;
+        if (handles) {
+            CHECK(blocks >= 4 && handles->size() == 3 && (*handles)[2].is_open());
+            return 0;
+        }
+        CHECK(handles == vbr::refusal::no_memory && blocks < 1000);
+    }
+}
+
 // A lender that is refused memory: it leaves the handles where they were, and when it is closed it goes on to lend all of them.
 template <class Lender, class Handle, class Adds>
 static int lent(std::vector<Handle> handles, const Adds &adds) {
@@ -253,6 +268,8 @@ int main() {
     const vbr::shape shape = vbr::shape::for_keys(1000, 3);
     const auto set = [&] { return vbr::open(shape, 3).value(); };
     const auto map = [&] { return vbr::open_map(shape, 3).value(); };
+    if (opened([&] { return vbr::open(shape, 3); }) || opened([&] { return vbr::open_with(shape, 3, {5, 7}); })) return 1;
+    if (opened([&] { return vbr::open_map(shape, 3); }) || opened([&] { return vbr::open_map_with(shape, 3, {{5, 50}}); })) return 1;
     if (sets() || maps() || typed()) return 1;
     if (renewed(vbr::lender(set()), adds) || renewed(vbr::map_lender(map()), adds_entry)) return 1;
     if (shared_renewals(vbr::lender(set())) || shared_renewals(vbr::map_lender(map()))) return 1;

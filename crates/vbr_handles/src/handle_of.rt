@@ -1,6 +1,7 @@
 //! What a handle does, whether it is one of a set or of a map.
-ghost use Rattle.std.specs.Prelude.{◌≡◌, true, false, ℕ, Option, None, IfSome, IsSome};
+ghost use Rattle.std.specs.Prelude.{◌≡◌, true, false, ℕ, Option, None, IsSome};
 ghost use Rattle.vbr_set.specs.Members.{MemberView};
+ghost use Rattle.vbr_handles.specs.Passes.{IsPassCount};
 
 use crate::handle::{Handle, MapHandle};
 use crate::owner::Owner;
@@ -22,7 +23,7 @@ pub trait HandleOf<N: Nodes>: Sized {
     /// How many passes the set of its member was opened with. It stays as it is.
     fn passes(&mut self) -> u32
         requires { IsSome (member self.old) }
-        ensures { IfSome (member self.old) (λ m. result ≡ m.set.passes) × (self.new ≡ self.old) };
+        ensures { IsPassCount (member self.old) result × (self.new ≡ self.old) };
 
     /// Whether its member is beside the other's, as [`Member::is_beside`] tells. Both stay as they are.
     fn is_beside(&mut self, other: &mut Self) -> bool

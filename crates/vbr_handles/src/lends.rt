@@ -1,7 +1,8 @@
 //! A member that is lent out of its owner.
-ghost use Rattle.std.specs.Prelude.{◌≡◌, true, false, None, Some, IfSome, IsSome};
+ghost use Rattle.std.specs.Prelude.{◌≡◌, true, false, None, Some, IsSome};
 ghost use types.Logic.{sem};
 ghost use Rattle.vbr_handles.specs.Lent.{owner_follows};
+ghost use Rattle.vbr_handles.specs.Passes.{IsPassCount};
 
 use crate::owner::Owner;
 use vbr_set::member::Member;
@@ -29,7 +30,7 @@ impl<N: Nodes> Owner<Member<N>> {
     /// How many passes the set of its member was opened with ([`Member::passes`]).
     pub fn passes(&mut self) -> u32
         requires { IsSome self.old.member }
-        ensures { IfSome self.old.member (λ m. result ≡ m.set.passes) × (self.new ≡ self.old) }
+        ensures { IsPassCount self.old.member result × (self.new ≡ self.old) }
     {
         self.member_mut().passes()
     }

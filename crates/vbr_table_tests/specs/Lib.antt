@@ -1,3 +1,4 @@
+pub mod Buckets
 pub mod Following
 pub mod OnlyPass
 pub mod Taking

@@ -1,6 +1,6 @@
 //! Stores that lose their exchange: pass 1 stands before it, with a slot in hand, while pass 0 is first, and goes on
 //! over what that left.
-ghost use Rattle.std.specs.Prelude.{◌≡◌, ◌<◌, true, None, IfOk, IfErr};
+ghost use Rattle.std.specs.Prelude.{◌≡◌, None, IfOk, IfErr};
 ghost use Rattle.vbr_slots.specs.AtTables.{IsSameTable, pass_of, trace_of};
 ghost use Rattle.vbr_slots.specs.Calls.{Took};
 ghost use Rattle.vbr_slots.specs.Views.{IsOf, knows};
@@ -8,6 +8,7 @@ ghost use Rattle.vbr_at_table.specs.Exchanges.{GivesBack};
 ghost use Rattle.vbr_at_table.specs.Hands.{IsHandOf};
 ghost use Rattle.vbr_at_table.specs.Keeping.{Keeps, KeepsOwn};
 ghost use Rattle.vbr_at_table.specs.Replacing.{IsReplaceable, ReplacesEntry};
+ghost use Rattle.vbr_table_tests.specs.Buckets.{HasEntryLists};
 
 use crate::entries::Made;
 use crate::lost_stores::{one_entry, read_entry};
@@ -137,7 +138,7 @@ fn replace_entry(
 // replacement reads no value before it takes the slot, which is 2 steps fewer.
 fn stand_before_exchange(rt: &impl Abort, slots: &Slots<Entries>, pass: &mut Pass) -> (Held, Hand)
     requires own { IsOf pass.old.trace slots.now }
-    requires shape { (0 < slots.now.start.shape.buckets) × (slots.now.start.shape.values ≡ true) }
+    requires shape { HasEntryLists slots.now }
     requires empty_hand { pass.old.hand ≡ None }
     ensures own { IsOf pass.new.trace slots.now }
     ensures node { IsReplaceable pass.new.trace result.0 7 0 }
@@ -188,7 +189,7 @@ fn make_all(rt: &impl Abort, slots: &Slots<Entries>, pass: &mut Pass, calls: &[(
 
 // Pass 1 loses its exchange to what pass 0 does first, after 29 steps, and has its slot in hand.
 fn lose(rt: &impl Abort, slots: &Slots<Entries>, a: &mut Pass, b: &mut Pass, first: First) -> Hand
-    requires shape { (0 < slots.now.start.shape.buckets) × (slots.now.start.shape.values ≡ true) }
+    requires shape { HasEntryLists slots.now }
     requires first { IsOf a.old.trace slots.now × (a.old.hand ≡ None) }
     requires second { IsOf b.old.trace slots.now × (b.old.hand ≡ None) }
     ensures first { IsOf a.new.trace slots.now × (a.new.hand ≡ None) }
@@ -455,7 +456,7 @@ fn what_a_lost_replacement_leaves(rt: HostRuntime) -> Result<(), Fail> {
 // node out of its list in 5.
 fn replace_another(rt: &impl Abort, slots: &Slots<Entries>, pass: &mut Pass, hand: Hand)
     requires own { IsOf pass.old.trace slots.now }
-    requires shape { (0 < slots.now.start.shape.buckets) × (slots.now.start.shape.values ≡ true) }
+    requires shape { HasEntryLists slots.now }
     requires hand { IsHandOf pass.old hand }
     ensures own { IsOf pass.new.trace slots.now }
 {
@@ -496,7 +497,7 @@ fn answer_get(rt: &impl Abort, slots: &Slots<Entries>, pass: &mut Pass, node: &H
 // Pass 1 goes on with its slot in hand: it finds 207 in slot 2, in 10 steps, and so answers a get, in one.
 fn tell_another(rt: &impl Abort, slots: &Slots<Entries>, pass: &mut Pass, hand: Hand)
     requires own { IsOf pass.old.trace slots.now }
-    requires shape { (0 < slots.now.start.shape.buckets) × (slots.now.start.shape.values ≡ true) }
+    requires shape { HasEntryLists slots.now }
     requires hand { IsHandOf pass.old hand }
     ensures own { IsOf pass.new.trace slots.now }
 {

@@ -1,11 +1,12 @@
 //! A reader stands on a node while another pass replaces its value: what its next calls tell.
-ghost use Rattle.std.specs.Prelude.{◌≡◌, ◌<◌, true, None, IfOk};
+ghost use Rattle.std.specs.Prelude.{◌≡◌, true, None, IfOk};
 ghost use Rattle.vbr_words.specs.declared.place.At.TheVariants.{Slot};
 ghost use Rattle.vbr_slots.specs.Views.{IsOf, knows};
 ghost use Rattle.vbr_at_table.specs.Exchanges.{IsUnmarked};
 ghost use Rattle.vbr_at_table.specs.Held.{IsHeld, Names};
 ghost use Rattle.vbr_at_table.specs.Keeping.{KeepsOwn};
 ghost use Rattle.vbr_at_table.specs.Replacing.{IsReplaceable};
+ghost use Rattle.vbr_table_tests.specs.Buckets.{HasEntryLists};
 
 use crate::retiring::head_of;
 use crate::running_table::{expect_words, open_two};
@@ -53,7 +54,7 @@ pub fn read_entry(
     value: u64,
 ) -> (Held, Held)
     requires own { IsOf pass.old.trace slots.now }
-    requires shape { (0 < slots.now.start.shape.buckets) × (slots.now.start.shape.values ≡ true) }
+    requires shape { HasEntryLists slots.now }
     ensures own { IsOf pass.new.trace slots.now }
     ensures keeps { KeepsOwn pass.old pass.new }
     ensures head { IsUnmarked (knows pass.new.trace) result.0 }
