@@ -120,6 +120,30 @@ static void as_many_as_there_are(void) {
     CHECK(vbr_lend(&of_all) == &all[63]);
 }
 
+/* A set of a hundred handles lends each of them, and is renewed once all are back. */
+static void a_crowd(void) {
+    enum { CROWD = 100 };
+    static vbr_handle crowd[CROWD];
+    static vbr_lender of_crowd;
+    static vbr_lend_word crowd_words[100];
+    static const uint64_t none[1];
+    vbr_handle *mine[CROWD];
+    uint64_t keys[CROWD];
+    vbr_report report = {0};
+    CHECK(vbr_open_many(crowd, CROWD, CROWD + 64 * CROWD, CROWD, VBR_MAX_EPOCH, none, 0) == VBR_OK);
+    vbr_lender_init_many(&of_crowd, crowd, 100, crowd_words); // of handles that vbr_open_many opened
+    for (int i = 0; i < CROWD; i++) CHECK((mine[i] = vbr_lend(&of_crowd)) && vbr_insert(mine[i], (uint64_t)(mine[i] - crowd)) == VBR_YES);
+    CHECK(!vbr_lend(&of_crowd) && vbr_lender_renew(&of_crowd, CROWD + 64 * CROWD, 1, VBR_MAX_EPOCH) == VBR_IN_USE);
+    for (int i = 0; i < CROWD; i++) vbr_give_back(&of_crowd, mine[i]);
+    CHECK(!vbr_lend(&of_crowd) && vbr_lender_renew(&of_crowd, CROWD + 64 * CROWD, 1, VBR_MAX_EPOCH) == VBR_OK);
+    for (int i = 0; i < CROWD; i++) CHECK((mine[i] = vbr_lend(&of_crowd)) && vbr_buckets(mine[i]) == 1 && vbr_has(mine[i], 99) == VBR_YES);
+    CHECK(!vbr_lend(&of_crowd));
+    vbr_lender_init(&of_crowd, crowd, CROWD); /* the first 64 */
+    for (int i = 0; i < 64; i++) CHECK(vbr_lend(&of_crowd));
+    CHECK(!vbr_lend(&of_crowd));
+    CHECK(vbr_close_all(crowd, CROWD, keys, CROWD, &report) == VBR_YES && report.live == CROWD && keys[99] == 99);
+}
+
 int main(int count, char **words) {
     pthread_t threads[THREADS];
     uint64_t keys[KEYS] = {0};
@@ -129,6 +153,7 @@ int main(int count, char **words) {
     if (count > 1) rounds = atol(words[1]);
     if (count > 2) fault = atoi(words[2]);
     as_many_as_there_are();
+    a_crowd();
     CHECK(vbr_open(handles, HANDLES, SLOTS, KEYS, VBR_MAX_EPOCH) == VBR_OK);
     vbr_lender_init(&lender, handles, HANDLES);
     CHECK(none_is_left());

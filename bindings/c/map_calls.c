@@ -80,6 +80,11 @@ static int many_handles(void) {
     static vbr_map_handle many[1000];
     if (vbr_map_open_many(many, 1000, 1024 + 1000 * 64, 1024, VBR_MAX_EPOCH, some, 3) != VBR_OK) return 1;
     CHECK(vbr_map_insert(&many[999], 7, 70) == VBR_YES && vbr_map_has(&many[64], 7) == VBR_YES);
+    static vbr_map_lender of_many;
+    static vbr_lend_word many_words[1000];
+    vbr_map_lender_init_many(&of_many, many, 1000, many_words);
+    for (int i = 0; i < 1000; i++) CHECK(vbr_map_lend(&of_many) == &many[i]);
+    CHECK(!vbr_map_lend(&of_many));
     CHECK(vbr_map_close_all(many, 1000, entries, 8, &report) == VBR_YES && report.live == 4 && entries[2].value == 70);
     return 0;
 }

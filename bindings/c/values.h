@@ -430,6 +430,7 @@ VBR_NODISCARD static inline vbr_answer value_next(vbr_map_handle *handle, vbr_cu
 #define vbr_reserve vbr_map_reserve
 #define vbr_lender vbr_map_lender
 #define vbr_lender_init vbr_map_lender_init
+#define vbr_lender_init_many vbr_map_lender_init_many
 #define vbr_lend vbr_map_lend
 #define vbr_give_back vbr_map_give_back
 #define vbr_lender_renew vbr_map_lender_renew

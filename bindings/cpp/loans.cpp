@@ -32,7 +32,7 @@ static_assert(std::is_nothrow_move_assignable_v<vbr::lender> && std::is_nothrow_
 struct of_sets {
     using lender = vbr::lender;
     using pass = vbr::pass;
-    static auto open(std::size_t handles) { return vbr::open(vbr::shape::for_keys(100, handles), handles).value(); }
+    static auto open(std::size_t handles) { return vbr::open_many(vbr::shape::for_keys(100, handles), handles).value(); }
     static bool adds(pass &mine, std::uint64_t key) { return *mine.insert(key); }
     static bool takes(pass &mine, std::uint64_t key) { return *mine.remove(key); }
     static std::vector<std::uint64_t> keys(const vbr::result<std::optional<vbr::report>> &told) { return told.value().value().keys; }
@@ -41,7 +41,7 @@ struct of_sets {
 struct of_maps {
     using lender = vbr::map_lender;
     using pass = vbr::map_pass;
-    static auto open(std::size_t handles) { return vbr::open_map(vbr::shape::for_keys(100, handles), handles).value(); }
+    static auto open(std::size_t handles) { return vbr::open_map_many(vbr::shape::for_keys(100, handles), handles).value(); }
     static bool adds(pass &mine, std::uint64_t key) { return *mine.insert(key, ~key); }
     static bool takes(pass &mine, std::uint64_t key) { return mine.remove(key) == ~key; }
     static std::vector<std::uint64_t> keys(const vbr::result<std::optional<vbr::map_report>> &told) {
@@ -110,15 +110,15 @@ static int ends_without_a_report() {
 }
 
 template <class Of>
-static int each_handle_once() {
-    auto lender = lending<Of>(64);
+static int each_handle_once(std::size_t handles) {
+    auto lender = lending<Of>(handles);
     std::vector<decltype(lender.lend())> loans;
-    std::vector<int> seen(64);
-    for (int i = 0; i < 64; i++) loans.push_back(lender.lend());
+    std::vector<int> seen(handles);
+    for (std::size_t i = 0; i < handles; i++) loans.push_back(lender.lend());
     for (auto &each : loans) seen[each.number()]++;
-    CHECK(seen == std::vector<int>(64, 1) && !lender.lend() && !lender.lend_for(0s));
+    CHECK(seen == std::vector<int>(handles, 1) && !lender.lend() && !lender.lend_for(0s));
     loans[7] = std::move(loans[9]);
-    CHECK(loans[7] && !loans[9] && lender.lend() && lender.handles() == 64);
+    CHECK(loans[7] && !loans[9] && lender.lend() && lender.handles() == handles);
     std::swap(loans[7], loans[9]);
     std::thread([back = std::move(loans)] {}).join(); // given back by another thread
     CHECK(Of::keys(lender.close()).empty() && lender.handles() == 0 && !lender.lend() && !lender.lend_wait());
@@ -384,7 +384,7 @@ static int renewals_and_loans() {
 template <class Of>
 static int all() {
     if (renewals<Of>() || lends_none_meanwhile<Of>() || renewals_and_loans<Of>()) return 1;
-    if (ends_without_a_report<Of>() || each_handle_once<Of>() || closes_all_or_none<Of>() || moved<Of>()) return 1;
+    if (ends_without_a_report<Of>() || each_handle_once<Of>(64) || each_handle_once<Of>(1000) || closes_all_or_none<Of>() || moved<Of>()) return 1;
     return waits<Of>() || ends_of_waits<Of>() || tasks<Of>();
 }
 

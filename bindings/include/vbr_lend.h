@@ -1,5 +1,5 @@
-/* Handles that are lent: for programs whose threads come and go, or are more than the handles of a set. A lender has up to
-   64 open handles. Whoever wants to make calls borrows one, at once or not at all, and gives it back.
+/* Handles that are lent: for programs whose threads come and go, or are more than the handles of a set. A lender has
+   open handles. Whoever wants to make calls borrows one, at once or not at all, and gives it back.
 
        vbr_handle handle[8] = {{0}};
        vbr_lender lender = {0};
@@ -14,11 +14,11 @@
 
    It takes no lock and no memory, never waits, and stands above the calls of vbr.h, which are proved; this header is tested.
    A thread is lent the handle that it had last, by any lender, where that is free: a loan and its return are then one atomic
-   exchange on a word that other threads don't write, and threads that are no more than handles come to have one each. At most
-   64 handles are lent at a time; of a set that was opened with more, the first 64. No pointer that a call is given is null.
+   exchange on a word that other threads don't write, and threads that are no more than handles come to have one each. A lender
+   has the words of 64 handles; for more of them vbr_lender_init_many takes some. No pointer that a call is given is null.
 
    What is done with a handle before it is given back comes before what the next borrower does (a release and an acquire).
-   The handles and the lender stay where they are while there are loans. A lender takes 8 KiB, for words that are apart. The
+   The handles and the lender stay where they are while there are loans. A lender has 8 KiB, for words that are apart. The
    number of a loan is `mine - handle`: for data that lies beside each handle. A signal handler may borrow. Once all are given
    back, the handles are closed by vbr_close as ever, or go on over a fresh set by vbr_lender_renew, which doesn't wait for them
    either: a program calls it again until they are. Handles to a map are lent by the calls with `vbr_map_` in their names.
@@ -34,8 +34,10 @@
 #define VBR_LENDS_NONE NULL
 #endif
 
-/* What both lenders do has a word for each handle: whether it is lent. No two words share a cache line, wherever they lie. It is no
-   part of the interface. */
+/* Whether a handle is lent, for vbr_lender_init_many: 128 bytes, so no two of them share a cache line, wherever they lie. All zero: it
+   isn't.
+
+       static vbr_lend_word crowd_words[100]; */
 typedef struct vbr_lend_word {
     char before[60];
     uint32_t lent;
@@ -49,7 +51,8 @@ typedef struct vbr_lender {
     vbr_handle *handles;
     size_t count;
     size_t lends; /* of so many one may be lent: of all, and of none while they are renewed */
-    vbr_lend_word words[VBR_MAX_HANDLES];
+    vbr_lend_word *many; /* one for each handle, or none: then its own */
+    vbr_lend_word own[VBR_MAX_HANDLES];
 } vbr_lender;
 
 /* Open handles of a map, and whether each is lent.
@@ -59,8 +62,12 @@ typedef struct vbr_map_lender {
     vbr_map_handle *handles;
     size_t count;
     size_t lends;
-    vbr_lend_word words[VBR_MAX_HANDLES];
+    vbr_lend_word *many;
+    vbr_lend_word own[VBR_MAX_HANDLES];
 } vbr_map_lender;
+
+/* The words of a lender, of either kind. It is no part of the interface. */
+#define VBR_LEND_WORDS(lender) ((lender)->many ? (lender)->many : (lender)->own)
 
 /* What both lenders do first: the number of the handle that this thread was lent last. It is no part of the interface. */
 static __thread size_t vbr_lent_last;
@@ -97,22 +104,33 @@ VBR_NONNULL static inline void vbr_lend_gives_all(vbr_lend_word *words, size_t c
     __atomic_store_n(lends, count, __ATOMIC_RELAXED);
 }
 
-/* Lends these handles, `count` of them, up to 64, from now on. No thread uses the lender before.
+/* Lends these handles, `count` of them, from now on: of more than 64 the first 64. No thread uses the lender before.
 
        vbr_lender lender = {0};
        vbr_lender_init(&lender, handle, 2); */
 VBR_NONNULL static inline void vbr_lender_init(vbr_lender *lender, vbr_handle *handles, size_t count) VBR_NOEXCEPT {
     lender->handles = handles;
     lender->count = count < VBR_MAX_HANDLES ? count : VBR_MAX_HANDLES;
-    vbr_lend_gives_all(lender->words, lender->count, &lender->lends);
+    lender->many = VBR_LENDS_NONE;
+    vbr_lend_gives_all(lender->own, lender->count, &lender->lends);
+}
+
+/* Lends any number of handles: as vbr_lender_init, with a word for each. The words stay where they are as long as the lender is used.
+
+       vbr_lender_init_many(&of_crowd, crowd, 100, crowd_words); // of handles that vbr_open_many opened */
+VBR_NONNULL static inline void vbr_lender_init_many(vbr_lender *lender, vbr_handle *handles, size_t count, vbr_lend_word *words) VBR_NOEXCEPT {
+    lender->handles = handles;
+    lender->count = count;
+    lender->many = words;
+    vbr_lend_gives_all(words, count, &lender->lends);
 }
 
 /* A free handle, or a null pointer where each was lent at a moment of the call, or they are being renewed. It tries each handle
-   at most once, so it never waits, and first the one that this thread was lent last. At most 64 are lent at a time.
+   at most once, so it never waits, and first the one that this thread was lent last.
 
        vbr_handle *mine = vbr_lend(&lender); // NULL: both are lent */
 VBR_NODISCARD VBR_NONNULL static inline vbr_handle *vbr_lend(vbr_lender *lender) VBR_NOEXCEPT {
-    size_t number = vbr_lend_number(lender->words, &lender->lends);
+    size_t number = vbr_lend_number(VBR_LEND_WORDS(lender), &lender->lends);
     return number == SIZE_MAX ? VBR_LENDS_NONE : &lender->handles[number];
 }
 
@@ -120,7 +138,7 @@ VBR_NODISCARD VBR_NONNULL static inline vbr_handle *vbr_lend(vbr_lender *lender)
 
        vbr_give_back(&lender, mine); // and mine isn't used any more */
 VBR_NONNULL static inline void vbr_give_back(vbr_lender *lender, vbr_handle *handle) VBR_NOEXCEPT {
-    __atomic_store_n(&lender->words[handle - lender->handles].lent, 0, __ATOMIC_RELEASE);
+    __atomic_store_n(&VBR_LEND_WORDS(lender)[handle - lender->handles].lent, 0, __ATOMIC_RELEASE);
 }
 
 /* Lets the handles go on over a fresh set of this shape, as vbr_renew_all does, once none is on loan. From the first call on none is
@@ -132,9 +150,9 @@ VBR_NODISCARD VBR_NONNULL static inline vbr_answer vbr_lender_renew(vbr_lender *
                                                                     uint64_t last_epoch) VBR_NOEXCEPT {
     vbr_answer answer;
     if (!lender->count) return VBR_MISSING;
-    if (!vbr_lend_takes_all(lender->words, lender->count, &lender->lends)) return VBR_IN_USE;
+    if (!vbr_lend_takes_all(VBR_LEND_WORDS(lender), lender->count, &lender->lends)) return VBR_IN_USE;
     answer = vbr_renew_all(lender->handles, lender->count, slots, buckets, last_epoch);
-    vbr_lend_gives_all(lender->words, lender->count, &lender->lends);
+    vbr_lend_gives_all(VBR_LEND_WORDS(lender), lender->count, &lender->lends);
     return answer;
 }
 
@@ -152,14 +170,26 @@ VBR_NONNULL static inline void vbr_lender_lend_on(vbr_lender *lender) VBR_NOEXCE
 VBR_NONNULL static inline void vbr_map_lender_init(vbr_map_lender *lender, vbr_map_handle *handles, size_t count) VBR_NOEXCEPT {
     lender->handles = handles;
     lender->count = count < VBR_MAX_HANDLES ? count : VBR_MAX_HANDLES;
-    vbr_lend_gives_all(lender->words, lender->count, &lender->lends);
+    lender->many = VBR_LENDS_NONE;
+    vbr_lend_gives_all(lender->own, lender->count, &lender->lends);
+}
+
+/* As vbr_lender_init_many, of handles to a map.
+
+       vbr_map_lender_init_many(&of_many, many, 1000, many_words); */
+VBR_NONNULL static inline void vbr_map_lender_init_many(vbr_map_lender *lender, vbr_map_handle *handles, size_t count,
+                                                        vbr_lend_word *words) VBR_NOEXCEPT {
+    lender->handles = handles;
+    lender->count = count;
+    lender->many = words;
+    vbr_lend_gives_all(words, count, &lender->lends);
 }
 
 /* As vbr_lend: a free handle to a map, or a null pointer.
 
        vbr_map_handle *mine = vbr_map_lend(&lender); // NULL: both are lent */
 VBR_NODISCARD VBR_NONNULL static inline vbr_map_handle *vbr_map_lend(vbr_map_lender *lender) VBR_NOEXCEPT {
-    size_t number = vbr_lend_number(lender->words, &lender->lends);
+    size_t number = vbr_lend_number(VBR_LEND_WORDS(lender), &lender->lends);
     return number == SIZE_MAX ? VBR_LENDS_NONE : &lender->handles[number];
 }
 
@@ -167,7 +197,7 @@ VBR_NODISCARD VBR_NONNULL static inline vbr_map_handle *vbr_map_lend(vbr_map_len
 
        vbr_map_give_back(&lender, mine); // and mine isn't used any more */
 VBR_NONNULL static inline void vbr_map_give_back(vbr_map_lender *lender, vbr_map_handle *handle) VBR_NOEXCEPT {
-    __atomic_store_n(&lender->words[handle - lender->handles].lent, 0, __ATOMIC_RELEASE);
+    __atomic_store_n(&VBR_LEND_WORDS(lender)[handle - lender->handles].lent, 0, __ATOMIC_RELEASE);
 }
 
 /* As vbr_lender_renew, of handles to a map: each key keeps its value.
@@ -177,9 +207,9 @@ VBR_NODISCARD VBR_NONNULL static inline vbr_answer vbr_map_lender_renew(vbr_map_
                                                                         uint64_t last_epoch) VBR_NOEXCEPT {
     vbr_answer answer;
     if (!lender->count) return VBR_MISSING;
-    if (!vbr_lend_takes_all(lender->words, lender->count, &lender->lends)) return VBR_IN_USE;
+    if (!vbr_lend_takes_all(VBR_LEND_WORDS(lender), lender->count, &lender->lends)) return VBR_IN_USE;
     answer = vbr_map_renew_all(lender->handles, lender->count, slots, buckets, last_epoch);
-    vbr_lend_gives_all(lender->words, lender->count, &lender->lends);
+    vbr_lend_gives_all(VBR_LEND_WORDS(lender), lender->count, &lender->lends);
     return answer;
 }
 
@@ -191,5 +221,6 @@ VBR_NONNULL static inline void vbr_map_lender_lend_on(vbr_map_lender *lender) VB
 }
 
 #undef VBR_LENDS_NONE
+#undef VBR_LEND_WORDS
 
 #endif

@@ -1,5 +1,5 @@
 /* Handles that are lent, for C++17 and later: for programs whose threads come and go, or are more than the handles of a set. vbr.hpp
-   includes it. A lender has up to 64 handles. Whoever wants to make calls borrows one, and its loan's end gives it back.
+   includes it. Whoever wants to make calls borrows one, and its loan's end gives it back.
 
        vbr::lender lender(vbr::open(shape, 3).value());
        vbr::loan mine = lender.lend();                        // in any thread; none: all are lent at the moment
@@ -27,6 +27,7 @@
 
 #include <chrono>
 #include <condition_variable>
+#include <memory>
 #include <mutex>
 #if defined(__linux__) && __has_include(<linux/membarrier.h>)
 #include <linux/membarrier.h>
@@ -178,12 +179,13 @@ class lending {
 public:
     using place_type = place<Handle>;
 
-    /* Keeps handles of one set: those that are open, and of the set of the first of them. The others stay in the vector. */
-    void keep(std::vector<Handle> &handles) noexcept {
+    /* Keeps handles of one set: those that are open, and of the set of the first of them. The others stay in the vector. Where there is
+       no memory for their places all do. */
+    void keep(std::vector<Handle> &handles) {
         std::size_t kept = 0;
+        places = std::make_unique<place_type[]>(handles.size());
         for (Handle &each : handles)
-            if (kept < max_handles && each.is_open() && (kept == 0 || each.shared == places[0].handle.shared))
-                places[kept++].handle = std::move(each);
+            if (each.is_open() && (kept == 0 || each.shared == places[0].handle.shared)) places[kept++].handle = std::move(each);
         if (kept > 0) opened.set({places[0].handle.slots(), places[0].handle.buckets(), places[0].handle.last_epoch()});
         count.store(kept, std::memory_order_relaxed);
         lends.store(kept, std::memory_order_release);
@@ -191,7 +193,7 @@ public:
 
     std::size_t handles() const noexcept { return count.load(std::memory_order_relaxed); }
     const shared_shape &opened_with() const noexcept { return opened; }
-    std::size_t number_of(const place_type *at) const noexcept { return static_cast<std::size_t>(at - places); }
+    std::size_t number_of(const place_type *at) const noexcept { return static_cast<std::size_t>(at - places.get()); }
 
     /* A free handle, which is lent now, or none where each was lent at a moment of the call, or none is to be lent. */
     place_type *take() noexcept {
@@ -321,7 +323,7 @@ private:
     std::atomic<std::size_t> renewals{0};
     shared_shape opened;
     waiters waiting;
-    place_type places[max_handles];
+    std::unique_ptr<place_type[]> places;
 };
 
 } // namespace detail
@@ -376,7 +378,7 @@ private:
     typename detail::lending<Handle>::place_type *at = nullptr;
 };
 
-/* Lends handles of a set or a map, up to 64, to threads that come and go. A call by a loan has the budget of its handle.
+/* Lends handles of a set or a map to threads that come and go. A call by a loan has the budget of its handle.
 
        vbr::lender lender(vbr::open(shape, 3).value()); */
 template <class Handle>
