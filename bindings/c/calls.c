@@ -55,6 +55,11 @@ static int many_handles(void) {
     if (1000 > VBR_MAX_MANY_HANDLES) return 1; // else vbr_open_many answers VBR_BAD_COUNT
     if (vbr_open_many(many, 1000, 1024 + 1000 * 64, 1024, VBR_MAX_EPOCH, some, 3) != VBR_OK) return 1;
     CHECK(vbr_insert(&many[999], 7) == VBR_YES && vbr_has(&many[64], 7) == VBR_YES);
+    static vbr_lender of_many;
+    static vbr_lend_word many_words[1000];
+    vbr_lender_init_many(&of_many, many, 1000, many_words); // of handles that vbr_open_many opened
+    for (int i = 0; i < 1000; i++) CHECK(vbr_lend(&of_many) == &many[i]);
+    CHECK(!vbr_lend(&of_many));
     CHECK(vbr_close_all(many, 1000, keys, 8, &report) == VBR_YES && report.live == 4 && keys[2] == 7);
     return 0;
 }

@@ -125,13 +125,13 @@ static void a_crowd(void) {
     enum { CROWD = 100 };
     static vbr_handle crowd[CROWD];
     static vbr_lender of_crowd;
-    static vbr_lend_word crowd_words[100];
+    static vbr_lend_word words[CROWD];
     static const uint64_t none[1];
     vbr_handle *mine[CROWD];
     uint64_t keys[CROWD];
     vbr_report report = {0};
     CHECK(vbr_open_many(crowd, CROWD, CROWD + 64 * CROWD, CROWD, VBR_MAX_EPOCH, none, 0) == VBR_OK);
-    vbr_lender_init_many(&of_crowd, crowd, 100, crowd_words); // of handles that vbr_open_many opened
+    vbr_lender_init_many(&of_crowd, crowd, CROWD, words);
     for (int i = 0; i < CROWD; i++) CHECK((mine[i] = vbr_lend(&of_crowd)) && vbr_insert(mine[i], (uint64_t)(mine[i] - crowd)) == VBR_YES);
     CHECK(!vbr_lend(&of_crowd) && vbr_lender_renew(&of_crowd, CROWD + 64 * CROWD, 1, VBR_MAX_EPOCH) == VBR_IN_USE);
     for (int i = 0; i < CROWD; i++) vbr_give_back(&of_crowd, mine[i]);

@@ -37,7 +37,7 @@
 /* Whether a handle is lent, for vbr_lender_init_many: 128 bytes, so no two of them share a cache line, wherever they lie. All zero: it
    isn't.
 
-       static vbr_lend_word crowd_words[100]; */
+       static vbr_lend_word many_words[1000]; */
 typedef struct vbr_lend_word {
     char before[60];
     uint32_t lent;
@@ -66,7 +66,7 @@ typedef struct vbr_map_lender {
     vbr_lend_word own[VBR_MAX_HANDLES];
 } vbr_map_lender;
 
-/* The words of a lender, of either kind. It is no part of the interface. */
+/* What both lenders do finds their words by this. It is no part of the interface. */
 #define VBR_LEND_WORDS(lender) ((lender)->many ? (lender)->many : (lender)->own)
 
 /* What both lenders do first: the number of the handle that this thread was lent last. It is no part of the interface. */
@@ -117,7 +117,7 @@ VBR_NONNULL static inline void vbr_lender_init(vbr_lender *lender, vbr_handle *h
 
 /* Lends any number of handles: as vbr_lender_init, with a word for each. The words stay where they are as long as the lender is used.
 
-       vbr_lender_init_many(&of_crowd, crowd, 100, crowd_words); // of handles that vbr_open_many opened */
+       vbr_lender_init_many(&of_many, many, 1000, many_words); // of handles that vbr_open_many opened */
 VBR_NONNULL static inline void vbr_lender_init_many(vbr_lender *lender, vbr_handle *handles, size_t count, vbr_lend_word *words) VBR_NOEXCEPT {
     lender->handles = handles;
     lender->count = count;
