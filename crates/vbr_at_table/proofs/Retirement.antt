@@ -5,7 +5,7 @@ use Rattle.std.proofs.lemmas.Bool.Decides.{nat_tests}
 use Rattle.vbr_machine.specs.Start.{Start, IsStart}
 use Rattle.vbr_machine.specs.Accounts.{incarnations_after}
 use Rattle.vbr_at_table.specs.Counts.{ChangesNone}
-use Rattle.vbr_at_table.proofs.Unchanged.{did_unchanged, none_counted, unchanged_on}
+use Rattle.vbr_at_table.proofs.Unchanged.{did_unchanged, none_counted, raise_unchanged, unchanged_on}
 use Rattle.vbr_machine.specs.Agreement.{OwnFits}
 use Rattle.vbr_machine.specs.Incarnations.{Incarnations}
 use Rattle.vbr_machine.specs.Sound.{SlotsSound}
@@ -55,7 +55,7 @@ module _ {p q r : Trace} {slot e n : ℕ} (read : Did ReadEpoch p q e) (stamp : 
   retired_unchanged = unchanged_on (did_unchanged read (λ w a bucket. refl)) (did_unchanged stamp (λ w a bucket. none_counted (q.who == q.who)))
 
   raised_unchanged : {t : Trace} {m : ℕ} → Did (Raise slot) r t m → ChangesNone p t
-  raised_unchanged raise = unchanged_on retired_unchanged (did_unchanged raise (λ w a bucket. none_counted (r.who == r.who)))
+  raised_unchanged raise = unchanged_on retired_unchanged (raise_unchanged raise)
 
 -- and more steps leave that
 stamped_before : {p q r : Trace} {slot epoch : ℕ} → StampsFreshly p q slot epoch → Quiet q r → StampsFreshly p r slot epoch

@@ -1,13 +1,17 @@
 -- What changes no list and moves no epoch.
-use Rattle.std.proofs.Common.{◌≡◌, ℕ, ◌+◌, Bool, true, false, refl, sym, ◌∙◌}
+use Rattle.std.proofs.Common.{◌≡◌, ℕ, ◌+◌, ◌==◌, Bool, true, false, Option, Some, None, refl, sym, ◌∙◌}
 use Rattle.std.specs.Prelude.{◌&&◌}
 use Rattle.vbr_machine.specs.Start.{IsStart}
-use Rattle.vbr_machine.specs.Accounts.{happens, own_entries}
+use Rattle.vbr_machine.specs.Accounts.{after_giving_up, happens, own_entries}
+use Rattle.vbr_machine.specs.Chronicles.{Raises}
 use Rattle.vbr_machine.specs.Disturbances.{counted, own_changes, own_changes_in}
 use Rattle.vbr_machine.specs.Incarnations.{Incarnations}
 use Rattle.vbr_machine.specs.Machine.{World}
 use Rattle.vbr_machine.specs.Runs.{Begins, IsRun}
 use Rattle.vbr_machine.specs.declared.event.Step.{Step}
+use Rattle.vbr_machine.specs.declared.event.Step.TheVariants.{Raise}
+use Rattle.vbr_machine.specs.declared.knowledge.Holding.{Holding}
+use Rattle.vbr_machine.specs.declared.knowledge.Holding.TheVariants.{Free, Unlinked, InHand}
 use Rattle.vbr_machine.proofs.Lemmas.{own_unchanged, since, step_changes_none}
 use Rattle.vbr_slots.specs.Calls.{AddsNone, IsSame}
 use Rattle.vbr_slots.specs.Views.{Did, Trace}
@@ -21,6 +25,20 @@ pub did_unchanged : {step : Step} {p q : Trace} {r : ℕ} → Did step p q r →
 did_unchanged {step} {p} {q} d none = record {
   same = λ bucket. (λ i. own_changes (d.same.1 i) (d.seen i) (d.same.3 i) bucket) ∙ step_changes_none p.start p.seen d.rest p.who bucket step d.none (λ w a. none w a bucket);
 }
+
+-- a raise changes none, whether its slot is free or in hand
+pub raise_unchanged : {slot : ℕ} {p q : Trace} {r : ℕ} → Did (Raise slot) p q r → ChangesNone p q
+raise_unchanged {slot} {p} d = did_unchanged d (λ w a bucket. raised a bucket ((w.know p.who).own slot))
+  where
+    both : (b : Bool) → counted (b && false) + (counted (b && false) + 0) ≡ 0
+    both true = refl
+    both false = refl
+
+    raised : (a : Incarnations) (bucket : ℕ) (own : Option Holding) → own_changes_in p.start p.who bucket a (after_giving_up a p.who slot (Raises slot) own) ≡ 0
+    raised a bucket None = none_counted (p.who == p.who)
+    raised a bucket (Some (Free stamp)) = none_counted (p.who == p.who)
+    raised a bucket (Some (Unlinked reread)) = none_counted (p.who == p.who)
+    raised a bucket (Some (InHand known)) = both (p.who == p.who)
 
 pub unchanged_on : {p q r : Trace} → ChangesNone p q → ChangesNone q r → ChangesNone p r
 unchanged_on x y = record { same = λ bucket. y.same bucket ∙ x.same bucket }

@@ -1,14 +1,11 @@
 -- What a pass leaves that gives the slots of its own pool back.
-use Rattle.std.specs.Prelude.{◌≡◌, ℕ, ◌+◌, ◌<◌, List, [], ◌∷◌, ◌++◌, length, Contains, ◌⊎◌}
-use Rattle.vbr_machine.specs.Acceptance.{IsFree}
+use Rattle.std.specs.Prelude.{◌≡◌, ℕ, ◌+◌, List, [], ◌∷◌, ◌++◌, length, Contains}
 use Rattle.vbr_machine.specs.Runs.{Begins, world_after}
 use Rattle.vbr_machine.specs.declared.event.Event.{Event}
 use Rattle.vbr_machine.specs.declared.event.Step.TheVariants.{Raise}
 use Rattle.vbr_machine.specs.declared.knowledge.SlotPlace.TheVariants.{Shared}
 use Rattle.vbr_slots.specs.Calls.{Moment, Quiet, Took}
-use Rattle.vbr_slots.specs.OwnSlots.{holding_of}
-use Rattle.vbr_slots.specs.Pools.{given_back}
-use Rattle.vbr_slots.specs.Views.{PassView, Trace, event_of, knows}
+use Rattle.vbr_slots.specs.Views.{PassView, Trace, event_of}
 use Rattle.vbr_at_table.specs.Counts.{ChangesNone, advances, flags_raised}
 use Rattle.vbr_at_table.specs.KeptSlots.{KeepsSlots}
 
@@ -19,27 +16,15 @@ pub record WasRaised (p q : Trace) (slot : ℕ) : Type 0 where
   pub raised : Begins (moment ++ event_of p.who (Raise slot) ∷ []) q.seen
   pub shared : (world_after p.start (moment ++ event_of p.who (Raise slot) ∷ [])).place slot ≡ Shared
 
--- so many slots of the own pool were raised, one step for each and no other step: those that stay are the ones that were given back in hand; no call was made, no slot was lost, no list was changed, and no epoch advanced
+-- all slots of the own pool, which were so many, were raised, one step for each and no other step; no call was made, no slot was lost, no list was changed, and no epoch advanced
 pub record GivesSlotsBack (p q : PassView) (shared : ℕ) : Type 0 where
   pub took : Took p.trace q.trace shared
   pub raises : flags_raised q.trace ≡ flags_raised p.trace + shared
-  pub count : length q.pool + shared ≡ length p.pool
-  pub left : q.pool ≡ given_back (knows p.trace) p.pool
-  pub each : (slot : ℕ) → Contains p.pool slot → Contains q.pool slot ⊎ WasRaised p.trace q.trace slot
+  pub count : shared ≡ length p.pool
+  pub emptied : q.pool ≡ []
+  pub each : (slot : ℕ) → Contains p.pool slot → WasRaised p.trace q.trace slot
   pub hand : q.hand ≡ p.hand
   pub quiet : Quiet p.trace q.trace
   pub kept : KeepsSlots p q
   pub advances : advances q.trace ≡ advances p.trace
   pub unchanged : ChangesNone p.trace q.trace
-
--- ---- the pieces of the call; only contracts of private functions cite these
-
--- the slot is in the own pool, and may be raised
-pub record IsFreeIn (p : PassView) (slot : ℕ) : Type 0 where
-  pub there : Contains p.pool slot
-  pub low : slot < p.trace.start.shape.slots
-  pub free : IsFree (holding_of p slot)
-
--- no slot of the own pool may be raised: all were given back in hand
-abbrev pub HasNoneFree : PassView → Type 0
-HasNoneFree p = p.pool ≡ given_back (knows p.trace) p.pool

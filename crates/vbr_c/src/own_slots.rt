@@ -6,10 +6,8 @@ ghost use Rattle.vbr_handles.specs.Reserving.{TellsReserve};
 use vbr_handles::numbers::{giving_back, reserving};
 use vbr_handles::{Handle, MapHandle};
 
-/// Puts the slots that the handle keeps to itself into the pool that all handles share, one step for each, and
-/// returns how many; 0 where the handle is empty. It makes no call of the set, and can't fail. A slot stays that an
-/// insert had in hand and gave back, since it was refused or found its key there in the end, until an insert
-/// of the handle takes it again.
+/// Puts all slots that the handle keeps to itself into the pool that all handles share, one step for each, and
+/// returns how many they were; 0 where the handle is empty. It makes no call of the set, and can't fail.
 ///
 /// ```c file=bindings/c/spare.c
 /// uint32_t given = vbr_spare(&handle[0]);                   /* the other handle can have them */

@@ -12,7 +12,7 @@ use Rattle.vbr_machine.specs.Keys.{Keys}
 use Rattle.vbr_machine.specs.Links.{link_to}
 use Rattle.vbr_machine.specs.Images.{key_shown, link_in_state, link_shown, link_shown_at, link_to_next}
 use Rattle.vbr_machine.specs.Incarnations.{State, InHand, GivenUp, Linked, Marked, Unlinked, Stamped, Incarnations}
-use Rattle.vbr_machine.specs.Chronicles.{Happening, Advances, Gains, Probes, Raises, GivesUp, Bears, Keyed, Valued, Aims, Inserts, Removes, Replaces, Unlinks, Stamps, Confirms, AtHead, AtNode, Entry, Allowed, IsRetired, IsGivenUp, IsStamped, MayBeBornIn, MayStamp, becomes, incarnations_from, IsLawful, entries_by, unlinked_at}
+use Rattle.vbr_machine.specs.Chronicles.{Happening, Advances, Gains, Probes, Raises, GivesUp, Bears, Keyed, Valued, Aims, Inserts, Removes, Replaces, Unlinks, Stamps, Confirms, AtHead, AtNode, Entry, Allowed, IsLastDead, IsGivenUp, IsDead, MayBeBornIn, MayStamp, becomes, incarnations_from, IsLawful, entries_by, unlinked_at}
 use Rattle.vbr_machine.specs.Disturbances.{changes, counted, disturbances_in, own_changes_in, IsLinkedIn, IsOpenIn}
 use Rattle.vbr_machine.specs.Sound.{Sound, Grows}
 use Rattle.vbr_machine.specs.declared.knowledge.SlotPlace.{SlotPlace}
@@ -120,9 +120,9 @@ first_kept start keys a bucket pass (Confirms call) s h e = refl
 
 not_reborn : (a : Incarnations) (pass v c : ℕ) (place : SlotPlace) → MayBeBornIn a pass v place → a.last v ≡ Some c → a.state c ≡ Linked → ⊥
 not_reborn a pass v c (Own p) m last linked =
-    let P : Option ℕ → Type 0 = IsRetired a in
-    let z : IsStamped (a.state c) = subst P last m.1 in
-    let w : IsStamped Linked = subst IsStamped linked z in w
+    let P : Option ℕ → Type 0 = IsLastDead a in
+    let z : IsDead (a.state c) = subst P last m.1 in
+    let w : IsDead Linked = subst IsDead linked z in w
 not_reborn a pass v c (Hand p) m last linked =
     let P : Option ℕ → Type 0 = IsGivenUp a in
     let z : a.state c ≡ GivenUp = subst P last m.1 in

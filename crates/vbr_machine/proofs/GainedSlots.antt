@@ -63,7 +63,7 @@ own_gains_uncounted start run event =
 shared_is_dead : (start : Start) (st : State) (key : ℕ) → IsLive st → PlaceFits start Shared st key → ⊥
 shared_is_dead start Unborn key live fits = fits
 shared_is_dead start (InHand p) key live fits = fits
-shared_is_dead start GivenUp key live fits = fits
+shared_is_dead start GivenUp key live fits = live
 shared_is_dead start Linked key live fits = fits
 shared_is_dead start Marked key live fits = fits
 shared_is_dead start (Unlinked p at) key live fits = fits

@@ -83,6 +83,7 @@ mod OwnInserts
 mod Progress
 mod MovedEpochs
 mod GainedSlots
+mod GivingUp
 mod WorkedLists
 mod WorkedMaps
 mod WorkedReplacements

@@ -9,9 +9,9 @@ use Rattle.vbr_words.specs.declared.place.At.{At}
 use Rattle.vbr_words.specs.declared.place.At.TheVariants.{Head}
 use Rattle.vbr_words.specs.Buckets.{bucket_of}
 use Rattle.vbr_machine.specs.Acceptance.{Accepts}
-use Rattle.vbr_machine.specs.Accounts.{incarnations_after, notes_after, happens, just, entry_of_call, born_in}
+use Rattle.vbr_machine.specs.Accounts.{incarnations_after, notes_after, happens, just, entry_of_call, after_giving_up}
 use Rattle.vbr_machine.specs.Calls.{calls_added}
-use Rattle.vbr_machine.specs.Chronicles.{Entry, Advances, Gains, Probes, Keyed, Valued, Aims, Inserts, Raises, Removes, Replaces, Stamps, Unlinks, Confirms, Allowed, becomes, incarnations_from, IsLawful}
+use Rattle.vbr_machine.specs.Chronicles.{Entry, Advances, Gains, Probes, Bears, Keyed, Valued, Aims, Inserts, Raises, Removes, Replaces, Stamps, Unlinks, Confirms, Allowed, becomes, incarnations_from, IsLawful}
 use Rattle.vbr_machine.specs.Images.{key_shown}
 use Rattle.vbr_machine.specs.Incarnations.{Marked, Incarnations, last_in}
 use Rattle.vbr_machine.specs.Opened.{opening_keys}
@@ -27,7 +27,7 @@ use Rattle.vbr_machine.specs.declared.event.Step.{Step}
 use Rattle.vbr_machine.specs.declared.event.Step.TheVariants.{ReadEpoch, Advance, LoadStamp, StoreStamp, Raise, TakeFlag, StoreBirth, StoreKey, StoreLink, LoadLink, LoadBirth, LoadKey, Publish, Mark, Replace, Unlink, ConfirmPresent, ConfirmAbsent, LoadValue, StoreValue}
 use Rattle.vbr_machine.proofs.EveryRun.{incarnations_after-snoc, run_agrees, step_agrees}
 use Rattle.vbr_machine.proofs.ListedNodes.{behind_same, count_same, stamps_none, unlinks_add_none}
-use Rattle.vbr_machine.proofs.ListedRuns.{birth_leaves}
+use Rattle.vbr_machine.proofs.ListedRuns.{birth_leaves, raised_none}
 use Rattle.vbr_machine.proofs.Puts.{put_here, put_other}
 
 -- ---- one event
@@ -101,9 +101,9 @@ module _ (start : Start) (passes : ℕ) (run : List Event) (is : IsStart start) 
   one (LoadValue s) n l = same [] refl
   one (Advance from) n l = either_adds_none start a bucket h (found start (world_after start run) (Advance from) == from) (just p Advances) [] (same (just p Advances) refl) (same [] refl)
   one (StoreStamp s stamp) n l = same (just p (Stamps (last_in a s) stamp)) (stamps_none start (opening_keys start) a p (last_in a s) stamp bucket (Head h) l.0)
-  one (Raise s) n l = same (just p (Raises s)) refl
+  one (Raise s) n l = same (after_giving_up a p s (Raises s) ((know_after start run p).own s)) (raised_none start a p s bucket (Head h) ((know_after start run p).own s) (run_agrees start passes run is ok).sound l)
   one (TakeFlag s) n l = either_adds_none start a bucket h (has_flag (found start (world_after start run) (TakeFlag s)) s) (just p (Gains s)) (just p (Probes s)) (same (just p (Gains s)) refl) (same (just p (Probes s)) refl)
-  one (StoreBirth s birth) n l = same (born_in a p s birth ((know_after start run p).own s)) (birth_leaves start a p s birth bucket h ((know_after start run p).own s) (run_agrees start passes run is ok).sound l)
+  one (StoreBirth s birth) n l = same (after_giving_up a p s (Bears s birth) ((know_after start run p).own s)) (birth_leaves start a p s birth bucket h ((know_after start run p).own s) (run_agrees start passes run is ok).sound l)
   one (StoreKey s key) n l = same (just p (Keyed (last_in a s) key)) (keyed_none start a p (last_in a s) key bucket h l.0)
   one (StoreValue s value) n l = same (just p (Valued (last_in a s) value)) refl
   one (StoreLink s next) n l = same (just p (Aims (last_in a s) (link_written (know_after start run p) (StoreLink s next)))) refl

@@ -12,7 +12,7 @@ use Rattle.vbr_machine.specs.Images.{key_shown, link_in_state, link_shown, link_
 use Rattle.vbr_machine.specs.Incarnations.{State, Unborn, InHand, GivenUp, Linked, Marked, Unlinked, Stamped, Incarnations}
 use Rattle.vbr_machine.specs.Put.{put}
 use Rattle.vbr_machine.specs.Keys.{Keys}
-use Rattle.vbr_machine.specs.Chronicles.{Before, GivesUp, Bears, Stamps, Unlinks, Allowed, IsStamped, MayBeBornIn, MayStamp, becomes, unlinked_at}
+use Rattle.vbr_machine.specs.Chronicles.{Before, GivesUp, Bears, Stamps, Unlinks, Allowed, IsDead, MayBeBornIn, MayStamp, becomes, unlinked_at}
 use Rattle.vbr_machine.specs.Notes.{before_at}
 use Rattle.vbr_machine.specs.declared.knowledge.SlotPlace.{SlotPlace}
 use Rattle.vbr_machine.specs.declared.knowledge.SlotPlace.TheVariants.{Shared, Own, Hand, Listed}
@@ -394,6 +394,19 @@ stamps_links start keys a pass c stamp (Slot s) al = shown (a.last s)
         go (inl e) = rw (e, put_here a.state c (Stamped (unlinked_at (a.state c)) stamp)) (stamped_link (a.state c) (unlinked_at (a.state c)) stamp al)
         go (inr ne) = ap (link_in_state a d) (put_other a.state c (Stamped (unlinked_at (a.state c)) stamp) d ne)
 
+-- and so does the giving up of an incarnation
+pub gives_up_links : (start : Start) (keys : Keys) (a : Incarnations) (pass c : ℕ) (at : At) → Allowed start keys a pass (GivesUp c) → link_shown_at (becomes start a pass (GivesUp c)) at ≡ link_shown_at a at
+gives_up_links start keys a pass c (Head h) al = refl
+gives_up_links start keys a pass c (Slot s) al = shown (a.last s)
+  where
+    shown : (l : Option ℕ) → link_shown (becomes start a pass (GivesUp c)) l ≡ link_shown a l
+    shown None = refl
+    shown (Some d) = go (cases_eq d c)
+      where
+        go : (d ≡ c) ⊎ (d ≢ c) → link_in_state a d (put a.state c GivenUp d) ≡ link_in_state a d (a.state d)
+        go (inl e) = rw (e, put_here a.state c GivenUp, al) refl
+        go (inr ne) = ap (link_in_state a d) (put_other a.state c GivenUp d ne)
+
 -- ---- what a birth leaves
 
 -- an incarnation that is given up was in no list
@@ -405,10 +418,10 @@ gives_up_none start keys a pass c bucket at h =
 -- a slot that may be born in shows no node of a list
 free_unlisted : (a : Incarnations) (pass s : ℕ) (place : SlotPlace) (l : Option ℕ) → a.last s ≡ l → MayBeBornIn a pass s place → is_listed (state_shown a l) ≡ false
 free_unlisted a pass s (Own p) None e m = refl
-free_unlisted a pass s (Own p) (Some c) e m = stamped (a.state c) (rw e at m.1)
+free_unlisted a pass s (Own p) (Some c) e m = dead (a.state c) (rw e at m.1)
   where
-    stamped : (st : State) → IsStamped st → is_listed st ≡ false
-    stamped st h = grind arith
+    dead : (st : State) → IsDead st → is_listed st ≡ false
+    dead st h = grind arith
 free_unlisted a pass s (Hand p) None e m = refl
 free_unlisted a pass s (Hand p) (Some c) e m = let z : a.state c ≡ GivenUp = rw e at m.1 in ap is_listed z
 free_unlisted a pass s Shared l e m = absurd m

@@ -14,8 +14,8 @@ use Rattle.vbr_machine.specs.Opened.{opening_keys}
 use Rattle.vbr_machine.specs.Runs.{IsRun, world_after, know_after}
 use Rattle.vbr_machine.specs.Incarnations.{Incarnations, last_in}
 use Rattle.vbr_machine.specs.Images.{link_shown_at, key_shown}
-use Rattle.vbr_machine.specs.Chronicles.{GivesUp, Removes, Unlinks, becomes, incarnations_from, IsLawful, next_of}
-use Rattle.vbr_machine.specs.Accounts.{incarnations_after, happens, notes_after, just, born_in}
+use Rattle.vbr_machine.specs.Chronicles.{Happening, GivesUp, Raises, Bears, Removes, Unlinks, Allowed, becomes, incarnations_from, IsLawful, next_of}
+use Rattle.vbr_machine.specs.Accounts.{incarnations_after, happens, notes_after, just, after_giving_up}
 use Rattle.vbr_machine.specs.Agreement.{IsHeldAt, IsHeldNext, Agrees}
 use Rattle.vbr_machine.specs.Notes.{before_at}
 use Rattle.vbr_machine.specs.Nodes.{behind, is_above, is_listed, is_there, state_in}
@@ -30,7 +30,7 @@ use Rattle.vbr_machine.proofs.KnownReads.{good_link}
 use Rattle.vbr_machine.proofs.EveryRun.{incarnations_after-snoc, run_agrees, step_agrees}
 use Rattle.vbr_machine.proofs.Removals.{marked_out}
 use Rattle.vbr_machine.proofs.RunForms as forms
-use Rattle.vbr_machine.proofs.ListedNodes.{IsFollowed, IsNextOf, IsPlaceOf, next_of_followed, same_followed, stands_listed, stands_there, one_fewer, stamps_none, stamps_links, unlinks_one, bears_none, gives_up_none}
+use Rattle.vbr_machine.proofs.ListedNodes.{IsFollowed, IsNextOf, IsPlaceOf, next_of_followed, same_followed, stands_listed, stands_there, one_fewer, stamps_none, stamps_links, unlinks_one, bears_none, gives_up_none, gives_up_links}
 use Rattle.vbr_machine.proofs.SoundAfter.{sound_kept}
 use Rattle.vbr_machine.specs.declared.knowledge.Holding.{Holding}
 use Rattle.vbr_machine.specs.declared.knowledge.Holding.TheVariants.{Free, Unlinked, InHand}
@@ -100,6 +100,39 @@ module _ (start : Start) (passes : ℕ) (run : List Event) (is : IsStart start) 
       let n = named_next a (know_after start run p).epoch s link.slot stands_in_bucket.names q stands_in_bucket.next in
       ap (λ t. is_listed (state_in a t)) (sym n.2) ∙ stands_listed (stands_there agrees.sound agrees.fits n.0 (next_named s q).listed).1
 
+-- ---- what is given up
+
+-- an incarnation in hand that is given up was in no list: where what comes then leaves as many nodes behind a place, both do
+pub given_up_leaves : (start : Start) (a : Incarnations) (p s : ℕ) (what : Happening) (bucket : ℕ) (at : At) (holding : Option Holding) →
+    ((b : Incarnations) → Sound start b → Allowed start (opening_keys start) b p what → behind start (becomes start b p what) bucket at ≡ behind start b bucket at) →
+    Sound start a → IsLawful start (opening_keys start) a (after_giving_up a p s what holding) → behind start (incarnations_from start a (after_giving_up a p s what holding)) bucket at ≡ behind start a bucket at
+given_up_leaves start a p s what bucket at None same sound l = same a sound l.0
+given_up_leaves start a p s what bucket at (Some (Free stamp)) same sound l = same a sound l.0
+given_up_leaves start a p s what bucket at (Some (Unlinked reread)) same sound l = same a sound l.0
+given_up_leaves start a p s what bucket at (Some (InHand known)) same sound l =
+    same (becomes start a p (GivesUp (last_in a s))) (sound_kept start (opening_keys start) a p (GivesUp (last_in a s)) sound l.0) l.1.0
+    ∙ gives_up_none start (opening_keys start) a p (last_in a s) bucket at l.0
+
+-- a birth leaves as many nodes in each list
+pub birth_leaves : (start : Start) (a : Incarnations) (p s birth bucket h : ℕ) (holding : Option Holding) → Sound start a → IsLawful start (opening_keys start) a (after_giving_up a p s (Bears s birth) holding) → behind start (incarnations_from start a (after_giving_up a p s (Bears s birth) holding)) bucket (Head h) ≡ behind start a bucket (Head h)
+birth_leaves start a p s birth bucket h holding sound l = given_up_leaves start a p s (Bears s birth) bucket (Head h) holding (λ b sound al. bears_none start (opening_keys start) b p s birth bucket h sound al) sound l
+
+-- a raise leaves as many nodes behind each place, and the links that are shown
+pub raised_none : (start : Start) (a : Incarnations) (p s bucket : ℕ) (at : At) (holding : Option Holding) → Sound start a → IsLawful start (opening_keys start) a (after_giving_up a p s (Raises s) holding) → behind start (incarnations_from start a (after_giving_up a p s (Raises s) holding)) bucket at ≡ behind start a bucket at
+raised_none start a p s bucket at holding sound l = given_up_leaves start a p s (Raises s) bucket at holding (λ b sound al. refl) sound l
+
+raised_links : (start : Start) (a : Incarnations) (p s : ℕ) (at : At) (holding : Option Holding) → IsLawful start (opening_keys start) a (after_giving_up a p s (Raises s) holding) → link_shown_at (incarnations_from start a (after_giving_up a p s (Raises s) holding)) at ≡ link_shown_at a at
+raised_links start a p s at None l = refl
+raised_links start a p s at (Some (Free stamp)) l = refl
+raised_links start a p s at (Some (Unlinked reread)) l = refl
+raised_links start a p s at (Some (InHand known)) l = gives_up_links start (opening_keys start) a p (last_in a s) at l.0
+
+raised_epoch : (start : Start) (a : Incarnations) (p s : ℕ) (holding : Option Holding) → (incarnations_from start a (after_giving_up a p s (Raises s) holding)).epoch ≡ a.epoch
+raised_epoch start a p s None = refl
+raised_epoch start a p s (Some (Free stamp)) = refl
+raised_epoch start a p s (Some (Unlinked reread)) = refl
+raised_epoch start a p s (Some (InHand known)) = refl
+
 -- ---- one more step
 
 -- a step that only reads leaves the incarnations as they were
@@ -131,8 +164,10 @@ module _ (start : Start) (passes : ℕ) (run : List Event) (is : IsStart start) 
       ∙ stamps_none start (opening_keys start) b p (last_in b s) stamp bucket at (lawful (StoreStamp s stamp) accepts).0
 
   -- and so does the return of a slot to the shared pool
-  pub raise_leaves : (s bucket : ℕ) (at : At) → behind start (incarnations_after start (run ++ (record { pass = p; step = Raise s }) ∷ [])) bucket at ≡ behind start (incarnations_after start run) bucket at
-  raise_leaves s bucket at = ap (λ a. behind start a bucket at) (incarnations_after-snoc start run (record { pass = p; step = Raise s }))
+  pub raise_leaves : (s bucket : ℕ) (at : At) → Accepts start (know_after start run p) (Raise s) → behind start (incarnations_after start (run ++ (record { pass = p; step = Raise s }) ∷ [])) bucket at ≡ behind start (incarnations_after start run) bucket at
+  raise_leaves s bucket at accepts =
+      ap (λ a. behind start a bucket at) (incarnations_after-snoc start run (record { pass = p; step = Raise s }))
+      ∙ raised_none start b p s bucket at ((know_after start run p).own s) (run_agrees start passes run is ok).sound (lawful (Raise s) accepts)
 
   -- a won unlinking leaves one node fewer behind each place that the node lies behind
   unlink_takes : (bucket : ℕ) (pred from : At) (expected s : ℕ) → Accepts start (know_after start run p) (Unlink pred expected s) → found start (world_after start run) (Unlink pred expected s) ≡ expected →
@@ -184,7 +219,7 @@ module _ (start : Start) (passes : ℕ) (run : List Event) (is : IsStart start) 
   stamp_epoch s stamp = ap (λ (a : Incarnations). a.epoch) (incarnations_after-snoc start run (record { pass = p; step = StoreStamp s stamp }))
 
   pub raise_epoch : (s : ℕ) → (incarnations_after start (run ++ (record { pass = p; step = Raise s }) ∷ [])).epoch ≡ (incarnations_after start run).epoch
-  raise_epoch s = ap (λ (a : Incarnations). a.epoch) (incarnations_after-snoc start run (record { pass = p; step = Raise s }))
+  raise_epoch s = ap (λ (a : Incarnations). a.epoch) (incarnations_after-snoc start run (record { pass = p; step = Raise s })) ∙ raised_epoch start b p s ((know_after start run p).own s)
 
   -- and the links that are shown
   pub stamp_links : (s stamp : ℕ) (at : At) → Accepts start (know_after start run p) (StoreStamp s stamp) → link_shown_at (incarnations_after start (run ++ (record { pass = p; step = StoreStamp s stamp }) ∷ [])) at ≡ link_shown_at (incarnations_after start run) at
@@ -192,17 +227,7 @@ module _ (start : Start) (passes : ℕ) (run : List Event) (is : IsStart start) 
       ap (λ a. link_shown_at a at) (incarnations_after-snoc start run (record { pass = p; step = StoreStamp s stamp }))
       ∙ stamps_links start (opening_keys start) b p (last_in b s) stamp at (lawful (StoreStamp s stamp) accepts).0
 
-  pub raise_links : (s : ℕ) (at : At) → link_shown_at (incarnations_after start (run ++ (record { pass = p; step = Raise s }) ∷ [])) at ≡ link_shown_at (incarnations_after start run) at
-  raise_links s at = ap (λ a. link_shown_at a at) (incarnations_after-snoc start run (record { pass = p; step = Raise s }))
-
--- ---- a birth
-
--- a birth leaves as many nodes in each list
-pub birth_leaves : (start : Start) (a : Incarnations) (p s birth bucket h : ℕ) (holding : Option Holding) → Sound start a → IsLawful start (opening_keys start) a (born_in a p s birth holding) → behind start (incarnations_from start a (born_in a p s birth holding)) bucket (Head h) ≡ behind start a bucket (Head h)
-birth_leaves start a p s birth bucket h None sound l = bears_none start (opening_keys start) a p s birth bucket h sound l.0
-birth_leaves start a p s birth bucket h (Some (Free stamp)) sound l = bears_none start (opening_keys start) a p s birth bucket h sound l.0
-birth_leaves start a p s birth bucket h (Some (Unlinked reread)) sound l = bears_none start (opening_keys start) a p s birth bucket h sound l.0
-birth_leaves start a p s birth bucket h (Some (InHand known)) sound l =
-    let c = becomes start a p (GivesUp (last_in a s)) in
-    bears_none start (opening_keys start) c p s birth bucket h (sound_kept start (opening_keys start) a p (GivesUp (last_in a s)) sound l.0) l.1.0
-    ∙ gives_up_none start (opening_keys start) a p (last_in a s) bucket (Head h) l.0
+  pub raise_links : (s : ℕ) (at : At) → Accepts start (know_after start run p) (Raise s) → link_shown_at (incarnations_after start (run ++ (record { pass = p; step = Raise s }) ∷ [])) at ≡ link_shown_at (incarnations_after start run) at
+  raise_links s at accepts =
+      ap (λ a. link_shown_at a at) (incarnations_after-snoc start run (record { pass = p; step = Raise s }))
+      ∙ raised_links start b p s at ((know_after start run p).own s) (lawful (Raise s) accepts)

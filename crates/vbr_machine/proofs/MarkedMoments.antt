@@ -20,7 +20,7 @@ use Rattle.vbr_machine.specs.Runs.{Begins, IsRun, world_after, know_after}
 use Rattle.vbr_machine.specs.Incarnations.{State, InHand, Linked, Marked, Incarnations, last_in}
 use Rattle.vbr_machine.specs.Chronicles.{Happening, Advances, Gains, Probes, Raises, GivesUp, Bears, Keyed, Valued, Aims, Inserts, Removes, Replaces, Unlinks, Stamps, Confirms, Entry, Allowed, Before, AtHead, AtNode, IsOpen, BelongsBehind, BelongsBefore, becomes, incarnations_from, IsLawful, next_of}
 use Rattle.vbr_machine.specs.Sound.{IsApart, IsListed, IsRemoved, Sound, Grows}
-use Rattle.vbr_machine.specs.Accounts.{born_in, entry_of_call, happens, incarnations_after, just, notes_after}
+use Rattle.vbr_machine.specs.Accounts.{after_giving_up, entry_of_call, happens, incarnations_after, just, notes_after}
 use Rattle.vbr_machine.specs.Agreement.{Agrees, IsGoodLink, IsHeldAt, IsHeldIncarnation, IsHeldNext, IsPair}
 use Rattle.vbr_machine.specs.declared.history.Call.{Call}
 use Rattle.vbr_machine.specs.declared.event.Event.{Event}
@@ -78,17 +78,17 @@ module _ (start : Start) (a : Incarnations) (s : Sound start a) (c : ℕ) (linke
   either true xs ys g h = g
   either false xs ys g h = h
 
-  born : (p v birth : ℕ) (own : Option Holding) → ListsStill (born_in a p v birth own)
-  born p v birth None = one p (Bears v birth)
-  born p v birth (Some (Free stamp)) = one p (Bears v birth)
-  born p v birth (Some (UnlinkedOne seen)) = one p (Bears v birth)
-  born p v birth (Some (HandHas known)) = λ l. go l
+  given_up : (p v : ℕ) (what : Happening) (own : Option Holding) → ListsStill (after_giving_up a p v what own)
+  given_up p v what None = one p what
+  given_up p v what (Some (Free stamp)) = one p what
+  given_up p v what (Some (UnlinkedOne seen)) = one p what
+  given_up p v what (Some (HandHas known)) = λ l. go l
     where
       d : ℕ
       d = last_in a v
 
-      go : ListsStill (just p (GivesUp d) ++ just p (Bears v birth))
-      go l = linked_on start (becomes start a p (GivesUp d)) p (Bears v birth) (sound_kept start (opening_keys start) a p (GivesUp d) s l.0) l.1.0 c (linked_still start a p d c l.0 linked)
+      go : ListsStill (just p (GivesUp d) ++ just p what)
+      go l = linked_on start (becomes start a p (GivesUp d)) p what (sound_kept start (opening_keys start) a p (GivesUp d) s l.0) l.1.0 c (linked_still start a p d c l.0 linked)
 
   answered : (p : ℕ) (made : Option Call) → ListsStill (entry_of_call p made)
   answered p None = nothing
@@ -99,9 +99,9 @@ module _ (start : Start) (a : Incarnations) (s : Sound start a) (c : ℕ) (linke
   step_lists w p (Advance from) = either (found start w (Advance from) == from) _ _ (one p Advances) nothing
   step_lists w p (LoadStamp v) = nothing
   step_lists w p (StoreStamp v stamp) = one p (Stamps (last_in a v) stamp)
-  step_lists w p (Raise v) = one p (Raises v)
+  step_lists w p (Raise v) = given_up p v (Raises v) ((w.know p).own v)
   step_lists w p (TakeFlag v) = either (has_flag (found start w (TakeFlag v)) v) _ _ (one p (Gains v)) (one p (Probes v))
-  step_lists w p (StoreBirth v birth) = born p v birth ((w.know p).own v)
+  step_lists w p (StoreBirth v birth) = given_up p v (Bears v birth) ((w.know p).own v)
   step_lists w p (StoreKey v key) = one p (Keyed (last_in a v) key)
   step_lists w p (StoreValue v value) = one p (Valued (last_in a v) value)
   step_lists w p (StoreLink v next) = one p (Aims (last_in a v) (link_written (w.know p) (StoreLink v next)))

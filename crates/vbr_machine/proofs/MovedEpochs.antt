@@ -9,9 +9,9 @@ use Rattle.vbr_machine.specs.Start.{Start}
 use Rattle.vbr_machine.specs.Learning.{call_of}
 use Rattle.vbr_machine.specs.Machine.{World, opening, found, after}
 use Rattle.vbr_machine.specs.Runs.{world_after}
-use Rattle.vbr_machine.specs.Incarnations.{Incarnations, at_opening}
-use Rattle.vbr_machine.specs.Chronicles.{Entry, Advances, incarnations_from}
-use Rattle.vbr_machine.specs.Accounts.{born_in, chronicle_from, entry_of_call, happens, incarnations_after, incarnations_with, just}
+use Rattle.vbr_machine.specs.Incarnations.{Incarnations, at_opening, last_in}
+use Rattle.vbr_machine.specs.Chronicles.{Happening, Advances, Raises, GivesUp, Bears, Entry, becomes, incarnations_from}
+use Rattle.vbr_machine.specs.Accounts.{after_giving_up, chronicle_from, entry_of_call, happens, incarnations_after, incarnations_with, just}
 use Rattle.vbr_machine.specs.Disturbances.{counted, disturbances_in, disturbances}
 use Rattle.vbr_machine.specs.declared.history.Call.{Call}
 use Rattle.vbr_machine.specs.declared.event.Event.{Event}
@@ -64,11 +64,11 @@ module _ (start : Start) where
   either_stays a true xs ys x y = x
   either_stays a false xs ys x y = y
 
-  born_stays : (a : Incarnations) (p s birth : ℕ) (own : Option Holding) → Stays a (born_in a p s birth own)
-  born_stays a p s birth None = refl
-  born_stays a p s birth (Some (Free stamp)) = refl
-  born_stays a p s birth (Some (Unlinked seen)) = refl
-  born_stays a p s birth (Some (InHand known)) = refl
+  given_up_stays : (a : Incarnations) (p s : ℕ) (what : Happening) (own : Option Holding) → ((b : Incarnations) → (becomes start b p what).epoch ≡ b.epoch) → Stays a (after_giving_up a p s what own)
+  given_up_stays a p s what None stays = stays a
+  given_up_stays a p s what (Some (Free stamp)) stays = stays a
+  given_up_stays a p s what (Some (Unlinked seen)) stays = stays a
+  given_up_stays a p s what (Some (InHand known)) stays = stays (becomes start a p (GivesUp (last_in a s)))
 
   answered_stays : (a : Incarnations) (p : ℕ) (made : Option Call) → Stays a (entry_of_call p made)
   answered_stays a p None = refl
@@ -78,7 +78,8 @@ module _ (start : Start) where
   step_stays : (w : World) (a : Incarnations) (p : ℕ) (step : Step) → (IsAdvance step → ⊥) → Stays a (happens start w a p step)
   step_stays w a p (Advance from) none = absurd (none tt)
   step_stays w a p (TakeFlag s) none = either_stays a (has_flag (found start w (TakeFlag s)) s) _ _ refl refl
-  step_stays w a p (StoreBirth s birth) none = born_stays a p s birth ((w.know p).own s)
+  step_stays w a p (Raise s) none = given_up_stays a p s (Raises s) ((w.know p).own s) (λ b. refl)
+  step_stays w a p (StoreBirth s birth) none = given_up_stays a p s (Bears s birth) ((w.know p).own s) (λ b. refl)
   step_stays w a p (Publish pred expected s) none = either_stays a (found start w (Publish pred expected s) == expected) _ _ refl refl
   step_stays w a p (Mark s expected) none = either_stays a (found start w (Mark s expected) == expected) _ _ refl refl
   step_stays w a p (Replace s expected t) none = either_stays a (found start w (Replace s expected t) == expected) _ _ refl refl

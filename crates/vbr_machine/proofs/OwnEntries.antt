@@ -10,8 +10,8 @@ use Rattle.vbr_machine.specs.Learning.{call_of}
 use Rattle.vbr_machine.specs.Machine.{World, opening, found, after}
 use Rattle.vbr_machine.specs.Runs.{world_from, world_after, NoneOf}
 use Rattle.vbr_machine.specs.Incarnations.{Incarnations, at_opening}
-use Rattle.vbr_machine.specs.Chronicles.{Entry, incarnations_from, entries_by}
-use Rattle.vbr_machine.specs.Accounts.{born_in, entry_of_call, happens, incarnations_with, chronicle_from, chronicle, incarnations_after, own_entries}
+use Rattle.vbr_machine.specs.Chronicles.{Happening, Raises, Bears, Entry, incarnations_from, entries_by}
+use Rattle.vbr_machine.specs.Accounts.{after_giving_up, entry_of_call, happens, incarnations_with, chronicle_from, chronicle, incarnations_after, own_entries}
 use Rattle.vbr_machine.specs.declared.history.Call.{Call}
 use Rattle.vbr_machine.specs.declared.event.Event.{Event}
 use Rattle.vbr_machine.specs.declared.event.Step.{Step}
@@ -28,11 +28,11 @@ either_by : (p : ℕ) (b : Bool) (xs ys : List Entry) → AreBy p xs → AreBy p
 either_by p true xs ys g h = g
 either_by p false xs ys g h = h
 
-born_by : (a : Incarnations) (p s birth : ℕ) (own : Option Holding) → AreBy p (born_in a p s birth own)
-born_by a p s birth None = (refl, tt)
-born_by a p s birth (Some (Free stamp)) = (refl, tt)
-born_by a p s birth (Some (Unlinked seen)) = (refl, tt)
-born_by a p s birth (Some (InHand known)) = (refl, (refl, tt))
+given_up_by : (a : Incarnations) (p s : ℕ) (what : Happening) (own : Option Holding) → AreBy p (after_giving_up a p s what own)
+given_up_by a p s what None = (refl, tt)
+given_up_by a p s what (Some (Free stamp)) = (refl, tt)
+given_up_by a p s what (Some (Unlinked seen)) = (refl, tt)
+given_up_by a p s what (Some (InHand known)) = (refl, (refl, tt))
 
 answered_by : (p : ℕ) (made : Option Call) → AreBy p (entry_of_call p made)
 answered_by p None = tt
@@ -44,9 +44,9 @@ happens_by start w a p ReadEpoch = tt
 happens_by start w a p (Advance from) = either_by p (found start w (Advance from) == from) _ _ (refl, tt) tt
 happens_by start w a p (LoadStamp s) = tt
 happens_by start w a p (StoreStamp s stamp) = (refl, tt)
-happens_by start w a p (Raise s) = (refl, tt)
+happens_by start w a p (Raise s) = given_up_by a p s (Raises s) ((w.know p).own s)
 happens_by start w a p (TakeFlag s) = either_by p (has_flag (found start w (TakeFlag s)) s) _ _ (refl, tt) (refl, tt)
-happens_by start w a p (StoreBirth s birth) = born_by a p s birth ((w.know p).own s)
+happens_by start w a p (StoreBirth s birth) = given_up_by a p s (Bears s birth) ((w.know p).own s)
 happens_by start w a p (StoreKey s key) = (refl, tt)
 happens_by start w a p (StoreValue s value) = (refl, tt)
 happens_by start w a p (StoreLink s next) = (refl, tt)

@@ -7,12 +7,12 @@ use Rattle.vbr_machine.specs.Put.{put}
 use Rattle.vbr_machine.specs.Opened.{opening_keys}
 use Rattle.vbr_machine.specs.Links.{link_to}
 use Rattle.vbr_machine.specs.Knowledge.{Know, birth_of}
-use Rattle.vbr_machine.specs.Acceptance.{Accepts, IsFree, IsNextIn}
+use Rattle.vbr_machine.specs.Acceptance.{Accepts, IsNextIn, MayBear}
 use Rattle.vbr_machine.specs.Learning.{with_own, with_key, with_value, with_link, link_written, birth_in_hand}
 use Rattle.vbr_machine.specs.Machine.{World, after}
-use Rattle.vbr_machine.specs.Incarnations.{State, Incarnations, last_in}
+use Rattle.vbr_machine.specs.Incarnations.{State, GivenUp, Incarnations, last_in}
 use Rattle.vbr_machine.specs.Images.{key_shown, value_shown, link_shown}
-use Rattle.vbr_machine.specs.Chronicles.{IsRetired, IsStamped, Allowed, Gains, Raises, Keyed, Valued, Aims, becomes}
+use Rattle.vbr_machine.specs.Chronicles.{IsLastDead, IsDead, Allowed, Gains, Raises, GivesUp, Keyed, Valued, Aims, becomes}
 use Rattle.vbr_machine.specs.Sound.{PlaceFits, SlotsSound}
 use Rattle.vbr_machine.specs.Notes.{Notes}
 use Rattle.vbr_machine.specs.Agreement.{FitsNotes, OwnFits, Owns, Fits, Agrees}
@@ -24,7 +24,12 @@ use Rattle.vbr_machine.specs.declared.knowledge.SlotPlace.TheVariants.{Shared, O
 use Rattle.vbr_machine.proofs.Puts.{put_here, put_other}
 use Rattle.vbr_machine.proofs.SlotFlags.{flag_told}
 use Rattle.vbr_machine.proofs.Searches.{birth_low}
-use Rattle.vbr_machine.proofs.OwnSlots.{IsSlotKept, owns_changed, lasts_differ}
+use Rattle.vbr_machine.proofs.SoundAfter.{sound_kept}
+use Rattle.vbr_machine.proofs.ToldCalls.{tells_kept}
+use Rattle.vbr_machine.proofs.Growth.{grows}
+use Rattle.vbr_machine.proofs.Noted.{knows_on, knows_own}
+use Rattle.vbr_machine.proofs.GivingUp.{AgreesAway, free_away, given_up}
+use Rattle.vbr_machine.proofs.OwnSlots.{IsSlotKept, owns_changed, owns_moved, lasts_differ}
 use Rattle.vbr_machine.proofs.Shown.{image_kept, image_words, fits_kept, link_kept, key_kept, value_kept}
 use Rattle.vbr_machine.proofs.Steps.{StepAgrees, agrees_owned, agrees_still, puts_same, at_put, hand_facts, own_not_of, hand_not_of}
 
@@ -32,41 +37,55 @@ use Rattle.vbr_machine.proofs.Steps.{StepAgrees, agrees_owned, agrees_still, put
 moved_beside : (a : Incarnations) (s v : ℕ) (place : SlotPlace) → v ≢ s → IsSlotKept a (record a { place = put a.place s place }) v
 moved_beside a s v place ne = record { place = put_other a.place s place v ne; last = refl; stamp = refl; untouched = λ c _. record { state = refl; birth = refl; key = refl; is_keyed = refl; value = refl; is_valued = refl; link = refl; is_aimed = refl } }
 
--- what is known of a free slot
-free_facts : (a : Incarnations) (p s e : ℕ) (holding : Option Holding) → OwnFits a p e holding (a.place s) (a.last s) (a.stamp s) → IsFree holding → (a.place s ≡ Own p) × IsRetired a (a.last s)
-free_facts a p s e None h o = absurd o
-free_facts a p s e (Some (Free known)) h o = (h.0, h.1)
-free_facts a p s e (Some (Unlinked seen)) h o = absurd o
-free_facts a p s e (Some (InHand known)) h o = absurd o
+-- the world once a slot was raised
+abbrev raised_world : World → ℕ → ℕ → World
+raised_world w p s = record w { know = put w.know p (with_own (w.know p) s None); place = put w.place s Shared }
+
+raised : (start : Start) (w : World) (a : Incarnations) (notes : ℕ → Notes) (p s : ℕ) → AgreesAway start w a notes p s → Allowed start (opening_keys start) a p (Raises s) → Agrees start (raised_world w p s) (becomes start a p (Raises s)) (put notes p (notes p))
+raised start w a notes p s g al =
+    let b = becomes start a p (Raises s) in
+    record {
+      sound = sound_kept start (opening_keys start) a p (Raises s) g.sound al;
+      tells = tells_kept start a p (Raises s) g.sound g.tells al;
+      fits = fits_kept a b refl refl refl refl g.fits;
+      image = image_kept (raised_world w p s) w a b g.image.epoch refl refl refl refl refl refl (puts_same w.place a.place s Shared g.image.place) refl refl refl refl refl refl refl refl refl refl g.image;
+      knows = knows_own b w.know notes p s None (knows_on g.sound (grows start (opening_keys start) a p (Raises s) g.sound al) w.know notes g.knows);
+      owns = owns_moved a b w.know p s (with_own (w.know p) s None) refl (λ i ne. put_other (w.know p).own s None i ne) g.others (λ q ne. rw (put_here a.place s Shared) tt)
+          (λ i ne. moved_beside a s i Shared ne) (rw (put_here (w.know p).own s None, put_here a.place s Shared) tt) g.away;
+      calls = g.calls;
+      births = g.births;
+    }
 
 pub step_raise : (start : Start) (w : World) (a : Incarnations) (notes : ℕ → Notes) (p s : ℕ) → Agrees start w a notes → Accepts start (w.know p) (Raise s) → StepAgrees start w a notes p (Raise s)
-step_raise start w a notes p s g ok =
-    let b = becomes start a p (Raises s) in
-    let v = after start w p (Raise s) in
-    let al : (a.place s ≡ Own p) × IsRetired a (a.last s) = free_facts a p s (w.know p).epoch ((w.know p).own s) (g.owns p s) ok.owned in (
-      (al, tt),
-      agrees_owned start w v a notes p (Raises s) s None g al (fits_kept a b refl refl refl refl g.fits)
-          (image_kept v w a b g.image.epoch refl refl refl refl refl refl (puts_same w.place a.place s Shared g.image.place) refl refl refl refl refl refl refl refl refl refl g.image) refl
-          (owns_changed a b w.know p s (with_own (w.know p) s None) refl (λ i ne. put_other (w.know p).own s None i ne) (own_not_of p (a.place s) al.0) (λ q ne. rw (put_here a.place s Shared) tt)
-          (λ i ne. moved_beside a s i Shared ne) (rw (put_here (w.know p).own s None, put_here a.place s Shared) tt) g.owns)
-          g.calls g.births,
-    )
-
--- a slot in the shared pool is retired
-shared_retired : {start : Start} {a : Incarnations} → SlotsSound start a → (s : ℕ) → a.place s ≡ Shared → IsRetired a (a.last s)
-shared_retired {start} {a} g s e = go (a.last s) refl
+step_raise start w a notes p s g ok = go ((w.know p).own s) refl ok.owned (g.owns p s)
   where
-    stamped : (st : State) (k : ℕ) → PlaceFits start Shared st k → IsStamped st
-    stamped st k h = grind arith
+    go : (holding : Option Holding) → (w.know p).own s ≡ holding → MayBear holding → OwnFits a p (w.know p).epoch holding (a.place s) (a.last s) (a.stamp s) → StepAgrees start w a notes p (Raise s)
+    go None e o h = absurd o
+    go (Some (Unlinked seen)) e o h = absurd o
+    go (Some (Free stamp)) e o h =
+        let al : Allowed start (opening_keys start) a p (Raises s) = rw h.0 (refl, h.1) in
+        rw e ((al, tt), raised start w a notes p s (free_away start w a notes p s g h.0) al)
+    go (Some (InHand known)) e o h =
+        let x = hand_facts a p s (w.know p).epoch (Some (InHand known)) h tt in
+        let b = becomes start a p (GivesUp (last_in a s)) in
+        let al : Allowed start (opening_keys start) b p (Raises s) = rw (x.place, x.last) (refl, put_here a.state (last_in a s) GivenUp) in
+        rw e ((x.state, (al, tt)), raised start w b notes p s (given_up start w a notes p s g x.last x.state x.place) al)
 
-    go : (l : Option ℕ) → a.last s ≡ l → IsRetired a l
+-- the last incarnation of a slot in the shared pool is dead
+shared_dead : {start : Start} {a : Incarnations} → SlotsSound start a → (s : ℕ) → a.place s ≡ Shared → IsLastDead a (a.last s)
+shared_dead {start} {a} g s e = go (a.last s) refl
+  where
+    dead : (st : State) (k : ℕ) → PlaceFits start Shared st k → IsDead st
+    dead st k h = grind arith
+
+    go : (l : Option ℕ) → a.last s ≡ l → IsLastDead a l
     go None q = tt
-    go (Some c) q = stamped (a.state c) (a.key c) (rw e at (g.placed c s q))
+    go (Some c) q = dead (a.state c) (a.key c) (rw e at (g.placed c s q))
 
--- who is retired stays so where only a place changes
-retired_beside : (a : Incarnations) (s : ℕ) (place : SlotPlace) (l : Option ℕ) → IsRetired a l → IsRetired (record a { place = put a.place s place }) l
-retired_beside a s place None h = h
-retired_beside a s place (Some c) h = h
+-- what is dead stays so where only a place changes
+dead_beside : (a : Incarnations) (s : ℕ) (place : SlotPlace) (l : Option ℕ) → IsLastDead a l → IsLastDead (record a { place = put a.place s place }) l
+dead_beside a s place None h = h
+dead_beside a s place (Some c) h = h
 
 pub step_take_flag : (start : Start) (w : World) (a : Incarnations) (notes : ℕ → Notes) (p s : ℕ) → Agrees start w a notes → s < start.shape.slots → StepAgrees start w a notes p (TakeFlag s)
 step_take_flag start w a notes p s g low = go (w.place s) refl
@@ -80,7 +99,7 @@ step_take_flag start w a notes p s g low = go (w.place s) refl
         (image_kept v w a b g.image.epoch refl refl refl refl refl refl (puts_same w.place a.place s (Own p) g.image.place) refl refl refl refl refl refl refl refl refl refl g.image) refl
         (owns_changed a b w.know p s x refl (λ i ne. put_other (w.know p).own s (Some (Free (w.stamp s))) i ne) (λ q ne. rw al tt) (own_not_of p (put a.place s (Own p) s) (put_here a.place s (Own p)))
         (λ i ne. moved_beside a s i (Own p) ne)
-        (rw (put_here (w.know p).own s (Some (Free (w.stamp s)))) (put_here a.place s (Own p), retired_beside a s (Own p) (a.last s) (shared_retired g.sound.slots s al), sym (g.image.stamp s)))
+        (rw (put_here (w.know p).own s (Some (Free (w.stamp s)))) (put_here a.place s (Own p), dead_beside a s (Own p) (a.last s) (shared_dead g.sound.slots s al), sym (g.image.stamp s)))
         g.owns)
         g.calls g.births
 

@@ -11,7 +11,7 @@ use Rattle.vbr_machine.specs.Machine.{World, after}
 use Rattle.vbr_machine.specs.Runs.{AreAccepted, IsRun, world_after, know_after, NoneOf}
 use Rattle.vbr_machine.specs.Incarnations.{State, Unborn, InHand, GivenUp, Linked, Marked, Unlinked, Stamped, Incarnations}
 use Rattle.vbr_machine.specs.Images.{slot_shown, link_in_state, link_shown, IsImage}
-use Rattle.vbr_machine.specs.Chronicles.{IsStamped}
+use Rattle.vbr_machine.specs.Chronicles.{IsDead}
 use Rattle.vbr_machine.specs.Sound.{IsListed, IsOrderedBefore, IsFrom, IsApart, IsUnused, PlaceFits, Sound}
 use Rattle.vbr_machine.specs.Accounts.{incarnations_after, notes_after}
 use Rattle.vbr_machine.specs.Agreement.{IsNotOf, OwnFits, Fits, Agrees}
@@ -104,23 +104,23 @@ knows_none start passes run p s high ok = ap (λ k. k.own s) (others_leave_know 
 
 -- ---- where a slot is
 
--- a last incarnation that fits a slot in the shared pool is stamped
-shared_retired : (start : Start) (st : State) (key : ℕ) → PlaceFits start Shared st key → IsStamped st
-shared_retired start (Stamped u r) key f = tt
-shared_retired start Unborn key f = absurd f
-shared_retired start (InHand q) key f = absurd f
-shared_retired start GivenUp key f = absurd f
-shared_retired start Linked key f = absurd f
-shared_retired start Marked key f = absurd f
-shared_retired start (Unlinked q u) key f = absurd f
+-- a last incarnation that fits a slot in the shared pool is dead
+shared_dead : (start : Start) (st : State) (key : ℕ) → PlaceFits start Shared st key → IsDead st
+shared_dead start (Stamped u r) key f = tt
+shared_dead start Unborn key f = absurd f
+shared_dead start (InHand q) key f = absurd f
+shared_dead start GivenUp key f = tt
+shared_dead start Linked key f = absurd f
+shared_dead start Marked key f = absurd f
+shared_dead start (Unlinked q u) key f = absurd f
 
--- one that fits a pass's own slot is stamped, or was unlinked by the pass
-own_state : (start : Start) (p : ℕ) (st : State) (key : ℕ) → PlaceFits start (Own p) st key → IsStamped st ⊎ ((at : ℕ) × (st ≡ Unlinked p at))
+-- one that fits a pass's own slot is dead, or was unlinked by the pass
+own_state : (start : Start) (p : ℕ) (st : State) (key : ℕ) → PlaceFits start (Own p) st key → IsDead st ⊎ ((at : ℕ) × (st ≡ Unlinked p at))
 own_state start p (Stamped u r) key f = inl tt
 own_state start p (Unlinked q u) key f = inr (u, ap (λ i. Unlinked i u) f)
 own_state start p Unborn key f = absurd f
 own_state start p (InHand q) key f = absurd f
-own_state start p GivenUp key f = absurd f
+own_state start p GivenUp key f = inl tt
 own_state start p Linked key f = absurd f
 own_state start p Marked key f = absurd f
 
@@ -162,7 +162,7 @@ module _ (start : Start) (passes : ℕ) (run : List Event) (is : IsStart start) 
   -- a slot is where the incarnations have it
   is_in : (s : ℕ) (place : SlotPlace) (last : Option ℕ) → a.place s ≡ place → a.last s ≡ last → FitsPlace start passes w a s place
   is_in s Shared None e l = rw l tt
-  is_in s Shared (Some c) e l = rw l (shared_retired start (a.state c) (a.key c) (rw e at (g.sound.slots.placed c s l)))
+  is_in s Shared (Some c) e l = rw l (shared_dead start (a.state c) (a.key c) (rw e at (g.sound.slots.placed c s l)))
   is_in s (Own p) None e l = (owner_low start passes run p s (Own p) ok (rw e at (g.owns p s)) (λ n. n refl), inl (rw l tt))
   is_in s (Own p) (Some c) e l = (owner_low start passes run p s (Own p) ok (rw e at (g.owns p s)) (λ n. n refl), rw l (own_state start p (a.state c) (a.key c) (rw e at (g.sound.slots.placed c s l))))
   is_in s (Hand p) last e l =

@@ -11,7 +11,7 @@ use Rattle.vbr_machine.specs.Machine.{World, opening, found, stamp_shown, after}
 use Rattle.vbr_machine.specs.Runs.{IsAccepted, AreAccepted, world_from, world_after, IsRun}
 use Rattle.vbr_machine.specs.Incarnations.{State, Incarnations}
 use Rattle.vbr_machine.specs.Images.{birth_shown, key_shown, value_shown, link_shown, IsImage}
-use Rattle.vbr_machine.specs.Chronicles.{IsStamped, IsRetired}
+use Rattle.vbr_machine.specs.Chronicles.{IsDead, IsLastDead}
 use Rattle.vbr_machine.specs.Accounts.{incarnations_after, notes_after}
 use Rattle.vbr_machine.specs.Agreement.{IsNotOf, IsStored, OwnFits, Agrees}
 use Rattle.vbr_machine.specs.Safety.{IsWordOf, IsOwnerRight, IsOver, IsLastOver, BearsAfter, IsSafe}
@@ -78,18 +78,18 @@ owner_right w a p e s (Some (InHand known)) i o =
 
 -- ---- births
 
--- a retired incarnation is over
-retired_over : (st : State) (p : ℕ) → IsStamped st → IsOver st p
-retired_over st p r = grind arith
+-- a dead incarnation is over
+dead_over : (st : State) (p : ℕ) → IsDead st → IsOver st p
+dead_over st p r = grind arith
 
 last_over : (a : Incarnations) (p e s : ℕ) (holding : Option Holding) → MayBear holding → OwnFits a p e holding (a.place s) (a.last s) (a.stamp s) → IsLastOver a p (a.last s)
 last_over a p e s None m o = absurd m
 last_over a p e s (Some (Unlinked reread)) m o = absurd m
 last_over a p e s (Some (Free stamp)) m o = go (a.last s) o.1
   where
-    go : (l : Option ℕ) → IsRetired a l → IsLastOver a p l
+    go : (l : Option ℕ) → IsLastDead a l → IsLastOver a p l
     go None r = tt
-    go (Some c) r = retired_over (a.state c) p r
+    go (Some c) r = dead_over (a.state c) p r
 last_over a p e s (Some (InHand known)) m o = let x = o.1 in rw (x.last_is, x.state) refl
 
 bears_after : (start : Start) (run : List Event) (p : ℕ) (step : Step) → Agrees start (world_after start run) (incarnations_after start run) (notes_after start run) → Accepts start ((world_after start run).know p) step → BearsAfter start run p step

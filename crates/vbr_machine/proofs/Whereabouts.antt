@@ -5,7 +5,7 @@ use Rattle.std.proofs.lemmas.Bool.{false≢true}
 use Rattle.vbr_machine.specs.Start.{Start}
 use Rattle.vbr_machine.specs.Accounts.{incarnations_after}
 use Rattle.vbr_machine.specs.Agreement.{IsNotOf, OwnFits}
-use Rattle.vbr_machine.specs.Chronicles.{IsStamped, IsRetired}
+use Rattle.vbr_machine.specs.Chronicles.{IsDead, IsLastDead}
 use Rattle.vbr_machine.specs.Incarnations.{State, Unborn, InHand, GivenUp, Linked, Marked, Unlinked, Stamped, Incarnations}
 use Rattle.vbr_machine.specs.Machine.{World, is_shared}
 use Rattle.vbr_machine.specs.Nodes.{is_linked, is_marked, state_in, state_shown}
@@ -31,25 +31,25 @@ where_is (Hand p) st = WithPass p
 where_is (Listed b) Marked = MarkedInList
 where_is (Listed b) st = InSet
 
--- a retired slot of a pass is with it
-retired_with : (p : ℕ) (st : State) → IsStamped st → where_is (Own p) st ≡ WithPass p
-retired_with p (Stamped u r) i = refl
-retired_with p Unborn i = absurd i
-retired_with p (InHand q) i = absurd i
-retired_with p GivenUp i = absurd i
-retired_with p Linked i = absurd i
-retired_with p Marked i = absurd i
-retired_with p (Unlinked q u) i = absurd i
+-- a dead slot of a pass is with it
+dead_with : (p : ℕ) (st : State) → IsDead st → where_is (Own p) st ≡ WithPass p
+dead_with p (Stamped u r) i = refl
+dead_with p Unborn i = absurd i
+dead_with p (InHand q) i = absurd i
+dead_with p GivenUp i = refl
+dead_with p Linked i = absurd i
+dead_with p Marked i = absurd i
+dead_with p (Unlinked q u) i = absurd i
 
-retired_own : (a : Incarnations) (p : ℕ) (last : Option ℕ) → IsRetired a last → where_is (Own p) (state_shown a last) ≡ WithPass p
-retired_own a p None r = refl
-retired_own a p (Some c) r = retired_with p (a.state c) r
+dead_own : (a : Incarnations) (p : ℕ) (last : Option ℕ) → IsLastDead a last → where_is (Own p) (state_shown a last) ≡ WithPass p
+dead_own a p None r = refl
+dead_own a p (Some c) r = dead_with p (a.state c) r
 
 -- a slot that a pass may give birth in is with it
 bears_with : (a : Incarnations) (p e : ℕ) (known : Option Holding) (place : SlotPlace) (last : Option ℕ) (stamp : ℕ) → OwnFits a p e known place last stamp → may_bear known ≡ true → where_is place (state_shown a last) ≡ WithPass p
 bears_with a p e None place last stamp o m = absurd (false≢true m)
 bears_with a p e (Some (holding.Unlinked reread)) place last stamp o m = absurd (false≢true m)
-bears_with a p e (Some (holding.Free n)) place last stamp o m = ap (λ l. where_is l (state_shown a last)) o.0 ∙ retired_own a p last o.1
+bears_with a p e (Some (holding.Free n)) place last stamp o m = ap (λ l. where_is l (state_shown a last)) o.0 ∙ dead_own a p last o.1
 bears_with a p e (Some (holding.InHand known)) place last stamp o m = ap (λ l. where_is l (state_shown a last)) o.0
 
 -- one that it unlinked and has not stamped is so
@@ -71,23 +71,23 @@ shared_in : (place : SlotPlace) (st : State) → is_shared place ≡ true → wh
 shared_in Shared st e = refl
 shared_in _ st e = absurd (false≢true e)
 
--- what is stamped is in no list
-stamped_unlisted : (st : State) → IsStamped st → IsListed st → ⊥
-stamped_unlisted st r l = grind arith
+-- what is dead is in no list
+dead_unlisted : (st : State) → IsDead st → IsListed st → ⊥
+dead_unlisted st r l = grind arith
 
 -- a slot whose last incarnation is linked or marked is in a list
 listed_only : (start : Start) (passes : ℕ) (w : World) (a : Incarnations) (s : ℕ) (place : SlotPlace) → FitsPlace start passes w a s place → IsListed (state_in a s) → (b : ℕ) × (place ≡ Listed b)
 listed_only start passes w a s (Listed b) f l = (b, refl)
 listed_only start passes w a s Shared f l = absurd (go (a.last s) f l)
   where
-    go : (last : Option ℕ) → IsRetired a last → IsListed (state_shown a last) → ⊥
+    go : (last : Option ℕ) → IsLastDead a last → IsListed (state_shown a last) → ⊥
     go None r l = l
-    go (Some c) r l = stamped_unlisted (a.state c) r l
+    go (Some c) r l = dead_unlisted (a.state c) r l
 listed_only start passes w a s (Own p) f l = absurd (go (a.last s) f.1 l)
   where
-    go : (last : Option ℕ) → (IsRetired a last ⊎ WasUnlinkedBy a p last) → IsListed (state_shown a last) → ⊥
+    go : (last : Option ℕ) → (IsLastDead a last ⊎ WasUnlinkedBy a p last) → IsListed (state_shown a last) → ⊥
     go None r l = l
-    go (Some c) (inl r) l = stamped_unlisted (a.state c) r l
+    go (Some c) (inl r) l = dead_unlisted (a.state c) r l
     go (Some c) (inr u) l = rw u.1 at l
 listed_only start passes w a s (Hand p) f l = absurd (go (a.last s) f.1 l)
   where
@@ -196,16 +196,16 @@ module _ (start : Start) (passes : ℕ) (run : List Event) (safe : IsSafe start 
   pub unlinked_by : (p s : ℕ) → is_at start run (Unstamped p) s ≡ true → (at : ℕ) × (state_in a s ≡ Unlinked p at)
   unlinked_by p s e = unlinked_from a p _ ((know_after start run p).own s) (w.place s) (a.last s) (a.stamp s) (knows p s) e
 
-  not_retired : (p at : ℕ) (last : Option ℕ) → state_shown a last ≡ Unlinked p at → IsRetired a last → ⊥
-  not_retired p at None u r = absurd (cc)
-  not_retired p at (Some c) u r = rw u at r
+  not_dead : (p at : ℕ) (last : Option ℕ) → state_shown a last ≡ Unlinked p at → IsLastDead a last → ⊥
+  not_dead p at None u r = absurd (cc)
+  not_dead p at (Some c) u r = rw u at r
 
   unlinked_in : (p at s : ℕ) (place : SlotPlace) (last : Option ℕ) → a.last s ≡ last → state_shown a last ≡ Unlinked p at → FitsPlace start passes w a s place → place ≡ Own p
-  unlinked_in p at s Shared last e u f = absurd (not_retired p at last u (rw e at f))
+  unlinked_in p at s Shared last e u f = absurd (not_dead p at last u (rw e at f))
   unlinked_in p at s (Own q) last e u f = go last u (rw e at f.1)
     where
-      go : (l : Option ℕ) → state_shown a l ≡ Unlinked p at → (IsRetired a l ⊎ WasUnlinkedBy a q l) → Own q ≡ Own p
-      go l u (inl r) = absurd (not_retired p at l u r)
+      go : (l : Option ℕ) → state_shown a l ≡ Unlinked p at → (IsLastDead a l ⊎ WasUnlinkedBy a q l) → Own q ≡ Own p
+      go l u (inl r) = absurd (not_dead p at l u r)
       go None u (inr x) = absurd x
       go (Some c) u (inr x) = let same : Unlinked q x.0 ≡ Unlinked p at = sym x.1 ∙ u in cc
   unlinked_in p at s (Hand q) last e u f = absurd (go last u (rw e at f.1))

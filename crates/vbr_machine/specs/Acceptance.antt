@@ -59,7 +59,7 @@ IsInShape start (ConfirmAbsent op key at expected) = IsAtIn start at × IsOpIn s
 
 -- ---- what the pass owns
 
--- a slot that is free to be raised
+-- a slot that is free
 abbrev pub IsFree : Option Holding → Type 0
 IsFree (Some (Free stamp)) = Unit {0}
 IsFree _ = ⊥
@@ -69,7 +69,7 @@ abbrev pub IsUnlinked : Option Holding → Type 0
 IsUnlinked (Some (Unlinked reread)) = Unit {0}
 IsUnlinked _ = ⊥
 
--- a slot that may be born in: free, or in hand, whose incarnation is then given up
+-- a slot that may be born in or raised: free, or in hand, whose incarnation is then given up
 abbrev pub MayBear : Option Holding → Type 0
 MayBear (Some (Free stamp)) = Unit {0}
 MayBear (Some (InHand known)) = Unit {0}
@@ -84,7 +84,7 @@ IsInHand _ = ⊥
 abbrev pub IsOwned : Know → Step → Type 0
 IsOwned know (LoadStamp s) = IsSome (know.own s)
 IsOwned know (StoreStamp s stamp) = IsUnlinked (know.own s)
-IsOwned know (Raise s) = IsFree (know.own s)
+IsOwned know (Raise s) = MayBear (know.own s)
 IsOwned know (StoreBirth s birth) = MayBear (know.own s)
 IsOwned know (StoreKey s key) = IsInHand (know.own s)
 IsOwned know (StoreValue s value) = IsInHand (know.own s)

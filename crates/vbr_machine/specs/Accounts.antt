@@ -20,10 +20,10 @@ use Rattle.vbr_machine.specs.declared.knowledge.Holding.TheVariants.{InHand}
 abbrev pub just : ℕ → Happening → List Entry
 just pass what = record { pass = pass; what = what } ∷ []
 
--- a birth in a slot that is in hand gives up the incarnation there first
-abbrev pub born_in : Incarnations → ℕ → ℕ → ℕ → Option Holding → List Entry
-born_in a pass s birth (Some (InHand known)) = just pass (GivesUp (last_in a s)) ++ just pass (Bears s birth)
-born_in a pass s birth _ = just pass (Bears s birth)
+-- a birth in a slot that is in hand, or a raise of it, gives up the incarnation there first
+abbrev pub after_giving_up : Incarnations → ℕ → ℕ → Happening → Option Holding → List Entry
+after_giving_up a pass s what (Some (InHand known)) = just pass (GivesUp (last_in a s)) ++ just pass what
+after_giving_up a pass s what _ = just pass what
 
 -- an answer, if a call is made
 abbrev pub entry_of_call : ℕ → Option Call → List Entry
@@ -34,9 +34,9 @@ entry_of_call pass (Some call) = just pass (Confirms call)
 abbrev pub happens_if_found : Start → World → Incarnations → ℕ → Step → List Entry
 happens_if_found start w a pass (Advance from) = just pass Advances
 happens_if_found start w a pass (StoreStamp s stamp) = just pass (Stamps (last_in a s) stamp)
-happens_if_found start w a pass (Raise s) = just pass (Raises s)
+happens_if_found start w a pass (Raise s) = after_giving_up a pass s (Raises s) ((w.know pass).own s)
 happens_if_found start w a pass (TakeFlag s) = just pass (Gains s)
-happens_if_found start w a pass (StoreBirth s birth) = born_in a pass s birth ((w.know pass).own s)
+happens_if_found start w a pass (StoreBirth s birth) = after_giving_up a pass s (Bears s birth) ((w.know pass).own s)
 happens_if_found start w a pass (StoreKey s key) = just pass (Keyed (last_in a s) key)
 happens_if_found start w a pass (StoreValue s value) = just pass (Valued (last_in a s) value)
 happens_if_found start w a pass (StoreLink s next) = just pass (Aims (last_in a s) (link_written (w.know pass) (StoreLink s next)))

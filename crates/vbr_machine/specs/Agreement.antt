@@ -11,7 +11,7 @@ use Rattle.vbr_machine.specs.Machine.{World}
 use Rattle.vbr_machine.specs.Incarnations.{Incarnations, IsLate}
 use Rattle.vbr_machine.specs.Incarnations as state
 use Rattle.vbr_machine.specs.Images.{IsImage}
-use Rattle.vbr_machine.specs.Chronicles.{IsRetired}
+use Rattle.vbr_machine.specs.Chronicles.{IsLastDead}
 use Rattle.vbr_machine.specs.Sound.{IsRemoved, Sound, Tells}
 use Rattle.vbr_machine.specs.Notes.{Note, Notes}
 use Rattle.vbr_machine.specs.declared.knowledge.Read.{Read}
@@ -139,7 +139,7 @@ pub record IsInHandOf (a : Incarnations) (pass epoch : ℕ) (known : Unpublished
 -- what a pass knows of a slot that has this place, last incarnation and stamp
 abbrev pub OwnFits : Incarnations → ℕ → ℕ → Option Holding → SlotPlace → Option ℕ → ℕ → Type 0
 OwnFits a pass epoch None place last stamp = IsNotOf pass place
-OwnFits a pass epoch (Some (Free known)) place last stamp = (place ≡ Own pass) × IsRetired a last × (stamp ≡ known)
+OwnFits a pass epoch (Some (Free known)) place last stamp = (place ≡ Own pass) × IsLastDead a last × (stamp ≡ known)
 OwnFits a pass epoch (Some (Unlinked reread)) place last stamp = (place ≡ Own pass) × IsUnlinkedBy a pass epoch reread last
 OwnFits a pass epoch (Some (InHand known)) place last stamp = (place ≡ Hand pass) × IsInHandOf a pass epoch known last × (stamp ≡ known.stamp)
 

@@ -45,24 +45,25 @@ pub record Entry : Type 0 where
 
 -- ---- where an event is allowed
 
--- stamped
-abbrev pub IsStamped : State → Type 0
-IsStamped (Stamped at stamp) = Unit {0}
-IsStamped _ = ⊥
+-- dead: stamped, or given up
+abbrev pub IsDead : State → Type 0
+IsDead (Stamped at stamp) = Unit {0}
+IsDead GivenUp = Unit {0}
+IsDead _ = ⊥
 
--- nothing was born in the slot yet, or its last incarnation is stamped
-abbrev pub IsRetired : Incarnations → Option ℕ → Type 0
-IsRetired a None = Unit {0}
-IsRetired a (Some c) = IsStamped (a.state c)
+-- nothing was born in the slot yet, or its last incarnation is dead
+abbrev pub IsLastDead : Incarnations → Option ℕ → Type 0
+IsLastDead a None = Unit {0}
+IsLastDead a (Some c) = IsDead (a.state c)
 
 -- the last incarnation of the slot was given up
 abbrev pub IsGivenUp : Incarnations → Option ℕ → Type 0
 IsGivenUp a None = ⊥
 IsGivenUp a (Some c) = a.state c ≡ GivenUp
 
--- a slot at this place may be born in: it is the pass's own and retired, or in its hand and just given up
+-- a slot at this place may be born in or raised: it is the pass's own and dead, or in its hand and just given up
 abbrev pub MayBeBornIn : Incarnations → ℕ → ℕ → SlotPlace → Type 0
-MayBeBornIn a pass s (Own p) = (p ≡ pass) × IsRetired a (a.last s)
+MayBeBornIn a pass s (Own p) = (p ≡ pass) × IsLastDead a (a.last s)
 MayBeBornIn a pass s (Hand p) = (p ≡ pass) × IsGivenUp a (a.last s)
 MayBeBornIn a pass s _ = ⊥
 
@@ -123,7 +124,7 @@ abbrev pub Allowed : Start → Keys → Incarnations → ℕ → Happening → T
 Allowed start keys a pass Advances = a.epoch < start.shape.last_epoch
 Allowed start keys a pass (Gains s) = a.place s ≡ Shared
 Allowed start keys a pass (Probes s) = a.place s ≢ Shared
-Allowed start keys a pass (Raises s) = (a.place s ≡ Own pass) × IsRetired a (a.last s)
+Allowed start keys a pass (Raises s) = MayBeBornIn a pass s (a.place s)
 Allowed start keys a pass (GivesUp c) = a.state c ≡ InHand pass
 Allowed start keys a pass (Bears s birth) = MayBeBornIn a pass s (a.place s) × (a.stamp s < birth) × (birth ≤ a.epoch)
 Allowed start keys a pass (Keyed c key) = a.state c ≡ InHand pass

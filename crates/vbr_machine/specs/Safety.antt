@@ -64,9 +64,10 @@ IsRightAfter start run event =
     ExchangesLink event.step → effect_of event.step (found start (world_after start run) event.step) ≡ Won →
     IsRightExchange start (world_after start run) (incarnations_after start run) (notes_after start run event.pass) event.pass event.step
 
--- an incarnation is over for a pass that would bear another in its slot: it is stamped, or in hand of that pass, which gives it up
+-- an incarnation is over for a pass that would bear another in its slot: it is stamped, given up, or in hand of that pass, which gives it up
 abbrev pub IsOver : State → ℕ → Type 0
 IsOver (state.Stamped at stamp) pass = Unit {0}
+IsOver state.GivenUp pass = Unit {0}
 IsOver (state.InHand by) pass = by ≡ pass
 IsOver _ pass = ⊥
 
@@ -82,7 +83,7 @@ BearsAfter start run pass _ = Unit {0}
 
 -- ---- the theorem
 
--- what a pass knows of a slot fits the slot's place, stamp and last incarnation: free is stamped or never born in, unlinked is unlinked by this pass, in hand is in its hand
+-- what a pass knows of a slot fits the slot's place, stamp and last incarnation: free is stamped, given up or never born in, unlinked is unlinked by this pass, in hand is in its hand
 abbrev pub KnowsLast : Incarnations → ℕ → Know → ℕ → Type 0
 KnowsLast a pass know s = OwnFits a pass know.epoch (know.own s) (a.place s) (a.last s) (a.stamp s)
 

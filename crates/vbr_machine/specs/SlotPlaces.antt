@@ -5,7 +5,7 @@ use Rattle.vbr_words.specs.Buckets.{bucket_of}
 use Rattle.vbr_machine.specs.Machine.{World}
 use Rattle.vbr_machine.specs.Incarnations.{Incarnations}
 use Rattle.vbr_machine.specs.Incarnations as state
-use Rattle.vbr_machine.specs.Chronicles.{IsRetired}
+use Rattle.vbr_machine.specs.Chronicles.{IsLastDead}
 use Rattle.vbr_machine.specs.Sound.{IsListed}
 use Rattle.vbr_machine.specs.declared.knowledge.SlotPlace.{SlotPlace}
 use Rattle.vbr_machine.specs.declared.knowledge.SlotPlace.TheVariants.{Shared, Own, Hand, Listed}
@@ -34,10 +34,10 @@ pub data IsReachedFrom (w : World) (bucket : ℕ) : ℕ → Type 0 where
   at_once : (s : ℕ) → (w.head bucket).slot ≡ Some s → IsReachedFrom w bucket s
   onward : (s : ℕ) → (t : ℕ) → IsReachedFrom w bucket s → (w.link s).slot ≡ Some t → IsReachedFrom w bucket t
 
--- what a place asks of a slot. In the shared pool: nothing was born in it, or its last incarnation is stamped. Own, of one of so many passes: the same, or that pass unlinked its last incarnation. In hand, of one of them: so is its last incarnation. Listed, in one of the buckets: its last incarnation is linked or marked there, and the slot is reached from that bucket's head
+-- what a place asks of a slot. In the shared pool: nothing was born in it, or its last incarnation is stamped or given up. Own, of one of so many passes: the same, or that pass unlinked its last incarnation. In hand, of one of them: so is its last incarnation. Listed, in one of the buckets: its last incarnation is linked or marked there, and the slot is reached from that bucket's head
 abbrev pub FitsPlace : Start → ℕ → World → Incarnations → ℕ → SlotPlace → Type 0
-FitsPlace start passes w a s Shared = IsRetired a (a.last s)
-FitsPlace start passes w a s (Own pass) = (pass < passes) × (IsRetired a (a.last s) ⊎ WasUnlinkedBy a pass (a.last s))
+FitsPlace start passes w a s Shared = IsLastDead a (a.last s)
+FitsPlace start passes w a s (Own pass) = (pass < passes) × (IsLastDead a (a.last s) ⊎ WasUnlinkedBy a pass (a.last s))
 FitsPlace start passes w a s (Hand pass) = (pass < passes) × LiesInHand a pass (a.last s)
 FitsPlace start passes w a s (Listed bucket) = (bucket < start.shape.buckets) × IsOfList start a bucket (a.last s) × IsReachedFrom w bucket s
 

@@ -62,7 +62,9 @@ LinkFits _ link stamp = Unit {0}
 -- the place of a slot fits its last incarnation, which is in this state and has this key
 abbrev pub PlaceFits : Start → SlotPlace → State → ℕ → Type 0
 PlaceFits start Shared (Stamped at stamp) key = Unit {0}
+PlaceFits start Shared GivenUp key = Unit {0}
 PlaceFits start (Own pass) (Stamped at stamp) key = Unit {0}
+PlaceFits start (Own pass) GivenUp key = Unit {0}
 PlaceFits start (Own pass) (Unlinked by at) key = by ≡ pass
 PlaceFits start (Hand pass) (InHand by) key = by ≡ pass
 PlaceFits start (Hand pass) GivenUp key = Unit {0}

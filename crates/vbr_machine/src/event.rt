@@ -32,7 +32,8 @@ pub enum Step {
         slot: u32,
         stamp: u64,
     },
-    /// Puts a free slot that the pass owns into the shared pool.
+    /// Puts a slot that the pass owns, free or in hand, into the shared pool. An incarnation that is
+    /// in hand is given up.
     Raise {
         slot: u32,
     },

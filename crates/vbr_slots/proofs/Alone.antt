@@ -180,8 +180,8 @@ raise_leaves_lists {p} {q} {s} is d alone =
     let ok = run_was d alone in
     next_leaves d alone
     (ap (λ (a : Incarnations). a.epoch) (nodes_next d alone) ∙ raise_epoch p.start p.passes p.seen is ok p.who s)
-    (λ at. raise_links p.start p.passes p.seen is ok p.who s at)
-    (λ bucket at. raise_leaves p.start p.passes p.seen is ok p.who s bucket at)
+    (λ at. raise_links p.start p.passes p.seen is ok p.who s at (accepted_now d alone))
+    (λ bucket at. raise_leaves p.start p.passes p.seen is ok p.who s bucket at (accepted_now d alone))
 
 -- ---- filling a slot in hand
 

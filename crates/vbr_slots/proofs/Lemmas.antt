@@ -10,7 +10,5 @@ pub use Rattle.vbr_slots.proofs.Calls.{quiet_on, quiet_refl, same_on, same_refl,
 pub use Rattle.vbr_slots.proofs.Alone.{accepted_now, alone_first, alone_then, alone_three, alone_two, before_it, epoch_now, found_now, fresh_read}
 pub use Rattle.vbr_slots.proofs.Alone.{key_stored_leaves, leaves_on, link_now, link_stored_leaves, looks, nodes_next, quiet_adds_none, value_stored_leaves}
 pub use Rattle.vbr_slots.proofs.Alone.{raise_leaves_lists, run_was, same_leaves, seen_next, stamp_leaves_lists, stands_found}
--- The slots of an own pool that were given back in hand.
-pub use Rattle.vbr_slots.proofs.GivenBack.{back_left, back_raised}
 -- A list that was written back through a slice of it.
 pub use Rattle.vbr_slots.proofs.Openings.{whole}

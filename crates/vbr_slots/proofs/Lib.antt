@@ -16,7 +16,6 @@ mod Snapshots
 mod Halting
 mod Pools
 mod Passes
-mod GivenBack
 mod Running
 mod Calls
 mod Counting

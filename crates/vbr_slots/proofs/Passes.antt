@@ -1,11 +1,11 @@
 -- What a step says of the slots that its pass owns.
-use Rattle.std.proofs.Common.{◌≡◌, ℕ, ◌<◌, ◌==◌, Bool, true, false, cond, List, [], ◌∷◌, ◌++◌, Option, Some, None, refl, sym, ap, ◌∙◌, subst, inl, inr, eq-eqb}
+use Rattle.std.proofs.Common.{◌≡◌, ◌≢◌, ℕ, ◌<◌, ◌==◌, Bool, true, false, cond, List, [], ◌∷◌, ◌++◌, Option, Some, None, refl, sym, ap, ◌∙◌, subst, inl, inr, eq-eqb}
 use Rattle.std.specs.Prelude.{Contains, ◌⊎◌}
 use Rattle.std.proofs.lemmas.Bool.{cases_Bool, eqb-true}
 use Rattle.vbr_machine.specs.Start.{Start, IsStart}
 use Rattle.vbr_words.specs.Flags.{has_flag}
 use Rattle.vbr_words.specs.declared.place.At.{At}
-use Rattle.vbr_machine.specs.Acceptance.{Accepts, MayBear, IsInHand, IsFree, stamp_in}
+use Rattle.vbr_machine.specs.Acceptance.{Accepts, MayBear, IsInHand, stamp_in}
 use Rattle.vbr_machine.specs.Accounts.{incarnations_after, notes_after}
 use Rattle.vbr_machine.specs.Agreement.{Agrees}
 use Rattle.vbr_machine.specs.Knowledge.{Know}
@@ -79,17 +79,10 @@ unlinked_new p q pred expected s r is ok d same =
 
 -- ---- the pool and the hand after a step
 
--- a free slot that is raised, and stands in no pool, changes nothing there
-pub pool_raised : (p q : Trace) (s r : ℕ) (pool : List ℕ) (hand : Option ℕ) → Did (Raise s) p q r → IsFree ((knows p).own s) → ¬ (Contains pool s) → OwnPool p.start (knows p) pool hand → OwnPool q.start (knows q) pool hand
-pool_raised p q s r pool hand d free out o =
-    pool_after p q (Raise s) r d pool hand
-    (changes p.start (knows p) _ s None pool hand refl (λ c. absurd (out c)) (λ is. not_both ((knows p).own s) free (held_in_hand p.start (knows p) s pool hand o is)) o)
-  where
-    not_both : (holding : Option Holding) → IsFree holding → IsInHand holding → ⊥
-    not_both (Some (Free stamp)) a b = b
-    not_both (Some (Unlinked reread)) a b = a
-    not_both (Some (InHand known)) a b = a
-    not_both None a b = a
+-- a slot that is raised, and stands neither in a pool nor in a hand, changes nothing there
+pub pool_raised : (p q : Trace) (s r : ℕ) (pool : List ℕ) (hand : Option ℕ) → Did (Raise s) p q r → ¬ (Contains pool s) → hand ≢ Some s → OwnPool p.start (knows p) pool hand → OwnPool q.start (knows q) pool hand
+pool_raised p q s r pool hand d out apart o =
+    pool_after p q (Raise s) r d pool hand (changes p.start (knows p) _ s None pool hand refl (λ c. absurd (out c)) (λ is. absurd (apart is)) o)
 
 pub pool_taken : (p q : Trace) (s r : ℕ) (pool : List ℕ) (hand : Option ℕ) → IsStart p.start → Did (TakeFlag s) p q r → OwnPool p.start (knows p) pool hand → OwnPool q.start (knows q) pool hand
 pool_taken p q s r pool hand is d o = pool_after p q (TakeFlag s) r d pool hand (go (has_flag r s) refl)

@@ -67,11 +67,50 @@ changes start know know' slot holding pool hand is may in_hand o = record {
   in_hand = hand_changed start know know' slot holding pool hand is in_hand o.in_hand;
 }
 
+-- ---- what a pool says of its slots
+
+pub pooled_may : (start : Start) (know : Know) (slot : ℕ) (pool : List ℕ) (hand : Option ℕ) → OwnPool start know pool hand → Contains pool slot → MayBear (know.own slot)
+pooled_may start know slot pool hand o c = (All-contains (IsPooled start know) pool slot o.pooled c).1
+
+pub held_in_hand : (start : Start) (know : Know) (slot : ℕ) (pool : List ℕ) (hand : Option ℕ) → OwnPool start know pool hand → hand ≡ Some slot → IsInHand (know.own slot)
+held_in_hand start know slot pool hand o is = (subst (HandFits start know pool) is o.in_hand).1
+
 -- ---- the hand
 
 -- a slot comes into the hand
 pub takes_in_hand : (start : Start) (know : Know) (slot : ℕ) (pool : List ℕ) (hand : Option ℕ) → slot < start.shape.slots → IsInHand (know.own slot) → ¬ (Contains pool slot) → OwnPool start know pool hand → OwnPool start know pool (Some slot)
 takes_in_hand start know slot pool hand low in_hand not o = record { pooled = o.pooled; apart = o.apart; in_hand = (low, in_hand, not) }
+
+-- a slot that was let go isn't in hand, and the hand fits still
+pub let_gone : (slot : ℕ) (hand : Option ℕ) → hand_without slot hand ≢ Some slot
+let_gone slot None is = absurd (cc)
+let_gone slot (Some s) is = go (s == slot) refl is
+  where
+    go : (b : Bool) → (s == slot) ≡ b → cond b None (Some s) ≡ Some slot → ⊥
+    go true e is = absurd (cc)
+    go false e is = let same : (s == slot) ≡ true = eq-eqb s slot (let t : s ≡ slot = cc in t) in absurd (cc)
+
+hand_let_go : (start : Start) (know : Know) (slot : ℕ) (pool : List ℕ) (hand : Option ℕ) → HandFits start know pool hand → HandFits start know pool (hand_without slot hand)
+hand_let_go start know slot pool None h = tt
+hand_let_go start know slot pool (Some s) h = go (s == slot)
+  where
+    go : (b : Bool) → HandFits start know pool (cond b None (Some s))
+    go true = tt
+    go false = h
+
+-- a slot leaves the hand, if it is there
+pub lets_go : (start : Start) (know : Know) (slot : ℕ) (pool : List ℕ) (hand : Option ℕ) → OwnPool start know pool hand → OwnPool start know pool (hand_without slot hand)
+lets_go start know slot pool hand o = record { pooled = o.pooled; apart = o.apart; in_hand = hand_let_go start know slot pool hand o.in_hand }
+
+-- a free slot isn't in hand
+pub free_apart : (start : Start) (know : Know) (slot : ℕ) (pool : List ℕ) (hand : Option ℕ) → OwnPool start know pool hand → IsFree (know.own slot) → hand ≢ Some slot
+free_apart start know slot pool hand o free is = not_both (know.own slot) free (held_in_hand start know slot pool hand o is)
+  where
+    not_both : (holding : Option Holding) → IsFree holding → IsInHand holding → ⊥
+    not_both None a b = a
+    not_both (Some (Free stamp)) a b = b
+    not_both (Some (Unlinked reread)) a b = a
+    not_both (Some (InHand known)) a b = a
 
 hand_joined : (start : Start) (know : Know) (slot : ℕ) (pool : List ℕ) (hand : Option ℕ) → HandFits start know pool hand → HandFits start know (pool ++ slot ∷ []) (hand_without slot hand)
 hand_joined start know slot pool None h = tt
@@ -89,13 +128,7 @@ joins start know slot pool hand low may not o = record {
   in_hand = hand_joined start know slot pool hand o.in_hand;
 }
 
--- ---- what a pool says of its slots
-
-pub pooled_may : (start : Start) (know : Know) (slot : ℕ) (pool : List ℕ) (hand : Option ℕ) → OwnPool start know pool hand → Contains pool slot → MayBear (know.own slot)
-pooled_may start know slot pool hand o c = (All-contains (IsPooled start know) pool slot o.pooled c).1
-
-pub held_in_hand : (start : Start) (know : Know) (slot : ℕ) (pool : List ℕ) (hand : Option ℕ) → OwnPool start know pool hand → hand ≡ Some slot → IsInHand (know.own slot)
-held_in_hand start know slot pool hand o is = (subst (HandFits start know pool) is o.in_hand).1
+-- ---- slots that are kept
 
 -- a free slot may be born in, and so may one in hand
 pub free_may : (holding : Option Holding) → IsFree holding → MayBear holding

@@ -1,5 +1,5 @@
 -- A step that leaves the own pool and the hand of its pass leaves the stepper well that made it.
-use Rattle.std.proofs.Common.{◌≡◌, ℕ, ◌<◌, ◌==◌, Bool, true, false, List, ◌++◌, get_or, Option, Some, None, cond, refl, sym, ◌∙◌, subst}
+use Rattle.std.proofs.Common.{◌≡◌, ℕ, ◌<◌, ◌==◌, Bool, true, false, List, get_or, Option, Some, None, cond, refl, sym, subst}
 use mathlib.Core.Logic.{dite}
 use native.Mathlib.Decide.{ℕ_discrete}
 use Rattle.vbr_words.specs.declared.link.Link.{Link}
@@ -9,9 +9,8 @@ use Rattle.vbr_machine.specs.Start.{Start, IsStart}
 use Rattle.vbr_machine.specs.Acceptance.{MayBear, IsInHand}
 use Rattle.vbr_machine.specs.Knowledge.{Know}
 use Rattle.vbr_machine.specs.Learning.{learn, reread, with_key, with_value, with_link}
-use Rattle.vbr_machine.specs.Machine.{Load, access_of, stamp_shown}
+use Rattle.vbr_machine.specs.Machine.{Load, access_of}
 use Rattle.vbr_machine.specs.Put.{put}
-use Rattle.vbr_machine.specs.Runs.{world_after}
 use Rattle.vbr_machine.specs.declared.event.Step.{Step}
 use Rattle.vbr_machine.specs.declared.event.Step.TheVariants.{ReadEpoch, StoreStamp, Raise, TakeFlag, StoreBirth, StoreKey, StoreValue, StoreLink, Publish, Mark, Replace, Unlink}
 use Rattle.vbr_machine.specs.declared.knowledge.Holding.{Holding}
@@ -19,11 +18,10 @@ use Rattle.vbr_machine.specs.declared.knowledge.Holding.TheVariants.{Unlinked, I
 use Rattle.vbr_machine.proofs.Lemmas.{put_here, put_other}
 use Rattle.vbr_slots.specs.declared.stepper.Stepper.TheInside.{Inside}
 use Rattle.vbr_slots.specs.LookUps.{look_up}
-use Rattle.vbr_slots.specs.Pools.{OwnPool, HandFits, given_back, was_in_hand}
+use Rattle.vbr_slots.specs.Pools.{OwnPool, HandFits}
 use Rattle.vbr_slots.specs.StepperView.{IsWell}
 use Rattle.vbr_slots.specs.Tried.{last_tried, tried_by}
 use Rattle.vbr_slots.specs.Views.{Trace, Did, knows}
-use Rattle.vbr_slots.proofs.GivenBack.{back_after, unchanged}
 use Rattle.vbr_slots.proofs.Passes.{pool_after}
 use Rattle.vbr_slots.proofs.Tried.{keeps_tried}
 
@@ -42,7 +40,6 @@ LeavesPools _ = Unit {0}
 record StaysOwn (was is : Option Holding) : Type 0 where
   may : MayBear was → MayBear is
   in_hand : IsInHand was → IsInHand is
-  same : was_in_hand is ≡ was_in_hand was
 
 -- each slot stays so
 abbrev AllStayOwn : (ℕ → Option Holding) → (ℕ → Option Holding) → Type 0
@@ -51,33 +48,33 @@ AllStayOwn was is = (s : ℕ) → StaysOwn (was s) (is s)
 -- ---- what the pass owns
 
 all_stay : (own : ℕ → Option Holding) → AllStayOwn own own
-all_stay own s = record { may = λ x. x; in_hand = λ x. x; same = refl }
+all_stay own s = record { may = λ x. x; in_hand = λ x. x }
 
 either_own : (b : Bool) (own : ℕ → Option Holding) (k l : Know) → AllStayOwn own k.own → AllStayOwn own l.own → AllStayOwn own (cond b k l).own
 either_own true own k l a b = a
 either_own false own k l a b = b
 
 reread_own : (holding : Option Holding) → StaysOwn holding (reread holding)
-reread_own (Some (Unlinked seen)) = record { may = λ x. x; in_hand = λ x. x; same = refl }
-reread_own _ = record { may = λ x. x; in_hand = λ x. x; same = refl }
+reread_own (Some (Unlinked seen)) = record { may = λ x. x; in_hand = λ x. x }
+reread_own _ = record { may = λ x. x; in_hand = λ x. x }
 
 key_own : (holding : Option Holding) (key : ℕ) → StaysOwn holding (with_key holding key)
-key_own (Some (InHand known)) key = record { may = λ x. x; in_hand = λ x. x; same = refl }
-key_own _ key = record { may = λ x. x; in_hand = λ x. x; same = refl }
+key_own (Some (InHand known)) key = record { may = λ x. x; in_hand = λ x. x }
+key_own _ key = record { may = λ x. x; in_hand = λ x. x }
 
 value_own : (holding : Option Holding) (value : ℕ) → StaysOwn holding (with_value holding value)
-value_own (Some (InHand known)) value = record { may = λ x. x; in_hand = λ x. x; same = refl }
-value_own _ value = record { may = λ x. x; in_hand = λ x. x; same = refl }
+value_own (Some (InHand known)) value = record { may = λ x. x; in_hand = λ x. x }
+value_own _ value = record { may = λ x. x; in_hand = λ x. x }
 
 link_own : (holding : Option Holding) (link : Link) → StaysOwn holding (with_link holding link)
-link_own (Some (InHand known)) link = record { may = λ x. x; in_hand = λ x. x; same = refl }
-link_own _ link = record { may = λ x. x; in_hand = λ x. x; same = refl }
+link_own (Some (InHand known)) link = record { may = λ x. x; in_hand = λ x. x }
+link_own _ link = record { may = λ x. x; in_hand = λ x. x }
 
 put_own : (own : ℕ → Option Holding) (t : ℕ) (holding : Option Holding) → StaysOwn (own t) holding → AllStayOwn own (put own t holding)
 put_own own t holding stays s =
     dite (ℕ_discrete s t)
     (λ same. subst (λ (x : ℕ). StaysOwn (own x) (put own t holding x)) (sym same) (subst (StaysOwn (own t)) (sym (put_here own t holding)) stays))
-    (λ other. subst (StaysOwn (own s)) (sym (put_other own t holding s other)) (record { may = λ x. x; in_hand = λ x. x; same = refl }))
+    (λ other. subst (StaysOwn (own s)) (sym (put_other own t holding s other)) (record { may = λ x. x; in_hand = λ x. x }))
 
 owns_still : (step : Step) (r stamp : ℕ) (know : Know) → LeavesPools step → AllStayOwn know.own (learn step r stamp know).own
 owns_still ReadEpoch r stamp know leaves = either_own (r == know.epoch) know.own _ _ (λ s. reread_own (know.own s)) (λ s. reread_own (know.own s))
@@ -112,11 +109,10 @@ tries_none (TakeFlag s) before leaves = absurd leaves
 tries_none _ before leaves = refl
 
 -- a stepper is well after a step that tries to take no slot, where its pool and its hand are as the pass then knows its slots
-pub well_after : {step : Step} {q : Trace} {r : ℕ} (p : Inside) (hand : Option ℕ) → Did step p.runner q r → tried_by step (last_tried p.runner) ≡ last_tried p.runner → OwnPool q.start (knows q) p.pool.items hand → given_back (knows q) p.pool.items ≡ given_back (knows p.runner) p.pool.items → IsWell p → IsWell (record p { runner = q; hand = hand })
-well_after {step} {q} p hand d tries pool back well = record {
+pub well_after : {step : Step} {q : Trace} {r : ℕ} (p : Inside) (hand : Option ℕ) → Did step p.runner q r → tried_by step (last_tried p.runner) ≡ last_tried p.runner → OwnPool q.start (knows q) p.pool.items hand → IsWell p → IsWell (record p { runner = q; hand = hand })
+well_after {step} {q} p hand d tries pool well = record {
   start = subst IsStart (sym d.same.1) well.start;
   pool = pool;
-  given_back = well.given_back ∙ sym back;
   tried = keeps_tried d tries well.tried;
   low = subst (λ (start : Start). p.tried < start.shape.slots) (sym d.same.1) well.low;
 }
@@ -124,10 +120,7 @@ well_after {step} {q} p hand d tries pool back well = record {
 -- and after a step of a kind that leaves them
 pub stays_well : {step : Step} {q : Trace} {r : ℕ} (p : Inside) → Did step p.runner q r → LeavesPools step → IsWell p → IsWell (record p { runner = q })
 stays_well {step} {q} {r} p d leaves well =
-    well_after p p.hand d (tries_none step _ leaves)
-    (pool_after p.runner q step r d p.pool.items p.hand (pool_still p.runner.start (knows p.runner) _ p.pool.items p.hand (owns_still step r _ (knows p.runner) leaves) well.pool))
-    (back_after p.runner q step r d p.pool.items (unchanged (knows p.runner) (learn step r (stamp_shown (world_after p.runner.start (p.runner.seen ++ d.rest)) step) (knows p.runner)) p.pool.items (λ s. (owns_still step r _ (knows p.runner) leaves s).same)))
-    well
+    well_after p p.hand d (tries_none step _ leaves) (pool_after p.runner q step r d p.pool.items p.hand (pool_still p.runner.start (knows p.runner) _ p.pool.items p.hand (owns_still step r _ (knows p.runner) leaves) well.pool)) well
 
 -- a load is a step of such a kind
 pub load_leaves : (know : Know) (step : Step) → access_of know step ≡ Load → LeavesPools step

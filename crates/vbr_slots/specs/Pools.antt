@@ -1,10 +1,8 @@
 -- The own pool of a pass, and the slot in its hand.
-use Rattle.std.specs.Prelude.{◌≡◌, ◌≢◌, ℕ, ◌<◌, ◌==◌, not, Bool, true, false, List, [], ◌∷◌, ◌++◌, All, AllPairs, Contains, filter, Option, Some, None, if◌then◌else◌}
+use Rattle.std.specs.Prelude.{◌≡◌, ◌≢◌, ℕ, ◌<◌, ◌==◌, not, List, All, AllPairs, Contains, filter, Option, Some, None, if◌then◌else◌}
 use Rattle.vbr_machine.specs.Start.{Start}
 use Rattle.vbr_machine.specs.Acceptance.{MayBear, IsInHand}
 use Rattle.vbr_machine.specs.Knowledge.{Know}
-use Rattle.vbr_machine.specs.declared.knowledge.Holding.{Holding}
-use Rattle.vbr_machine.specs.declared.knowledge.Holding.TheVariants.{InHand}
 
 -- the slots of an own pool, the oldest first
 pub record PoolView : Type 0 where
@@ -38,17 +36,3 @@ HasRoomFor (Some s) slot = s ≡ slot
 abbrev pub hand_without : ℕ → Option ℕ → Option ℕ
 hand_without slot None = None
 hand_without slot (Some s) = if s == slot then None else Some s
-
--- whether a slot of a pool was in hand and given back: the pass knows it as in hand until it is born in anew
-abbrev pub was_in_hand : Option Holding → Bool
-was_in_hand (Some (InHand known)) = true
-was_in_hand _ = false
-
--- the slots of a pool that were given back
-abbrev pub given_back : Know → List ℕ → List ℕ
-given_back know pool = filter (λ s. was_in_hand (know.own s)) pool
-
--- those that were given back once a slot was put into the pool, which was given back if it was in this hand
-abbrev pub given_back_with : ℕ → Option ℕ → List ℕ → List ℕ
-given_back_with slot None slots = slots
-given_back_with slot (Some s) slots = if s == slot then slots ++ slot ∷ [] else slots

@@ -2,7 +2,7 @@
 use Rattle.std.specs.Prelude.{◌≡◌, ◌<◌}
 use Rattle.vbr_machine.specs.Start.{IsStart}
 use Rattle.vbr_slots.specs.declared.stepper.Stepper.TheInside.{Inside}
-use Rattle.vbr_slots.specs.Pools.{OwnPool, given_back}
+use Rattle.vbr_slots.specs.Pools.{OwnPool}
 use Rattle.vbr_slots.specs.Tried.{last_tried}
 use Rattle.vbr_slots.specs.Views.{PassView, knows}
 
@@ -10,10 +10,9 @@ use Rattle.vbr_slots.specs.Views.{PassView, knows}
 abbrev pub view_of : Inside → PassView
 view_of p = record { trace = p.runner; pool = p.pool.items; hand = p.hand }
 
--- its start is one, its pool and its hand are as it knows its slots, it remembers those that were given back, and it keeps the slot that it tried last, which is one of the shape
+-- its start is one, its pool and its hand are as it knows its slots, and it keeps the slot that it tried last, which is one of the shape
 pub record IsWell (p : Inside) : Type 0 where
   pub start : IsStart p.runner.start
   pub pool : OwnPool p.runner.start (knows p.runner) p.pool.items p.hand
-  pub given_back : p.given_back.items ≡ given_back (knows p.runner) p.pool.items
   pub tried : p.tried ≡ last_tried p.runner
   pub low : p.tried < p.runner.start.shape.slots

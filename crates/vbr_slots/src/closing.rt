@@ -45,7 +45,6 @@ impl<N: Nodes> Slots<N> {
             let Stepper {
                 runner,
                 pool: _,
-                given_back: _,
                 hand: _,
                 tried: _,
             } = stepper;

@@ -14,7 +14,6 @@ use crate::rule::{First, Opening, OpeningWithEntries};
 use crate::runner::Runner;
 use crate::slots::Slots;
 use crate::stepper::Stepper;
-use arrayvec::ArrayVec;
 use atomic_table::Table;
 use std::alloc::{AllocError, Global};
 use std::error::Error;
@@ -286,7 +285,6 @@ impl<N: Nodes> Slots<N> {
             let stepper = Stepper {
                 runner,
                 pool: Pool::new(),
-                given_back: ArrayVec::new(),
                 hand: None,
                 tried: first_tried(opening, who),
             };

@@ -1,9 +1,9 @@
 //! The steps that take a slot out of the shared pool, put it back, and read and store its stamp, counted.
 ghost use Rattle.std.specs.Prelude.{◌≡◌, ℕ, ◌<◌, OnOk, IfErr, IsSome};
-ghost use Rattle.vbr_machine.specs.Acceptance.{IsFree, IsReread};
+ghost use Rattle.vbr_machine.specs.Acceptance.{IsReread, MayBear};
 ghost use Rattle.vbr_machine.specs.declared.event.Step.TheVariants.{LoadStamp, StoreStamp, Raise};
 ghost use Rattle.vbr_slots.specs.OwnSlots.{IsKnownStamp, MissesFlag, TakesFlag, epoch_of, holding_of};
-ghost use Rattle.vbr_slots.specs.Pools.{without};
+ghost use Rattle.vbr_slots.specs.Pools.{hand_without, without};
 ghost use Rattle.vbr_slots.specs.Views.{IsOf, Did, KeepsPool};
 
 use crate::pass::{Pass, steps_after};
@@ -44,10 +44,10 @@ impl<N: Nodes> Slots<N> {
     pub fn raise(&self, pass: &mut Pass, slot: u32)
         requires own { IsOf pass.old.trace self.now }
         requires slot { slot < self.now.start.shape.slots }
-        requires free { IsFree (holding_of pass.old slot) }
+        requires may_bear { MayBear (holding_of pass.old slot) }
         ensures step { (found : ℕ) × Did (Raise slot) pass.old.trace pass.new.trace found }
         ensures pool { pass.new.pool ≡ without slot pass.old.pool }
-        ensures hand { pass.new.hand ≡ pass.old.hand }
+        ensures hand { pass.new.hand ≡ hand_without slot pass.old.hand }
     {
         pass.steps = steps_after(pass.steps, 1);
         self.at(&mut pass.stepper).raise(slot);

@@ -103,12 +103,7 @@ impl Pass {
         ensures pool { self.new.pool ≡ self.old.pool ++ slot ∷ [] }
         ensures hand { self.new.hand ≡ hand_without slot self.old.hand }
     {
-        put(
-            &mut self.stepper.pool,
-            &mut self.stepper.given_back,
-            &mut self.stepper.hand,
-            slot,
-        );
+        put(&mut self.stepper.pool, &mut self.stepper.hand, slot);
     }
 
     /// Lends what makes its steps, and then counts once how many the work tells that it made: its result

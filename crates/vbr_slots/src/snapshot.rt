@@ -5,13 +5,12 @@ ghost use Rattle.vbr_words.specs.Places.{words_in};
 ghost use Rattle.vbr_slots.specs.Closing.{AllOf, Ends};
 ghost use Rattle.vbr_slots.specs.Snapshots.{AreHalted, AreReadBy, IsJoined, witnesses_of};
 
-use crate::pass::{POOL, Pass};
+use crate::pass::Pass;
 use crate::pool::Pool;
 use crate::rule::{Both, First, Naming, Nobody, Opening, Surveys, Witness};
 use crate::runner::Runner;
 use crate::slots::Slots;
 use crate::stepper::Stepper;
-use arrayvec::ArrayVec;
 use atomic_table::Seat;
 use std::alloc::{AllocError, Global};
 use std::collections::LinkedList;
@@ -27,7 +26,6 @@ pub(crate) struct Halted {
     who: u32,
     epoch: u64,
     pool: Pool,
-    given_back: ArrayVec<u32, POOL>,
     hand: Option<u32>,
     tried: u32,
     steps: u64,
@@ -62,7 +60,6 @@ impl<N: Nodes> Slots<N> {
             let stepper = Stepper {
                 runner,
                 pool: kept.pool,
-                given_back: kept.given_back,
                 hand: kept.hand,
                 tried: kept.tried,
             };
@@ -93,7 +90,6 @@ impl<N: Nodes> Slots<N> {
             let Stepper {
                 runner,
                 pool,
-                given_back,
                 hand,
                 tried,
             } = stepper;
@@ -110,7 +106,6 @@ impl<N: Nodes> Slots<N> {
                 who,
                 epoch,
                 pool,
-                given_back,
                 hand,
                 tried,
                 steps,

@@ -2,20 +2,13 @@
 ghost use Rattle.std.specs.Prelude.{◌≡◌, ◌≤◌, ◌↔◌, IsTrue, map};
 ghost use Rattle.vbr_words.specs.Words.{IsLink};
 ghost use Rattle.vbr_words.specs.declared.shape.TheConstants.{MAX_EPOCH};
-ghost use Rattle.vbr_machine.specs.Acceptance.{IsFree, IsUnlinked, MayBear, IsInHand, IsReread, stamp_in};
+ghost use Rattle.vbr_machine.specs.Acceptance.{IsUnlinked, MayBear, IsInHand, IsReread, stamp_in};
 ghost use Rattle.vbr_machine.specs.Learning.{newborn, birth_in_hand, key_in_hand, value_in_hand, link_in_hand, with_key, with_value, with_link, reread};
 ghost use Rattle.vbr_machine.specs.Links.{opening_link};
 ghost use Rattle.vbr_core.specs.WorldInLists.{FitsHolding};
 
 use vbr_machine::{Holding, Unpublished};
 use vbr_words::Link;
-
-// Whether a slot is free to be raised.
-pub fn is_free(holding: Option<Holding>) -> bool
-    ensures { IsTrue result ↔ IsFree holding }
-{
-    matches!(holding, Some(Holding::Free(_)))
-}
 
 // Whether the pass unlinked a slot and hasn't stamped it since.
 pub fn is_unlinked(holding: Option<Holding>) -> bool
@@ -38,7 +31,7 @@ pub fn is_in_hand(holding: Option<Holding>) -> bool
     matches!(holding, Some(Holding::InHand(..)))
 }
 
-// Whether a slot may be born in: free, or in hand.
+// Whether a slot may be born in or raised: free, or in hand.
 pub fn may_bear(holding: Option<Holding>) -> bool
     ensures { IsTrue result ↔ MayBear holding }
 {

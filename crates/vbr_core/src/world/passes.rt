@@ -130,8 +130,9 @@ impl PassState {
         match step {
             Step::LoadStamp { slot } => self.holding(slot).is_some(),
             Step::StoreStamp { slot, .. } => holdings::is_unlinked(self.holding(slot)),
-            Step::Raise { slot } => holdings::is_free(self.holding(slot)),
-            Step::StoreBirth { slot, .. } => holdings::may_bear(self.holding(slot)),
+            Step::Raise { slot } | Step::StoreBirth { slot, .. } => {
+                holdings::may_bear(self.holding(slot))
+            }
             Step::StoreKey { slot, .. }
             | Step::StoreValue { slot, .. }
             | Step::StoreLink { slot, .. }

@@ -6,10 +6,10 @@ use crate::member::Member;
 use vbr_words::Nodes;
 
 impl<N: Nodes> Member<N> {
-    /// Puts the slots that the member keeps to itself into the shared pool, one step for each, and returns how
-    /// many: [`VbrSet::give_slots_back`] by its pass, which says which slots stay. Between two calls a member keeps up
-    /// to 64 slots, for its inserts to come; one that makes none for a time has them taken by others so. It makes
-    /// no call, and can't fail.
+    /// Puts all slots that the member keeps to itself into the shared pool, one step for each, and returns how
+    /// many they were: [`VbrSet::give_slots_back`] by its pass. Between two calls a member keeps up to 64 slots, for
+    /// its inserts to come; one that makes none for a time has them taken by others so. It makes no call, and
+    /// can't fail.
     ///
     /// # Example
     ///

@@ -8,12 +8,8 @@ use vbr_slots::{AtTable, Pass, Slots, Stepper};
 use vbr_words::Nodes;
 
 impl<N: Nodes> VbrSet<N> {
-    /// Puts the slots of the pass's own pool into the shared pool, one step for each, and returns how many.
-    /// From there each pass may take them for its inserts. It makes no call, changes no list and can't fail.
-    ///
-    /// Of the slots that the pass had in hand and gave back, as an insert does that is refused, or that finds
-    /// its key there in the end, it keeps each until one of its inserts takes it again: the pass has made an
-    /// incarnation there, and only its next one there ends that.
+    /// Puts all slots of the pass's own pool into the shared pool, one step for each, and returns how many they
+    /// were. From there each pass may take them for its inserts. It makes no call, changes no list and can't fail.
     ///
     /// # Example
     ///

@@ -6,8 +6,8 @@ use crate::set_ref::VbrSetRef;
 use vbr_words::Nodes;
 
 impl<'s, N: Nodes> VbrSetRef<'s, N> {
-    /// Puts the slots of its own pool into the shared pool, and returns how many: [`VbrSet::give_slots_back`],
-    /// which has the source and says which slots stay.
+    /// Puts all slots of its own pool into the shared pool, and returns how many they were:
+    /// [`VbrSet::give_slots_back`], which says what it costs.
     ///
     /// [`VbrSet::give_slots_back`]: crate::VbrSet::give_slots_back
     pub fn give_slots_back(&mut self) -> u32

@@ -1,10 +1,10 @@
 //! The steps that take a slot out of the shared pool, put it back, and read and store its stamp.
-ghost use Rattle.std.specs.Prelude.{◌≡◌, ℕ, ◌<◌, Contains, OnOk, IfErr, IsSome};
-ghost use Rattle.vbr_machine.specs.Acceptance.{IsFree, IsReread};
+ghost use Rattle.std.specs.Prelude.{◌≡◌, ◌≢◌, ℕ, ◌<◌, Contains, Some, OnOk, IfErr, IsSome};
+ghost use Rattle.vbr_machine.specs.Acceptance.{IsFree, IsReread, MayBear};
 ghost use Rattle.vbr_machine.specs.declared.event.Step.TheVariants.{LoadStamp, StoreStamp, Raise};
 ghost use Rattle.vbr_slots.specs.AtTables.{IsSameTable, pass_of, trace_of};
 ghost use Rattle.vbr_slots.specs.OwnSlots.{IsKnownStamp, MissesFlag, TakesFlag, epoch_of, holding_of};
-ghost use Rattle.vbr_slots.specs.Pools.{without};
+ghost use Rattle.vbr_slots.specs.Pools.{hand_without, without};
 ghost use Rattle.vbr_slots.specs.Views.{Did, KeepsPool};
 
 use crate::at_table::AtTable;
@@ -46,20 +46,21 @@ impl<N: Nodes> AtTable<'_, N> {
         slots.store(&mut stepper.runner, step, Place::Stamp(slot), stamp);
     }
 
-    /// Puts a free slot of the pass into the shared pool, and takes it out of the pass's own pool if
-    /// it is there. One `|` sets its flag in the flag word, and leaves those of other slots.
+    /// Puts a slot of the pass, free or in hand, into the shared pool, and takes it out of the pass's
+    /// own pool or its hand if it is there. One `|` sets its flag in the flag word, and leaves those of
+    /// other slots.
     #[inline]
     pub fn raise(&mut self, slot: u32)
         requires slot { slot < self.old.slots.now.start.shape.slots }
-        requires free { IsFree (holding_of (pass_of self.old) slot) }
+        requires may_bear { MayBear (holding_of (pass_of self.old) slot) }
         ensures table { IsSameTable self.old self.new }
         ensures step { (found : ℕ)
             × Did (Raise slot) (trace_of self.old) (trace_of self.new) found }
         ensures pool { (pass_of self.new).pool ≡ without slot (pass_of self.old).pool }
-        ensures hand { (pass_of self.new).hand ≡ (pass_of self.old).hand }
+        ensures hand { (pass_of self.new).hand ≡ hand_without slot (pass_of self.old).hand }
     {
-        self.stepper.leave_pool(slot);
-        self.raise_outside(slot);
+        self.stepper.leave(slot);
+        self.set_flag(slot);
     }
 
     /// As [`AtTable::raise`], for a slot outside the own pool, which isn't searched for it: so it
@@ -69,6 +70,22 @@ impl<N: Nodes> AtTable<'_, N> {
         requires slot { slot < self.old.slots.now.start.shape.slots }
         requires free { IsFree (holding_of (pass_of self.old) slot) }
         requires outside { ¬ (Contains (pass_of self.old).pool slot) }
+        ensures table { IsSameTable self.old self.new }
+        ensures step { (found : ℕ)
+            × Did (Raise slot) (trace_of self.old) (trace_of self.new) found }
+        ensures pool { KeepsPool (pass_of self.old) (pass_of self.new) }
+    {
+        self.law();
+        self.set_flag(slot);
+    }
+
+    // The step of a raise, of a slot that is neither in the own pool nor in the hand.
+    #[inline]
+    fn set_flag(&mut self, slot: u32)
+        requires slot { slot < self.old.slots.now.start.shape.slots }
+        requires may_bear { MayBear (holding_of (pass_of self.old) slot) }
+        requires outside { ¬ (Contains (pass_of self.old).pool slot) }
+        requires apart { (pass_of self.old).hand ≢ Some slot }
         ensures table { IsSameTable self.old self.new }
         ensures step { (found : ℕ)
             × Did (Raise slot) (trace_of self.old) (trace_of self.new) found }

@@ -3,7 +3,7 @@ ghost use Rattle.std.specs.Prelude.{◌≡◌, ◌<◌, ◌≤◌, ◌⊎◌, []
 ghost use Rattle.vbr_machine.specs.Acceptance.{IsFree};
 ghost use Rattle.vbr_slots.specs.AtTables.{IsSameTable, pass_of, trace_of};
 ghost use Rattle.vbr_slots.specs.PassLaw.{PassLaw};
-ghost use Rattle.vbr_slots.specs.Pools.{OwnPool, given_back, hand_without};
+ghost use Rattle.vbr_slots.specs.Pools.{OwnPool, hand_without};
 ghost use Rattle.vbr_slots.specs.Tried.{last_tried};
 ghost use Rattle.vbr_slots.specs.Views.{IsOf, knows};
 
@@ -59,16 +59,6 @@ impl<N: Nodes> AtTable<'_, N> {
         stepper.pool.as_slice()
     }
 
-    /// The slots of its own pool that the pass had in hand and that were given back, in the pool's order. It knows an
-    /// incarnation there until it bears the next one, so it can't raise them.
-    #[inline]
-    pub fn given_back(&self) -> &[u32]
-        ensures { result.now ≡ given_back (knows (trace_of self.now)) (pass_of self.now).pool }
-    {
-        let stepper = &*self.stepper;
-        stepper.given_back.as_slice()
-    }
-
     /// The slot that the pass tried last to take out of the shared pool; at the opening the one with which it
     /// begins, 0 where keys aren't spread.
     #[inline]
@@ -94,11 +84,6 @@ impl<N: Nodes> AtTable<'_, N> {
         ensures hand { (pass_of self.new).hand ≡ hand_without slot (pass_of self.old).hand }
     {
         let stepper = &mut *self.stepper;
-        put(
-            &mut stepper.pool,
-            &mut stepper.given_back,
-            &mut stepper.hand,
-            slot,
-        );
+        put(&mut stepper.pool, &mut stepper.hand, slot);
     }
 }

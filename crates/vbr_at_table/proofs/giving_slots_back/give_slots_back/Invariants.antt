@@ -2,5 +2,5 @@ use Rattle.vbr_slots.specs.AtTables.{IsSameTable}
 use Rattle.vbr_at_table.proofs.GivingSlotsBack.{Giving}
 use Rattle.vbr_at_table.proofs.giving_slots_back.give_slots_back.Given as goal
 
-abbrev pub invariant-loop-shared : goal.invariant-loop-shared
-invariant-loop-shared g l = IsSameTable l.fn.at l.at × Giving l.fn.at.stepper.now l.at.stepper.now l.shared
+abbrev pub invariant-loop : goal.invariant-loop
+invariant-loop g l = IsSameTable l.fn.at l.at × Giving l.fn.at.stepper.now l.at.stepper.now l.counter

@@ -2,7 +2,6 @@ use Rattle.std.proofs.Common.{ℕ, ◌<◌, sym, ap, ◌∙◌, subst, refl}
 use Rattle.std.specs.Prelude.{List, Contains}
 use Rattle.vbr_machine.specs.Start.{Start}
 use Rattle.vbr_slots.specs.Views.{Trace, PassView}
-use Rattle.vbr_slots.proofs.GivenBack.{back_born}
 use Rattle.vbr_slots.proofs.Passes.{pool_born}
 use Rattle.vbr_slots.proofs.Pools.{outside}
 use Rattle.vbr_slots.proofs.Steppers.{well_after}
@@ -14,9 +13,8 @@ invariant_of-stepper g c =
     let d = c.store.ensures in
     let trace = ap (λ (v : PassView). v.trace) c.stepper.view_is ∙ c.leave_pool.ensures.trace in
     let left = ap (λ (v : PassView). v.pool) c.stepper.view_is ∙ c.leave_pool.ensures.pool in
-    let out = subst (λ (xs : List ℕ). ¬ (Contains xs c.args.slot)) (sym left) (outside c.args.slot c.args.self.now.stepper.now.pool) in
     let start = ap (λ (t : Trace). t.start) trace ∙ c.args.self.now.own.1 in
     well_after p _ d refl
-    (pool_born p.runner c.store.new.runner c.args.slot _ _ p.pool.items p.hand d (subst (λ (s : Start). c.args.slot < s.shape.slots) (sym start) c.requires.slot) out c.stepper.invariant.pool)
-    (back_born p.runner c.store.new.runner c.args.slot _ _ p.pool.items d out)
+    (pool_born p.runner c.store.new.runner c.args.slot _ _ p.pool.items p.hand d (subst (λ (s : Start). c.args.slot < s.shape.slots) (sym start) c.requires.slot)
+    (subst (λ (xs : List ℕ). ¬ (Contains xs c.args.slot)) (sym left) (outside c.args.slot c.args.self.now.stepper.now.pool)) c.stepper.invariant.pool)
     c.stepper.invariant

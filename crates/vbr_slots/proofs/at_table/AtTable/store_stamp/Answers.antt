@@ -1,10 +1,6 @@
 use Rattle.std.proofs.Common.{refl, rules}
-use Rattle.vbr_slots.proofs.GivenBack.{back_stamped}
 use Rattle.vbr_slots.proofs.Steppers.{well_after}
 use Rattle.vbr_slots.proofs.at_table.AtTable.store_stamp.Goals as goal
 
 pub invariant_of-stepper : goal.invariant_of-stepper
-invariant_of-stepper g c =
-    well_after c.stepper.inside _ c.store.ensures refl (search rules)
-    (back_stamped c.stepper.view_is c.stepper.invariant.pool c.requires.reread c.store.ensures)
-    c.stepper.invariant
+invariant_of-stepper g c = well_after c.stepper.inside _ c.store.ensures refl (search rules) c.stepper.invariant

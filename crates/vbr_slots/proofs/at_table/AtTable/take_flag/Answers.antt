@@ -2,7 +2,6 @@ use Rattle.std.proofs.Common.{◌<◌, sym, ap, ◌∙◌, subst, rules}
 use Rattle.vbr_machine.specs.Start.{Start, IsStart}
 use Rattle.vbr_machine.specs.Acceptance.{MayBear}
 use Rattle.vbr_slots.specs.Views.{PassView, knows}
-use Rattle.vbr_slots.proofs.GivenBack.{back_taken}
 use Rattle.vbr_slots.proofs.Passes.{taken_new, pool_taken}
 use Rattle.vbr_slots.proofs.Pools.{pooled_may}
 use Rattle.vbr_slots.proofs.Tried.{did_tried}
@@ -15,7 +14,6 @@ invariant_of-stepper g c =
     record {
       start = subst IsStart (sym d.same.1) c.stepper.invariant.start;
       pool = pool_taken p.runner c.fetch_and_as-found.new.runner c.args.slot c.fetch_and_as-found.result p.pool.items p.hand c.stepper.invariant.start d c.stepper.invariant.pool;
-      given_back = c.stepper.invariant.given_back ∙ sym (back_taken p.runner c.fetch_and_as-found.new.runner c.args.slot c.fetch_and_as-found.result p.pool.items p.hand c.stepper.invariant.start d c.stepper.invariant.pool);
       tried = sym (did_tried d);
       low = subst (λ (s : Start). c.args.slot < s.shape.slots) (sym (d.same.1 ∙ ap (λ (v : PassView). v.trace.start) c.stepper.view_is ∙ c.args.self.now.own.1)) c.requires.slot;
     }

@@ -4,7 +4,6 @@ use Rattle.vbr_machine.specs.Acceptance.{Accepts}
 use Rattle.vbr_machine.specs.declared.event.Step.{Step}
 use Rattle.vbr_machine.specs.declared.event.Step.TheVariants.{Unlink}
 use Rattle.vbr_slots.specs.Views.{Trace, PassView, knows}
-use Rattle.vbr_slots.proofs.GivenBack.{back_unlinked}
 use Rattle.vbr_slots.proofs.Passes.{pool_unlinked}
 use Rattle.vbr_slots.proofs.Steppers.{well_after}
 use Rattle.vbr_slots.proofs.at_table.AtTable.unlink.Goals as goal
@@ -20,5 +19,4 @@ invariant_of-stepper g c =
     let accepted : Accepts p.runner.start (knows p.runner) step = subst (λ (t : Trace). Accepts t.start (knows t) step) (sym (ap (λ (v : PassView). v.trace) c.stepper.view_is)) mine in
     well_after p p.hand d refl
     (pool_unlinked p.runner c.exchange-found.new.runner c.args.pred c.args.expected c.args.slot c.exchange-found.result p.pool.items p.hand c.stepper.invariant.start accepted d c.stepper.invariant.pool)
-    (back_unlinked p.runner c.exchange-found.new.runner c.args.pred c.args.expected c.args.slot c.exchange-found.result p.pool.items p.hand c.stepper.invariant.start accepted d c.stepper.invariant.pool)
     c.stepper.invariant

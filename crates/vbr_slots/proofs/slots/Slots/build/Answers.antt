@@ -60,7 +60,6 @@ invariant_of-stepper g c =
         apart = search rules;
         in_hand = tt;
       };
-      given_back = search rules;
       tried = c.first_tried.ensures.first ∙ tried_none c.loop-who.who first ∙ ap (λ (seen : List Event). tried_in c.loop-who.who seen first) (sym empty);
       low = c.first_tried.ensures.low;
     }

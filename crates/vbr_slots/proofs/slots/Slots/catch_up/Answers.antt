@@ -7,7 +7,6 @@ pub invariant_of-pass-inside : goal.invariant_of-pass-inside
 invariant_of-pass-inside g c = record {
   start = search rules;
   pool = search rules;
-  given_back = search rules;
   tried = since_tried c.catch_up_as.ensures.since c.pass-inside.invariant.tried;
   low = search rules;
 }

@@ -1,7 +1,6 @@
 use Rattle.std.proofs.Common.{◌≡◌, sym, subst, ap, ◌∙◌}
-use Rattle.vbr_slots.specs.Pools.{OwnPool, given_back, without}
+use Rattle.vbr_slots.specs.Pools.{OwnPool, without}
 use Rattle.vbr_slots.specs.Views.{PassView, knows}
-use Rattle.vbr_slots.proofs.GivenBack.{back_apart, back_left}
 use Rattle.vbr_slots.proofs.Leaving.{left, stays}
 use Rattle.vbr_slots.proofs.Pools.{leaves}
 use Rattle.vbr_slots.proofs.stepper.Stepper.leave_pool.Goals as goal
@@ -18,7 +17,6 @@ invariant_of-self c =
     record {
       start = c.self.invariant.start;
       pool = subst (λ xs. OwnPool p.runner.start (knows p.runner) xs p.hand) (sym (gone c)) (leaves p.runner.start (knows p.runner) c.args.slot p.pool.items p.hand c.self.invariant.pool);
-      given_back = c.forget.ensures ∙ back_left (knows p.runner) c.args.slot p.pool.items p.given_back.items c.self.invariant.given_back ∙ ap (given_back (knows p.runner)) (sym (gone c));
       tried = c.self.invariant.tried;
       low = c.self.invariant.low;
     }
@@ -26,22 +24,5 @@ invariant_of-self c =
 pub returns-in-Some-clause-pool : goal.returns-in-Some-clause-pool
 returns-in-Some-clause-pool c = gone c ∙ ap (λ (v : PassView). without c.args.slot v.pool) c.self.view_is
 
-here : (c : goal.In_default) → c.self.inside.pool.items ≡ without c.args.slot c.self.inside.pool.items
-here c = stays c.args.slot c.self.inside.pool.items _ _ c.as_slice.ensures.value c.position_in.ensures c.in_default.is
-
-pub invariant_of-self-in_default : goal.invariant_of-self-in_default
-invariant_of-self-in_default c =
-    let p = c.self.inside in
-    record {
-      start = c.self.invariant.start;
-      pool = c.self.invariant.pool;
-      given_back = c.forget.ensures ∙ back_left (knows p.runner) c.args.slot p.pool.items p.given_back.items c.self.invariant.given_back ∙ ap (given_back (knows p.runner)) (sym (here c));
-      tried = c.self.invariant.tried;
-      low = c.self.invariant.low;
-    }
-
 pub returns-in_default-clause-pool : goal.returns-in_default-clause-pool
-returns-in_default-clause-pool c = stays c.args.slot c.self.inside.pool.items _ _ c.as_slice.ensures.value c.position_in.ensures c.in_default.is ∙ ap (λ (v : PassView). without c.args.slot v.pool) c.self.view_is
-
-pub forget-requires : goal.forget-requires
-forget-requires c = let p = c.self.inside in back_apart (knows p.runner) p.pool.items p.given_back.items c.self.invariant.given_back c.self.invariant.pool.apart
+returns-in_default-clause-pool c = sym (ap (λ (v : PassView). v.pool) c.self.view_is) ∙ stays c.args.slot c.self.inside.pool.items _ _ c.as_slice.ensures.value c.position_in.ensures c.in_default.is ∙ ap (λ (v : PassView). without c.args.slot v.pool) c.self.view_is

@@ -1,6 +1,6 @@
 use Rattle.vbr_slots.specs.Stepping.{opening_of}
 use Rattle.vbr_slots.specs.Views.{event_of}
-use Rattle.vbr_slots.proofs.at_table.AtTable.raise_outside.Given as goal
+use Rattle.vbr_slots.proofs.at_table.AtTable.set_flag.Given as goal
 
 abbrev pub ghosts-fetch_or_as : goal.ghosts-fetch_or_as
 ghosts-fetch_or_as g a = record { event = event_of a.runner.now.who a.step; opening = opening_of a.self.now }
