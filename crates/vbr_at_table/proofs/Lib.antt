@@ -43,3 +43,4 @@ mod Replacements
 pub mod Lemmas
 mod GivingSlotsBack
 mod Reserves
+mod TopUps

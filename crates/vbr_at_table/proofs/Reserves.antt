@@ -1,19 +1,17 @@
 -- Slots come out of the shared pool into the own one, probed in their order.
-use Rattle.std.proofs.Common.{◌≡◌, ◌≢◌, ℕ, suc, ◌+◌, ◌-◌, ◌*◌, ◌/◌, ◌<◌, ◌≤◌, ◌==◌, Bool, true, false, cond, List, [], ◌∷◌, ◌++◌, length, length-append, Option, Some, None, refl, sym, ap, ◌∙◌, subst, append-nil, append_assoc, inl, inr, ⊎_elim, arith}
-use Rattle.std.specs.Prelude.{Contains, min, ◌⊎◌}
+use Rattle.std.proofs.Common.{◌≡◌, ◌≢◌, ℕ, ◌+◌, ◌-◌, ◌/◌, ◌<◌, ◌≤◌, Bool, true, false, cond, [], ◌∷◌, ◌++◌, length, length-append, Option, Some, None, refl, sym, ap, ◌∙◌, subst, append-nil, inl, inr, ⊎_elim, arith}
+use Rattle.std.specs.Prelude.{Contains, ◌⊎◌}
 use Rattle.std.proofs.lemmas.Bool.{cases_lt, ne_eqb}
 use Rattle.std.proofs.lemmas.List.Elements.{Contains-append_left, Contains-push, Contains-push_cases}
 use mathlib.Core.Logic.{dite}
 use native.Mathlib.Decide.{ℕ_discrete}
-use Rattle.vbr_words.specs.Flags.{IsNextFlag, has_flag, word_of_flag}
+use Rattle.vbr_words.specs.Flags.{has_flag, word_of_flag}
 use Rattle.vbr_machine.specs.Acceptance.{IsFree, IsInHand, MayBear}
 use Rattle.vbr_machine.specs.Knowledge.{Know}
 use Rattle.vbr_machine.specs.Machine.{found}
 use Rattle.vbr_machine.specs.Runs.{Begins, world_after}
 use Rattle.vbr_machine.specs.Start.{Start}
-use Rattle.vbr_machine.specs.declared.event.Event.{Event}
 use Rattle.vbr_machine.specs.declared.event.Step.TheVariants.{TakeFlag}
-use Rattle.vbr_machine.specs.Put.{put}
 use Rattle.vbr_machine.specs.declared.knowledge.Holding.{Holding}
 use Rattle.vbr_machine.specs.declared.knowledge.Holding.TheVariants.{Free, InHand, Unlinked}
 use Rattle.vbr_machine.specs.declared.knowledge.SlotPlace.TheVariants.{Shared}
@@ -23,13 +21,12 @@ use Rattle.vbr_slots.specs.Pools.{HandFits, OwnPool, hand_without}
 use Rattle.vbr_slots.specs.Views.{Did, KeepsPool, PassView, Trace, event_of, knows}
 use Rattle.vbr_slots.proofs.Lemmas.{did_moment, did_quiet, did_took, moment_after, moment_before, quiet_on, quiet_refl, took_none, took_on}
 use Rattle.vbr_at_table.specs.Counts.{advances, flags_raised}
-use Rattle.vbr_at_table.specs.KeptSlots.{GoesInTurn, HasFree, HasSlot, KeepsSlots, PoolGrows, StampsUnlinked}
-use Rattle.vbr_at_table.specs.Reserving.{IsMissed, Reserves, ReservesFrom, TakesFlags, WasTaken, flags_tried, is_take, most_kept}
+use Rattle.vbr_at_table.specs.KeptSlots.{GoesInTurn, HasFree, HasSlot, PoolGrows, StampsUnlinked}
+use Rattle.vbr_at_table.specs.Reserving.{IsMissed, IsNextFrom, Reserves, ReservesFrom, TakesFlags, WasTaken, flags_tried, is_take, most_kept}
 use Rattle.vbr_at_table.specs.SharedPool.{WasOutside}
 use Rattle.vbr_at_table.proofs.Advancing.{did_made, did_stamps, grows_on, grows_same, keeps_known, keeps_refl, longer, same_advances, same_flags, slots_kept_on}
 use Rattle.vbr_at_table.proofs.InTurn.{did_turn}
 use Rattle.vbr_at_table.proofs.Shown.{flag_shown, in_pool, missed, missed_after, missed_before}
-use Rattle.vbr_at_table.proofs.Winning.{next_low}
 
 -- ---- what is taken, from step to step
 
@@ -156,26 +153,38 @@ module _ {p q r : PassView} {slot n : ℕ} (d : Did (TakeFlag slot) p.trace q.tr
 
 -- ---- the way from one slot to another
 
--- so many steps were made, and each slot before the next one was taken, or was outside
-pub record Reserving (p q : PassView) (from next to full used : ℕ) : Type 0 where
+-- so many tries were made, and each slot before the next one was taken, or was outside
+pub record Reserving (p q : PassView) (from next to full probes used : ℕ) : Type 0 where
   pub takes : TakesFlags p q used
   pub most : (q.pool ≡ p.pool) ⊎ (length q.pool ≤ full)
+  pub tries : used ≤ probes
+  pub idle : full ≤ length p.pool → used ≡ 0
   pub ahead : (slot : ℕ) → slot < p.trace.start.shape.slots → from ≤ slot → slot < next → IsMissed p q slot
   pub few : used + from ≤ next
   pub within : used ≤ to - from
 
-pub reserving_none : (p : PassView) (from to most : ℕ) → Reserving p p from from to most 0
-reserving_none p from to most = record { takes = takes_none p; most = inl refl; ahead = λ slot low above below. absurd (omega (arith, above, below)); few = omega arith; within = omega arith }
+pub reserving_none : (p : PassView) (from to most probes : ℕ) → Reserving p p from from to most probes 0
+reserving_none p from to most probes = record { takes = takes_none p; most = inl refl; tries = omega arith; idle = λ full. refl; ahead = λ slot low above below. absurd (omega (arith, above, below)); few = omega arith; within = omega arith }
 
-missed_on : (p : PassView) {q r : PassView} {n : ℕ} {slot : ℕ} → IsMissed p q slot → TakesFlags q r n → IsMissed p r slot
+pub missed_on : (p : PassView) {q r : PassView} {n : ℕ} {slot : ℕ} → IsMissed p q slot → TakesFlags q r n → IsMissed p r slot
 missed_on p {slot = slot} (inl there) b = inl (subst (λ xs. Contains xs slot) (sym b.grows.1) (Contains-append_left _ b.grows.0 slot there))
 missed_on p (inr out) b = inr (missed_before out b.quiet)
 
+pub missed_then : {p q : PassView} (r : PassView) {n slot : ℕ} → TakesFlags p q n → IsMissed q r slot → IsMissed p r slot
+missed_then r a (inl there) = inl there
+missed_then r a (inr out) = inr (missed_after a.quiet out)
+
+-- the own pool had room before, where it has room
+has_room : {p q : PassView} {n most : ℕ} → TakesFlags p q n → length q.pool < most → most ≤ length p.pool → ⊥
+has_room {p} {q} takes low full = let more = longer p q takes.grows in omega (arith, low, full, more)
+
 -- one that was taken
-pub reserving_won : {p q r : PassView} {from slot to most used : ℕ} → Reserving p q from slot to most used → slot < to → TakesFlags q r 1 → r.pool ≡ q.pool ++ slot ∷ [] → length q.pool < most → Reserving p r from (slot + 1) to most (used + 1)
-reserving_won {p} {q} {r} {from} {slot} {to} {most} {used} at below_to b pool low = record {
+pub reserving_won : {p q r : PassView} {from slot to most probes used : ℕ} → Reserving p q from slot to most probes used → slot < to → used < probes → TakesFlags q r 1 → r.pool ≡ q.pool ++ slot ∷ [] → length q.pool < most → Reserving p r from (slot + 1) to most probes (used + 1)
+reserving_won {p} {q} {r} {from} {slot} {to} {most} {probes} {used} at below_to room b pool low = record {
   takes = takes_on used 1 at.takes b;
   most = inr (let e : length r.pool ≡ length q.pool + 1 = ap length pool ∙ length-append q.pool (slot ∷ []) in omega (arith, e, low));
+  tries = omega (arith, room);
+  idle = λ full. absurd (has_room at.takes low full);
   ahead = λ s in_shape above below. dite (ℕ_discrete s slot)
       (λ (is : s ≡ slot). inl (subst (λ xs. Contains xs s) (sym pool) (subst (λ x. Contains (q.pool ++ slot ∷ []) x) (sym is) (Contains-push q.pool slot))))
       (λ (other : s ≢ slot). missed_on p (at.ahead s in_shape above (omega (arith, below, other))) b);
@@ -184,13 +193,15 @@ reserving_won {p} {q} {r} {from} {slot} {to} {most} {used} at below_to b pool lo
 }
 
 -- one that was outside, and those up to the next one
-pub reserving_lost : {p q r : PassView} {from slot next to most used n : ℕ} → Reserving p q from slot to most used → slot < to → Did (TakeFlag slot) q.trace r.trace n → has_flag n slot ≡ false → KeepsPool q r → slot < next → ((s : ℕ) → s < q.trace.start.shape.slots → slot ≤ s → s < next → WasOutside q.trace r.trace s)
-    → Reserving p r from next to most (used + 1)
-reserving_lost {p} {q} {r} {from} {slot} {next} {to} {most} {used} at below_to d lost keeps on outside =
+pub reserving_lost : {p q r : PassView} {from slot next to most probes used n : ℕ} → Reserving p q from slot to most probes used → slot < to → used < probes → length q.pool < most → Did (TakeFlag slot) q.trace r.trace n → has_flag n slot ≡ false → KeepsPool q r → slot < next → ((s : ℕ) → s < q.trace.start.shape.slots → slot ≤ s → s < next → WasOutside q.trace r.trace s)
+    → Reserving p r from next to most probes (used + 1)
+reserving_lost {p} {q} {r} {from} {slot} {next} {to} {most} {probes} {used} at below_to room low d lost keeps on outside =
     let b = takes_lost d lost keeps in
     record {
       takes = takes_on used 1 at.takes b;
       most = ⊎_elim (λ same. inl (keeps.0 ∙ same)) (λ few. inr (subst (λ xs. length xs ≤ most) (sym keeps.0) few)) at.most;
+      tries = omega (arith, room);
+      idle = λ full. absurd (has_room at.takes low full);
       ahead = λ s in_shape above below. ⊎_elim
           (λ (earlier : s < slot). missed_on p (at.ahead s in_shape above earlier) b)
           (λ (later : slot ≤ s). inr (missed_after at.takes.quiet (outside s (subst (λ (start : Start). s < start.shape.slots) (sym at.takes.quiet.same.start) in_shape) later below)))
@@ -199,12 +210,12 @@ reserving_lost {p} {q} {r} {from} {slot} {next} {to} {most} {used} at below_to d
       within = let f = at.few in omega (arith, f, below_to);
     }
 
--- the slots up to the lowest flag of the word, where that is behind
-pub up_to_next : {p q : Trace} {slot next n : ℕ} → Did (TakeFlag slot) p q n → has_flag n slot ≡ false → IsNextFlag n slot next → (s : ℕ) → s < p.start.shape.slots → slot ≤ s → s < next → WasOutside p q s
+-- the slots up to the next one whose flag is set in the word
+pub up_to_next : {p q : Trace} {slot next n : ℕ} → Did (TakeFlag slot) p q n → has_flag n slot ≡ false → IsNextFrom n slot next → (s : ℕ) → s < p.start.shape.slots → slot ≤ s → s < next → WasOutside p q s
 up_to_next {p} {q} {slot} {next} {n} d lost then s low above below =
-    let past = next_low n slot next then in
+    let past = then.low in
     let same : s / 64 ≡ slot / 64 = omega (arith, past, above, below) in
-    missed d lost s low same (then.before s same below)
+    missed d lost s low same (then.none s above below)
 
 -- the slot alone
 pub up_to_it : {p q : Trace} {slot n : ℕ} → Did (TakeFlag slot) p q n → has_flag n slot ≡ false → (s : ℕ) → s < p.start.shape.slots → slot ≤ s → s < slot + 1 → WasOutside p q s
@@ -213,37 +224,58 @@ up_to_it {p} {q} {slot} {n} d lost s low above below =
     missed d lost s low (ap word_of_flag same) (ap (has_flag n) same ∙ lost)
 
 -- at the end
-pub reserves_from : {p q : PassView} {from next to most used : ℕ} → Reserving p q from next to most used → (to ≤ next) ⊎ (most ≤ length q.pool) → to ≤ p.trace.start.shape.slots → ReservesFrom p q from to most used
-reserves_from {p} {q} {from} {next} {to} {most} at ends low = record {
+pub reserves_from : {p q : PassView} {from next to most probes used : ℕ} → Reserving p q from next to most probes used → (most ≤ length q.pool) ⊎ (probes ≤ used) ⊎ (to ≤ next) → ReservesFrom p q from to most probes used
+reserves_from {p} {q} {from} {next} {to} {most} at ends = record {
   takes = at.takes;
   most = at.most;
-  enough = ⊎_elim (λ (over : to ≤ next). inr (λ slot below above. at.ahead slot (omega (arith, below, low)) above (omega (arith, below, over)))) (λ full. inl full) ends;
-  few = at.within;
+  tries = at.tries;
+  idle = at.idle;
+  next = next;
+  few = at.few;
+  within = at.within;
+  each = at.ahead;
+  ends = ends;
 }
 
 -- ---- once round
 
-by_names : {p q r : PassView} {start wanted taken first second : ℕ} → ReservesFrom p q start p.trace.start.shape.slots (most_kept wanted) first → ReservesFrom q r 0 start (most_kept wanted) second → length r.pool ≡ length p.pool + taken → Reserves p r wanted taken (first + second)
-by_names {p} {q} {r} {start} {wanted} {taken} {first} {second} a b count = record {
-  takes = takes_on first second a.takes b.takes;
-  count = count;
-  most = ⊎_elim (λ (same : r.pool ≡ q.pool). ⊎_elim (λ before. inl (same ∙ before)) (λ few. inr (subst (λ xs. length xs ≤ most_kept wanted) (sym same) few)) a.most) (λ few. inr few) b.most;
-  enough = ⊎_elim
-      (λ (full : most_kept wanted ≤ length q.pool). inl (let more = longer q r b.takes.grows in omega (arith, full, more)))
-      (λ (above : (slot : ℕ) → slot < p.trace.start.shape.slots → start ≤ slot → IsMissed p q slot).
-      ⊎_elim (λ full. inl full)
-      (λ (below : (slot : ℕ) → slot < start → 0 ≤ slot → IsMissed q r slot).
-      inr (λ slot low. ⊎_elim
-      (λ (under : slot < start). ⊎_elim (λ there. inl there) (λ out. inr (missed_after a.takes.quiet out)) (below slot under (omega arith)))
-      (λ (over : start ≤ slot). missed_on p (above slot low over) b.takes)
-      (cases_lt slot start)))
-      b.enough)
-      a.enough;
-}
+-- no more than so many were kept, in two ways
+pub most_on : (p q r : PassView) (full : ℕ) → (q.pool ≡ p.pool) ⊎ (length q.pool ≤ full) → (r.pool ≡ q.pool) ⊎ (length r.pool ≤ full) → (r.pool ≡ p.pool) ⊎ (length r.pool ≤ full)
+most_on p q r full before (inr few) = inr few
+most_on p q r full (inl same) (inl still) = inl (still ∙ same)
+most_on p q r full (inr few) (inl still) = inr (subst (λ xs. length xs ≤ full) (sym still) few)
 
-pub reserves_round : {p q r : PassView} {start to full wanted taken first second : ℕ} → to ≡ p.trace.start.shape.slots → full ≡ most_kept wanted → ReservesFrom p q start to full first → ReservesFrom q r 0 start full second → length r.pool ≡ length p.pool + taken → Reserves p r wanted taken (first + second)
-reserves_round {p} {q} {r} {start} {to} {full} {wanted} {taken} {first} {second} end is a b count =
-    by_names (subst (λ (x : ℕ × ℕ). ReservesFrom p q start x.0 x.1 first) (λ i. (end i, is i)) a) (subst (λ (x : ℕ). ReservesFrom q r 0 start x second) is b) count
+-- with a try for each slot, none is left out
+with_all : {p q : PassView} {from to full probes steps : ℕ} → ReservesFrom p q from to full probes steps → to ≤ probes → to ≤ p.trace.start.shape.slots → (full ≤ length q.pool) ⊎ ((slot : ℕ) → slot < to → from ≤ slot → IsMissed p q slot)
+with_all {p} {q} {from} {to} {full} {probes} {steps} a enough low = ⊎_elim inl (λ rest. inr (λ slot below above. a.each slot (omega (arith, below, low)) above (let over = reach rest in omega (arith, below, over)))) a.ends
+  where
+    reach : (probes ≤ steps) ⊎ (to ≤ a.next) → to ≤ a.next
+    reach (inl all) = let f = a.few in omega (arith, all, enough, f)
+    reach (inr over) = over
+
+by_names : {p q r : PassView} {start wanted taken first second : ℕ} → start ≤ p.trace.start.shape.slots → ReservesFrom p q start p.trace.start.shape.slots (most_kept wanted) p.trace.start.shape.slots first → ReservesFrom q r 0 start (most_kept wanted) p.trace.start.shape.slots second → length r.pool ≡ length p.pool + taken → Reserves p r wanted taken (first + second)
+by_names {p} {q} {r} {start} {wanted} {taken} {first} {second} low a b count =
+    let there : start ≤ q.trace.start.shape.slots = subst (λ (s : Start). start ≤ s.shape.slots) (sym a.takes.quiet.same.start) low in
+    record {
+      takes = takes_on first second a.takes b.takes;
+      count = count;
+      most = most_on p q r (most_kept wanted) a.most b.most;
+      enough = ⊎_elim
+          (λ (full : most_kept wanted ≤ length q.pool). inl (let more = longer q r b.takes.grows in omega (arith, full, more)))
+          (λ (above : (slot : ℕ) → slot < p.trace.start.shape.slots → start ≤ slot → IsMissed p q slot).
+          ⊎_elim (λ full. inl full)
+          (λ (below : (slot : ℕ) → slot < start → 0 ≤ slot → IsMissed q r slot).
+          inr (λ slot in_shape. ⊎_elim
+          (λ (under : slot < start). missed_then r a.takes (below slot under (omega arith)))
+          (λ (over : start ≤ slot). missed_on p (above slot in_shape over) b.takes)
+          (cases_lt slot start)))
+          (with_all b low there))
+          (with_all a (omega arith) (omega arith));
+    }
+
+pub reserves_round : {p q r : PassView} {start to full wanted taken first second : ℕ} → to ≡ p.trace.start.shape.slots → full ≡ most_kept wanted → start ≤ to → ReservesFrom p q start to full to first → ReservesFrom q r 0 start full to second → length r.pool ≡ length p.pool + taken → Reserves p r wanted taken (first + second)
+reserves_round {p} {q} {r} {start} {to} {full} {wanted} {taken} {first} {second} end is low a b count =
+    by_names (subst (λ (x : ℕ). start ≤ x) end low) (subst (λ (x : ℕ × ℕ). ReservesFrom p q start x.0 x.1 x.0 first) (λ i. (end i, is i)) a) (subst (λ (x : ℕ × ℕ). ReservesFrom q r 0 start x.1 x.0 second) (λ i. (end i, is i)) b) count
 
 -- how many were taken
 pub grown_by : (p q : PassView) → PoolGrows p q → (taken : ℕ) → taken ≡ length q.pool - length p.pool → length q.pool ≡ length p.pool + taken

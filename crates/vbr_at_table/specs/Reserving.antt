@@ -1,5 +1,7 @@
 -- What a pass leaves that takes slots into its own pool ahead of its calls.
-use Rattle.std.specs.Prelude.{◌≡◌, ℕ, ◌+◌, ◌-◌, ◌<◌, ◌≤◌, min, Bool, true, false, List, [], ◌∷◌, ◌++◌, length, Contains, ◌⊎◌}
+use Rattle.std.specs.Prelude.{◌≡◌, ℕ, ◌+◌, ◌-◌, ◌*◌, ◌<◌, ◌≤◌, min, Bool, true, false, List, [], ◌∷◌, ◌++◌, length, Contains, ◌⊎◌}
+use Rattle.vbr_words.specs.Flags.{has_flag, word_of_flag}
+use Rattle.vbr_words.specs.declared.flags.TheConstants.{FLAGS}
 use Rattle.vbr_machine.specs.Runs.{Begins, world_after}
 use Rattle.vbr_machine.specs.declared.event.Event.{Event}
 use Rattle.vbr_machine.specs.declared.event.Step.{Step}
@@ -7,6 +9,7 @@ use Rattle.vbr_machine.specs.declared.event.Step.TheVariants.{TakeFlag}
 use Rattle.vbr_machine.specs.declared.knowledge.SlotPlace.TheVariants.{Shared}
 use Rattle.vbr_slots.specs.declared.pass.TheConstants.{POOL}
 use Rattle.vbr_slots.specs.Calls.{Moment, Quiet, Took}
+use Rattle.vbr_slots.specs.Tried.{last_tried}
 use Rattle.vbr_slots.specs.Views.{PassView, Trace, event_of}
 use Rattle.vbr_at_table.specs.Counts.{advances, flags_raised, made_of}
 use Rattle.vbr_at_table.specs.KeptSlots.{KeepsSlots, PoolGrows}
@@ -55,9 +58,39 @@ pub record Reserves (p q : PassView) (wanted taken steps : ℕ) : Type 0 where
   pub most : (q.pool ≡ p.pool) ⊎ (length q.pool ≤ most_kept wanted)
   pub enough : (most_kept wanted ≤ length q.pool) ⊎ ((slot : ℕ) → slot < p.trace.start.shape.slots → IsMissed p q slot)
 
--- so it is of the slots from one up to another; only contracts of private functions cite this
-pub record ReservesFrom (p q : PassView) (from to full steps : ℕ) : Type 0 where
+-- on a way once round the slots, which begins after the one that the pass tried last, the slot is among the first so many
+abbrev pub IsAmongNext : Trace → ℕ → ℕ → Type 0
+IsAmongNext p count slot = ((last_tried p < slot) × (slot ≤ last_tried p + count)) ⊎ (slot + p.start.shape.slots ≤ last_tried p + count)
+
+-- so many slots were taken in so many tries: no slot beyond what is wanted, and no try beyond those that were allowed, nor where the own pool had what is wanted
+-- The tries go on: each was of another slot, and each slot on the way up to there was taken, or was outside the shared pool at a moment.
+-- They end where the own pool has what is wanted, where all tries were made, or once round.
+pub record TopsUp (p q : PassView) (wanted probes taken steps : ℕ) : Type 0 where
+  pub takes : TakesFlags p q steps
+  pub count : length q.pool ≡ length p.pool + taken
+  pub most : (q.pool ≡ p.pool) ⊎ (length q.pool ≤ most_kept wanted)
+  pub tries : steps ≤ probes
+  pub idle : most_kept wanted ≤ length p.pool → steps ≡ 0
+  pub passed : ℕ
+  pub few : steps ≤ passed
+  pub each : (slot : ℕ) → slot < p.trace.start.shape.slots → IsAmongNext p.trace passed slot → IsMissed p q slot
+  pub enough : (most_kept wanted ≤ length q.pool) ⊎ (steps ≡ probes) ⊎ (p.trace.start.shape.slots ≤ passed)
+
+-- ---- pieces of these calls; only contracts of private functions cite them
+
+-- the slots from one up to another were tried, until the own pool had so many, or so many tries were made
+pub record ReservesFrom (p q : PassView) (from to full probes steps : ℕ) : Type 0 where
   pub takes : TakesFlags p q steps
   pub most : (q.pool ≡ p.pool) ⊎ (length q.pool ≤ full)
-  pub enough : (full ≤ length q.pool) ⊎ ((slot : ℕ) → slot < to → from ≤ slot → IsMissed p q slot)
-  pub few : steps ≤ to - from
+  pub tries : steps ≤ probes
+  pub idle : full ≤ length p.pool → steps ≡ 0
+  pub next : ℕ
+  pub few : steps + from ≤ next
+  pub within : steps ≤ to - from
+  pub each : (slot : ℕ) → slot < p.trace.start.shape.slots → from ≤ slot → slot < next → IsMissed p q slot
+  pub ends : (full ≤ length q.pool) ⊎ (probes ≤ steps) ⊎ (to ≤ next)
+
+-- the next slot is of the same word or begins the next one, and from the one slot up to it no flag is set
+pub record IsNextFrom (word slot next : ℕ) : Type 0 where
+  pub low : next ≤ FLAGS * (word_of_flag slot + 1)
+  pub none : (s : ℕ) → slot ≤ s → s < next → has_flag word s ≡ false

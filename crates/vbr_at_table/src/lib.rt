@@ -44,7 +44,7 @@ pub use marking::mark;
 pub use reading::{birth_after, checkpoint, first, key_of, next, value_of};
 pub use refusal::Refusal;
 pub use replacing::replace;
-pub use reserving::reserve;
+pub use reserving::{reserve, top_up};
 pub use retiring::retire;
 pub use rollback::Rollback;
 pub use taking::take;

@@ -1,7 +1,8 @@
 //! Taking slots into the own pool ahead of the calls that need them.
 ghost use Rattle.std.specs.Prelude.{◌≡◌, ◌<◌, ◌≤◌};
 ghost use Rattle.vbr_slots.specs.AtTables.{IsSameTable, pass_of};
-ghost use Rattle.vbr_at_table.specs.Reserving.{Reserves, ReservesFrom};
+ghost use Rattle.vbr_words.specs.declared.link.TheConstants.{MAX_SLOTS};
+ghost use Rattle.vbr_at_table.specs.Reserving.{IsNextFrom, Reserves, ReservesFrom, TopsUp, most_kept};
 
 use vbr_slots::AtTable;
 use vbr_slots::pass::POOL;
@@ -21,26 +22,61 @@ pub fn reserve<N: Nodes>(at: &mut AtTable<'_, N>, wanted: u32) -> (u32, u32)
     ensures reserves { Reserves (pass_of at.old) (pass_of at.new) wanted result.0 result.1 }
 {
     let before = at.pool().len();
-    let most = (wanted as usize).min(POOL - 1);
+    let most = most_kept(wanted);
     let slots = at.slots.shape().slots();
     let start = at.last_tried() / FLAGS * FLAGS;
-    let first = reserve_from(at, start, slots, most);
-    let second = reserve_from(at, 0, start, most);
+    let first = reserve_from(at, start, slots, most, slots);
+    let second = reserve_from(at, 0, start, most, slots);
     let taken = at.pool().len() - before;
     (taken as u32, first + second)
 }
 
-// Takes slots from one up to another until the own pool has so many. Returns how many steps were made.
-fn reserve_from<N: Nodes>(at: &mut AtTable<'_, N>, from: u32, to: u32, most: usize) -> u32
+/// Takes slots out of the shared pool as [`reserve`] does, but tries no more than `probes` times. Where it stops
+/// for that, the own pool may have fewer than `wanted`, and the next top-up goes on: the way begins after the slot
+/// that the pass tried last. Returns how many slots it took, and how many steps it made, one for each try. A
+/// pass that has what is wanted makes none. It makes no call of the set and changes no list.
+///
+/// With two tries after each insert that takes one slot, the own pool grows by a slot for each insert, while
+/// flags are set one after the other.
+#[inline]
+pub fn top_up<N: Nodes>(at: &mut AtTable<'_, N>, wanted: u32, probes: u32) -> (u32, u32)
+    ensures table { IsSameTable at.old at.new }
+    ensures tops_up { TopsUp (pass_of at.old) (pass_of at.new) wanted probes result.0 result.1 }
+{
+    let before = at.pool().len();
+    let most = most_kept(wanted);
+    let slots = at.slots.shape().slots();
+    let start = at.last_tried() + 1;
+    let first = reserve_from(at, start, slots, most, probes);
+    let second = reserve_from(at, 0, start, most, probes - first);
+    let taken = at.pool().len() - before;
+    (taken as u32, first + second)
+}
+
+// How many slots the own pool has then: as many as are wanted, but for the place that is for a hand.
+fn most_kept(wanted: u32) -> usize
+    ensures { result ≡ most_kept wanted }
+{
+    (wanted as usize).min(POOL - 1)
+}
+
+// Takes slots from one up to another until the own pool has so many, or so many tries were made. Returns how many.
+fn reserve_from<N: Nodes>(
+    at: &mut AtTable<'_, N>,
+    from: u32,
+    to: u32,
+    most: usize,
+    probes: u32,
+) -> u32
     requires most { most < POOL }
     requires to { to ≤ (pass_of at.old).trace.start.shape.slots }
     ensures table { IsSameTable at.old at.new }
-    ensures reserves { ReservesFrom (pass_of at.old) (pass_of at.new) from to most result }
+    ensures reserves { ReservesFrom (pass_of at.old) (pass_of at.new) from to most probes result }
 {
     let _slots = at.slots.shape().slots();
     let mut used = 0;
     let mut slot = from;
-    while slot < to && at.pool().len() < most {
+    while slot < to && used < probes && at.pool().len() < most {
         used += 1;
         match at.take_flag(slot) {
             Ok(()) => {
@@ -49,11 +85,19 @@ fn reserve_from<N: Nodes>(at: &mut AtTable<'_, N>, from: u32, to: u32, most: usi
                 slot += 1;
             }
             Err(found) => {
-                // Those before the lowest flag of the word are outside too, where that comes behind.
-                let next = next_flag(found, slot);
+                let next = next_from(found, slot);
                 slot = if slot < next { next } else { slot + 1 };
             }
         }
     }
     used
+}
+
+// The first slot from this one on whose flag is set in its word; where none is, the first slot of the next word.
+fn next_from(word: u64, slot: u32) -> u32
+    requires { slot ≤ MAX_SLOTS }
+    ensures { IsNextFrom word slot result }
+{
+    let behind = next_flag(word >> (slot % FLAGS), 0);
+    (slot + behind).min((slot / FLAGS + 1) * FLAGS)
 }

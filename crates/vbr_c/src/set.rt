@@ -1,8 +1,8 @@
 //! The calls of a set.
 ghost use Rattle.std.specs.Prelude.{◌≡◌, None, length};
-ghost use Rattle.vbr_machine.specs.declared.history.Op.TheVariants.{Insert, Remove, Has};
+ghost use Rattle.vbr_machine.specs.declared.history.Op.TheVariants.{Remove, Has};
 ghost use Rattle.vbr_handles.specs.Batches.{TellsHasAll};
-ghost use Rattle.vbr_handles.specs.Calls.{TellsCall};
+ghost use Rattle.vbr_handles.specs.Calls.{TellsCall, TellsInsert};
 ghost use Rattle.vbr_handles.specs.GivingBack.{ClosesHandle};
 ghost use Rattle.vbr_handles.specs.Iterating.{TellsNext};
 ghost use Rattle.vbr_handles.specs.Opening.{AreEmpty, spread_start};
@@ -101,7 +101,7 @@ pub extern "C" fn vbr_open_many_seeded(
 /// ```
 #[unsafe(no_mangle)]
 pub extern "C" fn vbr_insert_within(handle: &mut Handle, key: u64, budget: u32) -> i32
-    ensures called { TellsCall Insert handle.old.owned.member handle.new.owned.member
+    ensures called { TellsInsert handle.old.owned.member handle.new.owned.member
         key budget result }
     ensures steps { handle.new.steps ≡ handle.old.steps }
 {

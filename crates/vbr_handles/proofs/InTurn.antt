@@ -1,5 +1,5 @@
 -- What is told of owners in turn is told of their members.
-use Rattle.std.proofs.Common.{◌≡◌, ℕ, List, [], ◌∷◌, ap}
+use Rattle.std.proofs.Common.{ℕ, List, [], ◌∷◌, ap}
 use Rattle.vbr_set.specs.Batches.{InTurn}
 
 module _ {M N A : Type 0} (of : M → N) (Calls : N → N → ℕ → A → Type 0) where

@@ -7,3 +7,4 @@ mod AllHandles
 mod AskingAll
 mod EntryKeys
 mod InTurn
+mod ToppingUp

@@ -12,6 +12,7 @@ pub mod AllHandles
 pub mod AskingAll
 pub mod RenewingAll
 pub mod OpeningCodes
+pub mod ToppingUp
 pub mod Calls
 pub mod ValueCalls
 pub mod Iterating

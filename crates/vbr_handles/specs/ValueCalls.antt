@@ -5,6 +5,7 @@ use Rattle.vbr_at_table.specs.declared.refusal.Refusal.{Refusal}
 use Rattle.vbr_set.specs.MapCalls.{ExchangesEntry, GetsEntry, GetsOrInsertsEntry, PutsEntry, RemovesEntry, RemovesIf, ReplacesEntry}
 use Rattle.vbr_set.specs.Members.{MemberView as Member}
 use Rattle.vbr_handles.specs.Codes.{call_code, empty_code, exchange_code}
+use Rattle.vbr_handles.specs.ToppingUp.{CallsAndTopsUp, has_stored_new}
 
 -- what is given is written where the answer is yes, and else nothing is written
 abbrev pub WritesGiven : {A : Type 0} → Result (Option A) Refusal → A → A → Type 0
@@ -41,15 +42,16 @@ TellsGetEntry m n key budget old new code = GivesBy (λ m n answer. GetsEntry m 
 
 -- ---- stores
 
--- of a replacement, a put and a get that inserts: what was there is given
+-- of a replacement: what was there is given
 abbrev pub TellsReplace : Option Member → Option Member → ℕ → ℕ → ℕ → ℕ → ℕ → ℤ → Type 0
 TellsReplace m n key value budget old new code = GivesBy (λ m n answer. ReplacesEntry m n key value budget answer) m n old new code
 
+-- so it is of a put and of a get that inserts, after which a full handle keeps its reserve
 abbrev pub TellsPut : Option Member → Option Member → ℕ → ℕ → ℕ → ℕ → ℕ → ℤ → Type 0
-TellsPut m n key value budget old new code = GivesBy (λ m n answer. PutsEntry m n key value budget answer) m n old new code
+TellsPut m n key value budget old new code = GivesBy (CallsAndTopsUp (λ m n answer. PutsEntry m n key value budget answer) has_stored_new budget) m n old new code
 
 abbrev pub TellsGetOrInsert : Option Member → Option Member → ℕ → ℕ → ℕ → ℕ → ℕ → ℤ → Type 0
-TellsGetOrInsert m n key value budget old new code = GivesBy (λ m n answer. GetsOrInsertsEntry m n key value budget answer) m n old new code
+TellsGetOrInsert m n key value budget old new code = GivesBy (CallsAndTopsUp (λ m n answer. GetsOrInsertsEntry m n key value budget answer) has_stored_new budget) m n old new code
 
 -- and of an exchange and a remove that go by the value that is expected, whose code tells whether it was there
 abbrev pub TellsExchange : Option Member → Option Member → ℕ → ℕ → ℕ → ℕ → ℕ → ℕ → ℤ → Type 0

@@ -1,13 +1,13 @@
 //! The calls of handles with their answers as numbers, as they go to C: 1 is yes, 0 is no or done, 2 is that
 //! another value than the expected one was there, and each refusal has a number below 0.
 ghost use Rattle.std.specs.Prelude.{◌≡◌, ◌≤◌, length, map, IfOk};
-ghost use Rattle.vbr_machine.specs.declared.history.Op.TheVariants.{Insert, Remove, Has};
+ghost use Rattle.vbr_machine.specs.declared.history.Op.TheVariants.{Remove, Has};
 ghost use Rattle.vbr_slots.specs.declared.opening.TheConstants.{MAX_MANY_PASSES, MAX_PASSES};
 ghost use Rattle.vbr_set.specs.AllMembers.{AreOfOneSet};
 ghost use Rattle.vbr_set.specs.Closing.{ClosesBy};
 ghost use Rattle.vbr_handles.specs.AllHandles.{members_by};
 ghost use Rattle.vbr_handles.specs.Codes.{call_code, close_all_code, close_code, open_code, renew_all_code};
-ghost use Rattle.vbr_handles.specs.Calls.{TellsCall};
+ghost use Rattle.vbr_handles.specs.Calls.{TellsCall, TellsInsert};
 ghost use Rattle.vbr_handles.specs.Opening.{listed_start};
 ghost use Rattle.vbr_handles.specs.OpeningCodes.{TellsOpeningBy};
 ghost use Rattle.vbr_handles.specs.Renewals.{TellsRenewalBy};
@@ -18,11 +18,13 @@ pub mod entries;
 pub mod giving_back;
 pub mod iterating;
 pub mod reserving;
+pub mod topping_up;
 
 use crate::closing::CloseRefusal;
 use crate::closing_all::CloseAllRefusal;
 use crate::handle_of::HandleOf;
 use crate::listed::Listed;
+use crate::numbers::topping_up::{has_added, top_up_after};
 use crate::opening::{OpenRefusal, ShapeNumbers};
 use crate::owner::Owner;
 use crate::renewing_all::RenewAllRefusal;
@@ -92,14 +94,18 @@ pub fn open_many<N: Kind, I: Listed<N>, H: HandleOf<N>>(
     open_code(crate::opening::open_many::<N, I, H>(alloc, handles, numbers, items))
 }
 
-/// Adds a key by the member of a handle.
+/// Adds a key by the member of a handle, and then keeps the reserve of the handle ([`topping_up`]).
 pub fn insert(owner: &mut Owner<Member<Keys>>, key: u64, budget: u32) -> i32
-    ensures { TellsCall Insert owner.old.member owner.new.member key budget result }
+    ensures { TellsInsert owner.old.member owner.new.member key budget result }
 {
     if owner.is_empty() {
         return EMPTY;
     }
-    call_code(owner.member_mut().insert(key, budget))
+    let member = owner.member_mut();
+    let before = member.pass().steps();
+    let answer = member.insert(key, budget);
+    top_up_after(member, has_added(&answer), budget, before);
+    call_code(answer)
 }
 
 /// Takes a key out by the member of a handle.

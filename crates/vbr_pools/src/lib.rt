@@ -5,7 +5,7 @@
 //! [`take`] gives a [`Hand`], a slot with a new incarnation that isn't published yet. [`give_back`]
 //! puts it back, and [`retire`] brings a slot back that was unlinked, under the stamp of the epoch in
 //! which it may still be read (Sheffi, Herlihy and Petrank 2021). [`give_slots_back`] puts the slots of the
-//! own pool into the shared one, and [`reserve`] takes some from there. What they do is in `vbr_at_table`.
+//! own pool into the shared one; [`reserve`] and [`top_up`] take some from there. What they do is in `vbr_at_table`.
 #![tactic(auto)]
 
 pub mod giving_back;
@@ -16,7 +16,7 @@ pub mod taking;
 
 pub use giving_back::give_back;
 pub use giving_slots_back::give_slots_back;
-pub use reserving::reserve;
+pub use reserving::{reserve, top_up};
 pub use retiring::retire;
 pub use taking::take;
 pub use vbr_at_table::{Hand, Refusal as TakeRefusal, Unlinked, budget};

@@ -11,7 +11,7 @@ use Rattle.vbr_machine.specs.declared.history.Op.TheVariants.{Insert, Remove, Ha
 use Rattle.vbr_slots.specs.Tokens.{SeenView}
 use Rattle.vbr_slots.specs.Views.{Did, KeepsPool, PassView, TableView, Trace, new_trace}
 use Rattle.vbr_at_table.specs.GivingSlotsBack.{GivesSlotsBack}
-use Rattle.vbr_at_table.specs.Reserving.{Reserves}
+use Rattle.vbr_at_table.specs.Reserving.{TakesFlags}
 use Rattle.vbr_at_table.specs.KeptSlots.{HasSlot, KeepsSlots, UnlinkedInTurn}
 use Rattle.vbr_at_table.proofs.Lemmas.{did_none, did_stay_turn, turn_others}
 use Rattle.vbr_set.specs.Members.{MemberView}
@@ -60,8 +60,8 @@ all_caught set p q token all c =
 pub all_gave : (p q : PassView) (shared : ℕ) → HasAllSlots p → GivesSlotsBack p q shared → HasAllSlots q
 all_gave p q shared all g = all_kept p q g.kept all
 
-pub all_reserved : (p q : PassView) (wanted taken steps : ℕ) → HasAllSlots p → Reserves p q wanted taken steps → HasAllSlots q
-all_reserved p q wanted taken steps all r = all_kept p q r.takes.kept all
+pub all_reserved : (p q : PassView) (steps : ℕ) → HasAllSlots p → TakesFlags p q steps → HasAllSlots q
+all_reserved p q steps all takes = all_kept p q takes.kept all
 
 -- ---- in turn
 
@@ -85,5 +85,5 @@ turn_caught set p q token turn c =
 pub turn_gave : (p q : PassView) (shared : ℕ) → HasAllSlots p → UnlinkedInTurn p.trace → GivesSlotsBack p q shared → UnlinkedInTurn q.trace
 turn_gave p q shared all turn g = g.kept.turn all.stamped turn
 
-pub turn_reserved : (p q : PassView) (wanted taken steps : ℕ) → HasAllSlots p → UnlinkedInTurn p.trace → Reserves p q wanted taken steps → UnlinkedInTurn q.trace
-turn_reserved p q wanted taken steps all turn r = r.takes.kept.turn all.stamped turn
+pub turn_reserved : (p q : PassView) (steps : ℕ) → HasAllSlots p → UnlinkedInTurn p.trace → TakesFlags p q steps → UnlinkedInTurn q.trace
+turn_reserved p q steps all turn takes = takes.kept.turn all.stamped turn

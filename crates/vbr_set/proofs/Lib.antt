@@ -1,5 +1,6 @@
 mod Histories
 mod MapHistories
+mod Staying
 mod CatchingUp
 mod ShownNodes
 mod Walks

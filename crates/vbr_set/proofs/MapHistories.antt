@@ -18,7 +18,7 @@ use Rattle.vbr_set.specs.Members.{CalledBy, as_member, one}
 use Rattle.vbr_set.proofs.Histories.{answers, answers_two, called_by, each_answer, start_of}
 
 -- the calls of each run are a legal history of a map
-abbrev RunsAreMaps : Type 0
+abbrev pub RunsAreMaps : Type 0
 RunsAreMaps = (start : Start) (passes : ℕ) (run : List Event) → IsStart start → IsRun start passes run → IsMapLegal (opening_entries start) (world_after start run).calls
 
 -- what answers leave at a map

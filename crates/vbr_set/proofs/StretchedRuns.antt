@@ -221,6 +221,6 @@ come_by_calls =
       met = λ p q epoch did pool. record { sees = sees_met p.trace q.trace epoch did; advances = none_else p q (did_none did refl pool).count };
       caught = came_caught;
       gave = λ p q shared law g. record { sees = record { same = g.quiet.same; begins = g.quiet.seen; is_run = g.quiet.is_run law.is_run }; advances = none_else p q g.advances };
-      reserved = λ p q wanted taken steps law r. record { sees = record { same = r.takes.quiet.same; begins = r.takes.quiet.seen; is_run = r.takes.quiet.is_run law.is_run }; advances = none_else p q r.takes.advances };
+      reserved = λ p q steps law takes. record { sees = record { same = takes.quiet.same; begins = takes.quiet.seen; is_run = takes.quiet.is_run law.is_run }; advances = none_else p q takes.advances };
       after = came_after;
     }

@@ -12,14 +12,14 @@ use Rattle.vbr_machine.specs.declared.history.Call.{Call}
 use Rattle.vbr_machine.specs.declared.history.Op.{Op}
 use Rattle.vbr_machine.specs.declared.history.Op.TheVariants.{Has, Insert, Remove}
 use Rattle.vbr_slots.specs.Alone.{IsAlone}
-use Rattle.vbr_slots.specs.Calls.{IsSame}
+use Rattle.vbr_slots.specs.Calls.{IsSame, Quiet}
 use Rattle.vbr_slots.specs.PassLaw.{PassLaw}
 use Rattle.vbr_slots.specs.Tokens.{SeenView}
 use Rattle.vbr_slots.specs.Views.{Did, KeepsPool, PassView, TableView, Trace, new_pass, new_trace}
 use Rattle.vbr_slots.specs.declared.pass.TheConstants.{POOL}
 use Rattle.vbr_at_table.specs.GivingSlotsBack.{GivesSlotsBack}
 use Rattle.vbr_at_table.specs.KeptSlots.{UnlinkedInTurn}
-use Rattle.vbr_at_table.specs.Reserving.{Reserves}
+use Rattle.vbr_at_table.specs.Reserving.{TakesFlags}
 use Rattle.vbr_list.specs.Budgets.{LacksSteps, listed_for}
 use Rattle.vbr_list.specs.Disturbed.{enough_among, enough_to_insert_among, enough_to_search_among, enough_to_store_among, most_disturbed, steps_for_slot, steps_to_prepare}
 use Rattle.vbr_list.specs.Expecting.{CallsRemoveIf}
@@ -30,7 +30,7 @@ use Rattle.vbr_at_table.specs.declared.refusal.Refusal.{Refusal}
 use Rattle.vbr_at_table.specs.declared.refusal.Refusal.TheVariants.{NoSlot}
 use Rattle.vbr_set.specs.Answers.{AnswersAll}
 use Rattle.vbr_set.specs.Histories.{calls_of}
-use Rattle.vbr_set.specs.MapCalls.{InsertRefused, IsCall}
+use Rattle.vbr_set.specs.MapCalls.{InsertRefused, IsCall, MapAnswersAll}
 use Rattle.vbr_set.specs.Members.{MemberView}
 use Rattle.vbr_set.specs.Room.{AreTakenUp, HasAllSlots, OthersAreBetweenCalls}
 use Rattle.vbr_set.specs.Tokens.{CatchesUp, IsChain, IsTokenOf, Precedes, end_of}
@@ -78,25 +78,30 @@ CallsStayInOrder =
     → CatchesUp set p (end_of first tokens) q → IsSame q.trace r → Begins q.trace.seen r.seen → AnswersAll others r s
     → Precedes ones others (calls_of s.start s.seen)
 
+-- what an answer leaves stands on while its pass makes no call, as when it takes slots or gives some back: the calls stand in the one legal history that the pass then has
+pub record AnswersStay : Type 0 where
+  pub set : (calls : List Call) (p : Trace) (q r : PassView) → PassLaw r → AnswersAll calls p q.trace → Quiet q.trace r.trace → AnswersAll calls p r.trace
+  pub map : (calls : List Call) (p : Trace) (q r : PassView) → PassLaw r → MapAnswersAll calls p q.trace → Quiet q.trace r.trace → MapAnswersAll calls p r.trace
+
 -- ---- room
 
--- a pass has all its slots when it is opened, and behind each call of a set or a map, answered or refused, each meeting, each catching up, and each giving back and each reserve of slots
+-- a pass has all its slots when it is opened, and behind each call of a set or a map, answered or refused, each meeting, each catching up, and each giving back, each reserve and each top-up of slots
 pub record PassesHaveAllTheirSlots : Type 0 where
   pub opened : (set : TableView) (who : ℕ) → HasAllSlots (new_pass set who)
   pub called : (op : Op) (m n : MemberView) → HasAllSlots m.pass → IsCall op m n → HasAllSlots n.pass
   pub met : (p q : PassView) (epoch : ℕ) → HasAllSlots p → Did ReadEpoch p.trace q.trace epoch → KeepsPool p q → HasAllSlots q
   pub caught : (set : TableView) (p q : PassView) (token : SeenView) → HasAllSlots p → CatchesUp set p token q → HasAllSlots q
   pub gave : (p q : PassView) (shared : ℕ) → HasAllSlots p → GivesSlotsBack p q shared → HasAllSlots q
-  pub reserved : (p q : PassView) (wanted taken steps : ℕ) → HasAllSlots p → Reserves p q wanted taken steps → HasAllSlots q
+  pub reserved : (p q : PassView) (steps : ℕ) → HasAllSlots p → TakesFlags p q steps → HasAllSlots q
 
--- a pass has unlinked in turn when it is opened, and behind each call of a set or a map, answered or refused, each meeting, each catching up, and each giving back and each reserve of slots
+-- a pass has unlinked in turn when it is opened, and behind each call of a set or a map, answered or refused, each meeting, each catching up, and each giving back, each reserve and each top-up of slots
 pub record PassesUnlinkInTurn : Type 0 where
   pub opened : (set : TableView) (who : ℕ) → UnlinkedInTurn (new_trace set who)
   pub called : (op : Op) (m n : MemberView) → HasAllSlots m.pass → UnlinkedInTurn m.pass.trace → IsCall op m n → UnlinkedInTurn n.pass.trace
   pub met : (p q : Trace) (epoch : ℕ) → UnlinkedInTurn p → Did ReadEpoch p q epoch → UnlinkedInTurn q
   pub caught : (set : TableView) (p q : PassView) (token : SeenView) → UnlinkedInTurn p.trace → CatchesUp set p token q → UnlinkedInTurn q.trace
   pub gave : (p q : PassView) (shared : ℕ) → HasAllSlots p → UnlinkedInTurn p.trace → GivesSlotsBack p q shared → UnlinkedInTurn q.trace
-  pub reserved : (p q : PassView) (wanted taken steps : ℕ) → HasAllSlots p → UnlinkedInTurn p.trace → Reserves p q wanted taken steps → UnlinkedInTurn q.trace
+  pub reserved : (p q : PassView) (steps : ℕ) → HasAllSlots p → UnlinkedInTurn p.trace → TakesFlags p q steps → UnlinkedInTurn q.trace
 
 -- a pass that has unlinked in turn had at most one slot unlinked and not yet stamped at each moment of what it has seen
 abbrev pub OneUnstampedAtEachMoment : Type 0

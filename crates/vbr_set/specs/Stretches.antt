@@ -14,7 +14,7 @@ use Rattle.vbr_slots.specs.Views.{Did, KeepsPool, PassView, TableView, Trace}
 use Rattle.vbr_at_table.specs.Counts.{advances}
 use Rattle.vbr_at_table.specs.GivingSlotsBack.{GivesSlotsBack}
 use Rattle.vbr_at_table.specs.KeptSlots.{TakesNoSlot}
-use Rattle.vbr_at_table.specs.Reserving.{Reserves}
+use Rattle.vbr_at_table.specs.Reserving.{TakesFlags}
 use Rattle.vbr_list.specs.Budgets.{LacksSteps, listed_for}
 use Rattle.vbr_list.specs.Cursors.{SeesMore}
 use Rattle.vbr_list.specs.Disturbed.{disturbed, enough_among, enough_to_insert_among, enough_to_search_among, enough_to_store_among, steps_for_slot, steps_to_prepare}
@@ -39,7 +39,7 @@ pub record CameBy (inserts : ℕ) (p q : PassView) : Type 0 where
   pub sees : SeesMore p.trace q.trace
   pub advances : advances q.trace ≤ advances p.trace + inserts
 
--- so it came by each call of a set or a map, answered or refused, by what goes over keys, by each meeting, each catching up, each giving back and each reserve of slots, and by one such way after another
+-- so it came by each call of a set or a map, answered or refused, by what goes over keys, by each meeting, each catching up, each giving back, each reserve and each top-up of slots, and by one such way after another
 pub record PassesComeByCalls : Type 0 where
   pub stays : (p : PassView) → PassLaw p → CameBy 0 p p
   pub called : (op : Op) (m n : MemberView) → PassLaw m.pass → IsCall op m n → CameBy (inserts_begun op) m.pass n.pass
@@ -47,7 +47,7 @@ pub record PassesComeByCalls : Type 0 where
   pub met : (p q : PassView) (epoch : ℕ) → Did ReadEpoch p.trace q.trace epoch → KeepsPool p q → CameBy 0 p q
   pub caught : (set : TableView) (p q : PassView) (token : SeenView) → CatchesUp set p token q → CameBy 0 p q
   pub gave : (p q : PassView) (shared : ℕ) → PassLaw p → GivesSlotsBack p q shared → CameBy 0 p q
-  pub reserved : (p q : PassView) (wanted taken steps : ℕ) → PassLaw p → Reserves p q wanted taken steps → CameBy 0 p q
+  pub reserved : (p q : PassView) (steps : ℕ) → PassLaw p → TakesFlags p q steps → CameBy 0 p q
   pub after : (first then : ℕ) (p q r : PassView) → CameBy first p q → CameBy then q r → CameBy (first + then) p r
 
 -- ---- what all passes did

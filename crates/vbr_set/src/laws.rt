@@ -1,6 +1,8 @@
 //! The laws of tokens, and of progress. Each function says its law in its contract, and does nothing.
 ghost use Rattle.vbr_set.specs.BalanceSums.{BalancesAddUp};
-ghost use Rattle.vbr_set.specs.Laws.{CallsStayInOrder, InsertsMakeProgress, LookUpsMakeProgress, MapsMakeProgress, RemovesMakeProgress, TokensHandOn};
+ghost use Rattle.vbr_set.specs.Laws.{AnswersStay, CallsStayInOrder, InsertsMakeProgress, LookUpsMakeProgress, MapsMakeProgress, RemovesMakeProgress, TokensHandOn};
+
+use vbr_machine::laws::a_run_is_a_map;
 
 /// A law: who catches up with the last token of a chain catches up with the first, through any number
 /// of callers that each caught up with a token before they made the next.
@@ -14,6 +16,14 @@ pub fn tokens_hand_on()
 pub fn calls_stay_in_order()
     ensures { CallsStayInOrder }
 {}
+
+/// A law: let a call be answered, and let its pass then make no call, but take slots or give some back. What
+/// the answer left stands on: the call stands in the one legal history that the pass then has.
+pub fn answers_stay()
+    ensures { AnswersStay }
+{
+    a_run_is_a_map();
+}
 
 /// A law: a look-up that runs out of steps was disturbed. With m the advances of the epoch meanwhile,
 /// two for each update of the set that was answered yes meanwhile, and one for each node that was

@@ -4,14 +4,14 @@ ghost use Rattle.vbr_set.specs.Laws.{NoSlotAlone, OneUnstampedAtEachMoment, Pass
 
 /// A law: a pass has all its slots in its own pool and its hand, and none unstamped, when it is opened,
 /// and behind each call of a set or a map, answered or refused, each meeting, each catching up, and each
-/// giving back and each reserve of slots.
+/// giving back, each reserve and each top-up of slots.
 pub fn passes_have_all_their_slots()
     ensures { PassesHaveAllTheirSlots }
 {}
 
 /// A law: a pass has unlinked in turn, each slot only once it had stamped all that it had unlinked
 /// before, when it is opened, and behind each call of a set or a map, answered or refused, each meeting,
-/// each catching up, and each giving back and each reserve of slots.
+/// each catching up, each giving back, each reserve and each top-up of slots.
 pub fn passes_unlink_in_turn()
     ensures { PassesUnlinkInTurn }
 {}

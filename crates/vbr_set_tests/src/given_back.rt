@@ -148,6 +148,39 @@ fn members_reserve_slots(rt: HostRuntime) -> Result<(), Fail> {
     Ok(())
 }
 
+// The member wants so many slots and tries so often: it takes so many, a step for each try, and keeps so many then.
+fn expect_topped_up<N: Kind>(
+    rt: &impl Abort,
+    one: &mut member::Member<N>,
+    (wanted, probes): (u32, u32),
+    (taken, steps): (u32, u64),
+    kept: usize,
+) {
+    let before = one.pass().steps();
+    let topped_up = one.top_up(wanted, probes);
+    assert_eq!(rt; topped_up, taken);
+    assert_eq!(rt; one.pass().steps().saturating_sub(before), steps);
+    assert_eq!(rt; one.pass().pool().len(), kept);
+}
+
+// The first member takes the slots 1, 2 and 3, and none beyond what it wants. So the other one finds slot 0 alone: with
+// its third try, as the second goes on after slot 1, where it tried first, and shows that no slot from there on is free.
+#[test]
+fn top_ups_go_on_where_they_stopped(rt: HostRuntime) -> Result<(), Fail> {
+    let members = open_members(&rt, rt.alloc(), 4, 2);
+    let [mut one, mut other] = <[Member; 2]>::try_from(members)
+        .ok()
+        .expect(&rt, "two members");
+    let taken = one.top_up(3, 2);
+    assert_eq!(rt; taken, 2);
+    expect_topped_up(&rt, &mut one, (3, 2), (1, 1), 3);
+    expect_topped_up(&rt, &mut one, (3, 2), (0, 0), 3);
+    expect_topped_up(&rt, &mut other, (1, 0), (0, 0), 0);
+    expect_topped_up(&rt, &mut other, (1, 1), (0, 1), 0);
+    expect_topped_up(&rt, &mut other, (1, 2), (1, 2), 1);
+    Ok(())
+}
+
 // Where a remove follows each insert, one insert of three advances the epoch with three slots in reserve; with none
 // each but the first does.
 #[test]

@@ -6,18 +6,23 @@ ghost use Rattle.vbr_handles.specs.Calls.{TellsInsertEntry};
 ghost use Rattle.vbr_handles.specs.Codes.{call_code, exchange_code};
 ghost use Rattle.vbr_handles.specs.ValueCalls.{TellsExchange, TellsGetEntry, TellsGetOrInsert, TellsPut, TellsRemoveEntry, TellsRemoveIf, TellsReplace, WritesGiven};
 
+use crate::numbers::topping_up::{has_added, has_stored_new, top_up_after};
 use crate::numbers::{EMPTY, NO, OTHER, YES, call_code};
 use crate::owner::Owner;
 use vbr_set::{MapMember, Refusal};
 
-/// Adds a key with its value by the member of a owner.
+/// Adds a key with its value by the member of a handle, and then keeps the reserve of the handle.
 pub fn insert(owner: &mut Owner<MapMember>, key: u64, value: u64, budget: u32) -> i32
     ensures { TellsInsertEntry owner.old.member owner.new.member key value budget result }
 {
     if owner.is_empty() {
         return EMPTY;
     }
-    call_code(owner.member_mut().insert(key, value, budget))
+    let member = owner.member_mut();
+    let before = member.pass().steps();
+    let answer = member.insert(key, value, budget);
+    top_up_after(member, has_added(&answer), budget, before);
+    call_code(answer)
 }
 
 /// Takes a key out by the member of a handle, and writes the value that was stored with it.
@@ -60,6 +65,7 @@ pub fn replace(
 }
 
 /// Gives a key a value by the member of a handle, whether it is there or not, and writes the one that it had.
+/// Where it added the key it then keeps the reserve of the handle.
 pub fn put(owner: &mut Owner<MapMember>, key: u64, value: u64, found: &mut u64, budget: u32) -> i32
     ensures { TellsPut owner.old.member owner.new.member key value budget found.old found.new
         result }
@@ -67,10 +73,15 @@ pub fn put(owner: &mut Owner<MapMember>, key: u64, value: u64, found: &mut u64, 
     if owner.is_empty() {
         return EMPTY;
     }
-    give(owner.member_mut().put(key, value, budget), found)
+    let member = owner.member_mut();
+    let before = member.pass().steps();
+    let answer = member.put(key, value, budget);
+    top_up_after(member, has_stored_new(&answer), budget, before);
+    give(answer, found)
 }
 
-/// Gives a key that is absent a value by the member of a handle; of one that is there it writes the value.
+/// Gives a key that is absent a value by the member of a handle, and then keeps the reserve of the handle; of one
+/// that is there it writes the value.
 pub fn get_or_insert(
     owner: &mut Owner<MapMember>,
     key: u64,
@@ -84,7 +95,11 @@ pub fn get_or_insert(
     if owner.is_empty() {
         return EMPTY;
     }
-    give(owner.member_mut().get_or_insert(key, value, budget), found)
+    let member = owner.member_mut();
+    let before = member.pass().steps();
+    let answer = member.get_or_insert(key, value, budget);
+    top_up_after(member, has_stored_new(&answer), budget, before);
+    give(answer, found)
 }
 
 /// Gives a key another value by the member of a handle where it has the one that is expected, and writes

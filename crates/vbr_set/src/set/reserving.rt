@@ -2,7 +2,7 @@
 ghost use Rattle.std.specs.Prelude.{ℕ};
 ghost use Rattle.vbr_slots.specs.Calls.{Took};
 ghost use Rattle.vbr_slots.specs.Views.{IsOf};
-ghost use Rattle.vbr_at_table.specs.Reserving.{Reserves};
+ghost use Rattle.vbr_at_table.specs.Reserving.{Reserves, TopsUp};
 
 use crate::set::VbrSet;
 use vbr_slots::{AtTable, Pass, Slots, Stepper};
@@ -37,6 +37,30 @@ impl<N: Nodes> VbrSet<N> {
             { reserve_by(slots, stepper, wanted) },
         )
     }
+
+    /// Takes slots as [`VbrSet::reserve`] does, but tries no more than `probes` times, a step for each, and returns
+    /// how many it took. It takes fewer than are wanted where all tries were made, or once round the slots. The
+    /// next top-up goes on after the slot that the pass tried last. A pass that has what is wanted makes no step.
+    ///
+    /// After each insert two tries are enough: the reserve grows while flags are set one after the other.
+    ///
+    /// # Example
+    ///
+    /// ```rattle file=crates/vbr_set/src/member/reserving.rt
+    /// self.share.set().top_up(&mut self.pass, wanted, probes)
+    /// ```
+    #[inline]
+    pub fn top_up(&self, pass: &mut Pass, wanted: u32, probes: u32) -> u32
+        requires own { IsOf pass.old.trace self.now }
+        ensures { (steps : ℕ) × TopsUp pass.old pass.new wanted probes result steps }
+    {
+        let slots = &self.slots;
+        pass.during(
+            |stepper|
+                requires own { IsOf stepper.old.trace slots.now }
+            { top_up_by(slots, stepper, wanted, probes) },
+        )
+    }
 }
 
 // How many were taken, and how many steps that took.
@@ -46,4 +70,18 @@ fn reserve_by<N: Nodes>(slots: &Slots<N>, stepper: &mut Stepper, wanted: u32) ->
     ensures reserves { Reserves stepper.old stepper.new wanted result.0 result.1 }
 {
     vbr_at_table::reserve(&mut AtTable { slots, stepper }, wanted)
+}
+
+// How many a top-up took, and how many steps that took.
+fn top_up_by<N: Nodes>(
+    slots: &Slots<N>,
+    stepper: &mut Stepper,
+    wanted: u32,
+    probes: u32,
+) -> (u32, u32)
+    requires own { IsOf stepper.old.trace slots.now }
+    ensures took { Took stepper.old.trace stepper.new.trace result.1 }
+    ensures tops_up { TopsUp stepper.old stepper.new wanted probes result.0 result.1 }
+{
+    vbr_at_table::top_up(&mut AtTable { slots, stepper }, wanted, probes)
 }

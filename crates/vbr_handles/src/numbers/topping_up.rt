@@ -1,0 +1,71 @@
+//! What a handle keeps in reserve by itself: after a call that adds a key it takes slots up to that.
+ghost use Rattle.std.specs.Prelude.{◌≡◌};
+ghost use Rattle.vbr_slots.specs.Views.{Trace, counted_steps, steps_of};
+ghost use Rattle.vbr_handles.specs.ToppingUp.{TopsUpReserve, TopsUpWhere, has_added, has_stored_new, left_of, reserve_of};
+
+use vbr_set::Refusal;
+use vbr_set::member::Member;
+use vbr_words::Nodes;
+
+/// The most slots that a handle keeps in reserve by itself.
+pub const MOST: u32 = 32;
+
+/// A reserve is no more than the share of a handle in the slots, by this number.
+pub const PARTS: u32 = 8;
+
+/// How often it tries to take a slot after a call that added a key.
+pub const TRIES: u32 = 2;
+
+/// Tops the reserve of a member up after a call that added a key: in two tries, or in as many as the steps of the
+/// call left of its budget, where these are fewer. The pass had counted `before` steps when the call began. After
+/// a call that added none it does nothing.
+#[inline]
+pub(crate) fn top_up_after<N: Nodes>(
+    member: &mut Member<N>,
+    has_added: bool,
+    budget: u32,
+    before: u64,
+)
+    ensures { (p : Trace) → before ≡ counted_steps (steps_of p) →
+        TopsUpWhere has_added budget p member.old member.new }
+{
+    if has_added {
+        let left = left_of(budget, before, member.pass().steps());
+        let wanted = reserve_of(member);
+        member.top_up(wanted, left.min(TRIES));
+        member.pass().law();
+    }
+}
+
+// How many steps are left of a budget.
+fn left_of(budget: u32, before: u64, since: u64) -> u32
+    ensures { result ≡ left_of budget before since }
+{
+    if since < u64::MAX {
+        u64::from(budget).saturating_sub(since.saturating_sub(before)) as u32
+    } else {
+        0
+    }
+}
+
+// How many slots a member keeps in reserve.
+fn reserve_of<N: Nodes>(member: &Member<N>) -> u32
+    ensures { result ≡ reserve_of member.now.set }
+{
+    member.pass().law();
+    (member.shape().slots() / member.passes() / PARTS).min(MOST)
+}
+
+/// Whether an insert added its key.
+pub(crate) fn has_added(answer: &Result<bool, Refusal>) -> bool
+    ensures { result ≡ has_added answer.now }
+{
+    matches!(answer, Ok(true))
+}
+
+/// Whether a store added its key.
+pub(crate) fn has_stored_new(answer: &Result<Option<u64>, Refusal>) -> bool
+    ensures { result ≡ has_stored_new answer.now }
+{
+    matches!(answer, Ok(None))
+}
