@@ -49,6 +49,27 @@ static void give_back(void) {
     CHECK(vbr_spare(&handle[0]) == 0); /* it is empty */
 }
 
+/* Opens a set of one slot, and tries an insert by the first handle with a budget. */
+static vbr_answer try_with(uint32_t steps) {
+    CHECK(vbr_open(handle, 2, 1, 1, VBR_MAX_EPOCH) == VBR_OK);
+    return vbr_insert_within(&handle[0], 5, steps);
+}
+
+/* An insert whose budget is one step too small has taken the slot by then. Its handle gives it back, and the other one finds it. */
+static void give_back_what_was_taken(void) {
+    uint32_t enough = 0;
+    while (try_with(enough) == VBR_OUT_OF_STEPS) {
+        vbr_end_all(handle, 2);
+        enough++;
+    }
+    vbr_end_all(handle, 2);
+    CHECK(try_with(enough - 1) == VBR_OUT_OF_STEPS);
+    CHECK(vbr_insert(&handle[1], 6) == VBR_NO_SLOT);
+    CHECK(vbr_spare(&handle[0]) == 1 && vbr_spare(&handle[0]) == 0);
+    CHECK(vbr_insert(&handle[1], 6) == VBR_YES && vbr_insert(&handle[0], 5) == VBR_NO_SLOT);
+    CHECK(vbr_close_all(handle, 2, keys, SLOTS, &report) == VBR_YES && report.live == 1 && keys[0] == 6);
+}
+
 /* A handle that is closed leaves its slots to the other one, and so does one that is dropped. */
 static void leave(int drops) {
     open_two();
@@ -76,6 +97,7 @@ static void take_in_reserve(void) {
 
 int main(void) {
     give_back();
+    give_back_what_was_taken();
     take_in_reserve();
     leave(0);
     leave(1);

@@ -517,8 +517,24 @@ static int all_handles() {
     return 0;
 }
 
+// An insert whose budget is one step too small has taken the slot by then. Its handle gives it back, and the other one finds it.
+static int spared() {
+    constexpr vbr::shape one_slot{1, 1, 10};
+    std::uint32_t enough = 0;
+    for (bool added = false; !added; enough++) {
+        std::vector<vbr::handle> fresh = vbr::open(one_slot, 2).value();
+        added = fresh[0].insert_within(5, vbr::steps{enough + 1}) == true;
+    }
+    std::vector<vbr::handle> both = vbr::open(one_slot, 2).value();
+    CHECK(both[0].insert_within(5, vbr::steps{enough - 1}) == vbr::refusal::out_of_steps);
+    CHECK(both[1].insert(6) == vbr::refusal::no_slot);
+    CHECK(both[0].spare() == 1 && both[0].spare() == 0);
+    CHECK(both[1].insert(6) == true && both[0].insert(5) == vbr::refusal::no_slot);
+    return 0;
+}
+
 int main() {
-    if (example() || calls() || results() || words() || budgets() || all_handles() || many_keys() || the_most() || crowds()) return 1;
+    if (example() || calls() || spared() || results() || words() || budgets() || all_handles() || many_keys() || the_most() || crowds()) return 1;
     if (refusals() || ranges() || walks() || walked_by_iterators() || refused_walks() || ends() || ends_of_all()) return 1;
     if (exceptions() || closes_at_once() || loans() || seeds()) return 1;
     std::puts("example in C++: passed");

@@ -360,8 +360,7 @@ VBR_NODISCARD int64_t vbr_balance(const vbr_handle *handle) VBR_NOEXCEPT VBR_NON
 
 /* Puts the slots that the handle keeps to itself into the pool that all handles share, where any of them finds them, in one step
    for each: how many they were, and 0 for an empty handle. Call it of a handle that inserts nothing for a time. It makes no call of
-   the set, takes no memory and can't fail. A slot stays which an insert of the handle had taken when it was refused with
-   VBR_OUT_OF_STEPS, or found that another had just added its key, until an insert of the handle takes it again.
+   the set, takes no memory and can't fail. The handle keeps none then.
 
        uint32_t given = vbr_spare(&handle[0]); // handle[1] can have them now */
 uint32_t vbr_spare(vbr_handle *handle) VBR_NOEXCEPT VBR_NONNULL;

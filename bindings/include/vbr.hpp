@@ -794,8 +794,8 @@ public:
     std::int64_t balance() const noexcept { return Kind::balance(&raw); }
 
     /* Puts the slots that the handle keeps to itself into the pool that all handles share, where any of them finds them: how
-       many they were. Call it of a handle that inserts nothing for a time; one that is closed or ends does so by itself.
-       vbr_spare says which slots stay.
+       many they were. It keeps none then. Call it of a handle that inserts nothing for a time; one that is closed or ends does
+       so by itself.
 
            std::uint32_t given = mine.spare(); // the other handles can have them now */
     std::uint32_t spare() noexcept { return Kind::spare(&raw); }

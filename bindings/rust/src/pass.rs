@@ -419,11 +419,8 @@ impl<T: Kind> PassOf<T> {
     }
 
     /// Puts the slots that the handle keeps to itself, at most 64, into the pool that all handles share, where any of them
-    /// finds them, and returns how many they were. It makes a step for each, and can't fail. A handle that is closed or
-    /// dropped does so by itself: call it of one that inserts nothing for a time.
-    ///
-    /// A slot stays which an insert of the handle had taken when it was refused with [`Refusal::OutOfSteps`], or found that
-    /// another had just added its key, until an insert of the handle takes it again.
+    /// finds them, and returns how many they were. It keeps none then. It makes a step for each, and can't fail. A handle
+    /// that is closed or dropped does so by itself: call it of one that inserts nothing for a time.
     ///
     /// ```
     /// # use vbr::{Refusal, Set, Shape};
@@ -434,8 +431,6 @@ impl<T: Kind> PassOf<T> {
     /// assert!(handles[1].insert(6)?);
     /// # Ok::<(), Box<dyn std::error::Error>>(())
     /// ```
-    ///
-    /// [`Refusal::OutOfSteps`]: crate::Refusal::OutOfSteps
     #[inline]
     pub fn spare(&mut self) -> u32 {
         // SAFETY: as for `has_within`.

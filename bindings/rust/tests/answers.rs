@@ -27,7 +27,21 @@ of_sets_and_maps! {
     errors_pass_as_any_error
     look_ups_through_a_shared_reference
     budgets_of_handles
+    spared_slots
     a_set_that_ends
+}
+
+/// An insert whose budget is one step too small has taken the slot by then. Its handle gives it back, and another finds it.
+fn spared_slots<K: Both>() {
+    let open = || Table::<K>::handles(Shape::new(1, 1, 10).with_handles(2)).expect("a set");
+    let is_enough = |steps: &u32| K::insert_within(&mut open()[0], 5, Steps::new(*steps)).is_ok();
+    let enough = (1..).find(is_enough).expect("a budget that is enough");
+    let mut handles = open();
+    assert_eq!(K::insert_within(&mut handles[0], 5, Steps::new(enough - 1)), Err(Refusal::OutOfSteps));
+    assert_eq!(K::insert(&mut handles[1], 6), Err(Refusal::NoSlot));
+    assert_eq!((handles[0].spare(), handles[0].spare()), (1, 0));
+    assert_eq!(K::insert(&mut handles[1], 6), Ok(true));
+    assert_eq!(K::insert(&mut handles[0], 5), Err(Refusal::NoSlot));
 }
 
 /// Closes the last handle.

@@ -10,6 +10,7 @@ use Rattle.vbr_machine.specs.declared.event.Step.{Step}
 use Rattle.vbr_event_lists.specs.Worked.{AreWorked, three_slots, one_slot, many_epochs}
 use Rattle.vbr_event_lists.specs.Valued.{valued, with_values}
 use Rattle.vbr_event_lists.specs.declared.lists.TheConstants.{REBORN_SLOT, SAME_WORD, TWO_HELPERS, REBORN_SLOT_WORDS, SAME_WORD_WORDS, TWO_HELPERS_WORDS}
+use Rattle.vbr_event_lists.specs.declared.raised.TheConstants.{RAISED_IN_HAND, RAISED_IN_HAND_WORDS}
 use Rattle.vbr_event_lists.specs.declared.replaced.TheConstants.{REPLACED_VALUE, REPLACED_VALUE_WORDS}
 use Rattle.vbr_event_lists.specs.declared.standing.TheConstants.{STANDING_WITH_VALUES, STANDING_WORDS}
 use Rattle.vbr_event_lists.specs.declared.valued.TheConstants.{STORED_VALUE, STORED_VALUE_WORDS}
@@ -43,6 +44,10 @@ reborn_slot_with_values = worked_in_parts (valued three_slots) 4 10 (with_values
 pub same_word_with_values : AreWorked (valued three_slots) (opening (valued three_slots)) (with_values SAME_WORD) SAME_WORD_WORDS
 unfolding bucket_of link_of word_of has_flag first_bits flag_word
 same_word_with_values = worked_in_parts (valued three_slots) 3 10 (with_values SAME_WORD) (opening (valued three_slots)) SAME_WORD_WORDS (search (rules, tests), (search (rules, tests), (search (rules, tests), search (rules, tests))))
+
+pub raised_in_hand_with_values : AreWorked (valued one_slot) (opening (valued one_slot)) (with_values RAISED_IN_HAND) RAISED_IN_HAND_WORDS
+unfolding bucket_of link_of word_of has_flag first_bits flag_word
+raised_in_hand_with_values = worked_in_parts (valued one_slot) 1 10 (with_values RAISED_IN_HAND) (opening (valued one_slot)) RAISED_IN_HAND_WORDS (search (rules, tests), search (rules, tests))
 
 pub standing_with_values : AreWorked (valued many_epochs) (opening (valued many_epochs)) STANDING_WITH_VALUES STANDING_WORDS
 unfolding bucket_of link_of word_of has_flag first_bits flag_word

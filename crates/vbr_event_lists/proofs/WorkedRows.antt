@@ -1,4 +1,4 @@
--- The three worked lists of events, computed: each is accepted, with its effects and with the link words that it names.
+-- The worked lists of events, computed: each is accepted, with its effects and with the link words that it names.
 use Rattle.std.proofs.Common.{ℕ, zero, suc, List, [], ◌∷◌, take, drop, rules, tests}
 use Rattle.std.specs.Prelude.{if◌then◌else◌}
 use Rattle.vbr_machine.specs.Start.{Start}
@@ -10,6 +10,7 @@ use Rattle.vbr_machine.specs.declared.event.Effect.{Effect}
 use Rattle.vbr_machine.specs.declared.event.Step.{Step}
 use Rattle.vbr_event_lists.specs.Worked.{AreWorked, names_link, others_of, three_slots, one_slot}
 use Rattle.vbr_event_lists.specs.declared.lists.TheConstants.{REBORN_SLOT, SAME_WORD, TWO_HELPERS, REBORN_SLOT_WORDS, SAME_WORD_WORDS, TWO_HELPERS_WORDS}
+use Rattle.vbr_event_lists.specs.declared.raised.TheConstants.{RAISED_IN_HAND, RAISED_IN_HAND_WORDS}
 
 pub two_helpers : AreWorked one_slot (opening one_slot) TWO_HELPERS TWO_HELPERS_WORDS
 unfolding bucket_of link_of word_of has_flag first_bits flag_word
@@ -18,6 +19,10 @@ two_helpers = search (rules, tests)
 pub reborn_slot : AreWorked three_slots (opening three_slots) REBORN_SLOT REBORN_SLOT_WORDS
 unfolding bucket_of link_of word_of has_flag first_bits flag_word
 reborn_slot = search (rules, tests)
+
+pub raised_in_hand : AreWorked one_slot (opening one_slot) RAISED_IN_HAND RAISED_IN_HAND_WORDS
+unfolding bucket_of link_of word_of has_flag first_bits flag_word
+raised_in_hand = search (rules, tests)
 
 -- the world and the words that are left after so many rows
 abbrev pub left_after : Start → ℕ → List (ℕ × Step × Effect) → World → List ℕ → World × List ℕ

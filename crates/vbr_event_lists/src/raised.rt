@@ -1,0 +1,24 @@
+//! A worked list of events in which a slot is raised while it is in hand.
+use crate::lists::Row;
+use crate::rows::rows;
+use vbr_machine::{Effect, Step};
+use vbr_words::At;
+
+/// Pass 0 gives birth in a slot in epoch 2, and raises it in place of publishing it. Pass 1, which read
+/// the epoch before it moved, takes the slot, bears there in epoch 1 and inserts 7.
+pub const RAISED_IN_HAND: [Row; 16] = rows![bare:
+    1 ReadEpoch => Value(1);
+    1 LoadLink { at: At::Head(0) } => Value(0);
+    1 ReadEpoch => Value(1);
+    0 ReadEpoch => Value(1);
+    0 Advance { from: 1 } => Won;
+    0 ReadEpoch => Value(2);
+    0 makes { slot: 0, birth: 2, key: 9 };
+    0 StoreLink { slot: 0, next: None } => Done;
+    0 Raise { slot: 0 } => Done;
+    1 makes { slot: 0, birth: 1, key: 7 };
+    1 links { slot: 0, next: None, pred: At::Head(0), expected: 0 };
+];
+
+/// The link words that the callers of its steps name.
+pub const RAISED_IN_HAND_WORDS: [u64; 3] = [67_108_864, 33_554_432, 33_554_433];
