@@ -88,6 +88,7 @@ mod WorkedLists
 mod WorkedMaps
 mod WorkedReplacements
 mod WorkedChronicles
+mod WorkedRaises
 mod WorkedRefusals
 mod WorkedLookUps
 mod NamedKeys

@@ -13,9 +13,9 @@ use std::alloc::Global;
 use std::process::Abort;
 use std::test::Fail;
 use vbr_event_lists::{
-    REBORN_SLOT, REBORN_SLOT_WORDS, REPLACED_VALUE, REPLACED_VALUE_WORDS, Row, SAME_WORD,
-    SAME_WORD_WORDS, STANDING_WITH_VALUES, STANDING_WORDS, STORED_VALUE, STORED_VALUE_WORDS,
-    TWO_HELPERS, TWO_HELPERS_WORDS, with_values,
+    RAISED_IN_HAND, RAISED_IN_HAND_WORDS, REBORN_SLOT, REBORN_SLOT_WORDS, REPLACED_VALUE,
+    REPLACED_VALUE_WORDS, Row, SAME_WORD, SAME_WORD_WORDS, STANDING_WITH_VALUES, STANDING_WORDS,
+    STORED_VALUE, STORED_VALUE_WORDS, TWO_HELPERS, TWO_HELPERS_WORDS, with_values,
 };
 use vbr_machine::{Effect, Op, Step};
 use vbr_slots::{Pass, Slots};
@@ -334,6 +334,20 @@ fn a_word_comes_back(rt: HostRuntime) -> Result<(), Fail> {
 }
 
 #[test]
+fn a_slot_is_raised_in_hand(rt: HostRuntime) -> Result<(), Fail> {
+    let shape = Shape::new(1, 1, 10)?;
+    let words = words_after::<HostRuntime, Keys>(
+        &rt,
+        rt.alloc(),
+        shape,
+        &RAISED_IN_HAND,
+        &RAISED_IN_HAND_WORDS,
+    );
+    let wanted: [&[u64]; 2] = [&[2, 167_772_161, 33_554_433], &[33_554_432, 1, 0, 7]];
+    expect_words(&rt, rt.alloc(), words, &wanted, 0)
+}
+
+#[test]
 fn two_passes_unlink_one_node_with_a_value(rt: HostRuntime) -> Result<(), Fail> {
     let shape = Shape::new(1, 1, 10)?.with_values();
     let rows = with_values(rt.alloc(), &TWO_HELPERS)?;
@@ -385,6 +399,21 @@ fn a_word_comes_back_with_values(rt: HostRuntime) -> Result<(), Fail> {
         &[67_108_865, 2, 0, 20, 120],
         &[184_549_377, 5, 0, 10, 110],
     ];
+    expect_words(&rt, rt.alloc(), words, &wanted, 0)
+}
+
+#[test]
+fn a_slot_is_raised_in_hand_with_a_value(rt: HostRuntime) -> Result<(), Fail> {
+    let shape = Shape::new(1, 1, 10)?.with_values();
+    let rows = with_values(rt.alloc(), &RAISED_IN_HAND)?;
+    let words = words_after::<HostRuntime, Entries>(
+        &rt,
+        rt.alloc(),
+        shape,
+        &rows,
+        &RAISED_IN_HAND_WORDS,
+    );
+    let wanted: [&[u64]; 2] = [&[2, 167_772_161, 33_554_433], &[33_554_432, 1, 0, 7, 107]];
     expect_words(&rt, rt.alloc(), words, &wanted, 0)
 }
 

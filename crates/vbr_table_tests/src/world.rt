@@ -7,7 +7,7 @@ use std::test::Fail;
 use vbr_core::{
     Call, CoreRefusal, Effect, Event, Op, SlotPlace, Step, World, WorldRefusal, replay,
 };
-use vbr_event_lists::{REBORN_SLOT, Row, SAME_WORD, TWO_HELPERS, with_values};
+use vbr_event_lists::{RAISED_IN_HAND, REBORN_SLOT, Row, SAME_WORD, TWO_HELPERS, with_values};
 use vbr_words::flags::flag_words;
 use vbr_words::{At, Place, Shape};
 
@@ -197,6 +197,21 @@ fn follows_two_helpers(rt: HostRuntime) -> Result<(), Fail> {
     Ok(())
 }
 
+#[test]
+fn follows_a_slot_that_is_raised_in_hand(rt: HostRuntime) -> Result<(), Fail> {
+    let shape = Shape::new(1, 1, 10)?;
+    let looks = [
+        (11, Place::Birth(0), 2),
+        (11, Place::Flags(0), 1),
+        (14, Place::Birth(0), 1),
+        (16, Place::Head(0), 33_554_433),
+    ];
+    let world = follow(&rt, rt.alloc(), shape, &RAISED_IN_HAND, &looks)?;
+    let calls = [call(1, Op::Insert, 7)];
+    expect(&rt, &world, shape, &calls, &[SlotPlace::Listed(0)], 2);
+    Ok(())
+}
+
 // A look-up for the key of the node that the list of two helpers marks.
 const LOOK_UP: Step = Step::ConfirmAbsent {
     op: Op::Has,
@@ -328,6 +343,22 @@ fn replays_a_list(rt: HostRuntime) -> Result<(), Fail> {
     expect_stamp(&rt, rt.alloc(), Shape::new(3, 1, 10)?, &REBORN_SLOT, 32)
 }
 
+// Behind the first 17 rows of the list of two helpers pass 1 has unlinked slot 0, and hasn't stamped it.
+#[test]
+fn an_unstamped_slot_is_not_raised(rt: HostRuntime) -> Result<(), Fail> {
+    let shape = Shape::new(1, 1, 10)?;
+    for pass in 0..2 {
+        let mut events = events_of(rt.alloc(), &TWO_HELPERS, 17)?;
+        events.push(Event {
+            pass,
+            step: Step::Raise { slot: 0 },
+        })?;
+        let wanted = (17, CoreRefusal::NotOwned);
+        expect_stop(&rt, rt.alloc(), shape, 2, &events, wanted);
+    }
+    Ok(())
+}
+
 // Compares the number of calls, that of incarnations, and the epoch.
 fn expect_counts(rt: &impl Abort, world: &World, wanted: (usize, u64, u64)) {
     let told = (
@@ -354,10 +385,11 @@ pub(crate) fn expect_whole(
 
 #[test]
 fn replays_each_list_whole(rt: HostRuntime) -> Result<(), Fail> {
-    let rows: [(&[Row], u32, (usize, u64, u64)); 3] = [
+    let rows: [(&[Row], u32, (usize, u64, u64)); 4] = [
         (&REBORN_SLOT, 3, (4, 4, 2)),
         (&SAME_WORD, 3, (4, 3, 5)),
         (&TWO_HELPERS, 1, (2, 1, 1)),
+        (&RAISED_IN_HAND, 1, (1, 2, 2)),
     ];
     for (list, slots, wanted) in rows {
         let shape = Shape::new(slots, 1, 10)?;
