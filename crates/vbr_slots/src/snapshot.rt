@@ -37,7 +37,7 @@ impl<N: Nodes> Slots<N> {
     /// event of it. It has all passes, so no step is made meanwhile; the passes stay as they were.
     ///
     /// It loads each word once, which is no step, and twice one for each pass. It takes 8 bytes for each word
-    /// and 880 for each pass, before it loads any.
+    /// and 616 for each pass, before it loads any.
     pub fn snapshot(&self, alloc: Global, passes: &mut Vec<Pass>) -> Result<Vec<u64>, AllocError>
         requires of_table { AllOf self.now passes.old.items }
         requires all { self.now.passes ≤ length passes.old.items }

@@ -14,7 +14,7 @@ impl<N: Kind> VbrSet<N> {
     /// Opens an empty set or map, with so many passes, from 1 to 64. They stand in the order of their
     /// numbers, which begin with 0, and have seen nothing. No call takes memory later, but for
     /// [`VbrSet::close`]. It takes 8 * (2 + buckets + 4 * slots + slots / 64) bytes, the last part
-    /// rounded up, in a map 8 more for each slot, 880 for each pass, and the words once more while it runs.
+    /// rounded up, in a map 8 more for each slot, 616 for each pass, and the words once more while it runs.
     /// No pass has made a step then. Each slot is in the shared pool, which the passes take from and put
     /// back into (Sheffi, Herlihy and Petrank 2021).
     ///
@@ -89,7 +89,7 @@ impl<N: Kind> VbrSet<N> {
     }
 
     /// Opens a set that has these keys, or a map that has these entries, as [`VbrSet::open_with`] does, with
-    /// more passes: from 1 to [`MAX_MANY_PASSES`]. Time and memory are as there, 880 bytes for each pass. No
+    /// more passes: from 1 to [`MAX_MANY_PASSES`]. Time and memory are as there, 616 bytes for each pass. No
     /// call takes a step more for more passes; what closes, reports or renews the set goes over them.
     ///
     /// # Errors

@@ -18,7 +18,7 @@ impl<N: Kind> VbrSet<N> {
     ///
     /// It has all passes, so no other call runs. It goes once over the words, once over the buckets and
     /// once over the slots, and twice over the passes. It takes 9 bytes for each slot of a set and 17 of a map,
-    /// 8 for each word and 880 for each pass, all of it before it looks at any. It refuses only where there is no room for these.
+    /// 8 for each word and 616 for each pass, all of it before it looks at any. It refuses only where there is no room for these.
     ///
     /// # Example
     ///
