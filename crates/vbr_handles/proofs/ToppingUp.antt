@@ -1,5 +1,5 @@
 -- A call and the top-up after it stay within the budget.
-use Rattle.std.proofs.Common.{◌≡◌, ℕ, ◌+◌, ◌-◌, ◌^◌, ◌<◌, ◌≤◌, min, Bool, true, false, sym, ap, ◌∙◌, subst, ⊎_elim, arith}
+use Rattle.std.proofs.Common.{◌≡◌, ℕ, ◌+◌, ◌-◌, ◌^◌, ◌<◌, ◌≤◌, min, Bool, true, false, sym, ap, ◌∙◌, subst, ⊎_elim, arith, ◌/◌, ◌&&◌}
 use Rattle.std.specs.Prelude.{if◌then◌else◌, Result}
 use Rattle.std.proofs.lemmas.Bool.{cases_lt, le-ltb, lt-ltb}
 use Rattle.vbr_slots.specs.PassLaw.{PassLaw}
@@ -9,7 +9,7 @@ use Rattle.vbr_at_table.specs.Reserving.{TopsUp}
 use Rattle.vbr_at_table.specs.Steps.{TookWithin}
 use Rattle.vbr_at_table.specs.declared.refusal.Refusal.{Refusal}
 use Rattle.vbr_set.specs.Members.{MemberView as Member}
-use Rattle.vbr_handles.specs.ToppingUp.{CallsAndTopsUp, TopsUpReserve, TopsUpWhere, left_of, reserve_of}
+use Rattle.vbr_handles.specs.ToppingUp.{CallsAndTopsUp, TopsUpReserve, TopsUpWhere, lacks_slots, left_of, reserve_of}
 
 -- what is left, where the count isn't at its end
 left_is : (budget before since : ℕ) → since < 2 ^ 64 - 1 → left_of budget before since ≡ budget - (since - before)
@@ -26,23 +26,23 @@ few_left budget before steps since more is within few = ⊎_elim
     (cases_lt (counted_steps since) (2 ^ 64 - 1))
 
 -- a member that was topped up with these tries
-pub topped : {m n : Member} {budget before left wanted tries taken steps : ℕ} {p : Trace} → n.set ≡ m.set → PassLaw n.pass → before ≡ counted_steps (steps_of p) → left ≡ left_of budget before (counted_steps (steps_of m.pass.trace)) → wanted ≡ reserve_of m.set → tries ≡ min left 2 → TopsUp m.pass n.pass wanted tries taken steps → TopsUpReserve budget p m n
+pub topped : {m n : Member} {budget before left wanted tries taken steps : ℕ} {p : Trace} → n.set ≡ m.set → PassLaw n.pass → before ≡ counted_steps (steps_of p) → left ≡ left_of budget before (counted_steps (steps_of m.pass.trace)) → wanted ≡ reserve_of m.set → tries ≡ min left (wanted / 8 + 1) → TopsUp m.pass n.pass wanted tries taken steps → TopsUpReserve budget p m n
 topped {m} {n} {budget} {before} {left} {wanted} {tries} {taken} {steps} {p} set law counted left_is wanted_is tries_is tops = record {
   set = set;
   taken = taken;
   steps = steps;
-  tops_up = subst (λ (x : ℕ × ℕ). TopsUp m.pass n.pass x.0 x.1 taken steps) (λ i. (wanted_is i, (tries_is ∙ ap (λ (x : ℕ). min x 2) (left_is ∙ ap (λ (x : ℕ). left_of budget x (counted_steps (steps_of m.pass.trace))) counted)) i)) tops;
+  tops_up = subst (λ (x : ℕ × ℕ). TopsUp m.pass n.pass x.0 x.1 taken steps) (λ i. (wanted_is i, (tries_is ∙ (λ j. min ((left_is ∙ ap (λ (x : ℕ). left_of budget x (counted_steps (steps_of m.pass.trace))) counted) j) (wanted_is j / 8 + 1))) i)) tops;
   law = law;
 }
 
 module _ {A : Type 0} {Calls : Member → Member → Result A Refusal → Type 0} {adds : Result A Refusal → Bool} {budget : ℕ} where
   -- the call and what came after it
-  pub calls_and_tops_up : {m n : Member} (b : Member) (answer : Result A Refusal) (added : Bool) → Calls m b answer → TookWithin m.pass.trace b.pass.trace budget → added ≡ adds answer → TopsUpWhere added budget m.pass.trace b n → CallsAndTopsUp Calls adds budget m n answer
+  pub calls_and_tops_up : {m n : Member} (b : Member) (answer : Result A Refusal) (added : Bool) → Calls m b answer → TookWithin m.pass.trace b.pass.trace budget → added ≡ adds answer → TopsUpWhere (added && lacks_slots b) budget m.pass.trace b n → CallsAndTopsUp Calls adds budget m n answer
   calls_and_tops_up {m} {n} b answer added called steps is tops = record {
     between = b;
     called = called;
-    tops_up = subst (λ (x : Bool). TopsUpWhere x budget m.pass.trace b n) is tops;
-    steps = go added tops;
+    tops_up = subst (λ (x : Bool). TopsUpWhere (x && lacks_slots b) budget m.pass.trace b n) is tops;
+    steps = go (added && lacks_slots b) tops;
   }
     where
       go : (x : Bool) → TopsUpWhere x budget m.pass.trace b n → TookWithin m.pass.trace n.pass.trace budget

@@ -1,7 +1,7 @@
 //! What a handle keeps in reserve by itself: after a call that adds a key it takes slots up to that.
-ghost use Rattle.std.specs.Prelude.{◌≡◌};
+ghost use Rattle.std.specs.Prelude.{◌≡◌, ◌&&◌};
 ghost use Rattle.vbr_slots.specs.Views.{Trace, counted_steps, steps_of};
-ghost use Rattle.vbr_handles.specs.ToppingUp.{TopsUpReserve, TopsUpWhere, has_added, has_stored_new, left_of, reserve_of};
+ghost use Rattle.vbr_handles.specs.ToppingUp.{TopsUpReserve, TopsUpWhere, has_added, has_stored_new, lacks_slots, left_of, reserve_of};
 
 use vbr_set::Refusal;
 use vbr_set::member::Member;
@@ -10,15 +10,16 @@ use vbr_words::Nodes;
 /// The most slots that a handle keeps in reserve by itself.
 pub const MOST: u32 = 32;
 
-/// A reserve is no more than the share of a handle in the slots, by this number.
+/// A reserve is no more than the share of a handle in the slots, by this number; and where no more than this part
+/// of it is lacking, it isn't topped up.
 pub const PARTS: u32 = 8;
 
-/// How often it tries to take a slot after a call that added a key.
-pub const TRIES: u32 = 2;
-
-/// Tops the reserve of a member up after a call that added a key: in two tries, or in as many as the steps of the
-/// call left of its budget, where these are fewer. The pass had counted `before` steps when the call began. After
-/// a call that added none it does nothing.
+/// Tops the reserve of a member up after a call that added a key, where more than an eighth of it is lacking: in
+/// as many tries as slots lack at least, or as the steps of the call left of its budget, where these are
+/// fewer. The pass had counted `before` steps when the call began. Else it does nothing.
+///
+/// So a set that is filled is topped up once in a few inserts, since what comes between two calls keeps the
+/// processor from loading ahead.
 #[inline]
 pub(crate) fn top_up_after<N: Nodes>(
     member: &mut Member<N>,
@@ -27,14 +28,28 @@ pub(crate) fn top_up_after<N: Nodes>(
     before: u64,
 )
     ensures { (p : Trace) → before ≡ counted_steps (steps_of p) →
-        TopsUpWhere has_added budget p member.old member.new }
+        TopsUpWhere (has_added && lacks_slots member.old) budget p member.old member.new }
 {
-    if has_added {
+    if has_added && lacks_slots(member) {
         let left = left_of(budget, before, member.pass().steps());
         let wanted = reserve_of(member);
-        member.top_up(wanted, left.min(TRIES));
+        member.top_up(wanted, left.min(wanted / PARTS + 1));
         member.pass().law();
     }
+}
+
+// Whether a member lacks more slots of its reserve than an eighth of it.
+#[inline(always)]
+fn lacks_slots<N: Nodes>(member: &Member<N>) -> bool
+    ensures { result ≡ lacks_slots member.now }
+{
+    let kept = member.pass().pool().len() as u32;
+    // Of no reserve so much is lacking then, and the number of slots needn't be divided.
+    if kept >= MOST - MOST / PARTS {
+        return false;
+    }
+    let wanted = reserve_of(member);
+    kept + wanted / PARTS < wanted
 }
 
 // How many steps are left of a budget.
