@@ -1,4 +1,4 @@
--- The three worked lists of events, computed: each is accepted, with its effects and with the link words that it names.
+-- The three worked lists of events, computed with their effects and the link words that they name.
 use Rattle.std.proofs.Common.{ℕ, zero, suc, List, [], ◌∷◌, take, drop, rules, tests}
 use Rattle.std.specs.Prelude.{if◌then◌else◌}
 use Rattle.vbr_machine.specs.Start.{Start}
