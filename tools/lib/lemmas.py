@@ -50,8 +50,6 @@ def faults():
     """What is wrong with first lines: (path, what)."""
     for crate in crates.all_crates():
         for file in files_of(crate):
-            if file.is_folder and not file.head:
-                continue
             if not file.head:
                 yield file.full, "its first line has no comment: what are its lemmas about?"
             elif not file.head.endswith(".") or re.search(r"\w\. [A-Z`]", file.head):
@@ -66,7 +64,7 @@ def listed(crate):
     for file in files_of(crate):
         name = file.path.rsplit("/", 1)[-1]
         if file.is_folder:
-            rows.append(f"| **`{crate}/proofs/{file.path}`** | {f'**{file.head}**' if file.head else 'Beside the proofs of this module.'} |")
+            rows.append(f"| **`{crate}/proofs/{file.path}`** | **{file.head}** |")
         elif name not in OF_KIT:
             rows.append(f"| `{name}.antt` | {file.head} |")
     return rows
