@@ -1,4 +1,4 @@
--- What the core accepts of a pass, by what it holds.
+-- What the machine accepts of a pass, by what it holds.
 use Rattle.std.proofs.Common.{◌≡◌, ◌≢◌, ℕ, ◌<◌, true, false, subst}
 use Rattle.std.specs.Prelude.{IsTrue}
 use Rattle.vbr_machine.specs.Start.{Start}

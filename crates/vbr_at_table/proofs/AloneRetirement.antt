@@ -1,4 +1,4 @@
--- A slot that is retired by a pass that was alone: the lists are as they were, and the epoch that was read still stands.
+-- A slot that a pass retires alone leaves the lists as they were, and the epoch that was read.
 use Rattle.std.proofs.Common.{ℕ, refl, sym, ◌∙◌}
 use Rattle.vbr_machine.specs.Start.{IsStart}
 use Rattle.vbr_machine.specs.declared.event.Step.TheVariants.{ReadEpoch, StoreStamp, Raise}

@@ -1,4 +1,4 @@
--- A load that answers an operation: it leaves the pass what it had, and either it makes the call, or another link stood where one is held.
+-- A load that answers an operation makes the call, or another link stood where one is held.
 use Rattle.std.proofs.Common.{◌≡◌, ◌≢◌, ℕ, false, ◌++◌, refl, sym, ap, subst}
 use Rattle.vbr_machine.specs.Start.{IsStart}
 use Rattle.vbr_words.specs.declared.place.At.{At}

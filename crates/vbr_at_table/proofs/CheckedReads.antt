@@ -1,4 +1,4 @@
--- Loads and then a read of the epoch: where the epoch hasn't moved, what was loaded is held, and stood there at its load.
+-- Where the epoch hasn't moved after a load, what was loaded is held, and stood there at its load.
 use Rattle.std.proofs.Common.{◌≡◌, ℕ, false, refl, sym, ◌∙◌, subst}
 use Rattle.vbr_machine.specs.Start.{Start, IsStart}
 use Rattle.vbr_words.specs.Words.{link_of}

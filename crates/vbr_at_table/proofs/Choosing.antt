@@ -1,4 +1,5 @@
--- A slot of the own pool is chosen: the epoch is read, the pool is looked through, and the epoch is advanced if no slot is stamped below it.
+-- A slot of the own pool is chosen.
+-- The epoch is read, the pool is looked through, and the epoch is advanced if no slot is stamped below it.
 use Rattle.std.proofs.Common.{◌≡◌, ◌≢◌, ℕ, ◌+◌, ◌<◌, ◌≤◌, List, [], ◌∷◌, length, get_or, Option, Some, None, refl, sym, ap, ◌∙◌, subst, inl, inr, arith}
 use Rattle.std.specs.Prelude.{Contains}
 use Rattle.std.proofs.lemmas.List.Elements.{All-contains, Contains-get_or}

@@ -1,4 +1,5 @@
--- Epochs and stamps along a run: the epoch only rises, no stamp is above it, and each epoch that a pass has read is at least 1 and no greater than the last.
+-- Along a run the epoch only rises, and no stamp is above it.
+-- Each epoch that a pass has read is at least 1 and no greater than the last.
 use Rattle.std.proofs.Common.{◌≡◌, ◌≢◌, ℕ, ◌≤◌, ◌==◌, true, false, List, [], ◌∷◌, ◌++◌, refl, sym, ap, ◌∙◌, subst, ⊎_elim, arith}
 use Rattle.std.proofs.lemmas.Bool.{cases_Bool, cases_eq}
 use Rattle.vbr_machine.specs.Start.{Start, IsStart}

@@ -1,4 +1,4 @@
--- The slots that a pass has, in its own pool or in its hand, from piece to piece of a call.
+-- The slots that a pass has, in its pool or in its hand, from piece to piece of a call.
 use Rattle.std.proofs.Common.{◌≡◌, ◌≢◌, ℕ, List, [], ◌∷◌, ◌++◌, Bool, true, false, cond, Some, None, refl, sym, ap, ◌∙◌, subst, eq-eqb, inl, inr, arith}
 use Rattle.std.specs.Prelude.{◌⊎◌, Contains, Result, Ok, Err}
 use Rattle.std.proofs.lemmas.Bool.{cases_eq}

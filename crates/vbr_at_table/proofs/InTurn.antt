@@ -1,4 +1,4 @@
--- A pass unlinks in turn: a step of it keeps that where it has stamped each slot that it unlinked, or where the step unlinks none.
+-- A step keeps its pass unlinking in turn where each slot that it unlinked is stamped, or none is unlinked.
 use Rattle.std.proofs.Common.{◌≡◌, ◌≢◌, ℕ, false, List, [], ◌∷◌, ◌++◌, Option, Some, None, refl, sym, ap, ◌∙◌, subst, append-nil, inl, inr}
 use Rattle.std.specs.Prelude.{◌⊎◌}
 use Rattle.std.proofs.lemmas.Bool.{true≢false}

@@ -1,4 +1,4 @@
--- The lemmas of vbr_at_table that proofs of other crates cite: they import from here, and from no other module of its proofs.
+-- The lemmas of `vbr_at_table` that proofs of other crates cite, which import from here alone.
 
 -- What the steps of a pass show: the epoch that it reads, and the flags that it takes.
 pub use Rattle.vbr_at_table.proofs.Shown.{epoch_stood, epoch_told, missed_after}

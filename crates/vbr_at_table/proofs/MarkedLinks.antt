@@ -1,4 +1,5 @@
--- A mark leaves the epoch, the link of each other place than its node's, and as many nodes in each list; a replacement leaves those links too.
+-- A mark leaves the epoch, the link of each other place, and as many nodes in each list.
+-- A replacement leaves those links too.
 use Rattle.std.proofs.Common.{◌≡◌, ◌≢◌, ℕ, [], ◌∷◌, ◌++◌, refl, sym, subst, ap, ◌∙◌}
 use Rattle.std.specs.Prelude.{◌==◌}
 use Rattle.vbr_machine.specs.Start.{Start, IsStart}

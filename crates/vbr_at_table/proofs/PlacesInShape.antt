@@ -1,4 +1,4 @@
--- The places and the slots that a pass knows of are those of the shape: loads and exchanges ask for that.
+-- The places and slots that a pass knows of are in the shape, since loads and exchanges ask for that.
 use Rattle.std.proofs.Common.{◌≡◌, ◌≢◌, ℕ, ◌<◌, ◌≤◌, List, [], ◌∷◌, ◌++◌, sym, subst, inl, inr, arith, Option, Some, None}
 use Rattle.std.specs.Prelude.{◌⊎◌, ◌==◌}
 use Rattle.std.specs.List.{AllByRecursion}

@@ -1,4 +1,5 @@
--- The shared pool, probed while other passes take slots out of it: each probe but the first of a flag word is of a flag that was seen set there, so where it is lost another pass has won it since.
+-- Each lost probe, but the first of a flag word, shows that another pass has taken a slot meanwhile.
+-- For such a probe is of a flag that was seen set there.
 use Rattle.std.proofs.Common.{◌≡◌, ℕ, ◌+◌, ◌*◌, ◌<◌, ◌≤◌, Bool, true, false, cond, List, [], ◌∷◌, ◌++◌, refl, sym, ap, ◌∙◌, subst, ◌⊎◌, inl, inr, ⊎_elim, arith}
 use Rattle.vbr_machine.specs.Start.{Start, IsStart}
 use Rattle.vbr_words.specs.Flags.{word_of_flag, has_flag, IsNextFlag}

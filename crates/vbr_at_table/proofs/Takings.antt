@@ -1,4 +1,5 @@
--- A call that takes a slot, from its pieces: a flag is won, or the own pool has slots; a slot is chosen; and an incarnation is born there.
+-- A call that takes a slot, from its pieces.
+-- A flag is won, or the own pool has slots; a slot is chosen; and a node is born there.
 use Rattle.std.proofs.Common.{◌≡◌, ◌≢◌, ℕ, zero, suc, ◌+◌, ◌<◌, ◌≤◌, Bool, not, cond, List, [], ◌∷◌, length, Result, Ok, Err, refl, sym, ap, ◌∙◌, subst, inl, inr, ⊎_elim, eq-eqb, arith}
 use Rattle.std.specs.Prelude.{◌⊎◌, Contains, IfOk, IfErr, None}
 use Rattle.vbr_slots.specs.declared.pass.TheConstants.{POOL}

@@ -1,4 +1,4 @@
--- A step that is made in two parts, what its pass learns and what it writes, is the step of the machine.
+-- A step that is made in two parts, learning and writing, is the step of the machine.
 use Rattle.std.proofs.Common.{◌≡◌, ℕ, ◌+◌, ◌≤◌, arith, length, get_or, ◌<◌, true, false, refl, sym, ap, ◌∙◌}
 use Rattle.std.proofs.lemmas.Bool.{eqb-true}
 use Rattle.std.proofs.lemmas.List.{get_or_read}

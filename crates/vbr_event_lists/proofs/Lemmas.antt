@@ -1,4 +1,4 @@
--- The lemmas of vbr_event_lists that proofs of other crates cite: they import from here, and from no other module of its proofs.
+-- The lemmas of `vbr_event_lists` that proofs of other crates cite, which import from here alone.
 
 -- The worked lists of events, computed: each is accepted, with its effects and with the link words that it names.
 pub use Rattle.vbr_event_lists.proofs.WorkedRows.{raised_in_hand, reborn_slot, same_word, two_helpers}

@@ -1,4 +1,4 @@
--- The worked lists of events on nodes that have values, computed: each is accepted, with its effects and with the link words that it names.
+-- The worked lists of events on nodes that have values, computed with their effects and the words that they name.
 use Rattle.std.proofs.Common.{ℕ, zero, suc, List, take, drop, rules, tests}
 use Rattle.vbr_machine.specs.Start.{Start}
 use Rattle.vbr_words.specs.Flags.{has_flag, first_bits, flag_word}

@@ -1,4 +1,4 @@
--- A page that is claimed in what a token tells is found by who caught up with it, while nobody removes.
+-- A page that a token tells of as claimed is found by who caught up, while nobody removes.
 use Rattle.std.proofs.Common.{◌≡◌, ℕ, suc, Bool, true, false, eqb, eq-eqb, cond, List, [], ◌∷◌, ◌++◌, length, inl, inr, refl, sym, ap, subst, ◌∙◌, append-nil, arith}
 use Rattle.std.specs.Prelude.{◌≢◌, not, if◌then◌else◌, Result, Ok, Err, IfOk}
 use Rattle.std.proofs.lemmas.Bool.{cases_Bool, true≢false}

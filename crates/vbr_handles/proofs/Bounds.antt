@@ -1,4 +1,5 @@
--- A walk by hand through a function with type parameters, which carries the tokens of their lifetimes and needs none. Assumes `Logic`.
+-- A walk by hand through a function with type parameters carries the tokens of their lifetimes and needs none.
+-- Assumes `Logic`.
 use Prim.Native.Nat.{ℕ}
 use seplogic.Ra.Ura.{Ura}
 use mir.Syntax.{Callee, Fn}

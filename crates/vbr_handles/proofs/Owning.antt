@@ -1,4 +1,5 @@
--- What an `Owner` owns, taken apart: nothing at null, and else a box. Assumes `Logic`.
+-- What an `Owner` owns, taken apart: nothing at null, and else a box.
+-- Assumes `Logic`.
 use mathlib.Core.Path.{◌≡◌, refl, subst}
 use Prim.Native.Nat.{ℕ}
 use mathlib.Core.List.{List, [], ◌∷◌, ◌++◌}

@@ -1,4 +1,5 @@
--- A `&mut` is lent on as one to another type that owns the same in the same memory. Assumes `Logic`.
+-- A `&mut` is lent on as one to another type that owns the same in the same memory.
+-- Assumes `Logic`.
 use mathlib.Core.Path.{◌≡◌, refl, sym, subst}
 use Prim.Native.Nat.{ℕ}
 use mathlib.Core.List.{List, [], ◌∷◌}

@@ -1,4 +1,5 @@
--- A key is clear at a moment: no marked node of it is in a list. What a walk to the key shows of that, and what follows for a node that the pass has marked.
+-- A key is clear at a moment where no marked node of it is in a list.
+-- What a walk to the key shows of that, and what follows for a node that the pass has marked.
 use Rattle.vbr_list.proofs.Names.{◌≡◌, ℕ, ◌+◌, ◌≤◌, arith, true, false, List, [], ◌∷◌, ◌++◌, Option, Some, None, refl, sym, ap, ◌∙◌, subst, IfSome, IfNone}
 use Rattle.vbr_list.proofs.Names.{Event, Ghosts, Held, incarnations_after, IsHeldPlace, IsRead, IsRun, IsSame, IsStart, IsTakenOut, KeyAt, KeyOf, Know, know_after, Knows, knows, left_since, Link, link_at, link_of, LinkAt, Made, marked_left, MarkedLeft, moment_after, moment_before, nodes, none_marked_between, none_marked_here, none_marked_skipped, NoneMarked, out_on, own_calls, PIECE, Quiet, Remove, same_on, Slot, StandsBefore, StandsBehind, Start, Trace, WasShown, world_after}
 use Rattle.vbr_machine.specs.declared.history.Call.{Call as ListedCall}

@@ -1,4 +1,5 @@
--- What shows that another pass disturbed a call: an epoch that has moved, and a link that stands open no more. A pass that was alone was not disturbed.
+-- A moved epoch, or a link that no longer stands open, shows that another pass disturbed a call.
+-- A pass that was alone was not disturbed.
 use Rattle.vbr_list.proofs.Names.{◌≡◌, ◌≢◌, ℕ, ◌+◌, ◌*◌, ◌<◌, ◌≤◌, Bool, true, false, cond, eq-eqb, Option, Some, None, List, [], ◌∷◌, ◌++◌, sym, ap, ◌∙◌, subst, inl, inr, arith, append_assoc, append-nil, ◌==◌, ◌&&◌, count_by, sum_by-append, mul-le}
 use Rattle.vbr_list.proofs.Names.{AddsNone, advances, AdvancesNone, At, Begins, begins_refl, begins_run, begins_trans, bucket_of, changed_disturbed, ChangesNone, disturbances, disturbances_grow, disturbances_paid, EpochMoved, Event, found, FreshIfMoved, Held, held_in_kept, HeldIn, incarnations_after, is_advance, IsAdvance, IsAlone, IsFresh, IsHeld, IsLost, IsMovedOrLost, IsOpenIn, IsRun, IsSame, IsStart, Keeps, keeps_on, known_open, knows, link_loaded, link_of, link_shown_at, LoadLink, LostExchange, Marked, met, met_bound_quiet, met_later, met_on, moved_by_others, moved_disturbed, OnlyEventsOf, own_between, own_calls, own_changes, own_entries, own_unchanged, PassView, Quiet, quiet_on, Rollback, RollsBack, run_agrees, shown_there, since, StampsFreshly, StandsNow, Start, Step, Trace, undisturbed_by_itself, word_of, word_of-link_of, world_after}
 use Rattle.vbr_list.specs.Helping.{OpensPlace}

@@ -1,4 +1,4 @@
--- A walk of loads alone goes on from place to place, and what a seek tells of the keys that it has passed by.
+-- A walk of loads alone goes on from place to place, past the keys that a seek tells of.
 use Rattle.vbr_list.proofs.Names.{◌≡◌, ℕ, ◌+◌, ◌<◌, ◌≤◌, Bool, true, false, Option, Some, None, sym, ap, ◌∙◌, subst, arith, is_none, is_some}
 use Rattle.vbr_list.proofs.Names.{At, begins_trans, behind_kept, bucket_of, Held, held_in_kept, held_in_next, held_kept, held_of, IsRead, IsRun, IsSame, IsStart, itself, Keeps, keeps_on, KeyAt, knows, link_of, Marked, onward, PassLaw, PassView, PIECE, Quiet, quiet_on, quiet_refl, ReadsIn, Slot, StandsBefore, StandsBehind, Start, stood_before, Trace, ValueAt, was_absent, was_absent_on, was_entry, was_present, WasSo}
 use Rattle.vbr_list.specs.Budgets.{steps_to_value_of}

@@ -1,4 +1,4 @@
--- What a store costs that replaced a node: its searches, and those that follow where the place before the old node is lost.
+-- What a store costs that replaced a node and lost the place before the old one.
 use Rattle.vbr_list.proofs.Names.{◌≡◌, ℕ, ◌+◌, ◌*◌, ◌<◌, ◌≤◌, sym, ap, ◌∙◌, subst, arith, mul-le}
 use Rattle.vbr_list.proofs.Names.{Begins, begins_run, bucket_of, Call, disturbances_grow, Insert, inserts_in, inserts_in-two, IsRun, IsSame, IsStart, MadeTwo, met_bound_made, own_calls, PIECE, Quiet, quiet_on, Remove, same_on, since, Trace}
 use Rattle.vbr_list.specs.Budgets.{listed_for}

@@ -1,4 +1,4 @@
--- The lemmas of vbr_list that proofs of other crates cite: they import from here, and from no other module of its proofs.
+-- The lemmas of `vbr_list` that proofs of other crates cite, which import from here alone.
 
 -- Pieces one after another: they make no call, their steps add up, and the slot in hand stays.
 pub use Rattle.vbr_list.proofs.Going.{of_on}

@@ -1,4 +1,4 @@
--- A slot in hand: search after search for the key, until the call is answered or its budget has no room.
+-- With a slot in hand, search follows search until the call is answered or its budget has no room.
 use Rattle.vbr_list.proofs.Names.{◌≡◌, ℕ, ◌+◌, ◌≤◌, Bool, false, is_err, Option, Result, IfOk, None, Some, sym, ◌∙◌, subst, arith, Bor, option_copied}
 use Rattle.vbr_list.proofs.Names.{CountsSteps, Ghosts, had_back, had_grown, had_on, HandView, HasStill, Held, IsGap, IsSucc, KeepsIn, Know, knows, Made, none_back, none_on, PassLaw, PassView, PutsBack, Quiet, quiet_on, set_call, TakesNoSlot, Took, Trace}
 use Rattle.vbr_list.specs.Inserting.{CountsWithin, denied, AnswersNone, HasHandAndRoom, Links}

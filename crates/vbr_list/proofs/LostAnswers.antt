@@ -1,4 +1,4 @@
--- An answer by what was found, where another link stands now than the one that tells it: no call was made, and what was found is lost.
+-- Where another link stands than the one that tells it, no call was made and the find is lost.
 use Rattle.vbr_list.proofs.Names.{◌≡◌, Some, Option, inl, inr, sym, subst}
 use Rattle.vbr_list.proofs.Names.{FindsAnother, Ghosts, Held, PassLaw, PassView, Rollback, Trace, unchanged_by_none}
 use Rattle.vbr_list.specs.Inserting.{AnswersNone}

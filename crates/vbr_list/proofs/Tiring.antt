@@ -1,4 +1,5 @@
--- A remove and a look-up that are refused for want of steps: the budget was below what is enough, alone and disturbed.
+-- A remove or a look-up is refused for want of steps only with a budget below what is enough.
+-- Enough is said for a pass that is alone, and for one that is disturbed.
 use Rattle.vbr_list.proofs.Names.{◌≡◌, ℕ, ◌+◌, ◌<◌, ◌≤◌, Bool, None, Result, Err, arith}
 use Rattle.vbr_list.proofs.Names.{Call, IsRun, OutOfSteps, PassLaw, PassView, PIECE, Refusal, took_all}
 use Rattle.vbr_list.specs.Budgets.{listed_for}

@@ -1,11 +1,58 @@
 //! Michael's list in one bucket of a set or a map (Michael 2002), over slots that are used again
-//! (Sheffi, Herlihy and Petrank 2021): where a key stands, and look-ups, inserts and removes of it,
-//! and, where nodes have values, gets and stores of its value.
+//! (Sheffi, Herlihy and Petrank 2021).
 //!
-//! A call goes in pieces. A traversal starts at the head of the bucket and visits node after node,
-//! and helps to unlink the marked ones that it meets. Whatever rolls back before the answer leads
-//! back to the head. The answer is one step of the call: a won publication, a won mark, or a load
-//! that finds the link still as it was read. Nothing rolls back past it.
+//! **The list.** From the head of the bucket on, each link word names the slot of the next node.
+//! It has a mark and a version too. A set mark says that its own node is out of the set. Such a
+//! node may still be in the list, and its link no longer changes. The version is the greater birth
+//! of the two nodes. So an exchange of a link finds only the very pair of nodes that was read.
+//!
+//! **Order.** Nodes ascend by key, and nodes of one key by rank. At most one node of a key is
+//! unmarked. A node that replaces another comes right after it, with the next rank. Each node goes
+//! through its states in one order: in hand, linked, marked, unlinked, stamped. Only a stamped
+//! slot, or one whose node was given up, is born in again.
+//!
+//! **A walk.** A call starts at the head and goes from place to place (`src/visiting.rt`). What it
+//! reads counts once the epoch is read again and hasn't moved. Where it has moved, or an exchange
+//! is lost, the call starts again at the head. A piece of a call is begun only where eight steps
+//! are left of the budget (`PIECE`).
+//!
+//! **Calls.** Each is answered at one step, and nothing rolls back past that:
+//!
+//! - A look-up passes marked nodes by their links. A load answers it, which finds a link as it was
+//!   read: that of the node, or of the last unmarked place before the key.
+//! - An insert takes a slot once the key was found absent, and searches again with it. The
+//!   exchange that links the node answers it; where the key is there, a load does.
+//! - A remove is answered by the exchange that sets the mark in the node's own link. Where the key
+//!   is absent, a load answers it.
+//! - A store replaces a node by one exchange of that node's link: it sets the mark, and names the
+//!   slot in hand. An absent key is inserted. What isn't as it is wanted is answered as a get.
+//! - A walk over all keys confirms nothing: each key that it passed was absent at some moment.
+//!
+//! **Helping.** A search unlinks the marked nodes that it meets (`src/helping.rt`). Whoever wins
+//! that exchange stamps the slot and has it. Look-ups and walks help nobody. A remove or a store
+//! that loses its own unlinking searches once more. So its node has left the list when it returns,
+//! unless fewer than eight steps are left of the budget.
+//!
+//! **Progress.** Nobody waits for anybody. A call starts again only for what another pass did: it
+//! moved the epoch, or changed the list of the bucket. Each such change counts once. With n nodes
+//! and m changes there are at most m + 1 walks, each of at most n + m nodes. An insert makes one
+//! walk more. That a call is answered while others go on isn't claimed.
+//!
+//! **What is proved,** and by which contracts:
+//!
+//! - The pass made just this call, at one step, or was refused and made none: `Calls`,
+//!   `CallsInsert`, `CallsRemove`, `CallsGet`, `CallsRemoveIf`, `CallsStore`. On a table with one
+//!   pass the answers are those of a plain set or map.
+//! - A look-up and a walk make no step but loads: `OnlyLoads`.
+//! - What was removed or replaced has left its list: `Leaves`, `LeavesReplaced`.
+//! - No slot is lost: `KeepsSlots`, `TakesNoSlot`. The epoch is advanced only where that is
+//!   needed: `AdvancesWhereNeeded`.
+//! - Which budgets are enough, and what an answer costs: the fields `within` and `costs` for a
+//!   pass that is alone, `disturbed_within` and `disturbed_costs` for one that others disturb.
+//! - What a search found stood so at moments of the call: `FindsIn`. What walks give together:
+//!   `an_iteration_goes_on`, and the laws beside it.
+//! - Order, marks and reuse are so in every run of the machine: `every_run_is_safe` of
+//!   `vbr_machine`.
 #![tactic(auto)]
 
 mod call;

@@ -1,4 +1,5 @@
--- Which keys were in the set when a held place showed an unmarked link that its pass has checked since, in the same epoch: the key of the place was, and a key between the place and what the link names wasn't.
+-- Which keys were in the set when a held place showed a link that is checked in the same epoch.
+-- The key of the place was, and a key between the place and what the unmarked link names wasn't.
 use Rattle.std.proofs.Common.{◌≡◌, ℕ, ◌≤◌, true, false, max, [], Option, Some, None, refl, arith, sym, ap, subst, ◌∙◌, inl, inr, ◌<◌}
 use Rattle.std.specs.Prelude.{◌⊎◌}
 use Rattle.std.proofs.lemmas.Bool.{cases_Bool}

@@ -1,4 +1,4 @@
--- Events that don't change the list of a bucket leave each linked place of it as it was, and the epoch.
+-- Events that don't change a bucket's list leave the epoch, and each linked place of it as it was.
 use Rattle.std.proofs.Common.{◌≡◌, ◌≢◌, ℕ, ◌+◌, ◌<◌, Bool, true, false, not, List, [], ◌∷◌, Option, Some, None, refl, sym, ap, ◌∙◌, subst, inl, inr, eq-eqb, arith}
 use Rattle.std.specs.Prelude.{◌==◌, ◌&&◌, ◌⊎◌}
 use Rattle.std.specs.List.{AllByRecursion}

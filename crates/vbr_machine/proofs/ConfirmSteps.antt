@@ -1,4 +1,4 @@
--- The confirming loads.
+-- The confirming loads keep the agreement, and answer as the set is at that moment.
 use Rattle.std.proofs.Common.{◌≡◌, ◌≢◌, ℕ, Bool, true, false, [], ◌∷◌, ◌++◌, refl, sym, ap, ◌∙◌, inl, inr, Option, None, IsSome, Some}
 use Rattle.std.specs.Prelude.{◌⊎◌, ◌==◌, not, unwrap_or}
 use Rattle.std.proofs.lemmas.Bool.{cases_Bool, eqb-true, cond-true}

@@ -1,4 +1,4 @@
--- The bucket in which a slot is held: a link that was read led from one key of a bucket to one of the same bucket that is no smaller, and inserted incarnations keep their keys.
+-- A slot is held in one bucket, where links that were read never lead to a smaller key.
 use Rattle.std.proofs.Common.{◌≡◌, ℕ, ◌≤◌, Bool, true, false, List, [], ◌∷◌, map, Option, Some, None, refl, arith, sym, subst, ap, ◌∙◌}
 use Rattle.std.specs.Prelude.{◌==◌, if◌then◌else◌}
 use Rattle.std.specs.List.{AllByRecursion}

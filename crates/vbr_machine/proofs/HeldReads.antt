@@ -1,4 +1,4 @@
--- What a pass holds: a checked link found again stands for the same pair, a load gives a good read, and good reads stay good.
+-- A checked link that is found again stands for the same pair, and good reads stay good.
 use Rattle.std.proofs.Common.{◌≡◌, ℕ, ◌<◌, ◌≤◌, false, max, List, [], ◌∷◌, Option, Some, None, refl, arith, sym, subst, ap, ◌∙◌, inl, inr}
 use Rattle.std.specs.Prelude.{◌⊎◌}
 use Rattle.std.specs.List.{AllByRecursion}

@@ -1,4 +1,4 @@
--- What a pass has read of a slot, it has read of a slot that it holds: loads ask for that, and exchanges stand on links that were checked.
+-- A slot of which a pass has read anything is one that it holds: loads and exchanges ask for that.
 use Rattle.std.proofs.Common.{◌≡◌, ℕ, true, List, [], ◌∷◌, ◌++◌, refl, inl, inr}
 use Rattle.std.specs.Prelude.{◌==◌, ◌&&◌, IsTrue}
 use Rattle.std.specs.List.{AllByRecursion}

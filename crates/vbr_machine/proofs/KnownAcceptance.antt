@@ -1,4 +1,4 @@
--- Acceptance by membership and acceptance by searches say the same of what a pass knows along a run, and both write the same link.
+-- Acceptance by membership and acceptance by searches agree of what a pass knows, and both write the same link.
 use Rattle.std.proofs.Common.{◌≡◌, ℕ, ◌<◌, Bool, true, false, List, Option, Some, None, refl, arith, sym, subst, ap, ◌∙◌}
 use Rattle.std.specs.Prelude.{IsSome, unwrap_or, if◌then◌else◌}
 use Rattle.vbr_machine.specs.Start.{Start}

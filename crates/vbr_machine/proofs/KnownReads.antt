@@ -1,4 +1,4 @@
--- What is known by membership: each known read is of an incarnation that the pass holds, and what a search finds is any known one.
+-- Each known read is of an incarnation that the pass holds, and a search finds any known one.
 use Rattle.std.proofs.Common.{◌≡◌, ℕ, true, false, Option, Some, None, refl, sym, ap, ◌∙◌, inl, inr}
 use Rattle.std.specs.Prelude.{◌⊎◌, IsSome, unwrap_or}
 use Rattle.std.proofs.lemmas.Bool.{cases_Bool}

@@ -1,4 +1,4 @@
--- A node that a pass has marked since a beginning of a run, and that has left its list, could be met and is in the list no more.
+-- A node that a pass has marked, and that has left, could be met and is listed no more.
 use Rattle.std.proofs.Common.{◌≡◌, ◌≢◌, ℕ, suc, ◌<◌, ◌≤◌, Bool, true, false, not, List, [], ◌∷◌, Option, Some, None, refl, sym, ap, ◌∙◌, subst, inl, inr, ⊎_elim, eq-eqb, arith}
 use Rattle.std.specs.Prelude.{◌==◌, ◌&&◌, ◌⊎◌}
 use Rattle.std.specs.List.{Contains}

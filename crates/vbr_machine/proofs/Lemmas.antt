@@ -1,4 +1,4 @@
--- The lemmas of vbr_machine that proofs of other crates cite: they import from here, and from no other module of its proofs.
+-- The lemmas of `vbr_machine` that proofs of other crates cite, which import from here alone.
 
 -- Functions with one value changed.
 pub use Rattle.vbr_machine.proofs.Puts.{put_here, put_other}

@@ -1,4 +1,4 @@
--- What runs say of how many nodes stand behind a place that a pass holds, whose link is still the one that it has checked.
+-- How many nodes stand behind a held place after a step, while its checked link still stands.
 use Rattle.std.proofs.Common.{◌≡◌, ℕ, suc, true, false, List, [], ◌∷◌, ◌++◌, Option, Some, None, refl, sym, ap, ◌∙◌, subst, inl, eq-eqb}
 use Rattle.std.specs.Prelude.{◌==◌, ◌⊎◌, if◌then◌else◌}
 use Rattle.vbr_machine.specs.Start.{Start, IsStart}

@@ -1,4 +1,5 @@
--- The lists of the buckets: what follows a listed incarnation is listed, no two stand before the same one, linked ones have different keys, and no key lies between neighbours.
+-- In the list of a bucket the keys of linked nodes differ, and none lies between neighbours.
+-- What follows a listed incarnation is listed, and no two stand before the same one.
 use Rattle.std.proofs.Common.{◌≡◌, ◌≢◌, ℕ, ◌+◌, ◌<◌, ◌≤◌, Option, Some, arith, sym, ap, ◌∙◌, inl, inr}
 use Rattle.std.specs.Prelude.{◌⊎◌}
 use Rattle.vbr_machine.specs.Start.{Start}

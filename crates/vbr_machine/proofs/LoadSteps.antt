@@ -1,4 +1,4 @@
--- The loads of links, births and keys.
+-- The loads of links, births and keys keep the agreement.
 use Rattle.std.proofs.Common.{◌≡◌, ℕ, true, ◌∷◌, [], ◌++◌, Option, Some, None, refl, sym, subst, ap, ◌∙◌}
 use Rattle.vbr_machine.specs.Start.{Start}
 use Rattle.vbr_words.specs.Words.{word_of, link_of}

@@ -1,4 +1,5 @@
--- A history that is legal as a set's and gives the values that were stored is one of a map; and a map that stores no value is a set.
+-- A history that is legal as a set's, and gives the values that were stored, is one of a map.
+-- A map that stores no value is a set.
 use Rattle.std.proofs.Common.{◌≡◌, ◌≢◌, ℕ, Bool, true, false, List, [], ◌∷◌, ◌++◌, Option, Some, None, refl, sym, ap, ◌∙◌, inl, inr}
 use Rattle.std.specs.Prelude.{◌⊎◌, ◌==◌, is_some, if◌then◌else◌}
 use Rattle.std.proofs.lemmas.Bool.{cases_eq, cond-true}

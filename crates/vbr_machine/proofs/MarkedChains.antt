@@ -1,4 +1,5 @@
--- Behind a known unmarked link that stands at its place, the known marked links lead along nodes that are marked now and still listed: a marked link no longer changes. So a key that lies between the place and the end of these links isn't in the set.
+-- No key between an unmarked link that stands and the end of the marked links behind it is present.
+-- Known marked links lead along nodes that are marked and still listed, since a marked link no longer changes.
 use Rattle.std.proofs.Common.{◌≡◌, ℕ, ◌<◌, ◌≤◌, true, false, [], Option, Some, None, refl, arith, sym, subst, ap, ◌∙◌, inl, inr}
 use Rattle.std.specs.Prelude.{◌⊎◌}
 use Rattle.std.proofs.lemmas.Bool.{cases_Bool}

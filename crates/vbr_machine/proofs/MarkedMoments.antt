@@ -1,4 +1,5 @@
--- Behind an unmarked link that was shown at a moment of a run, known marked links lead along nodes each of which was marked, and still in its list, at some moment since. So a key between the place and the end of these links was absent at one of these moments.
+-- A key passed by along known marked links was absent at a moment since its unmarked place was shown.
+-- For each node on the way was marked, and still in its list, at some moment since.
 use Rattle.std.proofs.Common.{◌≡◌, ℕ, ◌<◌, ◌≤◌, Bool, true, false, cond, List, [], ◌∷◌, ◌++◌, Option, Some, None, refl, sym, ap, ◌∙◌, subst, append_assoc, append-nil, inl, inr, arith}
 use Rattle.std.specs.Prelude.{◌⊎◌, ◌==◌}
 use Rattle.std.proofs.lemmas.Bool.{cases_Bool, cases_lt}

@@ -1,4 +1,5 @@
--- Walks along the checked marked links: where they lead in some turns, known marked links lead; and where known marked links lead, they come in no more turns than there are slots, since the nodes that they pass ascend by key and rank.
+-- Known marked links lead where a walk along the checked ones does, in no more turns than slots.
+-- For the nodes that they pass ascend by key and rank.
 use Rattle.std.proofs.Common.{◌≡◌, ◌≢◌, ℕ, zero, suc, ◌<◌, ◌≤◌, true, false, List, [], ◌∷◌, length, Option, Some, None, refl, arith, sym, subst, ap, ◌∙◌, inl, inr}
 use Rattle.std.specs.Prelude.{◌⊎◌, nat_eq, IsSome}
 use Rattle.std.specs.List.{AllByRecursion, IsDistinct, list_any}

@@ -1,4 +1,5 @@
--- The nodes of a bucket that were in its list since an earlier moment: their successors were too, and there are no more of them than were there then, and have come since.
+-- The nodes that a walk can meet were in the bucket's list when it began, or have come since.
+-- So were their successors, and so the number of them is bounded.
 use Rattle.std.proofs.Common.{◌≡◌, ◌≢◌, ℕ, zero, suc, ◌+◌, ◌<◌, ◌≤◌, Bool, true, false, not, List, [], ◌∷◌, Option, Some, None, refl, sym, ap, ◌∙◌, subst, inl, inr, eq-eqb, arith}
 use Rattle.std.specs.Prelude.{◌==◌, ◌&&◌, ◌⊎◌, if◌then◌else◌}
 use Rattle.std.specs.List.{AllByRecursion}

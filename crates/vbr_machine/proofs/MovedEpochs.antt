@@ -1,4 +1,5 @@
--- The epoch moves by advances alone: no further than steps are made that would advance it; and since a moment after which a pass made none, each is a disturbance.
+-- The epoch moves no further than steps are made that would advance it.
+-- Since a moment after which a pass made none, each advance disturbs it.
 use Rattle.std.proofs.Common.{◌≡◌, ◌≢◌, ℕ, ◌+◌, ◌≤◌, Bool, true, false, not, cond, List, [], ◌∷◌, ◌++◌, Option, Some, None, refl, ap, sym, subst, ◌∙◌, inl, inr, arith}
 use Rattle.std.specs.Prelude.{◌==◌, ◌&&◌, if◌then◌else◌, ◌⊎◌, count_by}
 use Rattle.std.proofs.lemmas.List.Sums.{sum_by-append}

@@ -1,4 +1,4 @@
--- Where the key of the slot that the expected word names is checked, and the wanted key stands before it, a confirming load for an absent key asks no more: the walk need make no turn.
+-- A confirming load for an absent key needs no walk where the named node's key is checked, and is greater.
 use Rattle.std.proofs.Common.{◌≢◌, ℕ, arith}
 use Rattle.vbr_machine.specs.Start.{Start}
 use Rattle.vbr_words.specs.Words.{link_of}

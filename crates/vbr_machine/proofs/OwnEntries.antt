@@ -1,4 +1,4 @@
--- The events of one pass in the chronicle of a run: what others do adds none, and its own step adds what happens by it.
+-- Only its own steps add events of a pass to the chronicle: just what happens by them.
 use Rattle.std.proofs.Common.{◌≡◌, ◌≢◌, ℕ, Bool, true, false, cond, List, [], ◌∷◌, ◌++◌, Option, Some, None, refl, sym, ap, ◌∙◌, append_assoc, append-nil, eq-eqb}
 use Rattle.std.specs.Prelude.{◌==◌}
 use Rattle.std.specs.List.{AllByRecursion}

@@ -1,4 +1,4 @@
--- A pass whose calls are no inserts links no node: each of its inserts is a call, and each of its replacements makes one.
+-- A pass that makes no insert and no replacement links no node, since each of them is a call.
 use Rattle.std.proofs.Common.{◌≡◌, ℕ, ◌+◌, ◌≤◌, Bool, true, false, List, [], ◌∷◌, ◌++◌, refl, sym, ap, ◌∙◌, eq-eqb, ◌≢◌, inl, inr, arith}
 use Rattle.vbr_machine.specs.Start.{Start, IsStart}
 use Rattle.vbr_machine.specs.History.{calls_by}

@@ -1,4 +1,5 @@
--- What a pass knows of its slots, against the words: a slot that it takes or unlinks was not its own, and a stamp that it knows is the stamp that stands there.
+-- What a pass knows of its slots fits the words.
+-- A slot that it takes or unlinks wasn't its own, and a stamp that it knows stands there.
 use Rattle.std.proofs.Common.{◌≡◌, ℕ, Option, Some, None, sym, ap, ◌∙◌, true}
 use Rattle.vbr_machine.specs.Start.{Start}
 use Rattle.vbr_words.specs.Words.{word_of}

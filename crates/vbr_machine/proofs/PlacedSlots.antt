@@ -1,4 +1,5 @@
--- Each slot is in exactly one place: a listed one is reached from its bucket's head, since no listed node stands between a node and its successor, and only listed ones are.
+-- Each slot is in exactly one place.
+-- A listed one is reached from its bucket's head, since no listed node stands between a node and its successor.
 use Rattle.std.proofs.Common.{◌≡◌, ℕ, zero, suc, ◌+◌, ◌<◌, ◌≤◌, List, [], ◌∷◌, Option, Some, None, refl, arith, sym, subst, ap, ◌∙◌, inl, inr}
 use Rattle.std.specs.Prelude.{◌⊎◌}
 use Rattle.std.proofs.lemmas.Bool.{cases_lt}

@@ -1,4 +1,4 @@
--- What disturbs a pass is an answered update of some pass, the one unlinking behind a remove or a replacement, or an advance of the epoch.
+-- What disturbs a pass is an answered update, the one unlinking behind a removal, or an advance of the epoch.
 use Rattle.std.proofs.Common.{◌≡◌, ◌≢◌, ℕ, suc, ◌+◌, ◌*◌, ◌<◌, ◌≤◌, Bool, true, false, cond, not, List, [], ◌∷◌, ◌++◌, refl, sym, ap, ◌∙◌, inl, inr, arith}
 use Rattle.std.specs.Prelude.{◌==◌, ◌&&◌, ◌⊎◌}
 use Rattle.std.proofs.lemmas.Bool.{cases_eq}

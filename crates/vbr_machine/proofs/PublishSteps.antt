@@ -1,4 +1,4 @@
--- The step that inserts a node.
+-- The step that inserts a node adds what is lawful.
 use Rattle.std.proofs.Common.{◌≡◌, ◌≢◌, ℕ, ◌≤◌, max, false, Option, Some, None, refl, arith, sym, ap, ◌∙◌}
 use Rattle.std.specs.Prelude.{List, IsSome, unwrap_or}
 use Rattle.std.specs.List.{AllByRecursion}

@@ -1,4 +1,4 @@
--- A removed incarnation leaves its list for good, and a remove that was answered yes has marked one of its key.
+-- A removed incarnation leaves its list for good, and each remove answered yes has marked one of its key.
 use Rattle.std.proofs.Common.{◌≡◌, ◌≢◌, ℕ, ◌+◌, ◌<◌, ◌≤◌, Bool, true, List, [], ◌∷◌, ◌++◌, length, Some, refl, sym, ap, ◌∙◌, subst, append_assoc, append-nil, eq-eqb, inl, inr, arith, length-append}
 use Rattle.std.specs.Prelude.{◌==◌, ◌⊎◌}
 use Rattle.std.specs.List.{Contains}

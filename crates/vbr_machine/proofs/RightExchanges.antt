@@ -1,4 +1,5 @@
--- An exchange of a link that is won is right: it names the last incarnations of their slots, what it adds is lawful, and a publication's successor is the one held.
+-- A won exchange of a link is right.
+-- It names the last incarnations of their slots, and what it adds is lawful.
 use Rattle.std.proofs.Common.{◌≡◌, ◌≢◌, ℕ, Bool, true, false, cond, List, [], ◌∷◌, Option, Some, None, refl, sym, ap, ◌∙◌, inl, inr}
 use Rattle.std.specs.Prelude.{◌==◌, ◌&&◌}
 use Rattle.std.proofs.lemmas.Bool.{cases_Bool, eq-eqb, eqb-true, and_parts}

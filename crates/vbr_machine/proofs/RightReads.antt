@@ -1,4 +1,4 @@
--- The checked reads of a pass are right: there is one incarnation that it holds at a slot, and each read was of that one.
+-- The checked reads of a pass at a slot are all of the one incarnation that it holds there.
 use Rattle.std.proofs.Common.{◌≡◌, ℕ, true, List, [], ◌∷◌, Option, Some, None, refl, arith, sym, subst, ap, ◌∙◌, inl, inr}
 use Rattle.std.specs.List.{AllByRecursion}
 use Rattle.std.proofs.lemmas.Bool.Decides.{nat_tests}

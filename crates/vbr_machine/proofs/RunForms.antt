@@ -1,4 +1,5 @@
--- What runs say to the layers above: of what a pass knows by membership, of the keys that were in the set when a link was loaded, and of chains of marked links.
+-- What runs say to the layers above, of what a pass knows by membership.
+-- That is of keys in the set when a link was loaded, and of chains of marked links.
 use Rattle.std.proofs.Common.{◌≡◌, ℕ, ◌<◌, ◌≤◌, true, false, List, [], ◌∷◌, ◌++◌, Some, refl, sym, subst}
 use Rattle.std.specs.Prelude.{unwrap_or}
 use Rattle.std.proofs.lemmas.List.Elements.{All-contains, All-from_recursion}

@@ -1,4 +1,4 @@
--- The laws of chronicles along runs: at each moment of a run they hold of what it has made so far, and what was good then stays so.
+-- The laws of chronicles hold at each moment of a run, and what was good then stays so.
 use Rattle.std.proofs.Common.{◌≡◌, ℕ, ◌≤◌, false, List, ◌++◌, Some, sym, subst, ◌∙◌}
 use Rattle.vbr_machine.specs.Start.{Start, IsStart}
 use Rattle.vbr_words.specs.declared.link.Link.{Link}

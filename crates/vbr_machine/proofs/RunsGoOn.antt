@@ -1,4 +1,4 @@
--- Runs go on: what more events do to the world, and that the events of others leave what a pass knows, may do and has called.
+-- Runs go on: what others do leaves what a pass knows, may do and has called.
 use Rattle.std.proofs.Common.{◌≡◌, ◌≢◌, ℕ, ◌<◌, Bool, true, false, List, [], ◌∷◌, ◌++◌, Option, Some, None, cond, refl, sym, ap, ◌∙◌, subst, append_assoc, append-nil, eq-eqb, option_to_list}
 use Rattle.std.specs.Prelude.{◌==◌, IfSome}
 use Rattle.std.proofs.lemmas.Bool.{ne_eqb}

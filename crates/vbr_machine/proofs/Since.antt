@@ -1,4 +1,4 @@
--- What a run adds since a beginning of it: to its chronicle, to a pass's own events there, and to what has disturbed a pass.
+-- What a run adds since a beginning of it: to its chronicle, and to what has disturbed a pass.
 use Rattle.std.proofs.Common.{◌≡◌, ◌≢◌, ℕ, zero, suc, ◌+◌, ◌<◌, ◌≤◌, Bool, true, false, not, List, [], ◌∷◌, ◌++◌, refl, sym, ap, ◌∙◌, subst, inl, inr, eq-eqb, arith, append-nil}
 use Rattle.std.specs.Prelude.{◌==◌, ◌&&◌, ◌⊎◌}
 use Rattle.std.proofs.lemmas.List.{append_cancel_left}

@@ -1,4 +1,5 @@
--- The incarnations of a slot: at most one is late for an epoch among those born by it, and where the epoch is unmoved it is the slot's last.
+-- At most one incarnation of a slot is late for an epoch, among those born by it.
+-- Where the epoch is unmoved, that one is the slot's last.
 use Rattle.std.proofs.Common.{◌≡◌, ◌≢◌, ℕ, ◌+◌, ◌<◌, ◌≤◌, true, Option, Some, None, refl, arith, sym, subst, ap, ◌∙◌, inl, inr, ⊎_elim}
 use Rattle.std.specs.Prelude.{◌⊎◌}
 use Rattle.std.proofs.lemmas.Bool.{cases_order, cases_lt}

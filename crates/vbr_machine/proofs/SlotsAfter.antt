@@ -1,4 +1,4 @@
--- Each allowed event keeps what holds of the slots: clause by clause, with the events that touch it, and one line for all others.
+-- Each allowed event keeps what holds of the slots, clause by clause.
 use Rattle.std.proofs.Common.{◌≡◌, ◌≢◌, ℕ, ◌+◌, ◌<◌, ◌≤◌, Some, None, refl, arith, sym, subst, ◌∙◌, inl, inr}
 use Rattle.std.specs.Prelude.{◌⊎◌}
 use Rattle.std.proofs.lemmas.Bool.Decides.{nat_tests}

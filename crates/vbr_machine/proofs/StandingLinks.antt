@@ -1,4 +1,4 @@
--- A checked unmarked link that stands at its place now: what the pass has checked there and of what it names is what the incarnations have.
+-- Behind a checked unmarked link that stands at its place, what was checked is what the incarnations have.
 use Rattle.std.proofs.Common.{◌≡◌, ℕ, ◌≤◌, true, false, Option, Some, None, refl, arith, sym, ap, ◌∙◌}
 use Rattle.std.specs.Prelude.{IsSome, List, unwrap_or}
 use Rattle.std.specs.List.{AllByRecursion}

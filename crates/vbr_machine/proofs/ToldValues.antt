@@ -1,4 +1,4 @@
--- The calls of a run have values just where they are to have them: no call of a set has one.
+-- The calls of a run have values just where they should, and no call of a set has one.
 use Rattle.std.proofs.Common.{◌≡◌, ℕ, Bool, true, false, List, [], ◌∷◌, ◌++◌, append_assoc, Option, Some, None, refl, sym, subst, ◌∙◌}
 use Rattle.std.specs.Prelude.{IsSome, IfSome, if◌then◌else◌}
 use Rattle.std.specs.Option.{option_to_list}

@@ -1,4 +1,5 @@
--- Where a pass unlinks only once it has stamped all that it had unlinked, one slot at most is unstamped with it at any moment.
+-- Where a pass unlinks in turn, one slot at most is unstamped with it at any moment.
+-- It unlinks in turn where it has stamped, before each unlinking, all that it had unlinked.
 use Rattle.std.proofs.Common.{◌≡◌, ◌≢◌, ℕ, zero, suc, ◌<◌, ◌≤◌, ◌==◌, Bool, true, false, List, [], ◌∷◌, ◌++◌, Option, Some, None, refl, arith, sym, subst, ap, ◌∙◌, inl, inr, ⊎_elim, append_assoc, append-nil}
 use Rattle.std.specs.Prelude.{◌⊎◌, if◌then◌else◌}
 use Rattle.std.proofs.lemmas.Bool.{cases_Bool, cases_eq, false≢true, true≢false}

@@ -1,4 +1,4 @@
--- A walk along the list of a bucket in one epoch: what a link names there was in the list since the walk began, and is ordered behind what was visited.
+-- Each node of a walk in one epoch was in the list since it began, and comes after those visited.
 use Rattle.std.proofs.Common.{◌≡◌, ℕ, suc, ◌+◌, ◌<◌, ◌≤◌, false, List, Option, Some, None, refl, sym, ap, ◌∙◌, subst, arith}
 use Rattle.vbr_words.specs.Buckets.{bucket_of}
 use Rattle.vbr_words.specs.declared.link.Link.{Link}

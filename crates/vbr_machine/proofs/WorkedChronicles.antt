@@ -1,4 +1,4 @@
--- The chronicles of the worked lists, computed: these are their events, which are lawful, and the words are their image.
+-- The chronicles of the worked lists, computed: their events are lawful, and the words are their image.
 -- The notes of each pass are of the reads that it knows, and each was of what the incarnations showed.
 use Rattle.std.proofs.Common.{◌≡◌, ℕ, false, List, [], ◌∷◌, map, Some, None, refl, rules, tests}
 use Rattle.vbr_words.specs.Flags.{has_flag, first_bits, flag_word}

@@ -1,4 +1,4 @@
--- A look-up that passes a marked node, computed: behind the head stands a marked node with the key, whose link names none.
+-- A look-up that passes a marked node, computed: that node has the key, and its link names none.
 use Rattle.std.proofs.Common.{◌≡◌, true, false, [], ◌∷◌, ◌++◌, take, refl, rules, arith, None}
 use Rattle.vbr_words.specs.Flags.{has_flag, first_bits, flag_word}
 use Rattle.vbr_words.specs.Words.{word_of, link_of}

@@ -1,4 +1,6 @@
--- A worked run of a table that keeps values, computed: an insert with a value, a get that gives it, and a remove that gives it; and what is refused where a value is missing, or where the table keeps none.
+-- A worked run of a table that keeps values, computed.
+-- An insert stores a value, and a get and a remove give it.
+-- Steps that lack a value are refused, and so are steps for a value in a table that keeps none.
 use Rattle.std.proofs.Common.{◌≡◌, true, false, List, [], ◌∷◌, ◌++◌, Some, None, refl, rules, tests}
 use Rattle.vbr_machine.specs.Start.{Start, empty_start}
 use Rattle.vbr_words.specs.Flags.{has_flag, first_bits, flag_word}

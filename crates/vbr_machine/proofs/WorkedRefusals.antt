@@ -1,4 +1,4 @@
--- Each refusal of the core, computed once, on a shape of one slot, one bucket and one epoch, with one pass.
+-- Each refusal of the machine, computed once, with one pass, one slot, one bucket and one epoch.
 use Rattle.std.proofs.Common.{◌≡◌, [], ◌∷◌, take, None, refl, rules, tests, false}
 use Rattle.vbr_machine.specs.Start.{Start, empty_start}
 use Rattle.vbr_words.specs.Flags.{has_flag, first_bits, flag_word}

@@ -1,4 +1,7 @@
--- Worked runs with replacements, computed: one that is won, with a reader that stands on the old node and goes on to the new one, and unlinks the old one; look-ups between the replacement and the unlinking; replacements that are lost to a mark, to an insert behind the node, to another replacement, and to a later node in the same slot; and what is refused.
+-- Worked runs with replacements, computed: some are won, some lost, and some refused.
+-- In the one that is won, a reader on the old node goes on to the new one, and unlinks the old.
+-- Look-ups stand between the replacement and the unlinking.
+-- Others are lost to a mark, an insert behind the node, another replacement, and a later node in the slot.
 use Rattle.std.proofs.Common.{◌≡◌, ℕ, ◌≤◌, zero, suc, true, false, List, [], ◌∷◌, ◌++◌, Some, None, refl, rules, tests, arith, inr}
 use Rattle.vbr_machine.specs.Start.{Start, empty_start}
 use Rattle.vbr_words.specs.Flags.{has_flag, first_bits, flag_word}

@@ -1,4 +1,5 @@
--- Where the slots are along the first worked run, computed at seven of its moments; and a run in which a pass has two unstamped slots at once.
+-- Where the slots are along the first worked run, computed at seven of its moments.
+-- In a second run a pass has two unstamped slots at once.
 use Rattle.std.proofs.Common.{◌≡◌, ℕ, List, [], ◌∷◌, ◌++◌, map, take, refl, rules, tests}
 use Rattle.vbr_words.specs.Flags.{has_flag, first_bits, flag_word}
 use Rattle.vbr_words.specs.Words.{word_of, link_of}

@@ -1,4 +1,4 @@
--- Workers that have played a whole script, and whose passes came to the end of a run, have played it by that run.
+-- Workers that have played a whole script, and whose passes ended a run, have played it by that run.
 use Rattle.std.proofs.Common.{◌≡◌, ◌≢◌, ℕ, zero, suc, ◌+◌, ◌-◌, ◌*◌, ◌<◌, ◌≤◌, List, [], ◌∷◌, length, get_or, inl, inr, refl, sym, ap, subst, ◌∙◌, arith}
 use Rattle.std.proofs.lemmas.Bool.{cases_lt}
 use Rattle.std.proofs.lemmas.List.{length-map}

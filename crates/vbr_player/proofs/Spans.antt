@@ -1,4 +1,5 @@
--- From set to set: the lines of a span are cut off those that are left, and what one more set was asked stands in front of what the later ones are.
+-- From set to set, the lines of a span are cut off those that are left.
+-- What one more set was asked stands in front of what the later ones are.
 use Rattle.std.proofs.Common.{◌≡◌, ℕ, zero, suc, ◌+◌, ◌-◌, ◌<◌, ◌≤◌, List, [], ◌∷◌, ◌++◌, length, take, drop, get_or, refl, sym, ap, subst, ◌∙◌, append_assoc, arith, length-append, length-drop}
 use Rattle.std.specs.Prelude.{nat_le, zip, All}
 use Rattle.std.specs.List.{prefix_len}

@@ -1,4 +1,4 @@
--- A text that is read line by line: what was read so far, and what the lines that are left mean behind it.
+-- A text that is read line by line means what was read so far, and then what is left.
 use Rattle.std.proofs.Common.{◌≡◌, ℕ, ◌+◌, ◌<◌, ◌≤◌, cond, List, [], ◌∷◌, ◌++◌, length, map, append_assoc, length-append, arith}
 use Rattle.std.specs.Prelude.{count_by}
 use Rattle.std.proofs.lemmas.Bool.Decides.{nat_tests}

@@ -1,4 +1,4 @@
--- Going over the slots: what is listed of the linked nodes, and the counts of the nodes in lists, slot by slot.
+-- What is listed and counted of the nodes, slot by slot.
 use Rattle.std.proofs.Common.{◌≡◌, ℕ, suc, ◌+◌, ◌<◌, Bool, true, false, cond, List, [], ◌∷◌, ◌++◌, refl, sym, ap, ◌∙◌, add-one}
 use Rattle.std.specs.Prelude.{not, slice_index}
 use Rattle.std.proofs.lemmas.Bool.{false≢true, true≢false}

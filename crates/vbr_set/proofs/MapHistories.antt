@@ -1,4 +1,4 @@
--- What a pass of a map has seen is a safe run, so its calls are one legal history of a map.
+-- What a pass of a map has seen is a safe run, so its calls are a map's legal history.
 use Rattle.std.proofs.Common.{ℕ, List, [], ◌∷◌, Option, Result}
 use Rattle.vbr_machine.specs.Start.{Start, IsStart}
 use Rattle.vbr_machine.specs.Maps.{IsMapLegal, opening_entries}

@@ -1,4 +1,5 @@
--- What runs out of steps was disturbed, and what disturbs is answered: what is too few steps for so many disturbances is too few for more.
+-- What runs out of steps was disturbed, and what disturbs is answered.
+-- What is too few steps for so many disturbances is too few for more.
 use Rattle.std.proofs.Common.{ℕ, ◌<◌, ◌≤◌, arith}
 use Rattle.vbr_slots.specs.Calls.{Quiet}
 use Rattle.vbr_slots.specs.PassLaw.{PassLaw}

@@ -1,4 +1,4 @@
--- What takes up the slots where a lone insert finds none: no slot is in the shared pool, and its own pass has none.
+-- Where a lone insert finds no slot, none is in the shared pool, and its own pass has none.
 use Rattle.std.proofs.Common.{◌≡◌, ◌≢◌, ℕ, ◌+◌, ◌<◌, ◌==◌, ◌&&◌, Bool, true, false, cond, List, [], ◌∷◌, ◌++◌, Option, Some, None, refl, arith, sym, subst, ap, ◌∙◌, append_assoc, eq-eqb, inl, inr}
 use Rattle.std.specs.Prelude.{Contains, count_by}
 use Rattle.std.proofs.lemmas.Bool.{false≢true}

@@ -1,4 +1,5 @@
--- What the passes of a set have between calls is no more than their own pools have room for; sums over all passes but one.
+-- Between calls the passes of a set have no more slots than their own pools have room for.
+-- Sums over all passes but one say how many.
 use Rattle.std.proofs.Common.{◌≡◌, ◌≢◌, ℕ, zero, suc, ◌+◌, ◌-◌, ◌*◌, ◌<◌, ◌≤◌, ◌==◌, ◌&&◌, Bool, true, false, List, [], ◌∷◌, length, Some, None, refl, arith, sym, subst, ap, ◌∙◌, eq-eqb, inl, inr}
 use Rattle.std.specs.Prelude.{◌⊎◌, Contains, if◌then◌else◌, not}
 use Rattle.std.proofs.lemmas.Bool.{and_parts, cases_Bool, cases_eq, cases_order, ne_eqb}

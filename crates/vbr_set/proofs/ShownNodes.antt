@@ -1,4 +1,4 @@
--- The nodes that the words of a closed table show: of each slot the link, the key and the value of its last incarnation, and what stands in the lists.
+-- The nodes that the words of a closed table show are the last incarnations of their slots.
 use Rattle.std.proofs.Common.{◌≡◌, ℕ, ◌<◌, List, Option, refl, sym, ap, ◌∙◌}
 use Rattle.std.specs.Prelude.{slice_index}
 use Rattle.vbr_machine.specs.Start.{Start}

@@ -1,4 +1,4 @@
--- In a stretch of a run the epoch advances no more often than inserts are begun, by the calls of all passes.
+-- In a stretch of a run the epoch advances no more often than inserts are begun, by all passes.
 use Rattle.std.proofs.Common.{◌≡◌, ℕ, ◌+◌, ◌≤◌, ◌==◌, ◌&&◌, Bool, true, cond, List, [], ◌∷◌, ◌++◌, Ok, Err, Result, refl, ap, sym, subst, ◌∙◌, arith, eq-eqb, inl, inr, append_assoc}
 use Rattle.std.specs.Prelude.{count_by}
 use Rattle.std.proofs.lemmas.Bool.{ne_eqb}

@@ -1,4 +1,4 @@
--- A walk along the list of a bucket: the slots noted so far are those whose nodes stand before the one that is reached.
+-- The slots noted along a bucket's list are those whose nodes stand before the one that is reached.
 use Rattle.std.proofs.Common.{◌≡◌, ◌≢◌, ℕ, zero, suc, ◌<◌, ◌≤◌, Bool, true, false, List, length, set, Option, Some, None, refl, sym, ap, ◌∙◌, subst, inl, inr, arith, get_or-set_other, get_or-set_same}
 use Rattle.std.specs.Prelude.{slice_index, nat_lt, ◌&&◌, ◌||◌, ◌⊎◌, if◌then◌else◌}
 use Rattle.std.proofs.lemmas.Bool.{and_from, and_left, cases_Bool, cases_eq, lt-ltb}

@@ -1,4 +1,4 @@
--- How many steps a call on a table made, whatever it found, and that the count of its pass goes on.
+-- How many steps a call on a table made, whatever it found, as the count of its pass says.
 use Rattle.std.proofs.Common.{◌≡◌, ℕ, ◌+◌, Bool, true, false, sym, ap, ◌∙◌}
 use Rattle.std.specs.Bool.{MatchBool}
 use Rattle.std.specs.Prelude.{Result, Ok, Err, OnOk, IfErr}

@@ -1,4 +1,4 @@
--- A step of the core keeps the rule of the table.
+-- A step of the machine keeps the rule of the table.
 use Rattle.std.proofs.Common.{◌≡◌, ◌≢◌, ℕ, ◌<◌, List, [], ◌∷◌, ◌++◌, set, get_or, refl, sym, ap, ◌∙◌, subst, ⊎_elim, inl, inr, arith}
 use mathlib.Core.Option.{some}
 use Rattle.std.proofs.lemmas.List.{set-get_or}

@@ -1,4 +1,4 @@
--- The lemmas of vbr_slots that proofs of other crates cite: they import from here, and from no other module of its proofs.
+-- The lemmas of `vbr_slots` that proofs of other crates cite, which import from here alone.
 
 -- What a step teaches, from how it reaches its word.
 pub use Rattle.vbr_slots.proofs.Learning.{epoch_learned}

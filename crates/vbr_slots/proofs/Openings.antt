@@ -1,4 +1,4 @@
--- The words at the opening, laid one place at a time: those of the bare world, and then a key after the other.
+-- The words at the opening are laid place by place: those of the bare world, then key after key.
 use Rattle.std.proofs.Common.{◌≡◌, ◌≢◌, ◌⊎◌, inl, inr, ℕ, zero, suc, ◌+◌, ◌-◌, ◌<◌, nat_lt, ◌≤◌, Bool, true, false, List, Option, Some, None, ◌++◌, length, take, set, get_or, replicate, if◌then◌else◌, refl, sym, subst, ap, ◌∙◌, length-set, get_or-set_other, get_or-set_same, arith}
 use Rattle.std.specs.Prelude.{◌&&◌, bit_and}
 use Rattle.std.proofs.Math.Seq.{take-append_seam}

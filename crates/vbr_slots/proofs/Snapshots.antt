@@ -1,4 +1,5 @@
--- The words that are read one after another while a seat has the witnesses of all passes are those of one run: nobody can make a step meanwhile.
+-- Words that are read while a seat has the witnesses of all passes are those of one run.
+-- For nobody can make a step meanwhile.
 use Rattle.std.proofs.Common.{◌≡◌, ◌≢◌, ℕ, zero, suc, ◌+◌, ◌<◌, ◌≤◌, ◌==◌, eq-eqb, ne_eqb, List, [], ◌∷◌, ◌++◌, set, get_or, length, refl, sym, ap, ◌∙◌, subst, ⊎_elim, inl, inr, append_assoc, append-nil, Bool, arith}
 use Rattle.std.proofs.lemmas.Bool.{cases_lt}
 use mathlib.Core.Logic.{dite}

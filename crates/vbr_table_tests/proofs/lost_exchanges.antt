@@ -1,1 +1,2 @@
+-- Beside the proofs of stores that lose their exchange.
 mod Kept

@@ -1,1 +1,2 @@
+-- Beside the proofs of which stamp a retired slot gets.
 pub mod HeldThrough

@@ -1,4 +1,5 @@
--- A pass beyond the number of passes has no calls in a run of the core; and how the epoch of a run grows.
+-- A pass beyond the number of passes has no calls in a run.
+-- And how the epoch of a run grows.
 use Rattle.std.proofs.Common.{◌≡◌, ℕ, ◌+◌, ◌≤◌, Bool, true, false, cond, ◌==◌, List, [], ◌∷◌, refl, ap, ◌∙◌, arith}
 use Rattle.vbr_words.specs.Flags.{has_flag}
 use Rattle.vbr_machine.specs.Start.{Start}

@@ -1,4 +1,5 @@
--- Filters of lists: two in a row, one after a map, one that keeps all, and what two lists in step keep.
+-- Filters of lists.
+-- They are two in a row, one after a map, one that keeps all, and those of two lists in step.
 use Rattle.std.proofs.Common.{◌≡◌, ◌≤◌, Bool, true, false, List, [], ◌∷◌, ◌++◌, length, map, inl, inr, refl, ap, arith}
 use Rattle.std.proofs.lemmas.Bool.{cases_Bool}
 use Rattle.std.proofs.lemmas.List.Elements.{All-head, All-tail}

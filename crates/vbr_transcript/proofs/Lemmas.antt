@@ -1,4 +1,4 @@
--- The lemmas of vbr_transcript that proofs of other crates cite: they import from here, and from no other module of its proofs.
+-- The lemmas of `vbr_transcript` that proofs of other crates cite, which import from here alone.
 
 -- The epoch of a run of the core, how it grows.
 pub use Rattle.vbr_transcript.proofs.CoreCalls.{epoch_begins}

@@ -1,4 +1,4 @@
--- Sets that follow one another: what one was asked, and behind it what the next ones were, are the outcomes of all.
+-- Where sets follow one another, the outcomes of all are those of one, then of the next ones.
 use Rattle.std.proofs.Common.{◌≡◌, ◌≢◌, ℕ, suc, ◌+◌, ◌-◌, ◌<◌, ◌≤◌, Bool, true, false, cond, eqb, length, List, [], ◌∷◌, ◌++◌, inl, inr, refl, sym, ap, ap₂, subst, ◌∙◌, append_assoc, append-nil, arith}
 use Rattle.std.proofs.lemmas.Bool.{cases_eq, cases_lt, eq-eqb}
 use Rattle.std.proofs.lemmas.Bool.Decides.{nat_tests}

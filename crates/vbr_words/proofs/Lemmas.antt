@@ -1,4 +1,4 @@
--- The lemmas of vbr_words that proofs of other crates cite: they import from here, and from no other module of its proofs.
+-- The lemmas of `vbr_words` that proofs of other crates cite, which import from here alone.
 
 -- The bucket of a key is one of the shape.
 pub use Rattle.vbr_words.proofs.Buckets.{bucket_of-lt}

@@ -1,4 +1,5 @@
--- A list of events on a running table: each pass knows what it knows in the world that the events lead to, since it was shown words that teach the same.
+-- On a running table each pass knows what it knows in the world that the listed events lead to.
+-- For it was shown words that teach the same.
 use Rattle.std.proofs.Common.{◌≡◌, ◌≢◌, ℕ, zero, suc, ◌<◌, ◌++◌, List, ◌∷◌, Bool, true, false, Some, None, Result, Ok, Err, cond, refl, sym, ap, ◌∙◌, subst, eq-eqb, arith}
 use Rattle.std.specs.Prelude.{MatchResult, OnOk, IfErr, ◌==◌, is_ok}
 use Rattle.std.proofs.lemmas.Bool.{ne_eqb}

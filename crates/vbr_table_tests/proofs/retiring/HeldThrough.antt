@@ -1,4 +1,5 @@
--- What is held stays held through the calls of a test that answered, and a key stands behind the head of the one bucket.
+-- What is held stays held through the answered calls of a test.
+-- A key stands behind the head of the one bucket.
 use Rattle.std.proofs.Common.{◌≡◌, ℕ, refl, sym, subst, arith}
 use Rattle.std.specs.Prelude.{Bool, true, false, Result, Ok, Err, IfOk, IfErr}
 use Rattle.vbr_machine.specs.Start.{Start}
