@@ -30,26 +30,28 @@ static uint32_t kept(size_t count, uint32_t slots, uint64_t added) {
     return spare;
 }
 
-/* An eighth of the slots at most: none with fewer than eight for each handle. */
+/* An eighth of the slots at most: none with fewer than eight for each handle. Of 11 slots two are taken where nine are left, and of
+   31 four where 27 are. */
 static void keep_an_eighth(void) {
     CHECK(kept(1, 1, 1) == 0 && kept(1, 7, 1) == 0 && kept(1, 7, 7) == 0);
     CHECK(kept(1, 8, 1) == 1 && kept(2, 15, 1) == 0 && kept(2, 16, 1) == 1);
-    CHECK(kept(4, 355, 60) == 11 && kept(1, 255, 60) == 31);
+    CHECK(kept(4, 355, 60) == 11 && kept(4, 355, 61) == 10);
+    CHECK(kept(1, 255, 60) == 29 && kept(1, 255, 61) == 28 && kept(1, 255, 62) == 31);
 }
 
-/* Two slots come for each insert that takes one, up to 32. */
+/* An insert takes one slot, and five come where 27 are left, or fewer. So they grow by four an insert, and are then 28 to 32. */
 static void grow(void) {
-    CHECK(kept(1, 1000, 1) == 2 && kept(1, 1000, 2) == 3 && kept(1, 1000, 30) == 31);
-    CHECK(kept(1, 1000, 31) == 32 && kept(1, 1000, 500) == 32);
+    CHECK(kept(1, 1000, 1) == 5 && kept(1, 1000, 2) == 9 && kept(1, 1000, 6) == 25 && kept(1, 1000, 7) == 29);
+    CHECK(kept(1, 1000, 8) == 28 && kept(1, 1000, 9) == 32 && kept(1, 1000, 13) == 28 && kept(1, 1000, 499) == 32);
 }
 
 /* What is given back comes again with the next insert that adds a key, and with no other call. */
 static void give_back(void) {
     open_some(1, 1000);
     for (uint64_t key = 0; key < 40; key++) CHECK(vbr_insert(&handle[0], key) == VBR_YES);
-    CHECK(vbr_spare(&handle[0]) == 32);
+    CHECK(vbr_spare(&handle[0]) == 31);
     CHECK(vbr_insert(&handle[0], 5) == VBR_NO && vbr_has(&handle[0], 5) == VBR_YES && vbr_spare(&handle[0]) == 0);
-    CHECK(vbr_insert(&handle[0], 40) == VBR_YES && vbr_spare(&handle[0]) == 2);
+    CHECK(vbr_insert(&handle[0], 40) == VBR_YES && vbr_spare(&handle[0]) == 5);
     end(1);
 }
 

@@ -221,7 +221,7 @@ static int renewals() {
     std::vector<vbr::map_handle> handles = vbr::open_map(shape, 2).value();
     CHECK(*handles[1].insert(5, 70));
     int renewed = 0;
-    for (std::uint64_t key = 100; key < 600; key++) {
+    for (std::uint64_t key = 100; key < 1100; key++) {
         vbr::result<bool> added = handles[0].insert(key, 3 * key);
         if (added == vbr::refusal::epoch_spent) {
             CHECK(!handles[0].close().value());

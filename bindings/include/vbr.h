@@ -232,8 +232,8 @@ VBR_NODISCARD vbr_answer vbr_open_many_seeded(vbr_handle *handles, size_t count,
 /* Calls on keys */
 
 /* Adds a key: VBR_YES if it was absent, VBR_NO if it was there. Else VBR_OUT_OF_STEPS, VBR_NO_SLOT, VBR_EPOCH_SPENT or
-   VBR_NO_HANDLE. At VBR_NO_SLOT have other handles give their slots back (vbr_spare), remove keys, or make it again. It takes no
-   memory and never waits.
+   VBR_NO_HANDLE. At VBR_NO_SLOT have other handles give their slots back (vbr_spare), remove keys, or make it again. Where it adds
+   the key, the handle then takes slots in reserve for the next inserts, as vbr_reserve says. It takes no memory and never waits.
 
        if (vbr_insert(&handle[0], 5) == VBR_YES) added++; // this call added 5 */
 VBR_NODISCARD static inline vbr_answer vbr_insert(vbr_handle *handle, uint64_t key) VBR_NOEXCEPT VBR_NONNULL;
@@ -360,17 +360,22 @@ VBR_NODISCARD int64_t vbr_balance(const vbr_handle *handle) VBR_NOEXCEPT VBR_NON
 
 /* Puts the slots that the handle keeps to itself into the pool that all handles share, where any of them finds them, in one step
    for each: how many they were, and 0 for an empty handle. Call it of a handle that inserts nothing for a time. It makes no call of
-   the set, takes no memory and can't fail. The handle keeps none then.
+   the set, takes no memory and can't fail. The handle keeps none then. The next insert that adds a key takes slots in reserve again.
 
        uint32_t given = vbr_spare(&handle[0]); // handle[1] can have them now */
 uint32_t vbr_spare(vbr_handle *handle) VBR_NOEXCEPT VBR_NONNULL;
 
 /* Takes slots out of the pool that all handles share until the handle keeps `wanted` to itself, or 63 if that is less, and returns
    how many it took: fewer only where it finds no more on a way once round the slots, and 0 for an empty handle. It makes a step for
-   each slot that it takes or that others take before it, and for each 64 slots that it passes. Call it of a handle that from now on
-   takes a key out before each that it puts in, as a cache does that is full: with 32 slots in reserve it advances the epoch in
-   about one of 33 inserts, and with none in nearly each. Inserts take slots of the handle first, so those that fill the set use up
-   a reserve that was taken before. It makes no call of the set, takes no memory and can't fail. vbr_spare gives the slots back.
+   each slot that it takes or that others take before it, and for each 64 slots that it passes. It makes no call of the set, takes no
+   memory and can't fail. vbr_spare gives the slots back.
+
+   A handle keeps a reserve by itself: 32 slots, or slots / (8 * handles) where that is less, so none in a set with fewer than 8 slots
+   for each handle. After an insert that added a key, where more than an eighth of the reserve is lacking, it makes up to 5 tries to
+   take a slot, within the budget of the call. So a handle that takes a key out before each that it puts in, as a cache does that is
+   full, advances the epoch in about one of 30 inserts, and not in each. With r slots in reserve it is one of r + 1: call this for
+   more than 32, or of a small set. Inserts take slots of the handle first, so those that fill the set use the rest up. The reserve
+   is part of the 64 slots that are counted for each handle.
 
        uint32_t taken = vbr_reserve(&handle[0], 32); // for its inserts to come */
 uint32_t vbr_reserve(vbr_handle *handle, uint32_t wanted) VBR_NOEXCEPT VBR_NONNULL;
@@ -515,7 +520,8 @@ VBR_NODISCARD vbr_answer vbr_map_open_many_seeded(vbr_map_handle *handles, size_
 
 /* Adds a key with its value: VBR_YES if the key was absent, VBR_NO if it was there; then it keeps the value that it has. Else
    VBR_OUT_OF_STEPS, VBR_NO_SLOT, VBR_EPOCH_SPENT or VBR_NO_HANDLE. At VBR_NO_SLOT have other handles give their slots back
-   (vbr_map_spare), remove keys, or make it again. It takes no memory and never waits.
+   (vbr_map_spare), remove keys, or make it again. Where it adds the key, the handle then takes slots in reserve, as vbr_reserve says.
+   So do vbr_map_put and vbr_map_get_or_insert. It takes no memory and never waits.
 
        if (vbr_map_insert(&map[0], 5, 70) == VBR_YES) added++; // this call stored 70 for 5 */
 VBR_NODISCARD static inline vbr_answer vbr_map_insert(vbr_map_handle *handle, uint64_t key,
@@ -749,7 +755,7 @@ VBR_NODISCARD int64_t vbr_map_balance(const vbr_map_handle *handle) VBR_NOEXCEPT
 uint32_t vbr_map_spare(vbr_map_handle *handle) VBR_NOEXCEPT VBR_NONNULL;
 
 /* Takes slots in reserve for the inserts to come of the handle, as vbr_reserve does of a set: how many it took, and 0 for an empty
-   handle.
+   handle. vbr_reserve says which reserve a handle keeps by itself.
 
        uint32_t reserved = vbr_map_reserve(&map[0], 32); // for its inserts to come */
 uint32_t vbr_map_reserve(vbr_map_handle *handle, uint32_t wanted) VBR_NOEXCEPT VBR_NONNULL;

@@ -794,15 +794,15 @@ public:
     std::int64_t balance() const noexcept { return Kind::balance(&raw); }
 
     /* Puts the slots that the handle keeps to itself into the pool that all handles share, where any of them finds them: how
-       many they were. It keeps none then. Call it of a handle that inserts nothing for a time; one that is closed or ends does
-       so by itself.
+       many they were. It keeps none then; the next insert that adds a key takes some in reserve again. Call it of a handle that
+       inserts nothing for a time; one that is closed or ends does so by itself.
 
            std::uint32_t given = mine.spare(); // the other handles can have them now */
     std::uint32_t spare() noexcept { return Kind::spare(&raw); }
 
     /* Takes slots out of the pool that all handles share until the handle keeps `wanted` to itself, or 63 if that is less, and
-       returns how many it took: fewer only where it finds no more. Call it of a handle that from now on takes a key
-       out before each that it puts in: vbr_reserve says what that is for, and spare gives the slots back.
+       returns how many it took: fewer only where it finds no more. A handle keeps up to 32 by itself, which its inserts take:
+       vbr_reserve says how many, what they are for, and when to take more. spare gives the slots back.
 
            std::uint32_t reserved = mine.reserve(32); // for its inserts to come */
     std::uint32_t reserve(std::uint32_t wanted) noexcept { return Kind::reserve(&raw, wanted); }

@@ -33,7 +33,7 @@ const REQUESTS: u64 = 400_000;
 const BETWEEN_CHECKPOINTS: u64 = 20_000;
 
 /// So small that it is spent some times. A program takes `vbr::MAX_EPOCH`.
-const LAST_EPOCH: u64 = 20_000;
+const LAST_EPOCH: u64 = 2_000;
 
 /// So small that some calls need more. A program takes an ample one.
 const FIRST_STEPS: Steps = Steps::new(48);

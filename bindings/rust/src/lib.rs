@@ -27,9 +27,9 @@
 //!   handle keeps up to 64; [`MAX_HANDLES`] handles; memory that is taken at the opening, 8 × (2 + buckets + 4 × slots +
 //!   ⌈slots / 64⌉) bytes for a set, and 8 more for each slot of a map. A set doesn't grow by itself: [`Table::renew`] and
 //!   [`HandleOf::renew_all`] let it go on in another shape.
-//! - **The epochs end.** Only calls that take a slot, for a key or a new value, advance the epoch, each by one at most: about six of
-//!   a hundred inserts where inserts and removes come at random, and nearly all in a full cache that takes a key out before each
-//!   that it puts in, or three once it has slots in reserve ([`PassOf::reserve`]). The greatest last epoch, [`MAX_EPOCH`], lasts
+//! - **The epochs end.** Only calls that take a slot, for a key or a new value, advance the epoch, each by one at most: about three
+//!   of a hundred inserts, also in a full cache that takes a key out before each that it puts in, since a handle keeps slots in
+//!   reserve ([`PassOf::reserve`]); more in small sets. The greatest last epoch, [`MAX_EPOCH`], lasts
 //!   fifteen hours at ten million inserts a second that advance it, and six days at a million. After it inserts are refused by
 //!   [`Refusal::EpochSpent`] until the set is renewed; look-ups and removes go on. So a program that runs for weeks renews its set
 //!   by a clock (`examples/server.rs`).

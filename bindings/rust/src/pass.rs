@@ -420,7 +420,8 @@ impl<T: Kind> PassOf<T> {
 
     /// Puts the slots that the handle keeps to itself, at most 64, into the pool that all handles share, where any of them
     /// finds them, and returns how many they were. It keeps none then. It makes a step for each, and can't fail. A handle
-    /// that is closed or dropped does so by itself: call it of one that inserts nothing for a time.
+    /// that is closed or dropped does so by itself: call it of one that inserts nothing for a time. The next insert that adds
+    /// a key takes slots in reserve again ([`PassOf::reserve`]).
     ///
     /// ```
     /// # use vbr::{Refusal, Set, Shape};
@@ -439,11 +440,15 @@ impl<T: Kind> PassOf<T> {
 
     /// Takes slots out of the pool that all handles share until the handle keeps `wanted` to itself, or 63 if that is less, and
     /// returns how many it took: fewer only where it finds no more on a way once round the slots. It makes a step for each slot
-    /// that it takes or that others take before it, and for each 64 slots that it passes. Call it of a handle that from now on
-    /// takes a key out before each that it puts in, as a cache does that is full: with 32 slots in reserve it advances the epoch
-    /// in about one of 33 inserts, and with none in nearly each. Inserts take slots of the handle first, so those that fill the
-    /// set use up a reserve that was taken before. It makes no call of the set, takes no memory and can't fail.
-    /// [`PassOf::spare`] gives the slots back.
+    /// that it takes or that others take before it, and for each 64 slots that it passes. It makes no call of the set, takes no
+    /// memory and can't fail. [`PassOf::spare`] gives the slots back.
+    ///
+    /// A handle keeps a reserve by itself: 32 slots, or slots / (8 * handles) where that is less, so none in a set with fewer
+    /// than 8 slots for each handle. After an insert that added a key, where more than an eighth of the reserve is lacking, it
+    /// makes up to 5 tries to take a slot, within the budget of the call. So a handle that takes a key out before each that it
+    /// puts in, as a cache does that is full, advances the epoch in about one of 30 inserts, and not in each. With r slots in
+    /// reserve it is one of r + 1: call this for more than 32, or of a small set. Inserts take slots of the handle first, so
+    /// those that fill the set use the rest up. The reserve is part of the 64 slots that are counted for each handle.
     ///
     /// ```
     /// # use vbr::{Set, Shape};

@@ -84,7 +84,7 @@ pub extern "C" fn vbr_map_open_many_seeded(
 }
 
 /// Adds a key with its value, as [`crate::set::vbr_insert_within`] adds a key: 1 if the key was absent, 0 if it
-/// was there, and then it keeps the value that it had. The same budget is enough.
+/// was there, and then it keeps the value that it had. The same budget is enough, and the handle keeps its reserve.
 ///
 /// ```c file=bindings/c/map_example.c
 /// vbr_answer added = vbr_map_insert(&map[0], 5, 70);  /* VBR_YES: 5 was absent, and now has the value 70 */
@@ -174,7 +174,7 @@ pub extern "C" fn vbr_map_replace_within(
 }
 
 /// Gives a key a value, whether it is there or not, as [`vbr_map_replace_within`] does: 1 if it was there, and the
-/// value that it had is written; 0 if it was absent.
+/// value that it had is written; 0 if it was absent, and then the handle keeps its reserve.
 ///
 /// ```c file=bindings/c/map_calls.c
 /// if (vbr_map_put(&map[1], 6, 60, NULL) == VBR_NO) added++; // 6 was absent; either way it has 60
@@ -195,7 +195,8 @@ pub extern "C" fn vbr_map_put_within(
 }
 
 /// Gives a key that is absent a value, as [`vbr_map_insert_within`] does: 0; 1 if the key was there, and then the
-/// value that it has is written. The same budget is enough, and the refusals of [`vbr_map_replace_within`] come.
+/// value that it has is written. The same budget is enough, and the refusals of [`vbr_map_replace_within`] come. Where
+/// it added the key the handle keeps its reserve.
 ///
 /// ```c file=bindings/c/map_calls.c
 /// if (vbr_map_get_or_insert(&map[0], 5, 1, &found) == VBR_YES) there++; // 5 had the value found, and keeps it

@@ -7,7 +7,8 @@ use vbr_handles::numbers::{giving_back, reserving};
 use vbr_handles::{Handle, MapHandle};
 
 /// Puts all slots that the handle keeps to itself into the pool that all handles share, one step for each, and
-/// returns how many they were; 0 where the handle is empty. It makes no call of the set, and can't fail.
+/// returns how many they were; 0 where the handle is empty. It makes no call of the set, and can't fail. The next
+/// insert that adds a key takes slots in reserve again.
 ///
 /// ```c file=bindings/c/spare.c
 /// uint32_t given = vbr_spare(&handle[0]);                   /* the other handle can have them */
@@ -33,6 +34,9 @@ pub extern "C" fn vbr_map_spare(handle: &mut MapHandle) -> u32
 /// less, and returns how many it took: fewer only where it finds no more on a way once round the slots; 0 where the
 /// handle is empty. It makes no call of the set, and can't fail. A handle with r slots in reserve that takes a key
 /// out before each that it puts in advances the epoch in about one of r + 1 such inserts.
+///
+/// A handle keeps a reserve by itself: 32 slots, or slots / (8 * handles) where that is less. After an insert that
+/// added a key, where more than an eighth of the reserve is lacking, it tries to take a slot up to five times.
 ///
 /// ```c file=bindings/c/spare.c
 /// uint32_t taken = vbr_reserve(&handle[0], 32);             /* for its inserts to come */

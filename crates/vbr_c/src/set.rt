@@ -90,7 +90,8 @@ pub extern "C" fn vbr_open_many_seeded(
 }
 
 /// Adds a key: 1 if it was absent, 0 if it was there. It makes at most `budget` steps. While the other
-/// handles stand still, 18n + slots + 82 are enough, with n nodes in the key's bucket.
+/// handles stand still, 18n + slots + 82 are enough, with n nodes in the key's bucket. Where it added the key and
+/// the handle lacks slots of its reserve, it takes some then, within the budget ([`crate::own_slots::vbr_reserve`]).
 ///
 /// Refusals, after which no call was made and the handle can go on: -1, the steps leave no room in the
 /// budget; -2, the key was absent and the handle found no slot; -3, the key was absent and the last
