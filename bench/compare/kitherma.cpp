@@ -25,21 +25,26 @@ uint32_t buckets_as_keys(const Workload &w) {
     return buckets;
 }
 
-struct Kitherma {
-    std::vector<vbr_handle> handles;
+// The handles of a set or a map, one for each thread.
+template <class Raw, auto open, auto end_all> struct Handles {
+    std::vector<Raw> handles;
 
-    explicit Kitherma(const Workload &w) : Kitherma(w, buckets(w)) {}
-    Kitherma(const Workload &w, uint32_t buckets) : handles(w.threads) {
-        if (vbr_open(handles.data(), handles.size(), w.slots(), buckets, VBR_MAX_EPOCH) != VBR_OK) refused();
+    explicit Handles(const Workload &w) : Handles(w, buckets(w)) {}
+    Handles(const Workload &w, uint32_t buckets) : handles(w.threads) {
+        if (open(handles.data(), handles.size(), w.slots(), buckets, VBR_MAX_EPOCH) != VBR_OK) refused();
     }
-    ~Kitherma() {
-        vbr_end_all(handles.data(), handles.size());
+    ~Handles() {
+        end_all(handles.data(), handles.size());
     }
 
     struct Handle {
-        vbr_handle *of;
-        Handle(Kitherma &peer, unsigned thread) : of(&peer.handles[thread]) {}
+        Raw *of;
+        Handle(Handles &peer, unsigned thread) : of(&peer.handles[thread]) {}
     };
+};
+
+struct Kitherma : Handles<vbr_handle, vbr_open, vbr_end_all> {
+    using Handles::Handles;
 
     bool insert(Handle &h, uint64_t key) { return answer(vbr_insert(h.of, key)); }
     bool remove(Handle &h, uint64_t key) { return answer(vbr_remove(h.of, key)); }
@@ -68,21 +73,8 @@ template <class Of> struct KithermaAll : Of {
     }
 };
 
-struct KithermaMap {
-    std::vector<vbr_map_handle> handles;
-
-    explicit KithermaMap(const Workload &w) : KithermaMap(w, buckets(w)) {}
-    KithermaMap(const Workload &w, uint32_t buckets) : handles(w.threads) {
-        if (vbr_map_open(handles.data(), handles.size(), w.slots(), buckets, VBR_MAX_EPOCH) != VBR_OK) refused();
-    }
-    ~KithermaMap() {
-        vbr_map_end_all(handles.data(), handles.size());
-    }
-
-    struct Handle {
-        vbr_map_handle *of;
-        Handle(KithermaMap &peer, unsigned thread) : of(&peer.handles[thread]) {}
-    };
+struct KithermaMap : Handles<vbr_map_handle, vbr_map_open, vbr_map_end_all> {
+    using Handles::Handles;
 
     bool insert(Handle &h, uint64_t key, uint64_t value) { return answer(vbr_map_insert(h.of, key, value)); }
     bool remove(Handle &h, uint64_t key, uint64_t &value) { return answer(vbr_map_remove(h.of, key, &value)); }

@@ -75,10 +75,7 @@ template <class M> struct GetsAll : Gets<M> {
     }
 };
 
-inline std::vector<Peer> &map_peers() {
-    static std::vector<Peer> list;
-    return list;
-}
+inline std::vector<Peer> &map_peers() { return list_of<Peer, List::map_peers>(); }
 
 #define MAP_PEER(name, M, REPLACES_BY) \
     static const bool named_##M = (map_peers().push_back({name, measure<Gets<M>>, wrong_keys<Gets<M>>, REPLACES_BY}), true)

@@ -16,10 +16,7 @@ struct Single {
     }
 };
 
-inline std::vector<Single> &singles() {
-    static std::vector<Single> list;
-    return list;
-}
+inline std::vector<Single> &singles() { return list_of<Single, List::singles>(); }
 
 // The numbers of the keys of a range, in an order that each turn draws anew, so that a processor can't learn it.
 class Order {

@@ -13,15 +13,8 @@ struct Walk {
     static uint64_t possible(uint64_t operations, uint64_t range) { return std::max<uint64_t>(1, operations / range) * range; }
 };
 
-inline std::vector<Walk> &walks() {
-    static std::vector<Walk> list;
-    return list;
-}
-
-inline std::vector<Walk> &map_walks() {
-    static std::vector<Walk> list;
-    return list;
-}
+inline std::vector<Walk> &walks() { return list_of<Walk, List::walks>(); }
+inline std::vector<Walk> &map_walks() { return list_of<Walk, List::map_walks>(); }
 
 // A map as the loops walk it: with each value seen to.
 template <class M> struct Walks : Gets<M> {

@@ -228,20 +228,18 @@ struct Peer {
     const char *replaces_by = nullptr; // in a map: how it gives a key another value
 };
 
-inline std::vector<Peer> &peers() {
-    static std::vector<Peer> list;
+enum class List { peers, map_peers, batches, map_batches, singles, walks, map_walks };
+
+// The list of this name, which is made when it is first asked for.
+template <class Each, List> std::vector<Each> &list_of() {
+    static std::vector<Each> list;
     return list;
 }
+
+inline std::vector<Peer> &peers() { return list_of<Peer, List::peers>(); }
 
 // Those that look many keys up at once stand beside the others where all calls are look-ups.
-inline std::vector<Peer> &batches() {
-    static std::vector<Peer> list;
-    return list;
-}
-
-inline std::vector<Peer> &map_batches() {
-    static std::vector<Peer> list;
-    return list;
-}
+inline std::vector<Peer> &batches() { return list_of<Peer, List::batches>(); }
+inline std::vector<Peer> &map_batches() { return list_of<Peer, List::map_batches>(); }
 
 #define PEER(name, P) static const bool named_##P = (peers().push_back({name, measure<P>, wrong_keys<P>}), true)

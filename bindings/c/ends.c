@@ -47,6 +47,12 @@ struct thread {
     atomic_long turns;
 };
 
+/* Opens two handles, and gives the first to a thread that has made no turn. */
+static void begin(struct thread *t, vbr_handle *two) {
+    open_two(two);
+    *t = (struct thread){.handle = &two[0]};
+}
+
 static void *ends(void *of) {
     struct thread *t = of;
     for (long i = 0; i < 1001; i++) turn_of(t->handle, t->held, i, 0);
@@ -59,9 +65,7 @@ static void ended_threads(void) {
         static struct thread t;
         vbr_handle two[2];
         pthread_t id;
-        t = (struct thread){0};
-        open_two(two);
-        t.handle = &two[0];
+        begin(&t, two);
         CHECK(!pthread_create(&id, NULL, ends, &t) && !pthread_join(id, NULL));
         for (long i = 0; i < 501; i++) turn_of(&two[0], t.held, i, 0);
         for (int i = 0; i < KEYS; i++) CHECK(vbr_has(&two[again % 2], (uint64_t)i) == (t.held[i] ? VBR_YES : VBR_NO));
@@ -86,9 +90,7 @@ static void cancelled_threads(void) {
         vbr_handle two[2];
         pthread_t id;
         void *result = NULL;
-        t = (struct thread){0};
-        open_two(two);
-        t.handle = &two[0];
+        begin(&t, two);
         CHECK(!pthread_create(&id, NULL, is_cancelled, &t));
         while (atomic_load(&t.turns) < 100) sched_yield();
         CHECK(!pthread_cancel(id) && !pthread_join(id, &result) && result == PTHREAD_CANCELED);

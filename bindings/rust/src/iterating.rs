@@ -86,25 +86,21 @@ impl<T: Kind> Iterator for Iter<'_, T> {
 
 impl<T: Kind> FusedIterator for Iter<'_, T> {}
 
-impl<'h, T: Kind> IntoIterator for &'h PassOf<T> {
-    type Item = Result<T::Item, OutOfSteps>;
-    type IntoIter = Iter<'h, T>;
+macro_rules! goes_over_its_table {
+    ($($of:ident)*) => {$(
+        impl<'h, T: Kind> IntoIterator for &'h $of<T> {
+            type Item = Result<T::Item, OutOfSteps>;
+            type IntoIter = Iter<'h, T>;
 
-    #[inline]
-    fn into_iter(self) -> Iter<'h, T> {
-        self.iter()
-    }
+            #[inline]
+            fn into_iter(self) -> Iter<'h, T> {
+                self.iter()
+            }
+        }
+    )*};
 }
 
-impl<'h, T: Kind> IntoIterator for &'h HandleOf<T> {
-    type Item = Result<T::Item, OutOfSteps>;
-    type IntoIter = Iter<'h, T>;
-
-    #[inline]
-    fn into_iter(self) -> Iter<'h, T> {
-        self.iter()
-    }
-}
+goes_over_its_table! { PassOf HandleOf }
 
 impl<T: Kind> fmt::Debug for Iter<'_, T> {
     fn fmt(&self, f: &mut fmt::Formatter<'_>) -> fmt::Result {

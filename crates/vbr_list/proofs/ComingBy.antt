@@ -1,8 +1,8 @@
 -- An iteration goes from bucket to bucket.
-use Rattle.vbr_list.proofs.Names.{◌≡◌, ℕ, suc, ◌+◌, ◌-◌, ◌*◌, ◌<◌, ◌≤◌, Bool, true, false, Some, None, Ok, Err, refl, sym, ap, ◌∙◌, subst, arith, inl, inr}
-use Rattle.vbr_list.proofs.Names.{alone_first, alone_then, begins_refl, bucket_of, IsAlone, IsRun, IsStart, OutOfSteps, PassLaw, PassView, Quiet, quiet_adds_none, Start, took_all, Trace}
+use Rattle.vbr_list.proofs.Names.{◌≡◌, ℕ, suc, ◌+◌, ◌-◌, ◌*◌, ◌<◌, ◌≤◌, Bool, true, false, Option, Some, None, Result, Ok, Err, IfErr, IfOk, refl, sym, ap, ◌∙◌, subst, arith, inl, inr}
+use Rattle.vbr_list.proofs.Names.{alone_first, alone_then, begins_refl, bucket_of, IsAlone, IsRun, IsStart, OutOfSteps, PassLaw, PassView, Quiet, quiet_adds_none, Refusal, Start, took_all, TookWithin, Trace}
 use Rattle.vbr_list.specs.Budgets.{listed_in, steps_to_value_of}
-use Rattle.vbr_list.specs.Cursors.{HasStayedOrMoved, IsBehindKey, IsPastKey, IteratesWhere, PassesBy, SeesMore, costs_over, entered_by, next_bucket}
+use Rattle.vbr_list.specs.Cursors.{GivesNextWhere, HasStayedOrMoved, IsBehindKey, IsPastKey, IteratesWhere, PassesBy, SeesMore, StopsShort, costs_over, entered_by, next_bucket}
 use Rattle.vbr_list.specs.Next.{HasNoNext, enough_to_seek, seek_costs}
 use Rattle.vbr_list.specs.Pieces.{Goes, Observes}
 use Rattle.vbr_list.specs.Seeking.{Sought, steps_besides}
@@ -92,29 +92,35 @@ module _ {p q : PassView} (r : PassView) (law : PassLaw p) (c d : Cursor) (used 
     paid = λ alone. paid_on y.peeks.tries.goes.quiet y.next.searches alone;
   }
 
-  -- to a node
-  pub come_to : (e : Cursor) (next : NextNode) → Sought q r d.bucket d.from used since budget (Some (Some next)) → (next.is_last ≡ true → e ≡ next_bucket d) → (next.is_last ≡ false → IsBehindKey d.bucket next.key e) → IteratesWhere p r c e budget (Ok (Some (next.key, next.value)))
-  come_to e next y last more =
+  -- what it gave, or how it was refused, is all that its ends have apart
+  comes : {e : Cursor} {found : Option (Option NextNode)} {answer : Result (Option (ℕ × ℕ)) Refusal} (y : Sought q r d.bucket d.from used since budget found) → IfOk answer (GivesNextWhere p.trace r.trace c e) → IfErr answer (StopsShort p r c e budget) → IfOk answer (λ given. IsAlone p.trace r.trace → TookWithin p.trace r.trace (costs_over p.trace c.bucket (entered_by e.bucket e.from - c.bucket))) → IteratesWhere p r c e budget answer
+  comes y gives refused costs =
       let all = goes_on x.goes y.peeks.tries.goes in
       let seen = observes_on x.observes y.peeks.observes in
-      let tells = y.next.tells.0 in
-      let of_bucket : bucket_of p.trace.start.shape next.key ≡ d.bucket = ap (λ (s : Start). bucket_of s.shape next.key) (sym x.goes.quiet.same.start) ∙ tells.0.of_bucket in
-      let P : ℕ → Type 0 = λ b. IsPastKey b next.key e in
-      let past = is_past next.is_last last more in
       record {
-        gives = (
-          (passes_on to_here (from_here y.peeks.tries.goes.quiet) x.passes (passes next.is_last last more y.next.tells.1), subst P (sym of_bucket) past),
-          λ values. entry_since to_here (tells.1 (ap (λ (s : Start). s.shape.values) x.goes.quiet.same.start ∙ values)),
-        );
-        refused = tt;
+        gives = gives;
+        refused = refused;
         quiet = all.quiet;
         only_loads = seen.only_loads;
         adds_none = seen.adds_none;
         takes_no_slot = all.hand.takes_no_slot;
         hand = all.hand.hand;
         steps = within_of since budget y.peeks.tries.within.1 all.counts;
-        costs = λ alone. within_of since (costs_over p.trace c.bucket (entered_by e.bucket e.from - c.bucket)) (entered past (paid_on y.peeks.tries.goes.quiet y.next.searches alone)) all.counts;
+        costs = costs;
       }
+
+  -- to a node
+  pub come_to : (e : Cursor) (next : NextNode) → Sought q r d.bucket d.from used since budget (Some (Some next)) → (next.is_last ≡ true → e ≡ next_bucket d) → (next.is_last ≡ false → IsBehindKey d.bucket next.key e) → IteratesWhere p r c e budget (Ok (Some (next.key, next.value)))
+  come_to e next y last more =
+      let tells = y.next.tells.0 in
+      let of_bucket : bucket_of p.trace.start.shape next.key ≡ d.bucket = ap (λ (s : Start). bucket_of s.shape next.key) (sym x.goes.quiet.same.start) ∙ tells.0.of_bucket in
+      let P : ℕ → Type 0 = λ b. IsPastKey b next.key e in
+      let past = is_past next.is_last last more in
+      comes y (
+        (passes_on to_here (from_here y.peeks.tries.goes.quiet) x.passes (passes next.is_last last more y.next.tells.1), subst P (sym of_bucket) past),
+        λ values. entry_since to_here (tells.1 (ap (λ (s : Start). s.shape.values) x.goes.quiet.same.start ∙ values)),
+      ) tt
+      (λ alone. within_of since (costs_over p.trace c.bucket (entered_by e.bucket e.from - c.bucket)) (entered past (paid_on y.peeks.tries.goes.quiet y.next.searches alone)) (goes_on x.goes y.peeks.tries.goes).counts)
     where
       is_past : (is_last : Bool) → (is_last ≡ true → e ≡ next_bucket d) → (is_last ≡ false → IsBehindKey d.bucket next.key e) → IsPastKey d.bucket next.key e
       is_past is_last last more = grind (arith, last, more)
@@ -137,25 +143,13 @@ module _ {p q : PassView} (r : PassView) (law : PassLaw p) (c d : Cursor) (used 
   -- no further, for want of steps
   pub come_short : d.bucket < p.trace.start.shape.buckets → Sought q r d.bucket d.from used since budget None → IteratesWhere p r c d budget (Err (OutOfSteps since))
   come_short here y =
-      let all = goes_on x.goes y.peeks.tries.goes in
-      let seen = observes_on x.observes y.peeks.observes in
-      record {
-        gives = tt;
-        refused = record {
-          tired = record { took = took_all all.counts; within = y.peeks.tries.within.1; short = y.tired.tired };
-          passed = passes_on to_here (from_here y.peeks.tries.goes.quiet) x.passes (passes_still q.trace r.trace d);
-          moved = x.moved;
-          bucket = here;
-          short = λ alone. short alone;
-        };
-        quiet = all.quiet;
-        only_loads = seen.only_loads;
-        adds_none = seen.adds_none;
-        takes_no_slot = all.hand.takes_no_slot;
-        hand = all.hand.hand;
-        steps = within_of since budget y.peeks.tries.within.1 all.counts;
-        costs = tt;
-      }
+      comes y tt (record {
+        tired = record { took = took_all (goes_on x.goes y.peeks.tries.goes).counts; within = y.peeks.tries.within.1; short = y.tired.tired };
+        passed = passes_on to_here (from_here y.peeks.tries.goes.quiet) x.passes (passes_still q.trace r.trace d);
+        moved = x.moved;
+        bucket = here;
+        short = λ alone. short alone;
+      }) tt
     where
       short : IsAlone p.trace r.trace → budget < costs_over p.trace c.bucket (d.bucket - c.bucket) + enough_to_seek p.trace d.bucket
       short alone =

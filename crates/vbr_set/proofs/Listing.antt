@@ -93,6 +93,22 @@ goes_on_safe : {m n o : MemberView} → GoesOnSafe m n → GoesOnSafe n o → Go
 goes_on_safe x y = record { set = y.set ∙ x.set; hand = y.hand; safe = y.safe; sees = sees_on x.sees y.sees }
 
 module _ {m n : MemberView} (o : MemberView) {c d : Cursor} {entries : List (ℕ × ℕ)} (budget : ℕ) (x : Lists m n c budget entries) where
+  -- with one more call
+  lists_further : {more : List (ℕ × ℕ)} {refused : ℕ} {answer : Result (Option (ℕ × ℕ)) Refusal} → CallsNextWhere n o c d budget answer → HasGiven m.pass.trace o.pass.trace d (keys_of more) → (m.pass.trace.start.shape.values ≡ true → WereEntries m.pass.trace o.pass.trace more) → TookWithin m.pass.trace o.pass.trace (budget * (length more + refused)) → refused ≤ d.bucket → refused ≤ m.pass.trace.start.shape.buckets → Lists m o d budget more
+  lists_further {more} {refused} y given values took later in_table = record {
+    goes = goes_on_safe x.goes y.goes;
+    quiet = quiet_on x.quiet y.iterates.quiet;
+    takes_no_slot = none_on x.takes_no_slot y.iterates.takes_no_slot;
+    only_loads = loads_on x.only_loads y.iterates.only_loads;
+    adds_none = adds_on x.adds_none y.iterates.adds_none;
+    given = given;
+    values = values;
+    refused = refused;
+    took = took;
+    later = later;
+    in_table = in_table;
+  }
+
   -- with one more entry
   pub lists_on : (key value : ℕ) → CallsNextWhere n o c d budget (Ok (Some (key, value))) → Lists m o d budget (entries ++ (key, value) ∷ [])
   lists_on key value y =
@@ -101,22 +117,14 @@ module _ {m n : MemberView} (o : MemberView) {c d : Cursor} {entries : List (ℕ
       let keys : keys_of (entries ++ (key, value) ∷ []) ≡ keys_of entries ++ key ∷ [] = map-append (λ (entry : ℕ × ℕ). entry.0) entries ((key, value) ∷ []) in
       let count : length (entries ++ (key, value) ∷ []) ≡ length entries + 1 = length-append entries ((key, value) ∷ []) in
       let P : List ℕ → Type 0 = HasGiven m.pass.trace o.pass.trace d in
-      record {
-        goes = goes_on_safe x.goes y.goes;
-        quiet = quiet_on x.quiet y.iterates.quiet;
-        takes_no_slot = none_on x.takes_no_slot y.iterates.takes_no_slot;
-        only_loads = loads_on x.only_loads y.iterates.only_loads;
-        adds_none = adds_on x.adds_none y.iterates.adds_none;
-        given = subst P (sym keys) (given_on x.goes.sees sees x.given gives.0.0);
-        values = λ values. were_and m.pass.trace o.pass.trace entries (key, value) (were_more m.pass.trace entries (x.values values) sees) (entry_since x.goes.sees (gives.1 (ap (λ (s : Start). s.shape.values) x.goes.sees.same.start ∙ values)));
-        refused = x.refused;
-        took = took_on _ x.took y.iterates.steps (
-            let e = call_more budget (length entries + x.refused) in
-            let f : budget * (length (entries ++ (key, value) ∷ []) + x.refused) ≡ budget * (length entries + x.refused + 1) = let more : length (entries ++ (key, value) ∷ []) + x.refused ≡ length entries + x.refused + 1 = omega (arith, count) in ap (λ k. budget * k) more in
-            omega (arith, e, f));
-        later = behind gives.0.0.was.0 gives.0.1;
-        in_table = x.in_table;
-      }
+      lists_further {refused = x.refused} y
+      (subst P (sym keys) (given_on x.goes.sees sees x.given gives.0.0))
+      (λ values. were_and m.pass.trace o.pass.trace entries (key, value) (were_more m.pass.trace entries (x.values values) sees) (entry_since x.goes.sees (gives.1 (ap (λ (s : Start). s.shape.values) x.goes.sees.same.start ∙ values))))
+      (took_on _ x.took y.iterates.steps (
+          let e = call_more budget (length entries + x.refused) in
+          let f : budget * (length (entries ++ (key, value) ∷ []) + x.refused) ≡ budget * (length entries + x.refused + 1) = let more : length (entries ++ (key, value) ∷ []) + x.refused ≡ length entries + x.refused + 1 = omega (arith, count) in ap (λ k. budget * k) more in
+          omega (arith, e, f)))
+      (behind gives.0.0.was.0 gives.0.1) x.in_table
     where
       behind : IsToCome n.pass.trace.start c key → IsPastKey (bucket_of n.pass.trace.start.shape key) key d → x.refused ≤ d.bucket
       behind (inl a) (inl b) = let l = x.later in let e = b.0 in omega (arith, l, a, e)
@@ -130,22 +138,15 @@ module _ {m n : MemberView} (o : MemberView) {c d : Cursor} {entries : List (ℕ
       let sees = y.goes.sees in
       let stops = y.iterates.refused in
       let P : List ℕ → Type 0 = HasGiven m.pass.trace o.pass.trace d in
-      record {
-        goes = goes_on_safe x.goes y.goes;
-        quiet = quiet_on x.quiet y.iterates.quiet;
-        takes_no_slot = none_on x.takes_no_slot y.iterates.takes_no_slot;
-        only_loads = loads_on x.only_loads y.iterates.only_loads;
-        adds_none = adds_on x.adds_none y.iterates.adds_none;
-        given = subst P (append-nil (keys_of entries)) (given_on x.goes.sees sees x.given stops.passed);
-        values = λ values. were_more m.pass.trace entries (x.values values) sees;
-        refused = x.refused + 1;
-        took = took_on _ x.took y.iterates.steps (
-            let e = call_more budget (length entries + x.refused) in
-            let f : budget * (length entries + (x.refused + 1)) ≡ budget * (length entries + x.refused + 1) = let more : length entries + (x.refused + 1) ≡ length entries + x.refused + 1 = omega arith in ap (λ k. budget * k) more in
-            omega (arith, e, f));
-        later = let l = x.later in omega (arith, l, later);
-        in_table = let l = x.later in let b = stops.bucket in let e = ap (λ (s : Start). s.shape.buckets) x.goes.sees.same.start in omega (arith, l, later, b, e);
-      }
+      lists_further {refused = x.refused + 1} y
+      (subst P (append-nil (keys_of entries)) (given_on x.goes.sees sees x.given stops.passed))
+      (λ values. were_more m.pass.trace entries (x.values values) sees)
+      (took_on _ x.took y.iterates.steps (
+          let e = call_more budget (length entries + x.refused) in
+          let f : budget * (length entries + (x.refused + 1)) ≡ budget * (length entries + x.refused + 1) = let more : length entries + (x.refused + 1) ≡ length entries + x.refused + 1 = omega arith in ap (λ k. budget * k) more in
+          omega (arith, e, f)))
+      (let l = x.later in omega (arith, l, later))
+      (let l = x.later in let b = stops.bucket in let e = ap (λ (s : Start). s.shape.buckets) x.goes.sees.same.start in omega (arith, l, later, b, e))
 
   -- no further
   pub stands_short : (refusal : Refusal) → PassLaw m.pass → CallsNextWhere n o c d budget (Err refusal) → d ≡ c → StandsShort m o budget refusal

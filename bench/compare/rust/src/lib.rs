@@ -31,15 +31,21 @@ fn give(given: Option<u64>, to: &mut u64) -> bool {
     given.is_some()
 }
 
-macro_rules! export_set {
-    ($set:ty, $open:ident, $close:ident, $has:ident, $insert:ident, $remove:ident) => {
+macro_rules! export_ends {
+    ($of:ty, $kind:ident, $open:ident, $close:ident) => {
         #[no_mangle]
-        pub extern "C" fn $open(buckets: usize, keys: usize) -> Box<$set> {
-            Box::new(<$set as Set>::open(buckets, keys))
+        pub extern "C" fn $open(buckets: usize, keys: usize) -> Box<$of> {
+            Box::new(<$of as $kind>::open(buckets, keys))
         }
 
         #[no_mangle]
-        pub extern "C" fn $close(_set: Box<$set>) {}
+        pub extern "C" fn $close(_of: Box<$of>) {}
+    };
+}
+
+macro_rules! export_set {
+    ($set:ty, $open:ident, $close:ident, $has:ident, $insert:ident, $remove:ident) => {
+        export_ends!($set, Set, $open, $close);
 
         #[no_mangle]
         pub extern "C" fn $has(set: &$set, key: u64) -> bool {
@@ -60,13 +66,7 @@ macro_rules! export_set {
 
 macro_rules! export_map {
     ($map:ty, $open:ident, $close:ident, $get:ident, $insert:ident, $remove:ident, $replace:ident) => {
-        #[no_mangle]
-        pub extern "C" fn $open(buckets: usize, keys: usize) -> Box<$map> {
-            Box::new(<$map as Map>::open(buckets, keys))
-        }
-
-        #[no_mangle]
-        pub extern "C" fn $close(_map: Box<$map>) {}
+        export_ends!($map, Map, $open, $close);
 
         #[no_mangle]
         pub extern "C" fn $get(map: &$map, key: u64, value: &mut u64) -> bool {

@@ -1,8 +1,9 @@
-use Rattle.vbr_list.proofs.Names.{◌≡◌, ℕ, ◌+◌, ◌*◌, ◌<◌, ◌≤◌, Ok, Err, Option, Some, None, ap, ◌∙◌, subst, arith, mul-le}
-use Rattle.vbr_list.proofs.Names.{begins_refl, OutOfSteps, PassLaw, PassView, took_all}
+use Rattle.vbr_list.proofs.Names.{◌≡◌, ℕ, ◌+◌, ◌*◌, ◌<◌, ◌≤◌, Result, Ok, Err, Option, Some, None, IfErr, IfOk, ap, ◌∙◌, subst, arith, mul-le}
+use Rattle.vbr_list.proofs.Names.{begins_refl, IsAlone, OutOfSteps, PassLaw, PassView, Refusal, took_all, TookWithin}
 use Rattle.vbr_list.specs.Budgets.{listed_in, steps_to_value_of}
 use Rattle.vbr_list.specs.Disturbed.{disturbed_in, enough_among, seek_costs_among}
-use Rattle.vbr_list.specs.Next.{Seeks, seek_costs}
+use Rattle.vbr_list.specs.Next.{Seeks, enough_to_seek, seek_costs}
+use Rattle.vbr_list.specs.Refusals.{IsTired}
 use Rattle.vbr_list.specs.Seeking.{Sought, steps_besides}
 use Rattle.vbr_list.specs.Walking.{SearchesIn}
 use Rattle.vbr_list.specs.declared.seeking.NextNode.{NextNode}
@@ -19,6 +20,23 @@ module _ {p q : PassView} (law : PassLaw p) {bucket from since budget : ℕ} whe
       let most = searched_in p.trace q.trace q.trace law.start (run_at p.trace q.trace quiet.same (quiet.is_run law.is_run)) bucket quiet (begins_refl q.trace.seen) y in
       omega (arith, most)
 
+  -- what it told, or how it was refused, is all that its ends have apart
+  seeks : {A : Type 0} {Tells : A → Type 0} {found : Option (Option NextNode)} {answer : Result A Refusal} (x : Sought p q bucket from 0 since budget found) → IfOk answer Tells → IfErr answer (IsTired p q budget) → IfErr answer (λ refusal. budget < enough_among (listed_in p.trace bucket) (disturbed_in p.trace q.trace bucket)) → IfErr answer (λ refusal. IsAlone p.trace q.trace → budget < enough_to_seek p.trace bucket) → IfOk answer (λ told. TookWithin p.trace q.trace (seek_costs_among (listed_in p.trace bucket) (disturbed_in p.trace q.trace bucket) (steps_to_value_of p.trace.start))) → IfOk answer (λ told. IsAlone p.trace q.trace → TookWithin p.trace q.trace (seek_costs p.trace bucket)) → Seeks Tells p q bucket budget answer
+  seeks x told refused disturbed_within within disturbed_costs costs = record {
+    told = told;
+    quiet = x.peeks.tries.goes.quiet;
+    only_loads = x.peeks.observes.only_loads;
+    adds_none = x.peeks.observes.adds_none;
+    takes_no_slot = x.peeks.tries.goes.hand.takes_no_slot;
+    hand = x.peeks.tries.goes.hand.hand;
+    steps = within_of since budget x.peeks.tries.within.1 x.peeks.tries.goes.counts;
+    refused = refused;
+    within = within;
+    disturbed_within = disturbed_within;
+    costs = costs;
+    disturbed_costs = disturbed_costs;
+  }
+
   -- it told what it was to tell
   seeks_told : {A : Type 0} {Tells : A → Type 0} (next : Option NextNode) (answer : A) (x : Sought p q bucket from 0 since budget (Some next)) → Tells answer → Seeks Tells p q bucket budget (Ok answer)
   seeks_told next answer x tells =
@@ -27,20 +45,7 @@ module _ {p q : PassView} (law : PassLaw p) {bucket from since budget : ℕ} whe
       let reading = steps_to_value_of p.trace.start in
       let few : since ≤ seek_costs_among n (disturbed_in p.trace q.trace bucket) reading = omega (arith, most) in
       let counts = x.peeks.tries.goes.counts in
-      record {
-        told = tells;
-        quiet = x.peeks.tries.goes.quiet;
-        only_loads = x.peeks.observes.only_loads;
-        adds_none = x.peeks.observes.adds_none;
-        takes_no_slot = x.peeks.tries.goes.hand.takes_no_slot;
-        hand = x.peeks.tries.goes.hand.hand;
-        steps = within_of since budget x.peeks.tries.within.1 counts;
-        refused = tt;
-        within = tt;
-        disturbed_within = tt;
-        costs = λ alone. let lone = subst (λ t. since ≤ seek_costs_among n t reading) (undisturbed_in p.trace q.trace bucket alone) few in within_of since (seek_costs p.trace bucket) (omega (arith, lone)) counts;
-        disturbed_costs = within_of since (seek_costs_among n (disturbed_in p.trace q.trace bucket) reading) few counts;
-      }
+      seeks x tells tt tt tt (within_of since (seek_costs_among n (disturbed_in p.trace q.trace bucket) reading) few counts) (λ alone. let lone = subst (λ t. since ≤ seek_costs_among n t reading) (undisturbed_in p.trace q.trace bucket alone) few in within_of since (seek_costs p.trace bucket) (omega (arith, lone)) counts)
 
   -- it had too few steps
   seeks_short : {A : Type 0} {Tells : A → Type 0} → Sought p q bucket from 0 since budget None → Seeks Tells p q bucket budget (Err (OutOfSteps since))
@@ -52,20 +57,7 @@ module _ {p q : PassView} (law : PassLaw p) {bucket from since budget : ℕ} whe
       let each = mul-le t (5 * (n + t) + steps_besides p.trace) t (5 * (n + t) + 11) (omega arith) (omega (arith, few)) in
       let lacks : budget < enough_among n t = omega (arith, most, each) in
       let counts = x.peeks.tries.goes.counts in
-      record {
-        told = tt;
-        quiet = x.peeks.tries.goes.quiet;
-        only_loads = x.peeks.observes.only_loads;
-        adds_none = x.peeks.observes.adds_none;
-        takes_no_slot = x.peeks.tries.goes.hand.takes_no_slot;
-        hand = x.peeks.tries.goes.hand.hand;
-        steps = within_of since budget x.peeks.tries.within.1 counts;
-        refused = record { took = took_all counts; within = x.peeks.tries.within.1; short = x.tired.tired };
-        within = λ alone. let lone = subst (λ t. budget < enough_among n t) (undisturbed_in p.trace q.trace bucket alone) lacks in omega (arith, lone);
-        disturbed_within = lacks;
-        costs = tt;
-        disturbed_costs = tt;
-      }
+      seeks x tt (record { took = took_all counts; within = x.peeks.tries.within.1; short = x.tired.tired }) lacks (λ alone. let lone = subst (λ t. budget < enough_among n t) (undisturbed_in p.trace q.trace bucket alone) lacks in omega (arith, lone)) tt tt
 
 pub returns-in-Some-Some-clause-seeks : goal.returns-in-Some-Some-clause-seeks
 returns-in-Some-Some-clause-seeks g c =

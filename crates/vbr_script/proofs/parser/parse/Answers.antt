@@ -13,7 +13,7 @@ loop-phase-preserved c =
     let inv = c.loop-phase.invariant in
     let told = rw c.in-Some.is at c.first_line.ensures in
     let means : limited (length c.loop-phase.lines.items) c.loop-phase.phase (meaning_of c.args.kind c.args.workers (tokens_of c.first_line.result.0.now)) ≡ c.limited.result = search rules in
-    let before = first_left _ _ _ _ _ _ _ c.loop-phase.rest.now c.first_line.result.0.now c.in-Some.text.now told.0 (record { operations = inv.lines; renewed = inv.renewals; phases = inv.phases; fault = inv.fault; few_operations = inv.few_operations; few_syncs = inv.few_syncs }) in
+    let before = first_left _ _ _ _ _ _ _ c.loop-phase.rest.now c.first_line.result.0.now c.in-Some.text.now told.0 inv.read in
     let after : HasRead c.args.kind c.args.workers c.args.text.now c.match-limited.lines.items c.match-limited.renewals.items c.match-limited.phase (c.loop-phase.number + 1) (all_meanings c.args.kind c.args.workers (lines_of c.in-Some.text.now)) = elim c.match-limited.branch [
       | in-Blank w ↦ rw (w.lines-is, w.renewals-is, w.phase-is) (read_blank _ _ _ _ _ _ _ _ _ before (means ∙ w.in-Blank.is))
       | in-Sync w ↦ rw (w.lines-is, w.renewals-is, w.phase-is) (read_sync _ _ _ _ _ _ _ _ _ before (means ∙ w.in-Sync.is))
@@ -25,15 +25,7 @@ loop-phase-preserved c =
           let pushed : w.push-in-Asks.new.self.items ≡ c.loop-phase.lines.items ++ record { phase = c.loop-phase.phase; worker = asked.worker; op = asked.op; key = asked.key; value = asked.value } ∷ [] = search rules in
           rw (w.lines-is, w.renewals-is, w.phase-is, pushed) (read_asks _ _ _ _ _ _ _ _ _ _ _ _ _ before (means ∙ asked.is))
     ] in
-    record {
-      lines = after.operations;
-      renewals = after.renewed;
-      phases = after.phases;
-      fault = after.fault;
-      few_operations = after.few_operations;
-      few_syncs = after.few_syncs;
-      place = omega arith;
-    }
+    record { read = after; place = omega arith }
 
 pub returns-in-None-clause-script : goal.returns-in-None-clause-script
 returns-in-None-clause-script c =

@@ -64,18 +64,10 @@ returns-in-Err-clause-settles g c =
     settles_read (search rules) refl (steps_read c.steps_to_value_of.ensures c.value_if_any-read.new.at.own.1 reads.quiet.same.start) reads keeps.took keeps.own keeps.takes_no_slot
 
 pub returns-in-Ok-clause-few : goal.returns-in-Ok-clause-few
-returns-in-Ok-clause-few g c =
-    let reads = c.value_if_any-read.ensures.reads in
-    let steps = steps_read c.steps_to_value_of.ensures c.value_if_any-read.new.at.own.1 reads.quiet.same.start in
-    let few = few_to_value c.args.self.now.at.stepper.now.trace.start in
-    omega (arith, steps, few)
+returns-in-Ok-clause-few g c = omega (arith, steps_read c.steps_to_value_of.ensures c.value_if_any-read.new.at.own.1 c.value_if_any-read.ensures.reads.quiet.same.start, few_to_value c.args.self.now.at.stepper.now.trace.start)
 
 pub returns-in-Err-clause-few : goal.returns-in-Err-clause-few
-returns-in-Err-clause-few g c =
-    let reads = c.value_if_any-read.ensures.reads in
-    let steps = steps_read c.steps_to_value_of.ensures c.value_if_any-read.new.at.own.1 reads.quiet.same.start in
-    let few = few_to_value c.args.self.now.at.stepper.now.trace.start in
-    omega (arith, steps, few)
+returns-in-Err-clause-few g c = omega (arith, steps_read c.steps_to_value_of.ensures c.value_if_any-read.new.at.own.1 c.value_if_any-read.ensures.reads.quiet.same.start, few_to_value c.args.self.now.at.stepper.now.trace.start)
 
 pub returns-in-Ok-clause-only_loads : goal.returns-in-Ok-clause-only_loads
 returns-in-Ok-clause-only_loads g c = loads_on c.value_if_any-read.ensures.reads.only_loads c.confirm_present-outcome.ensures.keeps.only_loads
