@@ -6,7 +6,7 @@ ghost use Rattle.vbr_at_table.specs.Answering.{AnswersAbsent, AnswersLookUp, Ans
 ghost use Rattle.vbr_at_table.specs.Answering.{FindsAnother, IsAbsent, IsOther, IsPresent};
 ghost use Rattle.vbr_at_table.specs.Answering.{KeepsByLoad};
 ghost use Rattle.vbr_at_table.specs.Exchanges.{IsUnmarked};
-ghost use Rattle.vbr_at_table.specs.LookUps.{TellsKey};
+ghost use Rattle.vbr_at_table.specs.DecidedKeys.{TellsKey};
 ghost use Rattle.vbr_at_table.specs.Values.{AnswersEntry, IsAsked, IsOtherIn};
 
 use vbr_at_table::{Held, Rollback};

@@ -3,7 +3,7 @@ ghost use Rattle.std.specs.Prelude.{IfOk, IfErr};
 ghost use Rattle.vbr_slots.specs.Views.{IsOf, knows};
 ghost use Rattle.vbr_at_table.specs.Answering.{KeepsIn, IsPresent};
 ghost use Rattle.vbr_at_table.specs.Exchanges.{LosesExchange};
-ghost use Rattle.vbr_at_table.specs.Values.{IsValued, RemovesEntry, RemovesKey};
+ghost use Rattle.vbr_at_table.specs.Values.{IsValued, MarksEntry, RemovesKey};
 
 use vbr_at_table::{Held, Marked, Rollback};
 use vbr_slots::{AtTable, Pass, Slots};
@@ -33,7 +33,7 @@ pub fn mark_entry<N: Nodes>(
     requires node { IsPresent (knows pass.old.trace) held.now }
     requires valued { IsValued pass.old.trace held.now.at }
     ensures keeps { KeepsIn pass.old pass.new 1 }
-    ensures removed { IfOk result (RemovesEntry pass.old.trace pass.new.trace held.now) }
+    ensures removed { IfOk result (MarksEntry pass.old.trace pass.new.trace held.now) }
     ensures lost { IfErr result (LosesExchange pass.old.trace pass.new.trace held.now) }
 {
     pass.during(

@@ -3,7 +3,7 @@ ghost use Rattle.std.specs.Prelude.{IfOk, IfErr};
 ghost use Rattle.vbr_slots.specs.Views.{IsOf, knows};
 ghost use Rattle.vbr_at_table.specs.Exchanges.{StaysIn, UnlinksNode, UnlinksNone, IsUnmarked};
 ghost use Rattle.vbr_at_table.specs.Held.{HoldsMarked, Names};
-ghost use Rattle.vbr_at_table.specs.CallSteps.{steps_to_unlink};
+ghost use Rattle.vbr_at_table.specs.StepCosts.{steps_to_unlink};
 
 use vbr_at_table::{Held, Marked, Rollback, Unlinked};
 use vbr_slots::{AtTable, Pass, Slots};

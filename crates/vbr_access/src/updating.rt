@@ -6,7 +6,7 @@ ghost use Rattle.vbr_slots.specs.Views.{IsOf, knows};
 ghost use Rattle.vbr_at_table.specs.Hands.{IsHandOf};
 ghost use Rattle.vbr_at_table.specs.Exchanges.{StoresIn, IsGap, GivesBack, InsertsKey};
 ghost use Rattle.vbr_at_table.specs.Held.{IsSucc};
-ghost use Rattle.vbr_at_table.specs.Values.{InsertsEntry, steps_to_update};
+ghost use Rattle.vbr_at_table.specs.Values.{LinksEntry, steps_to_update};
 
 use vbr_at_table::{Hand, Held, Rollback};
 use vbr_slots::{AtTable, Pass, Slots, Stepper};
@@ -51,7 +51,7 @@ pub fn update_entry<N: Nodes>(
     requires succ { IsSucc (knows pass.old.trace) pred.now succ }
     requires hand { IsHandOf pass.old hand }
     ensures stores { StoresIn pass.old pass.new (steps_to_update pass.old.trace.start) }
-    ensures inserted { IfOk result (λ _. InsertsEntry pass.old pass.new key value) }
+    ensures inserted { IfOk result (λ _. LinksEntry pass.old pass.new key value) }
     ensures lost { IfErr result (GivesBack pass.old pass.new pred.now hand) }
 {
     pass.during_with(
@@ -64,7 +64,7 @@ pub fn update_entry<N: Nodes>(
             ensures took { Took stepper.old.trace stepper.new.trace result.1 }
             ensures stores { StoresIn stepper.old stepper.new
                 (steps_to_update stepper.old.trace.start) }
-            ensures inserted { IfOk result.0 (λ _. InsertsEntry stepper.old stepper.new key value) }
+            ensures inserted { IfOk result.0 (λ _. LinksEntry stepper.old stepper.new key value) }
             ensures lost { IfErr result.0 (GivesBack stepper.old stepper.new pred.entry.now hand) }
         { update_by(slots, stepper, pred, succ, key, value, hand) },
     )
@@ -87,7 +87,7 @@ fn update_by<N: Nodes>(
     requires hand { IsHandOf stepper.old hand }
     ensures took { Took stepper.old.trace stepper.new.trace result.1 }
     ensures stores { StoresIn stepper.old stepper.new (steps_to_update stepper.old.trace.start) }
-    ensures inserted { IfOk result.0 (λ _. InsertsEntry stepper.old stepper.new key value) }
+    ensures inserted { IfOk result.0 (λ _. LinksEntry stepper.old stepper.new key value) }
     ensures lost { IfErr result.0 (GivesBack stepper.old stepper.new pred.now hand) }
 {
     update_counted(
@@ -118,7 +118,7 @@ fn update_counted<N: Nodes>(
     ensures stores { StoresIn (pass_of at.old) (pass_of at.new)
         (steps_to_update (trace_of at.old).start) }
     ensures inserted { IfOk result.0
-        (λ _. InsertsEntry (pass_of at.old) (pass_of at.new) key value) }
+        (λ _. LinksEntry (pass_of at.old) (pass_of at.new) key value) }
     ensures lost { IfErr result.0 (GivesBack (pass_of at.old) (pass_of at.new) pred.now hand) }
 {
     let used = steps_to_link(at);

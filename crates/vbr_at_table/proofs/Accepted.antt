@@ -25,7 +25,7 @@ use Rattle.vbr_at_table.specs.Values.{IsAsked, IsValued}
 use Rattle.vbr_at_table.proofs.NoValues.{op_asked, value_known, value_known_for}
 use Rattle.vbr_at_table.proofs.PlacesInShape.{link_in, held_in}
 
--- a step that the core accepts of a pass is checked for its table
+-- a step that the machine accepts of a pass is checked for its table
 pub accepted_checked : {t : TableView} {p : Trace} {step : Step} → IsOf p t → Accepts p.start (knows p) step → IsChecked t p step
 accepted_checked {t} {p} {step} own ok = record {
   held = subst (λ (start : Start). HasChecked start (knows p) step) own.1 ok.held;

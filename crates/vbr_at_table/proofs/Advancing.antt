@@ -21,13 +21,13 @@ use Rattle.vbr_machine.specs.declared.knowledge.Holding.TheVariants.{Free, Unlin
 use Rattle.vbr_machine.proofs.Lemmas.{begins_trans, others_leave_know, put_here, put_other}
 use Rattle.vbr_slots.specs.Calls.{Quiet}
 use Rattle.vbr_slots.specs.Pools.{hand_without}
-use Rattle.vbr_slots.specs.Rule.{one_if}
 use Rattle.vbr_slots.specs.Views.{Trace, PassView, Did, KeepsPool, knows, event_of}
 use Rattle.vbr_slots.proofs.Lemmas.{did_moment, moment_after}
 use Rattle.vbr_at_table.specs.Advances.{AdvancesOnce, AdvancesWhereNeeded}
-use Rattle.vbr_at_table.specs.Counts.{is_advance, is_raise, is_try, is_unlink, advances_or_gives, made_of, advances, flags_raised, flags_tried}
+use Rattle.vbr_at_table.specs.StepKinds.{is_advance, is_raise, is_try, is_unlink, advances_or_gives, made_of, advances, flags_raised, flags_tried}
 use Rattle.vbr_at_table.specs.KeptSlots.{GoesInTurn, HasSlot, CouldTake, HasFree, StampsUnlinked, KeepsSlots, PoolGrows, SharesWhereFull, TakesNoSlot, TriesNoFlag}
 use Rattle.vbr_at_table.proofs.InTurn.{did_turn}
+use Rattle.vbr_machine.specs.Disturbances.{one_if}
 
 abbrev made_in : (Step → Bool) → ℕ → List Event → ℕ
 made_in is who events = count_by (λ (e : Event). (e.pass == who) && is e.step) events

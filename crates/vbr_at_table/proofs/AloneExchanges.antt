@@ -21,9 +21,9 @@ use Rattle.vbr_machine.proofs.Lemmas.{run_agrees, unlink_makes, unlink_takes_lis
 use Rattle.vbr_slots.specs.Alone.{IsAlone, nodes, ahead}
 use Rattle.vbr_slots.specs.Views.{Trace, Did, knows, event_of}
 use Rattle.vbr_slots.proofs.Lemmas.{did_run, found_now, nodes_next, run_was, same_leaves}
-use Rattle.vbr_at_table.specs.Alone.{StandsNow, UnlinksAlone}
-use Rattle.vbr_at_table.specs.Keeping.{Keeps}
-use Rattle.vbr_at_table.proofs.Keeping.{held_in_kept}
+use Rattle.vbr_at_table.specs.WonAlone.{StandsNow, UnlinksAlone}
+use Rattle.vbr_at_table.specs.KeptKnowledge.{Keeps}
+use Rattle.vbr_at_table.proofs.KeptKnowledge.{held_in_kept}
 use Rattle.vbr_at_table.specs.declared.held.Held.{Held}
 use Rattle.vbr_at_table.proofs.Moments.{won}
 use Rattle.vbr_at_table.proofs.UnlinkedLinks.{link_after}

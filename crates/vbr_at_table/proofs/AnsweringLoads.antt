@@ -17,14 +17,14 @@ use Rattle.vbr_machine.specs.declared.knowledge.Read.TheVariants.{KeyOf, ValueOf
 use Rattle.vbr_slots.specs.Views.{Did, KeepsPool, PassView, Trace, knows}
 use Rattle.vbr_slots.proofs.Lemmas.{did_loads, did_moment, did_took}
 use Rattle.vbr_at_table.specs.Answering.{FindsAnother, IsAnswered, KeepsByLoad}
-use Rattle.vbr_at_table.specs.Counts.{advances_or_gives}
-use Rattle.vbr_at_table.specs.Keeping.{Keeps}
+use Rattle.vbr_at_table.specs.StepKinds.{advances_or_gives}
+use Rattle.vbr_at_table.specs.KeptKnowledge.{Keeps}
 use Rattle.vbr_at_table.specs.Moments.{WasFound}
 use Rattle.vbr_at_table.specs.Values.{found_call}
 use Rattle.vbr_at_table.specs.declared.held.Held.{Held}
 use Rattle.vbr_at_table.specs.declared.rollback.Rollback.TheVariants.{LostExchange}
 use Rattle.vbr_at_table.proofs.Advancing.{did_none}
-use Rattle.vbr_at_table.proofs.Keeping.{keeps_refl}
+use Rattle.vbr_at_table.proofs.KeptKnowledge.{keeps_refl}
 use Rattle.vbr_at_table.proofs.MadeCalls.{absent_adds, absent_adds_none, absent_failed, absent_made, present_adds, present_adds_none, present_failed, present_made}
 use Rattle.vbr_at_table.proofs.Moments.{unanswered}
 

@@ -13,9 +13,9 @@ use Rattle.vbr_machine.proofs.Lemmas.{head_unmarked, held_in_bucket}
 use Rattle.vbr_slots.specs.Calls.{Quiet}
 use Rattle.vbr_slots.specs.Views.{Trace, Did, knows}
 use Rattle.vbr_slots.proofs.Lemmas.{did_quiet, did_run, did_same, quiet_refl, same_on}
-use Rattle.vbr_at_table.specs.Keeping.{Keeps}
+use Rattle.vbr_at_table.specs.KeptKnowledge.{Keeps}
 use Rattle.vbr_at_table.specs.Moments.{IsRead}
-use Rattle.vbr_at_table.proofs.Keeping.{keeps_on, slot_kept, held_in_kept}
+use Rattle.vbr_at_table.proofs.KeptKnowledge.{keeps_on, slot_kept, held_in_kept}
 use Rattle.vbr_at_table.proofs.ReadSteps.{Loads, loaded, loaded_keeps, loaded_stays, loads_birth, loads_key, loads_link, unmoved_keeps, unmoved_checks}
 use Rattle.vbr_at_table.proofs.Moments.{stood_at_load}
 

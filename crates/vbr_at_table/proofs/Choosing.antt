@@ -16,7 +16,7 @@ use Rattle.vbr_at_table.specs.Advances.{AdvancesOnce}
 use Rattle.vbr_at_table.specs.KeptSlots.{HasSlot, KeepsSlots, SharesWhereFull, TakesNoSlot}
 use Rattle.vbr_at_table.specs.Pieces.{Chooses, ChoosesNone, IsChosen, IsScanned, IsShortOrSpent, IsStampedBelow, Scans, ScansPart, Uses}
 use Rattle.vbr_at_table.specs.Refusals.{AllStamped}
-use Rattle.vbr_at_table.specs.Steps.{CountsSteps}
+use Rattle.vbr_at_table.specs.WithinBudget.{CountsSteps}
 use Rattle.vbr_at_table.specs.Taking.{IsOldest}
 use Rattle.vbr_at_table.specs.declared.budget.TheConstants.{PIECE}
 use Rattle.vbr_at_table.specs.declared.refusal.Refusal.{Refusal}

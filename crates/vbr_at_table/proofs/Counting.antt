@@ -6,7 +6,7 @@ use Rattle.vbr_slots.specs.Calls.{Took}
 use Rattle.vbr_slots.specs.Views.{Trace, PassView, Did}
 use Rattle.vbr_slots.proofs.Lemmas.{did_took, took_none, took_on}
 use Rattle.vbr_at_table.specs.Pieces.{Uses}
-use Rattle.vbr_at_table.specs.Steps.{CountsSteps}
+use Rattle.vbr_at_table.specs.WithinBudget.{CountsSteps}
 use Rattle.vbr_at_table.specs.declared.budget.TheConstants.{PIECE}
 
 pub counts_none : (p : Trace) (n : ℕ) → CountsSteps p p n n

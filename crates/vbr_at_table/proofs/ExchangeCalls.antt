@@ -28,10 +28,10 @@ use Rattle.vbr_slots.specs.Views.{Did, KeepsPool, PassView, Trace, knows, event_
 use Rattle.vbr_slots.proofs.Lemmas.{adds_on, alone_first, alone_then, did_run, did_same, did_seen, made_on, quiet_on}
 use Rattle.vbr_at_table.specs.Hands.{UnlinkedView}
 use Rattle.vbr_at_table.proofs.Advancing.{none_on}
-use Rattle.vbr_at_table.specs.Values.{InsertsEntry, RemovesEntry, ValueAt, entry_call}
+use Rattle.vbr_at_table.specs.Values.{LinksEntry, MarksEntry, ValueAt, entry_call}
 use Rattle.vbr_at_table.specs.Exchanges.{IsUnmarked, LosesExchange, UnlinksNode, UnlinksNone}
 use Rattle.vbr_at_table.specs.Held.{IsHeld, HoldsMarked, Names}
-use Rattle.vbr_at_table.specs.Keeping.{Keeps}
+use Rattle.vbr_at_table.specs.KeptKnowledge.{Keeps}
 use Rattle.vbr_at_table.specs.Reading.{IsBirthRead, ReadsIn}
 use Rattle.vbr_at_table.specs.Rollbacks.{FreshIfMoved, IsMovedOrLost}
 use Rattle.vbr_at_table.specs.declared.held.Held.{Held}
@@ -39,11 +39,11 @@ use Rattle.vbr_at_table.specs.declared.held.Marked.{Marked}
 use Rattle.vbr_at_table.specs.declared.rollback.Rollback.{Rollback}
 use Rattle.vbr_at_table.specs.declared.rollback.Rollback.TheVariants.{EpochMoved, LostExchange}
 use Rattle.vbr_at_table.proofs.AloneExchanges.{unlinked_alone, unlinks_after, written_stands}
-use Rattle.vbr_at_table.proofs.Keeping.{held_kept, keeps_on, marked_kept}
+use Rattle.vbr_at_table.proofs.KeptKnowledge.{held_kept, keeps_on, marked_kept}
 use Rattle.vbr_at_table.proofs.MadeCalls.{mark_made, publish_adds_none, publish_failed, unlink_adds_none}
 use Rattle.vbr_at_table.proofs.MarkedLinks.{marked_alone, marked_leaves}
 use Rattle.vbr_at_table.proofs.Moments.{found_after, publish_found, unlink_found, won}
-use Rattle.vbr_at_table.specs.Counts.{ChangesNone}
+use Rattle.vbr_at_table.specs.StepKinds.{ChangesNone}
 use Rattle.vbr_at_table.proofs.Unchanged.{unchanged_by_none, unchanged_on}
 use Rattle.vbr_at_table.proofs.NoneUnlinked.{lost_none, unlinks_on, won_unlinks}
 use Rattle.vbr_at_table.proofs.Unlinks.{accepted, new_read, read_after, written}
@@ -64,7 +64,7 @@ mark_takes_out {p} {q} {s} {expected} d start =
     subst Q (λ i. (incarnations_after (sym d.same.1 i) (sym d.seen i), epoch i)) out
 
 pub mark_told : {p q : Trace} {s word : ℕ} (node : Held) → IsStart p.start → IsRun p.start p.passes p.seen → IsHeld (knows p) node → node.at ≡ Slot s → Did (Mark s node.word) p q node.word → link_of word ≡ marked (link_of node.word)
-    → RemovesEntry p q node (record { slot = s; birth = node.birth; word = word; epoch = node.epoch })
+    → MarksEntry p q node (record { slot = s; birth = node.birth; word = word; epoch = node.epoch })
 mark_told {p} {q} {s} {word} node start is_run held at d link =
     let B : At → Type 0 = λ at. BirthAt (knows q) at node.birth in
     let L : Link → Type 0 = λ link. Knows (knows q) (LinkAt (Slot s) link) in
@@ -84,7 +84,7 @@ mark_told {p} {q} {s} {word} node start is_run held at d link =
 
 -- ---- a publication, after what filled the hand
 
-pub entry_told : (key value : ℕ) (p q r : PassView) → Quiet p.trace q.trace → Made (entry_call q.trace.start q.trace.who Insert key true value) q.trace r.trace → r.hand ≡ None → InsertsEntry p r key value
+pub entry_told : (key value : ℕ) (p q r : PassView) → Quiet p.trace q.trace → Made (entry_call q.trace.start q.trace.who Insert key true value) q.trace r.trace → r.hand ≡ None → LinksEntry p r key value
 entry_told key value p q r fill made spent = record {
   made = (let P : ℕ → Start → Type 0 = λ who start. Made (entry_call start who Insert key true value) p.trace r.trace in
       let one : P q.trace.who q.trace.start = made_on fill made in

@@ -22,13 +22,13 @@ use Rattle.vbr_slots.specs.Pools as pools
 use Rattle.vbr_slots.specs.Views.{Trace, PassView, Did, knows}
 use Rattle.vbr_slots.proofs.Lemmas.{did_quiet}
 use Rattle.vbr_at_table.specs.Held.{IsHeld, IsFilled}
-use Rattle.vbr_at_table.specs.Keeping.{Keeps}
+use Rattle.vbr_at_table.specs.KeptKnowledge.{Keeps}
 use Rattle.vbr_slots.specs.PassLaw.{PassLaw}
 use Rattle.vbr_at_table.specs.declared.held.Held.{Held}
 use Rattle.vbr_at_table.proofs.MadeCalls.{published}
 use Rattle.vbr_at_table.proofs.Accepted.{place_in, slot_in, named_slot}
 use Rattle.vbr_at_table.specs.Values.{PutsValue, entry_call, with_kept_value}
-use Rattle.vbr_at_table.proofs.Keeping.{birth_named_kept, held_kept, keeps_on}
+use Rattle.vbr_at_table.proofs.KeptKnowledge.{birth_named_kept, held_kept, keeps_on}
 use Rattle.vbr_at_table.proofs.NoValues.{kept_same, value_asked}
 
 -- ---- what is in hand

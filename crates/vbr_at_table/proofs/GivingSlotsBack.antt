@@ -19,7 +19,7 @@ use Rattle.vbr_slots.specs.PassLaw.{PassLaw}
 use Rattle.vbr_slots.specs.Pools.{HandFits, hand_without, without}
 use Rattle.vbr_slots.specs.Views.{Did, PassView, Trace, event_of, knows}
 use Rattle.vbr_slots.proofs.Lemmas.{did_moment, did_quiet, did_took, moment_after, moment_before, quiet_on, quiet_refl, took_none, took_on}
-use Rattle.vbr_at_table.specs.Counts.{ChangesNone, advances, flags_raised, is_raise}
+use Rattle.vbr_at_table.specs.StepKinds.{ChangesNone, advances, flags_raised, is_raise}
 use Rattle.vbr_at_table.specs.GivingSlotsBack.{GivesSlotsBack, WasRaised}
 use Rattle.vbr_at_table.specs.KeptSlots.{HasFree, HasSlot, KeepsSlots}
 use Rattle.vbr_at_table.proofs.Advancing.{did_made, did_stamps, keeps_refl, same_advances, slots_kept_on}

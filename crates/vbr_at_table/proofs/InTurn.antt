@@ -15,7 +15,7 @@ use Rattle.vbr_machine.specs.declared.knowledge.Holding.{Holding}
 use Rattle.vbr_machine.specs.declared.knowledge.Holding.TheVariants.{Free, Unlinked, InHand}
 use Rattle.vbr_machine.proofs.Lemmas.{count_none, others_leave_know}
 use Rattle.vbr_slots.specs.Views.{Trace, Did, event_of, knows}
-use Rattle.vbr_at_table.specs.Counts.{is_unlink}
+use Rattle.vbr_at_table.specs.StepKinds.{is_unlink}
 use Rattle.vbr_at_table.specs.KeptSlots.{GoesInTurn, HasStampedAll, StaysInTurn}
 
 -- ---- lists

@@ -15,7 +15,7 @@ pub use Rattle.vbr_at_table.proofs.HadSlots.{had_back, had_grown, had_on, had_sp
 -- The places and the slots that a pass knows of are those of the shape: loads and exchanges ask for that.
 pub use Rattle.vbr_at_table.proofs.PlacesInShape.{link_in}
 -- What was known stays known.
-pub use Rattle.vbr_at_table.proofs.Keeping.{behind_kept, held_in_kept, held_in_next, held_kept, keeps_on}
+pub use Rattle.vbr_at_table.proofs.KeptKnowledge.{behind_kept, held_in_kept, held_in_next, held_kept, keeps_on}
 -- What was so at the moment of a step.
 pub use Rattle.vbr_at_table.proofs.Moments.{stood_after, stood_before, was_absent, was_absent_on, was_entry, was_present}
 -- An unlinking: won, it gives the pass the slot to stamp; lost, it leaves all as it was.

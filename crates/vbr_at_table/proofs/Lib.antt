@@ -17,7 +17,7 @@ mod Choosing
 mod Takings
 mod HadSlots
 mod PlacesInShape
-mod Keeping
+mod KeptKnowledge
 mod ReadSteps
 mod Moments
 mod Accepted
@@ -34,7 +34,7 @@ mod AloneExchanges
 mod NoValues
 mod NoneUnlinked
 mod AnsweringLoads
-mod LookUps
+mod LookUpAnswers
 mod Filled
 mod Storing
 mod ExchangeCalls

@@ -24,8 +24,8 @@ use Rattle.vbr_slots.specs.Alone.{IsAlone}
 use Rattle.vbr_slots.specs.Calls.{Quiet}
 use Rattle.vbr_slots.specs.Views.{Trace, Did, event_of}
 use Rattle.vbr_slots.proofs.Lemmas.{accepted_now, did_run, nodes_next, run_was, seen_next}
-use Rattle.vbr_at_table.specs.Alone.{MarksAlone}
-use Rattle.vbr_at_table.specs.Counts.{ChangesNone}
+use Rattle.vbr_at_table.specs.WonAlone.{MarksAlone}
+use Rattle.vbr_at_table.specs.StepKinds.{ChangesNone}
 use Rattle.vbr_at_table.specs.Marks.{LeavesOthers}
 use Rattle.vbr_at_table.specs.declared.held.Held.{Held}
 use Rattle.vbr_at_table.proofs.ReadSteps.{shape_on}

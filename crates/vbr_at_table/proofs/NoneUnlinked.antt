@@ -11,7 +11,7 @@ use Rattle.vbr_slots.specs.Views.{PassView, Did, KeepsPool, knows}
 use Rattle.vbr_at_table.specs.KeptSlots.{StaysInTurn, TakesNoSlot}
 use Rattle.vbr_at_table.proofs.InTurn.{did_turn}
 use Rattle.vbr_at_table.proofs.Advancing.{free_on, free_pool, grows_on, grows_same, longer, none_known, same_advances, same_flags, same_tries, shared_on}
-use Rattle.vbr_at_table.specs.Keeping.{KeepsUnlinked}
+use Rattle.vbr_at_table.specs.KeptKnowledge.{KeepsUnlinked}
 use Rattle.vbr_at_table.proofs.WonExchanges.{unlink_learned, unlink_lost_same, unlink_owns}
 
 pub lost_none : {p q : PassView} {pred : At} {expected slot found : ℕ} → Did (Unlink pred expected slot) p.trace q.trace found → found ≢ expected → KeepsPool p q → TakesNoSlot p q

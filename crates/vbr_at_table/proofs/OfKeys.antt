@@ -11,7 +11,7 @@ use Rattle.vbr_slots.specs.Views.{PassView, Trace}
 use Rattle.vbr_at_table.specs.Answering.{AnswersPresent, IsAnswered}
 use Rattle.vbr_at_table.specs.Exchanges.{InsertsNode, InsertsKey, StoresIn}
 use Rattle.vbr_at_table.specs.Hands.{HandView}
-use Rattle.vbr_at_table.specs.Values.{AnswersEntry, InsertsEntry, entry_call, IsAsked, IsValued, RemovesEntry, RemovesKey, steps_to_update, steps_to_value}
+use Rattle.vbr_at_table.specs.Values.{AnswersEntry, LinksEntry, entry_call, IsAsked, IsValued, MarksEntry, RemovesKey, steps_to_update, steps_to_value}
 use Rattle.vbr_at_table.specs.declared.held.Held.{Held}
 use Rattle.vbr_at_table.specs.declared.held.Marked.{Marked}
 use Rattle.vbr_at_table.specs.declared.rollback.Rollback.{Rollback}
@@ -35,7 +35,7 @@ key_call : (p : Trace) (op : Op) (key value : ℕ) → p.start.shape.values ≡ 
 key_call p op key value bare = ap (λ (v : Option ℕ). record { who = p.who; op = op; key = key; reply = true; value = v }) (none_kept p.start bare (Some value))
 
 -- a mark removes the key
-pub key_removed : (p q : Trace) (node : Held) (result : Result Marked Rollback) → p.start.shape.values ≡ false → IfOk result (RemovesEntry p q node) → IfOk result (RemovesKey p q node)
+pub key_removed : (p q : Trace) (node : Held) (result : Result Marked Rollback) → p.start.shape.values ≡ false → IfOk result (MarksEntry p q node) → IfOk result (RemovesKey p q node)
 key_removed p q node (Ok now) bare removed = record {
   made = λ key k. subst (λ (call : Call). Made call p q) (key_call p Remove key 0 bare) (removed.made key 0 k (λ has. not_valued bare has));
   at = removed.at;
@@ -48,7 +48,7 @@ key_removed p q node (Ok now) bare removed = record {
 key_removed p q node (Err rollback) bare removed = tt
 
 -- an update inserts the key
-pub key_inserted : (p q : PassView) (key value : ℕ) (result : Result (Unit {0}) (HandView × Rollback)) → p.trace.start.shape.values ≡ false → IfOk result (λ done. InsertsEntry p q key value) → IfOk result (λ done. InsertsKey p q key)
+pub key_inserted : (p q : PassView) (key value : ℕ) (result : Result (Unit {0}) (HandView × Rollback)) → p.trace.start.shape.values ≡ false → IfOk result (λ done. LinksEntry p q key value) → IfOk result (λ done. InsertsKey p q key)
 key_inserted p q key value (Ok done) bare inserted = subst (λ (call : Call). InsertsNode call p q) (key_call p.trace Insert key value bare) inserted
 key_inserted p q key value (Err back) bare inserted = tt
 

@@ -22,11 +22,11 @@ use Rattle.vbr_slots.specs.Reads.{Reads, ReadsNode}
 use Rattle.vbr_slots.specs.Views.{Trace, PassView, Did, KeepsPool, knows}
 use Rattle.vbr_slots.proofs.Lemmas.{adds_on, adds_refl, alone_first, alone_then, did_adds_none, did_loads, did_quiet}
 use Rattle.vbr_slots.proofs.Lemmas.{did_took, fresh_read, loads_on, loads_refl, looks, quiet_on, quiet_refl, took_none, took_on}
-use Rattle.vbr_at_table.specs.CallSteps.{birth_steps, steps_to_birth}
-use Rattle.vbr_at_table.specs.Counts.{advances_or_gives}
+use Rattle.vbr_at_table.specs.StepCosts.{birth_steps, steps_to_birth}
+use Rattle.vbr_at_table.specs.StepKinds.{advances_or_gives}
 use Rattle.vbr_at_table.proofs.Advancing.{did_none, none_on, none_refl}
 use Rattle.vbr_at_table.specs.Held.{IsHeld, Names}
-use Rattle.vbr_at_table.specs.Keeping.{Keeps}
+use Rattle.vbr_at_table.specs.KeptKnowledge.{Keeps}
 use Rattle.vbr_at_table.specs.Reading.{IsHeadRead, IsKeyRead, IsNextRead, ReadsIn, RollsBack}
 use Rattle.vbr_at_table.specs.Rollbacks.{IsMoved}
 use Rattle.vbr_at_table.specs.Values.{IsValueRead}
@@ -35,7 +35,7 @@ use Rattle.vbr_at_table.specs.declared.rollback.Rollback.TheVariants.{EpochMoved
 use Rattle.vbr_at_table.proofs.Accepted.{named_slot}
 use Rattle.vbr_at_table.proofs.CheckedReads.{checked, checked_keeps, head_is_unmarked, head_keeps, head_read, key_of_bucket, node_keeps, node_read}
 use Rattle.vbr_at_table.proofs.EpochReads.{own_read}
-use Rattle.vbr_at_table.proofs.Keeping.{keeps_on}
+use Rattle.vbr_at_table.proofs.KeptKnowledge.{keeps_on}
 use Rattle.vbr_at_table.proofs.ReadSteps.{Loads, learned, loaded_keeps, loads_birth, loads_key, loads_link, loads_value, moved, shape_on}
 
 -- ---- what a read needs of its pass, which a read keeps

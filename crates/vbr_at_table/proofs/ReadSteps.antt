@@ -19,8 +19,8 @@ use Rattle.vbr_machine.specs.declared.event.Step.TheVariants.{ReadEpoch, LoadLin
 use Rattle.vbr_machine.specs.declared.knowledge.Read.{Read}
 use Rattle.vbr_machine.specs.declared.knowledge.Read.TheVariants.{LinkAt, BirthOf, KeyOf, ValueOf}
 use Rattle.vbr_slots.specs.Views.{Trace, Did, knows}
-use Rattle.vbr_at_table.specs.Counts.{advances_or_gives}
-use Rattle.vbr_at_table.specs.Keeping.{Keeps}
+use Rattle.vbr_at_table.specs.StepKinds.{advances_or_gives}
+use Rattle.vbr_at_table.specs.KeptKnowledge.{Keeps}
 
 pub only : {X : Type 0} (x : X) → Contains (x ∷ []) x
 only x = (0, omega arith, refl)

@@ -33,13 +33,13 @@ use Rattle.vbr_slots.specs.Calls.{Quiet, entries_of, made_by}
 use Rattle.vbr_slots.specs.PassLaw.{PassLaw}
 use Rattle.vbr_slots.specs.Views.{Did, PassView, Trace, event_of, knows}
 use Rattle.vbr_slots.proofs.Lemmas.{did_calls, did_entries, did_moment, did_run, did_same, did_seen, quiet_on, same_on}
-use Rattle.vbr_at_table.specs.Counts.{ChangesNone}
+use Rattle.vbr_at_table.specs.StepKinds.{ChangesNone}
 use Rattle.vbr_at_table.specs.Exchanges.{LosesExchange}
 use Rattle.vbr_at_table.specs.Held.{IsFilled, IsHeld}
-use Rattle.vbr_at_table.specs.Keeping.{Keeps}
+use Rattle.vbr_at_table.specs.KeptKnowledge.{Keeps}
 use Rattle.vbr_at_table.specs.KeptSlots.{TakesNoSlot}
 use Rattle.vbr_at_table.specs.Moments.{WasFound}
-use Rattle.vbr_at_table.specs.Replacing.{MadeTwo, ReplacesEntry}
+use Rattle.vbr_at_table.specs.Replacing.{MadeTwo, ReplacesHeld}
 use Rattle.vbr_at_table.specs.Values.{ValueAt, entry_call}
 use Rattle.vbr_at_table.specs.declared.held.Held.{Held}
 use Rattle.vbr_at_table.specs.declared.rollback.Rollback.TheVariants.{LostExchange}
@@ -47,7 +47,7 @@ use Rattle.vbr_at_table.proofs.Accepted.{place_in}
 use Rattle.vbr_at_table.proofs.Advancing.{did_stamps, grows_same, same_advances, same_flags, same_tries}
 use Rattle.vbr_at_table.proofs.InTurn.{did_turn}
 use Rattle.vbr_at_table.proofs.KeptSlots.{spent_kept}
-use Rattle.vbr_at_table.proofs.Keeping.{held_kept, keeps_on, keeps_refl}
+use Rattle.vbr_at_table.proofs.KeptKnowledge.{held_kept, keeps_on, keeps_refl}
 use Rattle.vbr_at_table.proofs.ExchangeCalls.{run_after}
 use Rattle.vbr_at_table.proofs.MarkedLinks.{leaves_since, replaced_leaves}
 use Rattle.vbr_at_table.proofs.MadeCalls.{failed, other, replace_adds_none}
@@ -252,7 +252,7 @@ replaced_since {epoch} {s} p q r is quiet x =
 
 module _ (p q r : PassView) (node : Held) (s t key birth next value word : ℕ) (start : IsStart p.trace.start) (law : PassLaw q) (fill : Quiet p.trace q.trace) (keeps : Keeps (knows p.trace) (knows q.trace)) (h : IsHeld (knows q.trace) node) (at : node.at ≡ Slot s) (f : IsFilled ((knows q.trace).own t) birth key (link_to (link_of node.word).slot birth next)) where
   pub replace_told : ChangesNone p.trace q.trace → q.trace.start.shape.values ≡ true → value_in_hand ((knows q.trace).own t) ≡ Some value → KeyAt (knows p.trace) node.at key → link_of word ≡ marked (link_to (Some t) node.birth birth) → Did (Replace s node.word t) q.trace r.trace node.word → r.hand ≡ None
-      → ReplacesEntry p r node key value (record { slot = s; birth = node.birth; word = word; epoch = node.epoch })
+      → ReplacesHeld p r node key value (record { slot = s; birth = node.birth; word = word; epoch = node.epoch })
   replace_told none has valued k link d spent =
       let K : At → Type 0 = λ i. KeyAt (knows p.trace) i key in
       let B : At → Type 0 = λ i. BirthAt (knows r.trace) i node.birth in

@@ -20,9 +20,9 @@ use Rattle.vbr_slots.specs.Calls.{Quiet, Took}
 use Rattle.vbr_slots.specs.Pools.{HandFits, OwnPool, hand_without}
 use Rattle.vbr_slots.specs.Views.{Did, KeepsPool, PassView, Trace, event_of, knows}
 use Rattle.vbr_slots.proofs.Lemmas.{did_moment, did_quiet, did_took, moment_after, moment_before, quiet_on, quiet_refl, took_none, took_on}
-use Rattle.vbr_at_table.specs.Counts.{advances, flags_raised}
+use Rattle.vbr_at_table.specs.StepKinds.{advances, flags_raised, flags_tried, is_try}
 use Rattle.vbr_at_table.specs.KeptSlots.{GoesInTurn, HasFree, HasSlot, PoolGrows, StampsUnlinked}
-use Rattle.vbr_at_table.specs.Reserving.{IsMissed, IsNextFrom, Reserves, ReservesFrom, TakesFlags, WasTaken, flags_tried, is_take, most_kept}
+use Rattle.vbr_at_table.specs.Reserving.{IsMissed, IsNextFrom, Reserves, ReservesFrom, TakesFlags, WasTaken, most_kept}
 use Rattle.vbr_at_table.specs.SharedPool.{WasOutside}
 use Rattle.vbr_at_table.proofs.Advancing.{did_made, did_stamps, grows_on, grows_same, keeps_known, keeps_refl, longer, same_advances, same_flags, slots_kept_on}
 use Rattle.vbr_at_table.proofs.InTurn.{did_turn}
@@ -74,7 +74,7 @@ takes_lost {p} {q} {slot} {n} d lost keeps =
     let know : knows q.trace ≡ knows p.trace = d.know ∙ lost_flag _ (knows p.trace) in
     record {
       took = did_took d;
-      tries = did_made is_take d;
+      tries = did_made is_try d;
       grows = grows_same p q keeps.0;
       each = λ s there. inl (subst (λ xs. Contains xs s) keeps.0 there);
       hand = keeps.1;
@@ -137,7 +137,7 @@ module _ {p q r : PassView} {slot n : ℕ} (d : Did (TakeFlag slot) p.trace q.tr
   pub takes_won : TakesFlags p r 1
   takes_won = record {
     took = at_trace (λ t. Took p.trace t 1) (did_took d);
-    tries = at_trace (λ t. flags_tried t ≡ flags_tried p.trace + 1) (did_made is_take d);
+    tries = at_trace (λ t. flags_tried t ≡ flags_tried p.trace + 1) (did_made is_try d);
     grows = (slot ∷ [], pool_is);
     each = λ s there. ⊎_elim (λ before. inl before) (λ (is : slot ≡ s). inr (subst (WasTaken p.trace r.trace) is (at_trace (λ t. WasTaken p.trace t slot) now_taken))) (Contains-push_cases p.pool slot s (subst (λ xs. Contains xs s) pool_is there));
     hand = hand ∙ keeps.1;

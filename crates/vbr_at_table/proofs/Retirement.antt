@@ -4,7 +4,7 @@ use Rattle.std.proofs.lemmas.Bool.{cases_eq, ne_eqb}
 use Rattle.std.proofs.lemmas.Bool.Decides.{nat_tests}
 use Rattle.vbr_machine.specs.Start.{Start, IsStart}
 use Rattle.vbr_machine.specs.Accounts.{incarnations_after}
-use Rattle.vbr_at_table.specs.Counts.{ChangesNone}
+use Rattle.vbr_at_table.specs.StepKinds.{ChangesNone}
 use Rattle.vbr_at_table.proofs.Unchanged.{did_unchanged, none_counted, raise_unchanged, unchanged_on}
 use Rattle.vbr_machine.specs.Agreement.{OwnFits}
 use Rattle.vbr_machine.specs.Incarnations.{Incarnations}

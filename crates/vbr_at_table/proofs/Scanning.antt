@@ -12,7 +12,7 @@ use Rattle.vbr_slots.specs.Views.{PassView, KeepsPool, Did, knows}
 use Rattle.vbr_slots.proofs.Lemmas.{did_quiet, quiet_on}
 use Rattle.vbr_at_table.specs.KeptSlots.{TakesNoSlot}
 use Rattle.vbr_at_table.specs.Pieces.{IsScanned, Scans, ScansPart}
-use Rattle.vbr_at_table.specs.Steps.{CountsSteps}
+use Rattle.vbr_at_table.specs.WithinBudget.{CountsSteps}
 use Rattle.vbr_at_table.specs.Taking.{IsOldest}
 use Rattle.vbr_at_table.specs.declared.budget.TheConstants.{PIECE}
 use Rattle.vbr_at_table.specs.declared.refusal.Refusal.TheVariants.{OutOfSteps}

@@ -4,10 +4,10 @@ use Rattle.vbr_machine.specs.declared.event.Step.{Step}
 use Rattle.vbr_slots.specs.Views.{Did, PassView, knows}
 use Rattle.vbr_slots.proofs.Lemmas.{did_took, took_on}
 use Rattle.vbr_at_table.specs.Exchanges.{StoresIn}
-use Rattle.vbr_at_table.specs.Keeping.{Keeps}
+use Rattle.vbr_at_table.specs.KeptKnowledge.{Keeps}
 use Rattle.vbr_at_table.specs.KeptSlots.{TakesNoSlot}
 use Rattle.vbr_at_table.proofs.Advancing.{none_on}
-use Rattle.vbr_at_table.proofs.Keeping.{keeps_on}
+use Rattle.vbr_at_table.proofs.KeptKnowledge.{keeps_on}
 
 pub stores_one : {p q : PassView} {step : Step} {r : ℕ} → Did step p.trace q.trace r → Keeps (knows p.trace) (knows q.trace) → q.pool ≡ p.pool → TakesNoSlot p q → StoresIn p q 1
 stores_one d keeps pool none = record { took = did_took d; keeps = keeps; pool = pool; takes_no_slot = none }

@@ -14,7 +14,7 @@ use Rattle.vbr_at_table.specs.Budgets.{NeedsMore, probes_lost, steps_to_take, st
 use Rattle.vbr_at_table.specs.Gained.{gained}
 use Rattle.vbr_at_table.specs.Hands.{HandView}
 use Rattle.vbr_at_table.specs.KeptSlots.{KeepsSlots, SharesWhereFull, TriesNoFlag, TriesWhereEmpty}
-use Rattle.vbr_at_table.specs.Pieces.{BearsNone, Chooses, ChoosesNone, HasSlots, IsBorn, IsChosen, IsShortOrSpent, Probes, Uses, WinsNone, told_steps}
+use Rattle.vbr_at_table.specs.Pieces.{BearsNone, Chooses, ChoosesNone, HasSlots, IsBorn, IsChosen, IsShortOrSpent, LooksForSlot, Uses, WinsNone, told_steps}
 use Rattle.vbr_at_table.specs.Refusals.{LeavesPool, RefusesTake, TakeIsRefused, TellsSpent}
 use Rattle.vbr_at_table.specs.SharedPool.{CameByFlag}
 use Rattle.vbr_at_table.specs.Taking.{IsOldest, IsTaken, Takes}
@@ -41,7 +41,7 @@ win_enough p budget gains (OutOfSteps used) empty short =
 win_enough p budget gains NoSlot empty short = tt
 win_enough p budget gains (EpochSpent epoch) empty short = tt
 
-module _ (p q : PassView) (budget : ℕ) (told : Refusal × ℕ) (first : Probes p q) (none : WinsNone p q budget told) where
+module _ (p q : PassView) (budget : ℕ) (told : Refusal × ℕ) (first : LooksForSlot p q) (none : WinsNone p q budget told) where
   pub unwon_takes : Takes p q budget
   unwon_takes = record {
     steps = record { steps = told.1; within = none.uses.within; took = took_all none.uses.counts };
@@ -71,7 +71,7 @@ module _ (p q : PassView) (budget : ℕ) (told : Refusal × ℕ) (first : Probes
 
 -- ---- the own pool has slots
 
-module _ (p q r : PassView) (budget used : ℕ) (first : Probes p q) (begun : HasSlots p q budget used) (then : Chooses q r) where
+module _ (p q r : PassView) (budget used : ℕ) (first : LooksForSlot p q) (begun : HasSlots p q budget used) (then : Chooses q r) where
   quiet_all : Quiet p.trace r.trace
   quiet_all = quiet_on first.quiet then.quiet
 

@@ -4,7 +4,7 @@ use Rattle.std.specs.Prelude.{◌&&◌}
 use Rattle.vbr_machine.specs.Start.{IsStart}
 use Rattle.vbr_machine.specs.Accounts.{after_giving_up, happens, own_entries}
 use Rattle.vbr_machine.specs.Chronicles.{Raises}
-use Rattle.vbr_machine.specs.Disturbances.{counted, own_changes, own_changes_in}
+use Rattle.vbr_machine.specs.Disturbances.{one_if, own_changes, own_changes_in}
 use Rattle.vbr_machine.specs.Incarnations.{Incarnations}
 use Rattle.vbr_machine.specs.Machine.{World}
 use Rattle.vbr_machine.specs.Runs.{Begins, IsRun}
@@ -15,9 +15,9 @@ use Rattle.vbr_machine.specs.declared.knowledge.Holding.TheVariants.{Free, Unlin
 use Rattle.vbr_machine.proofs.Lemmas.{own_unchanged, since, step_changes_none}
 use Rattle.vbr_slots.specs.Calls.{AddsNone, IsSame}
 use Rattle.vbr_slots.specs.Views.{Did, Trace}
-use Rattle.vbr_at_table.specs.Counts.{ChangesNone}
+use Rattle.vbr_at_table.specs.StepKinds.{ChangesNone}
 
-pub none_counted : (b : Bool) → counted (b && false) + 0 ≡ 0
+pub none_counted : (b : Bool) → one_if (b && false) + 0 ≡ 0
 none_counted true = refl
 none_counted false = refl
 
@@ -30,7 +30,7 @@ did_unchanged {step} {p} {q} d none = record {
 pub raise_unchanged : {slot : ℕ} {p q : Trace} {r : ℕ} → Did (Raise slot) p q r → ChangesNone p q
 raise_unchanged {slot} {p} d = did_unchanged d (λ w a bucket. raised a bucket ((w.know p.who).own slot))
   where
-    both : (b : Bool) → counted (b && false) + (counted (b && false) + 0) ≡ 0
+    both : (b : Bool) → one_if (b && false) + (one_if (b && false) + 0) ≡ 0
     both true = refl
     both false = refl
 

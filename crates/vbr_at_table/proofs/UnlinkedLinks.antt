@@ -33,7 +33,7 @@ unlinked start w p pred expected s is =
     test_won (found start w (Unlink pred expected s) == expected) pred _ w _ (eq-eqb _ expected is) (link_put (with_learning start w p (Unlink pred expected s)) pred (link_written (w.know p) (Unlink pred expected s)) s p)
 
 module _ {p q : Trace} {pred : At} {expected s : ℕ} (d : Did (Unlink pred expected s) p q expected) where
-  -- it is the one that the core writes by what the pass knew
+  -- it is the one that the machine writes by what the pass knew
   pub link_after : link_at (world_after p.start q.seen) pred ≡ link_written (knows p) (Unlink pred expected s)
   link_after =
       let w = world_after p.start (p.seen ++ d.rest) in

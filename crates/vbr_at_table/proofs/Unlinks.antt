@@ -17,7 +17,7 @@ use Rattle.vbr_slots.specs.PassLaw.{PassLaw}
 use Rattle.vbr_at_table.specs.declared.held.Held.{Held}
 use Rattle.vbr_at_table.specs.declared.held.Marked.{Marked}
 use Rattle.vbr_at_table.proofs.Accepted.{place_held, unlink_accepted, unlink_writes}
-use Rattle.vbr_at_table.proofs.Keeping.{place_kept, birth_kept}
+use Rattle.vbr_at_table.proofs.KeptKnowledge.{place_kept, birth_kept}
 use Rattle.vbr_at_table.proofs.Moments.{stood_after}
 use Rattle.vbr_at_table.proofs.UnlinkedLinks.{stood_at_end}
 use Rattle.vbr_at_table.proofs.WonExchanges.{unlink_keeps, unlink_known}

@@ -13,11 +13,11 @@ use Rattle.vbr_slots.specs.Tried.{last_tried}
 use Rattle.vbr_slots.specs.Views.{Trace, PassView, KeepsPool, Did, knows}
 use Rattle.vbr_slots.proofs.Lemmas.{did_quiet, did_seen, quiet_on}
 use Rattle.vbr_at_table.specs.Gained.{gained, gained_by_now}
-use Rattle.vbr_at_table.specs.Counts.{advances}
+use Rattle.vbr_at_table.specs.StepKinds.{advances}
 use Rattle.vbr_at_table.specs.KeptSlots.{KeepsSlots, PoolGrows, SharesWhereFull}
-use Rattle.vbr_at_table.specs.Pieces.{HasSlots, Probes, WinsNone}
+use Rattle.vbr_at_table.specs.Pieces.{HasSlots, LooksForSlot, WinsNone}
 use Rattle.vbr_at_table.specs.SharedPool.{WasOutside, ComesBefore, CameByFlag}
-use Rattle.vbr_at_table.specs.Steps.{CountsSteps}
+use Rattle.vbr_at_table.specs.WithinBudget.{CountsSteps}
 use Rattle.vbr_at_table.specs.declared.budget.TheConstants.{PIECE}
 use Rattle.vbr_at_table.specs.declared.refusal.Refusal.TheVariants.{OutOfSteps, NoSlot}
 use Rattle.vbr_at_table.proofs.Gained.{gained_on, gained_same}
@@ -28,7 +28,7 @@ use Rattle.vbr_at_table.proofs.Counting.{counts_one, counts_on, took_all}
 use Rattle.vbr_at_table.proofs.Shown.{came, missed, missed_before, missed_after}
 
 -- probes after probes, where the own pool was empty
-probes_on : {p q r : PassView} → Probes p q → p.pool ≡ [] → Quiet q.trace r.trace → advances r.trace ≡ advances q.trace → KeepsSlots q r → PoolGrows q r → SharesWhereFull 1 q r → Probes p r
+probes_on : {p q r : PassView} → LooksForSlot p q → p.pool ≡ [] → Quiet q.trace r.trace → advances r.trace ≡ advances q.trace → KeepsSlots q r → PoolGrows q r → SharesWhereFull 1 q r → LooksForSlot p r
 probes_on {p} {q} {r} at empty quiet still kept grows shared = record {
   quiet = quiet_on at.quiet quiet;
   count = still ∙ at.count;
@@ -43,7 +43,7 @@ pub record Tried (p q : PassView) (budget used start : ℕ) : Type 0 where
   pub quiet : Quiet p.trace q.trace
   pub empty : p.pool ≡ []
   pub pool : KeepsPool p q
-  pub probes : Probes p q
+  pub probes : LooksForSlot p q
   pub counts : CountsSteps p.trace q.trace 0 used
   pub within : used ≤ budget
   pub begins : start ≡ 64 * word_of_flag (last_tried p.trace)
@@ -72,7 +72,7 @@ module _ {p q r : PassView} {budget used start slot n : ℕ} (at : Tried p q bud
   quiet_lost : Quiet q.trace r.trace
   quiet_lost = did_quiet d (λ know. refl)
 
-  probes_lost : Probes p r
+  probes_lost : LooksForSlot p r
   probes_lost = probes_on at.probes at.empty quiet_lost (same_advances d refl) (keeps_known q r stays (did_turn d) (λ s. ap (λ (k : Know). k.own s) (d.know ∙ lost_flag _ (knows q.trace)))) (grows_same q r stays.0) (inl (same_flags d refl))
 
   pub win_tried : Tried p r budget (used + 1) start
@@ -182,7 +182,7 @@ win_done {p} {q} {r} {t} {budget} {used} {start} {slot} {end} at below empty no_
         (λ (over : end ≡ start). at.round over s in_shape (⊎_elim (λ (from : 64 * word_of_flag (last_tried p.trace) ≤ s). (let b = at.tried.begins in inl (omega (arith, b, from)))) (λ (less : s < slot). inr less) past.1)) at.turn
 
 -- the slot is all that the pass could take
-pub win_probes : {p q r t : PassView} {budget used start slot end n : ℕ} → Winning p q budget used start slot end → Did (TakeFlag slot) q.trace r.trace n → has_flag n slot ≡ true → KeepsPool q r → t.trace ≡ r.trace → t.pool ≡ r.pool ++ slot ∷ [] → t.hand ≡ hand_without slot r.hand → Probes p t
+pub win_probes : {p q r t : PassView} {budget used start slot end n : ℕ} → Winning p q budget used start slot end → Did (TakeFlag slot) q.trace r.trace n → has_flag n slot ≡ true → KeepsPool q r → t.trace ≡ r.trace → t.pool ≡ r.pool ++ slot ∷ [] → t.hand ≡ hand_without slot r.hand → LooksForSlot p t
 win_probes {p} {q} {r} {t} {slot = slot} {n = n} at d set stays same pool hand =
     probes_on at.tried.probes at.tried.empty (subst (Quiet q.trace) (sym same) (did_quiet d (λ know. refl)))
     (given_count d refl refl refl others stays same pool hand) (given_kept d refl refl refl others stays same pool hand) (given_grows d refl refl refl others stays same pool hand) (given_shared d refl refl refl others stays same pool hand)
@@ -194,7 +194,7 @@ win_probes {p} {q} {r} {t} {slot = slot} {n = n} at d set stays same pool hand =
     others s other m = subst MayBear (ap (λ (k : Know). k.own s) (d.know ∙ won_flag _ (knows q.trace)) ∙ put_other (knows q.trace).own _ _ s other) m
 
 -- or none was won: for want of steps, or once round
-pub unwon_probes : {p q : PassView} {budget used start slot end : ℕ} → Winning p q budget used start slot end → Probes p q
+pub unwon_probes : {p q : PassView} {budget used start slot end : ℕ} → Winning p q budget used start slot end → LooksForSlot p q
 unwon_probes at = at.tried.probes
 
 pub win_short : {p q : PassView} {budget used start slot end : ℕ} → Winning p q budget used start slot end → slot < end → p.pool ≡ [] → budget < used + PIECE → WinsNone p q budget (OutOfSteps used, used)

@@ -17,9 +17,9 @@ use Rattle.vbr_machine.specs.declared.knowledge.Holding.TheVariants.{Unlinked}
 use Rattle.vbr_machine.specs.declared.knowledge.Read.{Read}
 use Rattle.vbr_machine.specs.declared.knowledge.Read.TheVariants.{LinkAt}
 use Rattle.vbr_slots.specs.Views.{Trace, Did, knows}
-use Rattle.vbr_at_table.specs.Keeping.{Keeps}
+use Rattle.vbr_at_table.specs.KeptKnowledge.{Keeps}
 use Rattle.vbr_machine.proofs.Lemmas.{put_here}
-use Rattle.vbr_at_table.proofs.Keeping.{keeps_refl}
+use Rattle.vbr_at_table.proofs.KeptKnowledge.{keeps_refl}
 use Rattle.vbr_at_table.proofs.ReadSteps.{only}
 
 -- more reads are checked

@@ -1,4 +1,4 @@
--- The links that are written: they fit into a word, and they are those that the core writes.
+-- The links that are written: they fit into a word, and they are those that the machine writes.
 use Rattle.std.proofs.Common.{◌≡◌, ℕ, ◌<◌, ◌≤◌, Option, Some, None, arith, ap}
 use Rattle.std.specs.Prelude.{IfSome}
 use Rattle.vbr_words.specs.Words.{IsLink, link_of}

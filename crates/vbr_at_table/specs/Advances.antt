@@ -6,7 +6,7 @@ use Rattle.vbr_machine.specs.declared.event.Event.{Event}
 use Rattle.vbr_machine.specs.declared.event.Step.TheVariants.{Advance}
 use Rattle.vbr_slots.specs.Calls.{Moment}
 use Rattle.vbr_slots.specs.Views.{PassView, event_of}
-use Rattle.vbr_at_table.specs.Counts.{advances}
+use Rattle.vbr_at_table.specs.StepKinds.{advances}
 use Rattle.vbr_at_table.specs.KeptSlots.{CouldTake}
 
 -- the pass made one step that would advance the epoch, from the epoch that it had read last: no slot that it could take then was stamped below that one

@@ -13,7 +13,7 @@ use Rattle.vbr_slots.specs.Calls.{AddsAnswer, AddsNone, Made, OnlyLoads, Quiet, 
 use Rattle.vbr_slots.specs.Views.{PassView, Trace, knows}
 use Rattle.vbr_at_table.specs.KeptSlots.{TakesNoSlot}
 use Rattle.vbr_at_table.specs.Held.{IsHeld}
-use Rattle.vbr_at_table.specs.Keeping.{Keeps, KeepsOwn}
+use Rattle.vbr_at_table.specs.KeptKnowledge.{Keeps, KeepsOwn}
 use Rattle.vbr_at_table.specs.Rollbacks.{IsLost}
 use Rattle.vbr_at_table.specs.declared.held.Held.{Held}
 use Rattle.vbr_at_table.specs.declared.rollback.Rollback.{Rollback}

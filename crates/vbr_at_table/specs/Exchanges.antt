@@ -11,12 +11,12 @@ use Rattle.vbr_machine.specs.declared.history.Op.TheVariants.{Insert}
 use Rattle.vbr_slots.specs.Alone.{IsAlone}
 use Rattle.vbr_slots.specs.Calls.{AddsNone, Made, Quiet, Took}
 use Rattle.vbr_slots.specs.Views.{PassView, Trace, knows}
-use Rattle.vbr_at_table.specs.Counts.{ChangesNone}
+use Rattle.vbr_at_table.specs.StepKinds.{ChangesNone}
 use Rattle.vbr_at_table.specs.Hands.{HandView, IsHandOf, UnlinkedView}
 use Rattle.vbr_at_table.specs.KeptSlots.{TakesNoSlot}
-use Rattle.vbr_at_table.specs.Alone.{StandsNow, UnlinksAlone}
+use Rattle.vbr_at_table.specs.WonAlone.{StandsNow, UnlinksAlone}
 use Rattle.vbr_at_table.specs.Held.{IsFilled, IsHeld}
-use Rattle.vbr_at_table.specs.Keeping.{Keeps, KeepsOwn, KeepsUnlinked}
+use Rattle.vbr_at_table.specs.KeptKnowledge.{Keeps, KeepsOwn, KeepsUnlinked}
 use Rattle.vbr_at_table.specs.Moments.{IsRead}
 use Rattle.vbr_at_table.specs.Rollbacks.{FreshIfMoved, IsLost, IsMovedOrLost}
 use Rattle.vbr_at_table.specs.declared.held.Held.{Held}

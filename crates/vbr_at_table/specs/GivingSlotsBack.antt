@@ -6,7 +6,7 @@ use Rattle.vbr_machine.specs.declared.event.Step.TheVariants.{Raise}
 use Rattle.vbr_machine.specs.declared.knowledge.SlotPlace.TheVariants.{Shared}
 use Rattle.vbr_slots.specs.Calls.{Moment, Quiet, Took}
 use Rattle.vbr_slots.specs.Views.{PassView, Trace, event_of}
-use Rattle.vbr_at_table.specs.Counts.{ChangesNone, advances, flags_raised}
+use Rattle.vbr_at_table.specs.StepKinds.{ChangesNone, advances, flags_raised}
 use Rattle.vbr_at_table.specs.KeptSlots.{KeepsSlots}
 
 -- during the call the pass raised the flag of the slot, which then was in the shared pool

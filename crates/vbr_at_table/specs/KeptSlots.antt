@@ -5,7 +5,7 @@ use Rattle.vbr_machine.specs.Knowledge.{Know}
 use Rattle.vbr_machine.specs.Whereabouts.{UnlinksInTurn}
 use Rattle.vbr_slots.specs.declared.pass.TheConstants.{POOL}
 use Rattle.vbr_slots.specs.Views.{Trace, PassView, knows}
-use Rattle.vbr_at_table.specs.Counts.{advances, flags_raised, flags_tried}
+use Rattle.vbr_at_table.specs.StepKinds.{advances, flags_raised, flags_tried}
 
 -- a slot in the own pool of the pass, or in its hand
 abbrev pub HasSlot : PassView → ℕ → Type 0

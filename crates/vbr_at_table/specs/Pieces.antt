@@ -6,13 +6,13 @@ use Rattle.vbr_slots.specs.Calls.{Quiet}
 use Rattle.vbr_slots.specs.Views.{PassView, KeepsPool, knows}
 use Rattle.vbr_at_table.specs.Advances.{AdvancesWhereNeeded}
 use Rattle.vbr_at_table.specs.Budgets.{NeedsMore, steps_to_win}
-use Rattle.vbr_at_table.specs.Counts.{advances, flags_raised}
+use Rattle.vbr_at_table.specs.StepKinds.{advances, flags_raised}
 use Rattle.vbr_at_table.specs.Gained.{gained}
 use Rattle.vbr_at_table.specs.KeptSlots.{KeepsSlots, PoolGrows, SharesWhereFull, TakesNoSlot, TriesNoFlag, TriesWhereEmpty}
 use Rattle.vbr_at_table.specs.Hands.{HandView}
 use Rattle.vbr_at_table.specs.Refusals.{IsSpent, TakeIsRefused}
 use Rattle.vbr_at_table.specs.SharedPool.{CameByFlag}
-use Rattle.vbr_at_table.specs.Steps.{CountsSteps}
+use Rattle.vbr_at_table.specs.WithinBudget.{CountsSteps}
 use Rattle.vbr_at_table.specs.Taking.{Births, IsOldest}
 use Rattle.vbr_at_table.specs.declared.budget.TheConstants.{PIECE}
 use Rattle.vbr_at_table.specs.declared.refusal.Refusal.{Refusal}
@@ -42,7 +42,7 @@ pub record FallsShort (p q : PassView) (budget before most : ℕ) (told : Refusa
 -- the pass looked for a slot: it made no call, and no step that would advance the epoch
 -- No slot of it is lost; its own pool grew, if it changed. It put none into the shared pool, unless its own is full but for one place.
 -- It tried to take one from there only where its own pool was empty.
-pub record Probes (p q : PassView) : Type 0 where
+pub record LooksForSlot (p q : PassView) : Type 0 where
   pub quiet : Quiet p.trace q.trace
   pub count : advances q.trace ≡ advances p.trace
   pub kept : KeepsSlots p q

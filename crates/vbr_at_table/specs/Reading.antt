@@ -9,10 +9,10 @@ use Rattle.vbr_slots.specs.Alone.{IsAlone, IsFresh, nodes}
 use Rattle.vbr_slots.specs.Calls.{AddsNone, OnlyLoads, Quiet, Took}
 use Rattle.vbr_slots.specs.Views.{PassView, Trace, knows}
 use Rattle.vbr_at_table.specs.KeptSlots.{TakesNoSlot}
-use Rattle.vbr_at_table.specs.Keeping.{Keeps, KeepsOwn}
+use Rattle.vbr_at_table.specs.KeptKnowledge.{Keeps, KeepsOwn}
 use Rattle.vbr_at_table.specs.Moments.{IsEpochRead, IsNext, IsRead}
 use Rattle.vbr_at_table.specs.Rollbacks.{IsMoved}
-use Rattle.vbr_at_table.specs.CallSteps.{next_steps}
+use Rattle.vbr_at_table.specs.StepCosts.{next_steps}
 use Rattle.vbr_at_table.specs.declared.held.Held.{Held}
 use Rattle.vbr_at_table.specs.declared.rollback.Rollback.{Rollback}
 

@@ -1,28 +1,18 @@
 -- What a pass leaves that takes slots into its own pool ahead of its calls.
-use Rattle.std.specs.Prelude.{◌≡◌, ℕ, ◌+◌, ◌-◌, ◌*◌, ◌<◌, ◌≤◌, min, Bool, true, false, List, [], ◌∷◌, ◌++◌, length, Contains, ◌⊎◌}
+use Rattle.std.specs.Prelude.{◌≡◌, ℕ, ◌+◌, ◌-◌, ◌*◌, ◌<◌, ◌≤◌, min, false, List, [], ◌∷◌, ◌++◌, length, Contains, ◌⊎◌}
 use Rattle.vbr_words.specs.Flags.{has_flag, word_of_flag}
 use Rattle.vbr_words.specs.declared.flags.TheConstants.{FLAGS}
 use Rattle.vbr_machine.specs.Runs.{Begins, world_after}
 use Rattle.vbr_machine.specs.declared.event.Event.{Event}
-use Rattle.vbr_machine.specs.declared.event.Step.{Step}
 use Rattle.vbr_machine.specs.declared.event.Step.TheVariants.{TakeFlag}
 use Rattle.vbr_machine.specs.declared.knowledge.SlotPlace.TheVariants.{Shared}
 use Rattle.vbr_slots.specs.declared.pass.TheConstants.{POOL}
 use Rattle.vbr_slots.specs.Calls.{Moment, Quiet, Took}
 use Rattle.vbr_slots.specs.Tried.{last_tried}
 use Rattle.vbr_slots.specs.Views.{PassView, Trace, event_of}
-use Rattle.vbr_at_table.specs.Counts.{advances, flags_raised, made_of}
+use Rattle.vbr_at_table.specs.StepKinds.{advances, flags_raised, flags_tried}
 use Rattle.vbr_at_table.specs.KeptSlots.{KeepsSlots, PoolGrows}
 use Rattle.vbr_at_table.specs.SharedPool.{WasOutside}
-
--- whether a step tries to take a slot out of the shared pool
-abbrev pub is_take : Step → Bool
-is_take (TakeFlag slot) = true
-is_take _ = false
-
--- how often the pass has tried to take a slot out of the shared pool
-abbrev pub flags_tried : Trace → ℕ
-flags_tried p = made_of is_take p
 
 -- during the call the slot was in the shared pool, and the pass took it
 pub record WasTaken (p q : Trace) (slot : ℕ) : Type 0 where

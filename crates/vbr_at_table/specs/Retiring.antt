@@ -10,7 +10,7 @@ use Rattle.vbr_slots.specs.declared.pass.TheConstants.{POOL}
 use Rattle.vbr_slots.specs.Alone.{IsAlone, IsFresh, LeavesLists}
 use Rattle.vbr_slots.specs.Calls.{Moment, Quiet, Took}
 use Rattle.vbr_slots.specs.Views.{PassView, Trace, event_of, knows}
-use Rattle.vbr_at_table.specs.Counts.{ChangesNone}
+use Rattle.vbr_at_table.specs.StepKinds.{ChangesNone}
 use Rattle.vbr_at_table.specs.KeptSlots.{StaysInTurn, TakesNoSlot}
 
 -- the pass read the epoch during the call, and stamped the slot with it after that

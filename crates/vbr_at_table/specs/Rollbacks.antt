@@ -2,7 +2,7 @@
 use Rattle.std.specs.Prelude.{◌≡◌, ◌≢◌, []}
 use Rattle.vbr_slots.specs.Alone.{IsFresh}
 use Rattle.vbr_slots.specs.Views.{Trace, knows}
-use Rattle.vbr_at_table.specs.Keeping.{Keeps}
+use Rattle.vbr_at_table.specs.KeptKnowledge.{Keeps}
 use Rattle.vbr_at_table.specs.Moments.{WasFound}
 use Rattle.vbr_at_table.specs.declared.held.Held.{Held}
 use Rattle.vbr_at_table.specs.declared.rollback.Rollback.{Rollback}

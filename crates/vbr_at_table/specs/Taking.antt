@@ -13,7 +13,7 @@ use Rattle.vbr_at_table.specs.Gained.{gained}
 use Rattle.vbr_at_table.specs.Hands.{HandView, IsHandOf}
 use Rattle.vbr_at_table.specs.KeptSlots.{KeepsSlots, SharesWhereFull, TriesWhereEmpty}
 use Rattle.vbr_at_table.specs.SharedPool.{CameByFlag}
-use Rattle.vbr_at_table.specs.Steps.{TookWithin}
+use Rattle.vbr_at_table.specs.WithinBudget.{TookWithin}
 
 -- whatever is answered, no call of the set was made, and no more steps than the budget
 -- No slot is lost, and at most one has left the own pool. None went into the shared pool unless the own one has no more than two places left.

@@ -19,13 +19,13 @@ use Rattle.vbr_machine.specs.declared.knowledge.Holding.{Holding}
 use Rattle.vbr_slots.specs.Alone.{IsAlone, nodes}
 use Rattle.vbr_slots.specs.Calls.{Made, Quiet}
 use Rattle.vbr_slots.specs.Views.{PassView, Trace, knows}
-use Rattle.vbr_at_table.specs.Alone.{MarksAlone}
+use Rattle.vbr_at_table.specs.WonAlone.{MarksAlone}
 use Rattle.vbr_at_table.specs.Answering.{IsAnswered}
-use Rattle.vbr_at_table.specs.Counts.{ChangesNone}
+use Rattle.vbr_at_table.specs.StepKinds.{ChangesNone}
 use Rattle.vbr_at_table.specs.Hands.{HandView}
 use Rattle.vbr_at_table.specs.Exchanges.{FillsHand, InsertsNode}
 use Rattle.vbr_at_table.specs.Held.{HoldsMarked, held_of}
-use Rattle.vbr_at_table.specs.Keeping.{Keeps}
+use Rattle.vbr_at_table.specs.KeptKnowledge.{Keeps}
 use Rattle.vbr_at_table.specs.Marks.{LeavesOthers}
 use Rattle.vbr_at_table.specs.declared.held.Held.{Held}
 use Rattle.vbr_at_table.specs.declared.held.Marked.{Marked}
@@ -87,8 +87,8 @@ abbrev pub RemovesKey : Trace → Trace → Held → Marked → Type 0
 RemovesKey = RemovesNode false
 
 -- it removed its entry
-abbrev pub RemovesEntry : Trace → Trace → Held → Marked → Type 0
-RemovesEntry = RemovesNode true
+abbrev pub MarksEntry : Trace → Trace → Held → Marked → Type 0
+MarksEntry = RemovesNode true
 
 -- it answered by the presence of the entry of a node
 pub record AnswersEntry (p q : Trace) (op : Op) (node : Held) : Type 0 where
@@ -123,5 +123,5 @@ pub record FillsEntry (p q : PassView) (pred : Held) (given : HandView) (key val
   pub valued : p.trace.start.shape.values ≡ true → value_in_hand ((knows q.trace).own given.slot) ≡ Some value
 
 -- the pass inserted the entry, and its hand is empty
-abbrev pub InsertsEntry : PassView → PassView → ℕ → ℕ → Type 0
-InsertsEntry p q key value = InsertsNode (entry_call p.trace.start p.trace.who Insert key true value) p q
+abbrev pub LinksEntry : PassView → PassView → ℕ → ℕ → Type 0
+LinksEntry p q key value = InsertsNode (entry_call p.trace.start p.trace.who Insert key true value) p q

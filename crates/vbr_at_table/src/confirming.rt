@@ -7,7 +7,7 @@ ghost use Rattle.vbr_at_table.specs.Answering.{AnswersAbsent, AnswersLookUp};
 ghost use Rattle.vbr_at_table.specs.Answering.{FindsAnother, IsAbsent, IsPresent};
 ghost use Rattle.vbr_at_table.specs.Answering.{KeepsByLoad};
 ghost use Rattle.vbr_at_table.specs.Exchanges.{IsUnmarked};
-ghost use Rattle.vbr_at_table.specs.LookUps.{TellsKey};
+ghost use Rattle.vbr_at_table.specs.DecidedKeys.{TellsKey};
 ghost use Rattle.vbr_at_table.specs.Values.{AnswersEntry, IsAsked, IsOtherIn};
 
 use crate::held::Held;

@@ -2,7 +2,7 @@
 ghost use Rattle.std.specs.Prelude.{◌≡◌, ◌<◌, true, IfOk, IfErr};
 ghost use Rattle.vbr_slots.specs.AtTables.{IsSameTable, pass_of, trace_of};
 ghost use Rattle.vbr_slots.specs.Views.{knows};
-ghost use Rattle.vbr_at_table.specs.CallSteps.{steps_to_birth};
+ghost use Rattle.vbr_at_table.specs.StepCosts.{steps_to_birth};
 ghost use Rattle.vbr_at_table.specs.Held.{IsSlot, IsHeld};
 ghost use Rattle.vbr_at_table.specs.Reading.{IsCheckpoint, IsHeadRead, IsKeyRead, IsNextRead};
 ghost use Rattle.vbr_at_table.specs.Reading.{BirthMoved, IsBirthRead, ReadsIn, RollsBack, steps_to_next};

@@ -4,7 +4,7 @@ ghost use Rattle.vbr_slots.specs.AtTables.{IsSameTable, trace_of, pass_of};
 ghost use Rattle.vbr_slots.specs.Views.{knows};
 ghost use Rattle.vbr_at_table.specs.Exchanges.{StoresIn, GivesBack};
 ghost use Rattle.vbr_at_table.specs.Hands.{IsHandOf};
-ghost use Rattle.vbr_at_table.specs.Replacing.{IsReplaceable, ReplacesEntry};
+ghost use Rattle.vbr_at_table.specs.Replacing.{IsReplaceable, ReplacesHeld};
 ghost use Rattle.vbr_at_table.specs.Values.{steps_to_update};
 
 use crate::hand::Hand;
@@ -36,7 +36,7 @@ pub fn replace<N: Nodes>(
     ensures stores { StoresIn (pass_of at.old) (pass_of at.new)
         (steps_to_update (trace_of at.old).start) }
     ensures replaced { IfOk result
-        (ReplacesEntry (pass_of at.old) (pass_of at.new) held.now key value) }
+        (ReplacesHeld (pass_of at.old) (pass_of at.new) held.now key value) }
     ensures lost { IfErr result (GivesBack (pass_of at.old) (pass_of at.new) held.now hand) }
 {
     let At::Slot(slot) = held.at else {

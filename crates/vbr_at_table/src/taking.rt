@@ -4,7 +4,7 @@ ghost use Rattle.vbr_slots.specs.AtTables.{IsSameTable, pass_of, trace_of};
 ghost use Rattle.vbr_slots.specs.Calls.{Took};
 ghost use Rattle.vbr_slots.specs.Views.{knows};
 ghost use Rattle.vbr_at_table.specs.Pieces.{told_steps};
-ghost use Rattle.vbr_at_table.specs.Pieces.{HasSlots, Probes, WinsNone};
+ghost use Rattle.vbr_at_table.specs.Pieces.{HasSlots, LooksForSlot, WinsNone};
 ghost use Rattle.vbr_at_table.specs.Pieces.{Chooses, ChoosesNone, IsChosen};
 ghost use Rattle.vbr_at_table.specs.Pieces.{IsScanned, IsStampedBelow, Scans, ScansPart};
 ghost use Rattle.vbr_at_table.specs.Pieces.{BearsNone, IsBorn};
@@ -72,7 +72,7 @@ fn take_on<N: Nodes>(at: &mut AtTable<'_, N>, budget: u32) -> Result<(Hand, u32)
 fn win_slot<N: Nodes>(at: &mut AtTable<'_, N>, budget: u32) -> Result<u32, (Refusal, u32)>
     requires empty_hand { (pass_of at.old).hand ≡ None }
     ensures table { IsSameTable at.old at.new }
-    ensures probes { Probes (pass_of at.old) (pass_of at.new) }
+    ensures probes { LooksForSlot (pass_of at.old) (pass_of at.new) }
     ensures won { IfOk result (HasSlots (pass_of at.old) (pass_of at.new) budget) }
     ensures none { IfErr result (WinsNone (pass_of at.old) (pass_of at.new) budget) }
 {

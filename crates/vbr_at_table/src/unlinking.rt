@@ -4,7 +4,7 @@ ghost use Rattle.vbr_slots.specs.AtTables.{IsSameTable, trace_of, pass_of};
 ghost use Rattle.vbr_slots.specs.Views.{knows};
 ghost use Rattle.vbr_at_table.specs.Exchanges.{StaysIn, UnlinksNode, UnlinksNone, IsUnmarked};
 ghost use Rattle.vbr_at_table.specs.Held.{HoldsMarked, Names};
-ghost use Rattle.vbr_at_table.specs.CallSteps.{steps_to_unlink};
+ghost use Rattle.vbr_at_table.specs.StepCosts.{steps_to_unlink};
 
 use crate::held::{Held, Marked};
 use crate::links::link_to;

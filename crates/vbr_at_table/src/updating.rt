@@ -7,7 +7,7 @@ ghost use Rattle.vbr_slots.specs.Views.{knows};
 ghost use Rattle.vbr_at_table.specs.Hands.{IsHandOf};
 ghost use Rattle.vbr_at_table.specs.Exchanges.{StoresIn, IsGap, GivesBack};
 ghost use Rattle.vbr_at_table.specs.Held.{IsHeld, IsSucc};
-ghost use Rattle.vbr_at_table.specs.Values.{FillsEntry, InsertsEntry, PutsValue};
+ghost use Rattle.vbr_at_table.specs.Values.{FillsEntry, LinksEntry, PutsValue};
 ghost use Rattle.vbr_at_table.specs.Values.{steps_to_update, steps_to_value};
 
 use crate::hand::Hand;
@@ -95,7 +95,7 @@ pub fn update<N: Nodes>(
     ensures stores { StoresIn (pass_of at.old) (pass_of at.new)
         (steps_to_update (trace_of at.old).start) }
     ensures inserted { IfOk result
-        (λ _. InsertsEntry (pass_of at.old) (pass_of at.new) key value) }
+        (λ _. LinksEntry (pass_of at.old) (pass_of at.new) key value) }
     ensures lost { IfErr result (GivesBack (pass_of at.old) (pass_of at.new) pred.now hand) }
 {
     let birth = birth_named(at, pred, succ);

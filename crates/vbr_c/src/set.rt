@@ -11,7 +11,7 @@ ghost use Rattle.vbr_handles.specs.AllHandles.{KeepSteps, members_in};
 ghost use Rattle.vbr_handles.specs.Renewals.{TellsRenewal};
 ghost use Rattle.vbr_handles.specs.Reports.{TellsCloseAll, TellsReport};
 ghost use Rattle.vbr_set.specs.AllMembers.{AreOfOneSet};
-ghost use Rattle.vbr_handles.specs.Shown.{IsSeedOf, balance_shown, buckets_of, epoch_of, last_epoch_of, slots_of};
+ghost use Rattle.vbr_handles.specs.Shown.{IsSeedOf, balance_shown, buckets_of, epoch_of_handle, last_epoch_of, slots_of};
 
 use std::alloc::Global;
 use vbr_handles::numbers::{batches, giving_back, iterating};
@@ -181,7 +181,7 @@ pub extern "C" fn vbr_has_all_within(
 #[unsafe(no_mangle)]
 pub extern "C" fn vbr_epoch(handle: &mut Handle) -> u64
     ensures same { handle.new.owned.member ≡ handle.old.owned.member }
-    ensures epoch { result ≡ epoch_of handle.old.owned.member }
+    ensures epoch { result ≡ epoch_of_handle handle.old.owned.member }
     ensures steps { handle.new.steps ≡ handle.old.steps }
 {
     shown::epoch(handle.owned.owner_mut())

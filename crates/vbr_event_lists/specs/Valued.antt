@@ -7,9 +7,9 @@ use Rattle.vbr_machine.specs.declared.event.Step.{Step}
 use Rattle.vbr_machine.specs.declared.event.Step.TheVariants.{StoreKey, StoreValue}
 
 -- the row that stores a value behind a step that stores a key: 100 more than the key, up to the greatest number
-abbrev pub value_stored : ℕ → Step → Option (ℕ × Step × Effect)
-value_stored pass (StoreKey s key) = Some (pass, StoreValue s (min (key + 100) (2 ^ 64 - 1)), Done)
-value_stored pass _ = None
+abbrev pub value_row : ℕ → Step → Option (ℕ × Step × Effect)
+value_row pass (StoreKey s key) = Some (pass, StoreValue s (min (key + 100) (2 ^ 64 - 1)), Done)
+value_row pass _ = None
 
 -- rows behind one more, if there is one
 abbrev pub after_row : Option (ℕ × Step × Effect) → List (ℕ × Step × Effect) → List (ℕ × Step × Effect)
@@ -19,7 +19,7 @@ after_row (Some row) rows = row ∷ rows
 -- the rows of a list, in which each store of a key is followed by that of its value
 abbrev pub with_values : List (ℕ × Step × Effect) → List (ℕ × Step × Effect)
 with_values [] = []
-with_values (row ∷ rows) = row ∷ after_row (value_stored row.0 row.1) (with_values rows)
+with_values (row ∷ rows) = row ∷ after_row (value_row row.0 row.1) (with_values rows)
 
 -- the start of the same shape and keys whose nodes have values
 abbrev pub valued : Start → Start

@@ -1,6 +1,6 @@
 //! Worked lists of events on nodes that have values.
 ghost use Rattle.std.specs.Prelude.{◌≡◌, IfOk};
-ghost use Rattle.vbr_event_lists.specs.Valued.{value_stored, with_values};
+ghost use Rattle.vbr_event_lists.specs.Valued.{value_row, with_values};
 
 use crate::lists::Row;
 use crate::rows::rows;
@@ -30,8 +30,8 @@ pub const STORED_VALUE: [Row; 21] = rows![valued:
 pub const STORED_VALUE_WORDS: [u64; 2] = [33_554_432, 33_554_433];
 
 // The row that stores a value behind a step that stores a key.
-fn value_stored(pass: u32, step: Step) -> Option<Row>
-    ensures { result ≡ value_stored pass step }
+fn value_row(pass: u32, step: Step) -> Option<Row>
+    ensures { result ≡ value_row pass step }
 {
     match step {
         Step::StoreKey { slot, key } => {
@@ -50,7 +50,7 @@ pub fn with_values(alloc: Global, mut rows: &[Row]) -> Result<Vec<Row>, AllocErr
     let mut valued = Vec::new(alloc);
     while let Some((row, later)) = rows.split_first() {
         valued.push(*row)?;
-        if let Some(next) = value_stored(row.0, row.1) {
+        if let Some(next) = value_row(row.0, row.1) {
             valued.push(next)?;
         }
         rows = later;

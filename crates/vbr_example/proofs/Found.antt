@@ -16,7 +16,7 @@ use Rattle.vbr_set.specs.Answers.{Answers}
 use Rattle.vbr_set.specs.Histories.{calls_of}
 use Rattle.vbr_set.specs.Tokens.{CatchesUp, IsTokenOf}
 use Rattle.vbr_example.specs.Claims.{RemoveNone}
-use Rattle.vbr_example.specs.Telling.{IsClaimed, IsFound, IsTold}
+use Rattle.vbr_example.specs.Telling.{IsClaimed, IsFoundUnlessRemoved, IsTold}
 use Rattle.vbr_example.specs.declared.telling.Message.{Message}
 
 -- ---- a key that is there stays
@@ -120,7 +120,7 @@ tells set message reply p q answers token = record {
   claimed = subst (λ (x : Start × List Event). IsClaimed x.0 x.1 message.page) (λ i. (token.pass.1 i, sym token.seen i)) (claimed message.page reply p q answers);
 }
 
-found : (set : TableView) (message : Message) (p q r : PassView) (reply : Bool) → IsTold set message → CatchesUp set p message.token q → Answers (set_call q.trace.who Has message.page reply) q.trace r.trace → IsFound r.trace reply
+found : (set : TableView) (message : Message) (p q r : PassView) (reply : Bool) → IsTold set message → CatchesUp set p message.token q → Answers (set_call q.trace.who Has message.page reply) q.trace r.trace → IsFoundUnlessRemoved r.trace reply
 found set message p q r reply told caught answers none =
     let call : Call = (set_call q.trace.who Has message.page reply) in
     let start : Start = r.trace.start in
@@ -135,6 +135,6 @@ found set message p q r reply told caught answers none =
     ∙ ap (λ (k : Keys). k message.page) (after_both keys front f.between)
     ∙ stays (set_after keys front) message.page f.between (none_rest front f.between none_before) (there (none_first front f.between none_before))
 
-pub finds : (set : TableView) (message : Message) (p q r : PassView) (answer : Result Bool Refusal) → IsTold set message → CatchesUp set p message.token q → IfOk answer (λ reply. Answers (set_call q.trace.who Has message.page reply) q.trace r.trace) → IfOk answer (IsFound r.trace)
+pub finds : (set : TableView) (message : Message) (p q r : PassView) (answer : Result Bool Refusal) → IsTold set message → CatchesUp set p message.token q → IfOk answer (λ reply. Answers (set_call q.trace.who Has message.page reply) q.trace r.trace) → IfOk answer (IsFoundUnlessRemoved r.trace)
 finds set message p q r (Ok reply) told caught answers = found set message p q r reply told caught answers
 finds set message p q r (Err refusal) told caught answers = tt

@@ -19,5 +19,5 @@ pub record IsTold (set : TableView) (message : Message) : Type 0 where
   pub claimed : IsClaimed set.start message.token.seen message.page
 
 -- the page was found, if nobody removes in all that the pass has then seen
-abbrev pub IsFound : Trace → Bool → Type 0
-IsFound p found = RemoveNone (calls_of p.start p.seen) → found ≡ true
+abbrev pub IsFoundUnlessRemoved : Trace → Bool → Type 0
+IsFoundUnlessRemoved p found = RemoveNone (calls_of p.start p.seen) → found ≡ true

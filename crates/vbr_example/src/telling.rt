@@ -1,6 +1,6 @@
 //! One worker tells another of a page, and what the reader of the message then finds.
 ghost use Rattle.std.specs.Prelude.{◌≡◌, IfOk};
-ghost use Rattle.vbr_example.specs.Telling.{IsFound, IsTold};
+ghost use Rattle.vbr_example.specs.Telling.{IsFoundUnlessRemoved, IsTold};
 
 use crate::worker::BUDGET;
 use anyhow::bail;
@@ -32,7 +32,7 @@ pub fn claim_and_tell(member: &mut Member, page: u64) -> Result<Message, Refusal
 /// came here, the page is found while nobody removes any.
 pub fn find_told(member: &mut Member, message: Message) -> Result<bool, Refusal>
     requires { IsTold member.old.set message }
-    ensures { IfOk result (IsFound member.new.pass.trace) }
+    ensures { IfOk result (IsFoundUnlessRemoved member.new.pass.trace) }
 {
     let Message { page, token } = message;
     member.catch_up(token);

@@ -8,7 +8,7 @@ use Rattle.vbr_handles.specs.declared.owner.Owner.{Owner}
 
 -- an owner whose member was lent, and not changed
 pub lent_back : (o : Owner Member) (m : Member) → o.member ≡ Some m → with_member o m ≡ o
-lent_back o m is = λ i. record { at = o.at; alloc = o.alloc; member = sym is i }
+lent_back o m is = λ i. record { ptr = o.ptr; alloc = o.alloc; member = sym is i }
 
 -- a handle is empty where its owner is, and stays as it was
 pub told_empty : {H : Type 0} (handle_of : Owner Member → H) {owner lent left : Owner Member} {result : Bool} → lent ≡ owner

@@ -56,12 +56,12 @@ module _ (F : El) {M : Type 1} {𝓤 : Ura M} {𝓛 : Logic 𝓤} {K : Type 0} {
 
 module _ (F : El) {M : Type 1} {𝓤 : Ura M} {𝓛 : Logic 𝓤} {K : Type 0} {Γ : List (Item 𝓤)} {G : Goal 𝓤 𝓛.H} where
   pub owner_out : K → (d : (OwnerRow F).Denot) (vs : List Val)
-      → ((hv : Val) → d.member ≡ None → d.at ≡ null_ptr → vs ≡ nothing_word hv ∷ [] → Fits (E F).al hv → Seq K 𝓛 (‵ ((E F).al.row.own_val d.alloc (hv ∷ [])) ∷ Γ) G)
-      → ((b o : ℕ) (hv : Val) (x : el_x F) → d.member ≡ Some x → d.at ≡ block_ptr b o → Testable (block_ptr b o) → vs ≡ word (E F) hv b o ∷ [] → Fits (E F).al hv
+      → ((hv : Val) → d.member ≡ None → d.ptr ≡ null_ptr → vs ≡ nothing_word hv ∷ [] → Fits (E F).al hv → Seq K 𝓛 (‵ ((E F).al.row.own_val d.alloc (hv ∷ [])) ∷ Γ) G)
+      → ((b o : ℕ) (hv : Val) (x : el_x F) → d.member ≡ Some x → d.ptr ≡ block_ptr b o → Testable (block_ptr b o) → vs ≡ word (E F) hv b o ∷ [] → Fits (E F).al hv
       → Seq K 𝓛 (‵ (box_owns (ghosts.dealloc_token d.alloc) (R F) (block_ptr b o) x) ∷ ‵ ((E F).al.row.own_val d.alloc (hv ∷ [])) ∷ Γ) G)
       → Seq K 𝓛 (‵ ((OwnerRow F).own_val d vs) ∷ Γ) G
   owner_out t d vs none some =
       fsplit t $ fpick t (λ vss. fsplit t $ feq_l t (λ ev. fsplit t $ feq_l t (λ ep. fsplit t $ handle_tells (E F).al t d.alloc vss.1.0 (λ hv ea fa. move t (1 ∷ []) $ drop t $ move t (1 ∷ []) $
-      let seen : (p : Ptr) → d.at ≡ p → vs ≡ vstruct (of_list (ptr_val p ∷ hv ∷ [])) ∷ [] = λ p e. subst (λ (q : Ptr). vs ≡ vstruct (of_list (ptr_val q ∷ hv ∷ [])) ∷ []) e
-      (subst (λ (ws : List Val). vs ≡ vstruct (of_list (ptr_val d.at ∷ (ws ++ []))) ∷ []) ea (subst (λ (ps : List Val). vs ≡ vstruct (of_list (ps ++ (vss.1.0 ++ []))) ∷ []) ep ev)) in
-      either F t d.alloc d.at d.member (λ em e. none hv em e (seen null_ptr e) fa) (λ b o x em e ts. some b o hv x em e ts (seen (block_ptr b o) e) fa)))))
+      let seen : (p : Ptr) → d.ptr ≡ p → vs ≡ vstruct (of_list (ptr_val p ∷ hv ∷ [])) ∷ [] = λ p e. subst (λ (q : Ptr). vs ≡ vstruct (of_list (ptr_val q ∷ hv ∷ [])) ∷ []) e
+      (subst (λ (ws : List Val). vs ≡ vstruct (of_list (ptr_val d.ptr ∷ (ws ++ []))) ∷ []) ea (subst (λ (ps : List Val). vs ≡ vstruct (of_list (ps ++ (vss.1.0 ++ []))) ∷ []) ep ev)) in
+      either F t d.alloc d.ptr d.member (λ em e. none hv em e (seen null_ptr e) fa) (λ b o x em e ts. some b o hv x em e ts (seen (block_ptr b o) e) fa)))))

@@ -6,7 +6,7 @@ use Rattle.vbr_slots.specs.PassLaw.{PassLaw}
 use Rattle.vbr_slots.specs.Views.{Trace, counted_steps, steps_of}
 use Rattle.vbr_slots.proofs.Lemmas.{took_on}
 use Rattle.vbr_at_table.specs.Reserving.{TopsUp}
-use Rattle.vbr_at_table.specs.Steps.{TookWithin}
+use Rattle.vbr_at_table.specs.WithinBudget.{TookWithin}
 use Rattle.vbr_at_table.specs.declared.refusal.Refusal.{Refusal}
 use Rattle.vbr_set.specs.Members.{MemberView as Member}
 use Rattle.vbr_handles.specs.ToppingUp.{CallsAndTopsUp, TopsUpReserve, TopsUpWhere, lacks_slots, left_of, reserve_of}

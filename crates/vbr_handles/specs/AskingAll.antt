@@ -20,21 +20,21 @@ Lack (question.Renew shape) members = AreNotAll members
 
 module _ {Item R : Type 0} (kind : KindOf Item R) where
   -- members that are asked for their report come back as they were, with it or with why there is none; those that are to be renewed are, or come back as they were with why not
-  abbrev pub Tells : Question → List Member → List Member → Told R → Type 0
-  Tells question.Report members back (told.Report report) = (back ≡ members) × ReportsAllBy (ClosesBy kind) members report
-  Tells question.Report members back told.Memory = back ≡ members
-  Tells question.Report members back _ = ⊥
-  Tells (question.Renew shape) members back told.Renewed = RenewsAllBy kind members shape back
-  Tells (question.Renew shape) members back told.Room = (back ≡ members) × HasNoRoom kind members shape
-  Tells (question.Renew shape) members back told.Memory = back ≡ members
-  Tells (question.Renew shape) members back _ = ⊥
+  abbrev pub AnswersQuestion : Question → List Member → List Member → Told R → Type 0
+  AnswersQuestion question.Report members back (told.Report report) = (back ≡ members) × ReportsAllBy (ClosesBy kind) members report
+  AnswersQuestion question.Report members back told.Memory = back ≡ members
+  AnswersQuestion question.Report members back _ = ⊥
+  AnswersQuestion (question.Renew shape) members back told.Renewed = RenewsAllBy kind members shape back
+  AnswersQuestion (question.Renew shape) members back told.Room = (back ≡ members) × HasNoRoom kind members shape
+  AnswersQuestion (question.Renew shape) members back told.Memory = back ≡ members
+  AnswersQuestion (question.Renew shape) members back _ = ⊥
 
   module _ {H : Type 0} (member : H → Option Member) (asked : Question) where
     -- the members of handles, of which none lack, were asked, and each handle has the one that came back for it
     pub record AsksThem (before after : List H) (answer : Told R) : Type 0 where
       pub enough : ¬ (Lack asked (members_by member before))
       pub came : List Member
-      pub tells : Tells asked (members_by member before) came answer
+      pub tells : AnswersQuestion asked (members_by member before) came answer
       pub full : map member after ≡ map Some came
 
     -- why they were asked nothing

@@ -13,10 +13,10 @@ use Rattle.vbr_handles.specs.contracts.owner.Owner as owning
 
 -- the owner of a member of a set as one of any type, and back
 abbrev pub owner_of_set : SetOwner → Owner Member
-owner_of_set h = record { at = h.at; alloc = h.alloc; member = h.member }
+owner_of_set h = record { ptr = h.ptr; alloc = h.alloc; member = h.member }
 
 abbrev pub set_owner : Owner Member → SetOwner
-set_owner o = record { at = o.at; alloc = o.alloc; member = o.member }
+set_owner o = record { ptr = o.ptr; alloc = o.alloc; member = o.member }
 
 -- once the borrow r ends, the owner h is the last one written through r
 abbrev pub set_owner_follows : MutBor SetOwner → MutBor (Owner Member) → Fml
@@ -24,10 +24,10 @@ set_owner_follows h r = follows of_set.the_row (owning.the_row set_row) h.ghost_
 
 -- so it is of the owner of a member of a map
 abbrev pub owner_of_map : MapOwner → Owner Member
-owner_of_map h = record { at = h.at; alloc = h.alloc; member = h.member }
+owner_of_map h = record { ptr = h.ptr; alloc = h.alloc; member = h.member }
 
 abbrev pub map_owner : Owner Member → MapOwner
-map_owner o = record { at = o.at; alloc = o.alloc; member = o.member }
+map_owner o = record { ptr = o.ptr; alloc = o.alloc; member = o.member }
 
 abbrev pub map_owner_follows : MutBor MapOwner → MutBor (Owner Member) → Fml
 map_owner_follows h r = follows of_map.the_row (owning.the_row map_row) h.ghost_name r.ghost_name map_owner

@@ -9,7 +9,7 @@ use Rattle.vbr_handles.specs.contracts.owner.Owner.{the_row}
 
 -- an owner with another value of its member
 abbrev pub with_member : {M : Type 0} → Owner M → M → Owner M
-with_member o w = record { at = o.at; alloc = o.alloc; member = Some w }
+with_member o w = record { ptr = o.ptr; alloc = o.alloc; member = Some w }
 
 -- once the borrow r ends, the owner o holds the last value written through r
 abbrev pub owner_follows : (R : RattleType) → MutBor (Owner R.Denot) → MutBor R.Denot → Fml

@@ -32,15 +32,15 @@ module _ {Item R I : Type 0} (kind : KindOf Item R) (L : Listing R I) where
     AreJustAll handles = AreFull member handles × ¬ (AreNotAll (members_by member handles))
 
     -- why handles are not renewed
-    abbrev pub IsWhyUnrenewed : List H → ShapeNumbers → RenewAllRefusal → Type 0
-    IsWhyUnrenewed handles numbers Shape = ¬ (IsShape (spread_shape numbers L.values))
-    IsWhyUnrenewed handles numbers Empty = ¬ (AreFull member handles)
-    IsWhyUnrenewed handles numbers Missing = AreFull member handles × AreNotAll (members_by member handles)
-    IsWhyUnrenewed handles numbers Mixed = AreJustAll handles
-    IsWhyUnrenewed handles numbers Room = AreJustAll handles × HasMoreThanSlots (members_by member handles) numbers
-    IsWhyUnrenewed handles numbers Memory = AreJustAll handles
+    abbrev pub IsWhyHandlesUnrenewed : List H → ShapeNumbers → RenewAllRefusal → Type 0
+    IsWhyHandlesUnrenewed handles numbers Shape = ¬ (IsShape (spread_shape numbers L.values))
+    IsWhyHandlesUnrenewed handles numbers Empty = ¬ (AreFull member handles)
+    IsWhyHandlesUnrenewed handles numbers Missing = AreFull member handles × AreNotAll (members_by member handles)
+    IsWhyHandlesUnrenewed handles numbers Mixed = AreJustAll handles
+    IsWhyHandlesUnrenewed handles numbers Room = AreJustAll handles × HasMoreThanSlots (members_by member handles) numbers
+    IsWhyHandlesUnrenewed handles numbers Memory = AreJustAll handles
 
     -- the handles are all of a set, and go on over the fresh one; and else they are as they were
     abbrev pub RenewsAll : List H → List H → ShapeNumbers → Result (Unit {0}) RenewAllRefusal → Type 0
     RenewsAll before after numbers (Ok done) = AreJustAll before × RenewsTo (members_by member before) numbers after
-    RenewsAll before after numbers (Err refusal) = StaySo member before after × IsWhyUnrenewed before numbers refusal
+    RenewsAll before after numbers (Err refusal) = StaySo member before after × IsWhyHandlesUnrenewed before numbers refusal

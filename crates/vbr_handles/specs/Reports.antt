@@ -18,13 +18,13 @@ use Rattle.vbr_handles.specs.declared.report_numbers.ReportNumbers.{ReportNumber
 
 module _ {R I : Type 0} (L : Listing R I) where
   -- the numbers are those of the report, and all that it lists stands in front
-  pub record IsTold (report : R) (before after : List I) (told : ReportNumbers) : Type 0 where
+  pub record IsReported (report : R) (before after : List I) (told : ReportNumbers) : Type 0 where
     pub numbers : told ≡ L.numbers report
     pub items : after ≡ L.items report ++ drop (length (L.items report)) before
 
   -- a report is told; of one that has no room the numbers are, and else nothing is written
   abbrev pub WritesReport : Result (Option R) (CloseRefusal R) → List I → List I → ReportNumbers → ReportNumbers → Type 0
-  WritesReport (Ok (Some report)) before after old new = IsTold report before after new
+  WritesReport (Ok (Some report)) before after old new = IsReported report before after new
   WritesReport (Ok None) before after old new = (after ≡ before) × (new ≡ old)
   WritesReport (Err Empty) before after old new = (after ≡ before) × (new ≡ old)
   WritesReport (Err Lost) before after old new = (after ≡ before) × (new ≡ old)
@@ -33,7 +33,7 @@ module _ {R I : Type 0} (L : Listing R I) where
 
   -- so it is where all handles tell a report, or are closed, at once; a report is told; of one that has no room the numbers are, and else nothing is written
   abbrev pub WritesAll : Result R (CloseAllRefusal R) → List I → List I → ReportNumbers → ReportNumbers → Type 0
-  WritesAll (Ok report) before after old new = IsTold report before after new
+  WritesAll (Ok report) before after old new = IsReported report before after new
   WritesAll (Err closing_all.Empty) before after old new = (after ≡ before) × (new ≡ old)
   WritesAll (Err closing_all.Mixed) before after old new = (after ≡ before) × (new ≡ old)
   WritesAll (Err closing_all.Missing) before after old new = (after ≡ before) × (new ≡ old)

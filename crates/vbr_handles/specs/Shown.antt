@@ -6,9 +6,9 @@ use Rattle.vbr_set.specs.Balances.{balance_of}
 use Rattle.vbr_set.specs.Members.{MemberView as Member}
 
 -- the last epoch that the pass read, which is 1 where it read none
-abbrev pub epoch_of : Option Member → ℕ
-epoch_of None = 0
-epoch_of (Some m) = (knows m.pass.trace).epoch
+abbrev pub epoch_of_handle : Option Member → ℕ
+epoch_of_handle None = 0
+epoch_of_handle (Some m) = (knows m.pass.trace).epoch
 
 -- the last epoch of the set
 abbrev pub last_epoch_of : Option Member → ℕ

@@ -3,7 +3,7 @@ ghost use Rattle.std.specs.Prelude.{◌≡◌, ◌≤◌, [], true, false, lengt
 ghost use Rattle.std.specs.Vec.{vec_capacity};
 ghost use Rattle.vbr_set.specs.AllMembers.{AreOfOneSet};
 ghost use Rattle.vbr_handles.specs.AllHandles.{AreFull, members_by};
-ghost use Rattle.vbr_handles.specs.AskingAll.{AsksAllOf, Lack, Tells};
+ghost use Rattle.vbr_handles.specs.AskingAll.{AsksAllOf, Lack, AnswersQuestion};
 
 use crate::handle_of::HandleOf;
 use crate::owner::Owner;
@@ -159,7 +159,7 @@ fn ask<N: Kind>(
     requires one_set { AreOfOneSet members.items }
     requires enough { ¬ (Lack question members.items) }
     ensures many { length result.1.items ≡ length members.items }
-    ensures tells { Tells N.kind question members.items result.1.items result.0 }
+    ensures tells { AnswersQuestion N.kind question members.items result.1.items result.0 }
 {
     match question {
         Question::Report => match Member::<N>::report_all(alloc, members) {

@@ -11,13 +11,13 @@ use std::marker::Model;
 /// no type parameters, so it is a type of its own.
 #[repr(C)]
 pub struct SetOwner {
-    pub(crate) at: *mut u8,
+    pub(crate) ptr: *mut u8,
     pub(crate) alloc: Global,
     pub ghost member: { Option Member } by { member_coded },
 }
 
 impl Model for SetOwner {
-    ghost also_owns = { λ h. owner_owns set_row h.alloc h.at h.member };
+    ghost also_owns = { λ h. owner_owns set_row h.alloc h.ptr h.member };
 }
 
 unsafe impl Send for SetOwner {}
@@ -25,13 +25,13 @@ unsafe impl Send for SetOwner {}
 /// An owner (`Owner`) of a member of a map.
 #[repr(C)]
 pub struct MapOwner {
-    pub(crate) at: *mut u8,
+    pub(crate) ptr: *mut u8,
     pub(crate) alloc: Global,
     pub ghost member: { Option Member } by { map_member_coded },
 }
 
 impl Model for MapOwner {
-    ghost also_owns = { λ h. owner_owns map_row h.alloc h.at h.member };
+    ghost also_owns = { λ h. owner_owns map_row h.alloc h.ptr h.member };
 }
 
 unsafe impl Send for MapOwner {}

@@ -13,7 +13,7 @@ impl<M> Owner<M> {
         ensures { (result ≡ false → IsSome self.old.member)
             × (result ≡ true → self.old.member ≡ None) × (self.new ≡ self.old) }
     {
-        self.at.is_null()
+        self.ptr.is_null()
     }
 
     /// The member, which stays where it is.
@@ -22,7 +22,7 @@ impl<M> Owner<M> {
         ensures* writes_back { sem 𝓛 (owner_follows M.row self.entry result) }
         ensures value { self.old.member ≡ Some result.now }
     {
-        unsafe { &mut *self.at }
+        unsafe { &mut *self.ptr }
     }
 }
 

@@ -13,13 +13,13 @@ use std_alloc::room::Vacant;
 /// Owns a `Box<M, Global>`, or nothing where the pointer is null. C sees one pointer, and never copies it.
 #[repr(C)]
 pub struct Owner<M> {
-    pub(crate) at: *mut M,
+    pub(crate) ptr: *mut M,
     pub(crate) alloc: Global,
     pub ghost member: { Option M } by { coded_option M.code },
 }
 
 impl<M> Model for Owner<M> {
-    ghost also_owns = { λ h. owner_owns M.row h.alloc h.at h.member };
+    ghost also_owns = { λ h. owner_owns M.row h.alloc h.ptr h.member };
 }
 
 impl<M> Owner<M> {
@@ -27,7 +27,7 @@ impl<M> Owner<M> {
         ensures { result.member ≡ None }
     {
         Owner {
-            at: null_mut(),
+            ptr: null_mut(),
             alloc,
         }
     }
@@ -55,18 +55,18 @@ impl<M> Owner<M> {
         ensures { result.member ≡ Some parts.value }
     {
         let Parts { ptr, alloc } = parts;
-        Owner { at: ptr, alloc }
+        Owner { ptr, alloc }
     }
 
     fn into_parts(self) -> Option<Parts<M, Global>>
         ensures { IfSome result (λ p. self.member ≡ Some p.value)
             × (IsSome self.member → IsSome result) }
     {
-        let Owner { at, alloc } = self;
-        if at.is_null() {
+        let Owner { ptr, alloc } = self;
+        if ptr.is_null() {
             None
         } else {
-            Some(Parts { ptr: at, alloc })
+            Some(Parts { ptr, alloc })
         }
     }
 

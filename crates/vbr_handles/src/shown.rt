@@ -1,7 +1,7 @@
 //! What a handle shows of its set and of its pass, without a call and without a step. An empty handle
 //! shows 0, which is no such number.
 ghost use Rattle.std.specs.Prelude.{◌≡◌};
-ghost use Rattle.vbr_handles.specs.Shown.{IsSeedOf, balance_shown, buckets_of, epoch_of, last_epoch_of, slots_of};
+ghost use Rattle.vbr_handles.specs.Shown.{IsSeedOf, balance_shown, buckets_of, epoch_of_handle, last_epoch_of, slots_of};
 
 use crate::owner::Owner;
 use vbr_set::member::Member;
@@ -10,7 +10,7 @@ use vbr_words::Nodes;
 /// The last epoch that the pass of a handle read; 1 before its first call.
 pub fn epoch<N: Nodes>(owner: &mut Owner<Member<N>>) -> u64
     ensures same { owner.new.member ≡ owner.old.member }
-    ensures epoch { result ≡ epoch_of owner.old.member }
+    ensures epoch { result ≡ epoch_of_handle owner.old.member }
 {
     if owner.is_empty() {
         return 0;

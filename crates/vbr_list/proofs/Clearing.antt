@@ -6,7 +6,7 @@ use Rattle.vbr_machine.specs.declared.history.Call.{Call as ListedCall}
 use Rattle.vbr_list.specs.Found.{IsFound}
 use Rattle.vbr_list.specs.Leaving.{Leaves, WasClear}
 use Rattle.vbr_list.specs.Pieces.{trace_in}
-use Rattle.vbr_list.specs.Traversing.{Finds, SearchTires}
+use Rattle.vbr_list.specs.Traversing.{SearchFinds, SearchTires}
 use Rattle.vbr_list.specs.declared.call.PendingCall.{PendingCall}
 use Rattle.vbr_list.specs.declared.found.Found.{Found}
 use Rattle.vbr_list.proofs.Disturbing.{run_at}
@@ -59,7 +59,7 @@ clear_found {p} {q} key found start same x =
     (λ cur y z. clear_here cur start same (record { known = y.held; stood = z }) y.unmarked key (key_known (knows q) key found.pred cur y))
 
 -- of a walk that ended with room in its budget
-pub clear_walked : {N : Type 0} {kind : Ghosts N} → (c d : PendingCall N kind) (found : Option Found) → IsStart (trace_in c).start → IsSame (trace_in c) (trace_in d) → IfSome found (Finds c d) → IfNone found (SearchTires c d) → d.used + PIECE ≤ c.budget → WasClear (trace_in c) (trace_in d) c.key
+pub clear_walked : {N : Type 0} {kind : Ghosts N} → (c d : PendingCall N kind) (found : Option Found) → IsStart (trace_in c).start → IsSame (trace_in c) (trace_in d) → IfSome found (SearchFinds c d) → IfNone found (SearchTires c d) → d.used + PIECE ≤ c.budget → WasClear (trace_in c) (trace_in d) c.key
 clear_walked c d None start same x tired room = let short = tired.tired in absurd (omega (arith, short, room))
 clear_walked c d (Some found) start same x tired room = clear_found c.key found start same x.found
 

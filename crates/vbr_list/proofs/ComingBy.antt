@@ -1,7 +1,7 @@
 -- An iteration goes from bucket to bucket.
 use Rattle.vbr_list.proofs.Names.{◌≡◌, ℕ, suc, ◌+◌, ◌-◌, ◌*◌, ◌<◌, ◌≤◌, Bool, true, false, Option, Some, None, Result, Ok, Err, IfErr, IfOk, refl, sym, ap, ◌∙◌, subst, arith, inl, inr}
 use Rattle.vbr_list.proofs.Names.{alone_first, alone_then, begins_refl, bucket_of, IsAlone, IsRun, IsStart, OutOfSteps, PassLaw, PassView, Quiet, quiet_adds_none, Refusal, Start, took_all, TookWithin, Trace}
-use Rattle.vbr_list.specs.Budgets.{listed_in, steps_to_value_of}
+use Rattle.vbr_list.specs.Budgets.{nodes_listed_in, steps_to_value_of}
 use Rattle.vbr_list.specs.Cursors.{GivesNextWhere, HasStayedOrMoved, IsBehindKey, IsPastKey, IteratesWhere, PassesBy, SeesMore, StopsShort, costs_over, entered_by, next_bucket}
 use Rattle.vbr_list.specs.Next.{HasNoNext, enough_to_seek, seek_costs}
 use Rattle.vbr_list.specs.Pieces.{Goes, Observes}
@@ -25,12 +25,12 @@ costs_on p from to le =
     ap (costs_over p from) next ∙ ap (λ b. costs_over p from (to - from) + seek_costs p b) last
 
 -- what a seek costs a pass that was alone, after what made no call: as many nodes are listed as before
-sought_alone : {p : PassView} {q r : Trace} → PassLaw p → Quiet p.trace q → Quiet q r → IsAlone p.trace r → {bucket each before since more : ℕ} → SearchesIn 5 each q r bucket before since more → since ≤ before + 5 * listed_in p.trace bucket + more
+sought_alone : {p : PassView} {q r : Trace} → PassLaw p → Quiet p.trace q → Quiet q r → IsAlone p.trace r → {bucket each before since more : ℕ} → SearchesIn 5 each q r bucket before since more → since ≤ before + 5 * nodes_listed_in p.trace bucket + more
 sought_alone {p} {q} {r} law first seeks alone {bucket} {each} {before} {since} {more} x =
     let is = subst IsStart (sym first.same.start) law.start in
     let few = quiet_adds_none law.start law.is_run first (alone_first first.seen seeks.seen alone) bucket bucket in
     let paid = searched_in q r r is (run_at q r seeks.same (seeks.is_run (first.is_run law.is_run))) bucket seeks (begins_refl r.seen) x in
-    let P : ℕ → Type 0 = λ t. since ≤ before + (5 * (listed_in q bucket + t) + t * (5 * (listed_in q bucket + t) + each) + more) in
+    let P : ℕ → Type 0 = λ t. since ≤ before + (5 * (nodes_listed_in q bucket + t) + t * (5 * (nodes_listed_in q bucket + t) + each) + more) in
     let most = subst P (undisturbed_in q r bucket (alone_then first.same.who first.seen seeks.seen alone)) paid in
     omega (arith, most, few)
 

@@ -1,7 +1,7 @@
 -- From cursor to cursor, and what an iteration has given.
 use Rattle.vbr_list.proofs.Names.{◌≡◌, ℕ, ◌+◌, ◌^◌, ◌<◌, ◌≤◌, Bool, true, false, List, [], ◌∷◌, ◌++◌, Option, Some, None, sym, ap, ◌∙◌, subst, arith, inl, inr, append-nil, option_to_list, ◌⊎◌, Contains, IfSome, AllByRecursion, Contains-append_left, Contains-append_right, Contains-push, Contains-push_cases}
 use Rattle.vbr_list.proofs.Names.{begins_trans, bucket_of, opening_keys, opening_payloads, same_on, set_after, Start, Trace, values_after, WasEntry, WasSo, world_after}
-use Rattle.vbr_list.specs.Cursors.{AreInOrder, ComesFirst, HasGiven, HasGivenAll, IsToCome, IsAtEnd, IsBehindKey, IsPassed, PassesBy, SeesMore, first_cursor, next_bucket}
+use Rattle.vbr_list.specs.Cursors.{AreInOrder, ComesFirst, HasGiven, HasGivenAll, IsToCome, IsAtEnd, IsBehindKey, IsBeforeCursor, PassesBy, SeesMore, first_cursor, next_bucket}
 use Rattle.vbr_list.specs.Next.{HasNoNext, IsNextKey}
 use Rattle.vbr_list.specs.declared.cursor.Cursor.{Cursor}
 use Rattle.vbr_list.proofs.Going.{by_either}
@@ -36,22 +36,22 @@ entry_since {p} {q} {r} {key} {value} x y = record {
 -- ---- cursors
 
 -- a key is passed, or is ahead
-pub passed_or_to_come : (start : Start) (c : Cursor) (key : ℕ) → IsPassed start c key ⊎ IsToCome start c key
+pub passed_or_to_come : (start : Start) (c : Cursor) (key : ℕ) → IsBeforeCursor start c key ⊎ IsToCome start c key
 passed_or_to_come start c key = grind arith
 
 some_none : {key : ℕ} → None ≡ Some key → ⊥
 some_none e = cc
 
 -- not both
-pub not_both : (start : Start) (c : Cursor) (key : ℕ) → IsPassed start c key → IsToCome start c key → ⊥
+pub not_both : (start : Start) (c : Cursor) (key : ℕ) → IsBeforeCursor start c key → IsToCome start c key → ⊥
 not_both start c key x y = grind arith
 
 -- a key that is passed comes before one that is ahead
-pub passed_first : (start : Start) (c : Cursor) (key other : ℕ) → IsPassed start c key → IsToCome start c other → ComesFirst start key other
+pub passed_first : (start : Start) (c : Cursor) (key other : ℕ) → IsBeforeCursor start c key → IsToCome start c other → ComesFirst start key other
 passed_first start c key other x y = grind arith
 
 -- before the next bucket each key is passed that was
-passed_next : (start : Start) (c : Cursor) (key : ℕ) → IsPassed start c key → IsPassed start (next_bucket c) key
+passed_next : (start : Start) (c : Cursor) (key : ℕ) → IsBeforeCursor start c key → IsBeforeCursor start (next_bucket c) key
 passed_next start c key x = grind arith
 
 -- ---- one call
@@ -64,17 +64,17 @@ passes_still p q c = record { onward = λ key passed. passed; was = tt; others =
 pub passes_bucket : {p q : Trace} (c : Cursor) → HasNoNext p q c.bucket c.from → PassesBy p q c (next_bucket c) None
 passes_bucket {p} {q} c none = record { onward = passed_next p.start c; was = tt; others = λ key small ahead passed. inr (others key ahead passed) }
   where
-    others : (key : ℕ) → IsToCome p.start c key → IsPassed p.start (next_bucket c) key → WasSo p q key false
+    others : (key : ℕ) → IsToCome p.start c key → IsBeforeCursor p.start (next_bucket c) key → WasSo p q key false
     others key x y = grind (arith, none.behind)
 
 module _ (start : Start) (c d : Cursor) (key : ℕ) (is : bucket_of start.shape key ≡ c.bucket) (high : c.from ≤ key) (b : IsBehindKey c.bucket key d) where
-  passed_on : (other : ℕ) → IsPassed start c other → IsPassed start d other
+  passed_on : (other : ℕ) → IsBeforeCursor start c other → IsBeforeCursor start d other
   passed_on other x = grind arith
 
-  passed_here : IsPassed start d key
+  passed_here : IsBeforeCursor start d key
   passed_here = grind arith
 
-  no_higher : (other : ℕ) → other < 2 ^ 64 → IsToCome start c other → IsPassed start d other → (bucket_of start.shape other ≡ c.bucket) × (c.from ≤ other) × (other ≤ key)
+  no_higher : (other : ℕ) → other < 2 ^ 64 → IsToCome start c other → IsBeforeCursor start d other → (bucket_of start.shape other ≡ c.bucket) × (c.from ≤ other) × (other ≤ key)
   no_higher other small x y = grind arith
 
 -- to a key, and right behind it
@@ -96,7 +96,7 @@ passes_last {p} {q} c key next none = record {
   others = λ other small ahead passed. others other ahead passed;
 }
   where
-    others : (other : ℕ) → IsToCome p.start c other → IsPassed p.start (next_bucket c) other → (Some key ≡ Some other) ⊎ WasSo p q other false
+    others : (other : ℕ) → IsToCome p.start c other → IsBeforeCursor p.start (next_bucket c) other → (Some key ≡ Some other) ⊎ WasSo p q other false
     others other x y = grind (arith, next.between other, none.behind other)
 
 -- first to one cursor, where nothing is given, and then on to another
@@ -107,23 +107,23 @@ passes_on {p} {q} {r} {c} {d} {e} {given} a b x y = record {
   others = λ key small ahead passed. others key small ahead passed (passed_or_to_come p.start d key);
 }
   where
-    to_end : (key : ℕ) → IsPassed p.start d key → IsPassed p.start e key
-    to_end key passed = let P : Start → Type 0 = λ s. IsPassed s d key → IsPassed s e key in subst P a.same.start (y.onward key) passed
+    to_end : (key : ℕ) → IsBeforeCursor p.start d key → IsBeforeCursor p.start e key
+    to_end key passed = let P : Start → Type 0 = λ s. IsBeforeCursor s d key → IsBeforeCursor s e key in subst P a.same.start (y.onward key) passed
 
     behind : (key : ℕ) → IsToCome p.start d key → IsToCome p.start c key
     behind key ahead = by_either (passed_or_to_come p.start c key) (λ passed. absurd (not_both p.start d key (x.onward key passed) ahead)) (λ to_come. to_come)
 
-    was : (given : Option ℕ) → IfSome given (λ key. IsToCome q.start d key × IsPassed q.start e key × WasSo q r key true) → IfSome given (λ key. IsToCome p.start c key × IsPassed p.start e key × WasSo p r key true)
+    was : (given : Option ℕ) → IfSome given (λ key. IsToCome q.start d key × IsBeforeCursor q.start e key × WasSo q r key true) → IfSome given (λ key. IsToCome p.start c key × IsBeforeCursor p.start e key × WasSo p r key true)
     was None g = tt
     was (Some key) g =
         let P : Start → Type 0 = λ s. IsToCome s d key in
-        let Q : Start → Type 0 = λ s. IsPassed s e key in
+        let Q : Start → Type 0 = λ s. IsBeforeCursor s e key in
         (behind key (subst P a.same.start g.0), subst Q a.same.start g.1, so_since a g.2)
 
-    others : (key : ℕ) → key < 2 ^ 64 → IsToCome p.start c key → IsPassed p.start e key → IsPassed p.start d key ⊎ IsToCome p.start d key → (given ≡ Some key) ⊎ WasSo p r key false
+    others : (key : ℕ) → key < 2 ^ 64 → IsToCome p.start c key → IsBeforeCursor p.start e key → IsBeforeCursor p.start d key ⊎ IsToCome p.start d key → (given ≡ Some key) ⊎ WasSo p r key false
     others key small ahead passed (inl before) = inr (by_either (x.others key small ahead before) (λ never. absurd (some_none never)) (λ so. so_more so b))
     others key small ahead passed (inr after) =
-        let P : Start → Type 0 = λ s. IsToCome s d key → IsPassed s e key → (given ≡ Some key) ⊎ WasSo q r key false in
+        let P : Start → Type 0 = λ s. IsToCome s d key → IsBeforeCursor s e key → (given ≡ Some key) ⊎ WasSo q r key false in
         by_either ((subst P a.same.start (y.others key small)) after passed) (λ given_there. inl given_there) (λ so. inr (so_since a so))
 
 -- ---- an iteration
@@ -132,7 +132,7 @@ passes_on {p} {q} {r} {c} {d} {e} {given} a b x y = record {
 pub given_none : (p : Trace) → HasGiven p p first_cursor []
 given_none p = record { in_order = tt; were = λ key among. absurd (none key among); others = λ key small passed. absurd (no key passed) }
   where
-    no : (key : ℕ) → IsPassed p.start first_cursor key → ⊥
+    no : (key : ℕ) → IsBeforeCursor p.start first_cursor key → ⊥
     no key x = grind arith
 
     none : (key : ℕ) → Contains [] key → ⊥
@@ -158,15 +158,15 @@ order_and start (k ∷ keys) key order first = (
 pub given_on : {p q r : Trace} {c d : Cursor} {keys : List ℕ} {given : Option ℕ} → SeesMore p q → SeesMore q r → HasGiven p q c keys → PassesBy q r c d given → HasGiven p r d (keys ++ option_to_list given)
 given_on {p} {q} {r} {c} {d} {keys} {given} a b x y = go given y.was (λ key small ahead passed. others_now key small ahead passed)
   where
-    onward : (key : ℕ) → IsPassed p.start c key → IsPassed p.start d key
-    onward key passed = let P : Start → Type 0 = λ s. IsPassed s c key → IsPassed s d key in subst P a.same.start (y.onward key) passed
+    onward : (key : ℕ) → IsBeforeCursor p.start c key → IsBeforeCursor p.start d key
+    onward key passed = let P : Start → Type 0 = λ s. IsBeforeCursor s c key → IsBeforeCursor s d key in subst P a.same.start (y.onward key) passed
 
-    others_now : (key : ℕ) → key < 2 ^ 64 → IsToCome p.start c key → IsPassed p.start d key → (given ≡ Some key) ⊎ WasSo q r key false
+    others_now : (key : ℕ) → key < 2 ^ 64 → IsToCome p.start c key → IsBeforeCursor p.start d key → (given ≡ Some key) ⊎ WasSo q r key false
     others_now key small ahead passed =
-        let P : Start → Type 0 = λ s. IsToCome s c key → IsPassed s d key → (given ≡ Some key) ⊎ WasSo q r key false in
+        let P : Start → Type 0 = λ s. IsToCome s c key → IsBeforeCursor s d key → (given ≡ Some key) ⊎ WasSo q r key false in
         (subst P a.same.start (y.others key small)) ahead passed
 
-    go : (given : Option ℕ) → IfSome given (λ key. IsToCome q.start c key × IsPassed q.start d key × WasSo q r key true) → ((key : ℕ) → key < 2 ^ 64 → IsToCome p.start c key → IsPassed p.start d key → (given ≡ Some key) ⊎ WasSo q r key false) → HasGiven p r d (keys ++ option_to_list given)
+    go : (given : Option ℕ) → IfSome given (λ key. IsToCome q.start c key × IsBeforeCursor q.start d key × WasSo q r key true) → ((key : ℕ) → key < 2 ^ 64 → IsToCome p.start c key → IsBeforeCursor p.start d key → (given ≡ Some key) ⊎ WasSo q r key false) → HasGiven p r d (keys ++ option_to_list given)
     go None was others =
         let P : List ℕ → Type 0 = HasGiven p r d in
         subst P (sym (append-nil keys)) (record {
@@ -175,7 +175,7 @@ given_on {p} {q} {r} {c} {d} {keys} {given} a b x y = go given y.was (λ key sma
           others = λ key small passed. by key small passed (passed_or_to_come p.start c key);
         })
       where
-        by : (key : ℕ) → key < 2 ^ 64 → IsPassed p.start d key → IsPassed p.start c key ⊎ IsToCome p.start c key → Contains keys key ⊎ WasSo p r key false
+        by : (key : ℕ) → key < 2 ^ 64 → IsBeforeCursor p.start d key → IsBeforeCursor p.start c key ⊎ IsToCome p.start c key → Contains keys key ⊎ WasSo p r key false
         by key small passed (inl early) = by_either (x.others key small early) (λ among. inl among) (λ so. inr (so_more so b))
         by key small passed (inr late) = by_either (others key small late passed) (λ never. absurd (some_none never)) (λ so. inr (so_since a so))
     go (Some more) was others = record {
@@ -187,17 +187,17 @@ given_on {p} {q} {r} {c} {d} {keys} {given} a b x y = go given y.was (λ key sma
         ahead : IsToCome p.start c more
         ahead = let P : Start → Type 0 = λ s. IsToCome s c more in subst P a.same.start was.0
 
-        were : (key : ℕ) → Contains keys key ⊎ (more ≡ key) → IsPassed p.start d key × WasSo p r key true
+        were : (key : ℕ) → Contains keys key ⊎ (more ≡ key) → IsBeforeCursor p.start d key × WasSo p r key true
         were key (inl among) = let w = x.were key among in (onward key w.0, so_more w.1 b)
         were key (inr e) =
-            let P : Start → Type 0 = λ s. IsPassed s d more in
-            let Q : ℕ → Type 0 = λ k. IsPassed p.start d k × WasSo p r k true in
+            let P : Start → Type 0 = λ s. IsBeforeCursor s d more in
+            let Q : ℕ → Type 0 = λ k. IsBeforeCursor p.start d k × WasSo p r k true in
             subst Q e (subst P a.same.start was.1, so_since a was.2)
 
         given_now : (key : ℕ) → Some more ≡ Some key → Contains (keys ++ more ∷ []) key
         given_now key same = let e : more ≡ key = cc in let P : ℕ → Type 0 = Contains (keys ++ more ∷ []) in subst P e (Contains-push keys more)
 
-        by : (key : ℕ) → key < 2 ^ 64 → IsPassed p.start d key → IsPassed p.start c key ⊎ IsToCome p.start c key → Contains (keys ++ more ∷ []) key ⊎ WasSo p r key false
+        by : (key : ℕ) → key < 2 ^ 64 → IsBeforeCursor p.start d key → IsBeforeCursor p.start c key ⊎ IsToCome p.start c key → Contains (keys ++ more ∷ []) key ⊎ WasSo p r key false
         by key small passed (inl early) = by_either (x.others key small early) (λ among. inl (Contains-append_left keys (more ∷ []) key among)) (λ so. inr (so_more so b))
         by key small passed (inr late) = by_either (others key small late passed) (λ same. inl (given_now key same)) (λ so. inr (so_since a so))
 

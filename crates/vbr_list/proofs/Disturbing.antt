@@ -3,7 +3,7 @@
 use Rattle.vbr_list.proofs.Names.{◌≡◌, ◌≢◌, ℕ, ◌+◌, ◌*◌, ◌<◌, ◌≤◌, Bool, true, false, cond, eq-eqb, Option, Some, None, List, [], ◌∷◌, ◌++◌, sym, ap, ◌∙◌, subst, inl, inr, arith, append_assoc, append-nil, ◌==◌, ◌&&◌, count_by, sum_by-append, mul-le}
 use Rattle.vbr_list.proofs.Names.{AddsNone, advances, AdvancesNone, At, Begins, begins_refl, begins_run, begins_trans, bucket_of, changed_disturbed, ChangesNone, disturbances, disturbances_grow, disturbances_paid, EpochMoved, Event, found, FreshIfMoved, Held, held_in_kept, HeldIn, incarnations_after, is_advance, IsAdvance, IsAlone, IsFresh, IsHeld, IsLost, IsMovedOrLost, IsOpenIn, IsRun, IsSame, IsStart, Keeps, keeps_on, known_open, knows, link_loaded, link_of, link_shown_at, LoadLink, LostExchange, Marked, met, met_bound_quiet, met_later, met_on, moved_by_others, moved_disturbed, OnlyEventsOf, own_between, own_calls, own_changes, own_entries, own_unchanged, PassView, Quiet, quiet_on, Rollback, RollsBack, run_agrees, shown_there, since, StampsFreshly, StandsNow, Start, Step, Trace, undisturbed_by_itself, word_of, word_of-link_of, world_after}
 use Rattle.vbr_list.specs.Helping.{OpensPlace}
-use Rattle.vbr_list.specs.Budgets.{listed_for, listed_in}
+use Rattle.vbr_list.specs.Budgets.{listed_for, nodes_listed_in}
 use Rattle.vbr_list.specs.Disturbed.{changed_after, changed_at, disturbed, disturbed_after, disturbed_at, disturbed_in, enough_among, enough_to_insert_among, enough_to_search_among, enough_to_store_among, most_disturbed}
 use Rattle.vbr_list.specs.declared.found.Found.{Found}
 use Rattle.vbr_list.specs.Walking.{KnowsEpoch, LosesFound, LosesHeld, LosesNext, LosesPlace, MovesEpoch, MovesOn, NextStandsStill, StandsStill, StoodOpen, met_in, met_since, nodes_after}
@@ -104,7 +104,7 @@ module _ (p r : Trace) (is : IsStart p.start) (ok : IsRun p.start p.passes r.see
 module _ (p r : Trace) (is : IsStart p.start) (ok : IsRun p.start p.passes r.seen) where
   module _ (bucket : ℕ) where
     -- of a pass that makes no call they are no more than were in the list, and than it was disturbed
-    pub met_unanswered : Quiet p r → met_in p r bucket ≤ listed_in p bucket + disturbed_in p r bucket
+    pub met_unanswered : Quiet p r → met_in p r bucket ≤ nodes_listed_in p bucket + disturbed_in p r bucket
     met_unanswered q =
         let calls : own_calls p.start r.seen p.who ≡ own_calls p.start p.seen p.who = sym (λ i. own_calls (q.same.start i) r.seen (q.same.who i)) ∙ q.calls in
         let x = met_bound_quiet p.start p.passes p.seen r.seen is ok q.seen p.who bucket bucket calls in

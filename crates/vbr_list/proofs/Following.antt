@@ -7,7 +7,7 @@ use Rattle.vbr_list.specs.Pieces.{LooksOn, Peeks}
 use Rattle.vbr_list.specs.Places.{IsPlaceBefore}
 use Rattle.vbr_list.specs.Seeking.{TellsNode, steps_besides}
 use Rattle.vbr_list.specs.Valuing.{ReadsValue}
-use Rattle.vbr_list.specs.Visiting.{IsVisit, Meets, StartsAt}
+use Rattle.vbr_list.specs.Visiting.{IsVisit, MeetsBehind, StartsAt}
 use Rattle.vbr_list.specs.Walking.{IsDisturbed, MovesEpoch, WalksOnce}
 use Rattle.vbr_list.specs.declared.seeking.NextNode.{NextNode}
 use Rattle.vbr_list.specs.declared.visiting.Visited.{Visited}
@@ -67,7 +67,7 @@ module _ {p q r : PassView} (law : PassLaw p) {bucket from a b c budget : ℕ} {
       (omega (arith, low, few), visit_paid law bucket first looks.goes.quiet x.walks (omega (arith, few)) some, omega (arith, before, less))
 
   -- a value is read of the node that it met, in so many steps
-  module _ {met : Visited} (m : Meets q.trace r.trace b c here from met) {s : PassView} {n : ℕ} (reads : ReadsIn r s (steps_to_value_of r.trace.start)) (steps : n ≡ steps_to_value_of r.trace.start) where
+  module _ {met : Visited} (m : MeetsBehind q.trace r.trace b c here from met) {s : PassView} {n : ℕ} (reads : ReadsIn r s (steps_to_value_of r.trace.start)) (steps : n ≡ steps_to_value_of r.trace.start) where
     whole : Quiet p.trace r.trace
     whole = quiet_on first looks.goes.quiet
 
@@ -90,7 +90,7 @@ module _ {p q r : PassView} (law : PassLaw p) {bucket from a b c budget : ℕ} {
         (omega (arith, low, few), value_paid, omega (arith, before, less))
 
   -- a node with a key below the number
-  pub follows_node : (node : Held) → Meets q.trace r.trace b c here from (Smaller node) → Follows p r bucket from a c budget node node
+  pub follows_node : (node : Held) → MeetsBehind q.trace r.trace b c here from (Smaller node) → Follows p r bucket from a c budget node node
   follows_node node m =
       let come = node_before bucket from m.visits.key here node x.inside m.keeps m.reads m.visits.has m.visits.low in
       record {
@@ -104,7 +104,7 @@ module _ {p q r : PassView} (law : PassLaw p) {bucket from a b c budget : ℕ} {
       }
 
   -- a marked node
-  pub follows_marked : (gone : Marked) → Meets q.trace r.trace b c here from (MarkedNode gone) → Follows p r bucket from a c budget pred (held_of gone)
+  pub follows_marked : (gone : Marked) → MeetsBehind q.trace r.trace b c here from (MarkedNode gone) → Follows p r bucket from a c budget pred (held_of gone)
   follows_marked gone m =
       let held = m.visits.0 in
       let names = m.visits.1 in
@@ -146,7 +146,7 @@ pub tells_none : {p q : PassView} {bucket from a b budget : ℕ} {pred here : He
 tells_none {q = q} start x none = record { behind = λ other is high. passed_by q start x (quiet_refl q.trace) (keeps_still (knows q.trace)) other is high (rw none tt) }
 
 -- the next node, and the value that was read after it
-pub tells_next : {p q r : PassView} (s : PassView) {bucket from a b c budget : ℕ} {pred here : Held} (next : NextNode) (node : Held) → IsStart p.trace.start → Follows p q bucket from a b budget pred here → Quiet q.trace r.trace → Meets q.trace r.trace b c here from (Beyond node next.key) → Quiet r.trace s.trace → ReadsValue r s node.at next.value → next.is_last ≡ is_none (link_of node.word).slot → TellsNode p.trace s.trace bucket from (Some next)
+pub tells_next : {p q r : PassView} (s : PassView) {bucket from a b c budget : ℕ} {pred here : Held} (next : NextNode) (node : Held) → IsStart p.trace.start → Follows p q bucket from a b budget pred here → Quiet q.trace r.trace → MeetsBehind q.trace r.trace b c here from (Beyond node next.key) → Quiet r.trace s.trace → ReadsValue r s node.at next.value → next.is_last ≡ is_none (link_of node.word).slot → TellsNode p.trace s.trace bucket from (Some next)
 tells_next {p} {q} {r} s {bucket} {from} {a} {b} {c} {budget} {pred} {here} next node start x visit m then v is_last =
     let quiet = quiet_on visit then in
     let keeps = keeps_on m.keeps v.keeps in

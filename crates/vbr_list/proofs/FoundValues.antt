@@ -1,7 +1,7 @@
 -- What a search found is read, and answers a get.
 use Rattle.vbr_list.proofs.Names.{◌≡◌, ℕ, ◌+◌, ◌<◌, ◌≤◌, Bool, true, false, Option, Some, None, arith, refl, sym, subst, is_some, IsSome}
 use Rattle.vbr_list.proofs.Names.{counts_on, CountsSteps, entry_call, Get, Ghosts, Held, held_kept, Insert, IsSame, Keeps, KeepsIn, Know, knows, link_of, Made, made_on, MadeTwo, payload_kept, Quiet, ReadsIn, Remove, Start, steps_to_birth, Trace, ValueAt}
-use Rattle.vbr_at_table.specs.CallSteps.{birth_steps}
+use Rattle.vbr_at_table.specs.StepCosts.{birth_steps}
 use Rattle.vbr_list.specs.Budgets.{steps_where}
 use Rattle.vbr_list.specs.Pieces.{GoesOn, IsSameCall, pass_in, trace_in}
 use Rattle.vbr_list.specs.Places.{IsEnd, Locates}

@@ -5,11 +5,11 @@ use Rattle.vbr_list.specs.Budgets.{LacksSteps, enough_to_insert, listed_for}
 use Rattle.vbr_list.specs.Disturbed.{disturbed, enough_to_insert_among, insert_costs_among, steps_for_slot}
 use Rattle.vbr_list.specs.Inserting.{CountsWithin, InsertIsShort, Links, Prepares, SearchedFor, SearchesFor, TriesFor}
 use Rattle.vbr_list.specs.declared.wanted.Wanted.TheVariants.{Absent}
-use Rattle.vbr_list.specs.Pieces.{GoesOn, IsSameCall, Stores, pass_in, trace_in}
+use Rattle.vbr_list.specs.Pieces.{GoesOn, IsSameCall, MadeInsert, pass_in, trace_in}
 use Rattle.vbr_list.specs.Refusals.{IsRefusedInsert}
-use Rattle.vbr_list.specs.Sparing.{CallsAs, SparesInsert}
+use Rattle.vbr_list.specs.CallBounds.{CallsAs, BoundsOfInsert}
 use Rattle.vbr_list.specs.Told.{stored_in}
-use Rattle.vbr_list.specs.Traversing.{Finds}
+use Rattle.vbr_list.specs.Traversing.{SearchFinds}
 use Rattle.vbr_list.specs.declared.call.PendingCall.{PendingCall}
 use Rattle.vbr_list.specs.declared.found.Found.{Found}
 use Rattle.vbr_list.proofs.Disturbing.{run_at}
@@ -25,7 +25,7 @@ use Rattle.vbr_list.proofs.Walking.{insert_lacks, twice_paid}
 
 -- it is answered, once it has come to the key
 pub record LinksHand {N : Type 0} {kind : Ghosts N} (value : ℕ) (c d : PendingCall N kind) (reply : Bool) : Type 0 where
-  pub made : Stores value c d reply
+  pub made : MadeInsert value c d reply
   pub searched : SearchedFor (trace_in c) (trace_in d) c.key c.used d.used (steps_to_update (trace_in c).start + 3)
 
 -- it isn't, for want of steps
@@ -35,7 +35,7 @@ pub record LinksNone {N : Type 0} {kind : Ghosts N} (c d : PendingCall N kind) (
   pub searches : SearchesFor (trace_in c) (trace_in d) c.key c.used (c.budget + 1) 11
 
 -- its last search, and the call that it made
-pub links_hand : {N : Type 0} {kind : Ghosts N} {b c d e : PendingCall N kind} {hand : HandView} → PassLaw (pass_in b) → IsLinking 7 b c hand → GoesOn c d → (found : Found) → Finds c d found → (value : ℕ) (reply : Bool) → e.used ≤ d.used + steps_to_update (trace_in d).start → Stores value d e reply → LinksHand value b e reply
+pub links_hand : {N : Type 0} {kind : Ghosts N} {b c d e : PendingCall N kind} {hand : HandView} → PassLaw (pass_in b) → IsLinking 7 b c hand → GoesOn c d → (found : Found) → SearchFinds c d found → (value : ℕ) (reply : Bool) → e.used ≤ d.used + steps_to_update (trace_in d).start → MadeInsert value d e reply → LinksHand value b e reply
 links_hand {b = b} {d = d} {e = e} law so went found finds value reply few made =
     let quiet = quiet_until so went in
     let P : ℕ → Type 0 = λ key. Made (stored_in (trace_in d) key value reply) (trace_in d) (trace_in e) in
@@ -69,7 +69,7 @@ same_later d at used same start within = record { at = same; key = refl; bucket 
 
 pub insert_linked : {N : Type 0} {kind : Ghosts N} {b d e : PendingCall N kind} (value : ℕ) (answer : Result Bool Refusal) → PassLaw (pass_in b) → b.used ≡ 0 → Prepares b d → TriesFor Absent b d → Quiet (trace_in b) (trace_in d) → SearchedFor (trace_in b) (trace_in d) b.key b.used d.used (steps_for_slot (pass_in b) (trace_in d) + 3)
     → Links d e → HasUnpublished (pass_in d) (pass_in e) answer → IfOk answer (LinksHand value d e) → IfErr answer (LinksNone d e)
-    → CallsAs (stored_in (trace_in b) b.key value) (SparesInsert (pass_in b) (pass_in e) b.key b.budget) (pass_in b) (pass_in e) b.budget answer
+    → CallsAs (stored_in (trace_in b) b.key value) (BoundsOfInsert (pass_in b) (pass_in e) b.key b.budget) (pass_in b) (pass_in e) b.budget answer
 insert_linked {b = b} {d = d} {e = e} value answer law begun prepares tries first searched links unpublished linked refused =
     let p = pass_in b in
     let q = pass_in d in
@@ -118,7 +118,7 @@ insert_linked {b = b} {d = d} {e = e} value answer law begun prepares tries firs
       quiet = each_error (λ refusal. Quiet q.trace r.trace) (λ refusal. Quiet p.trace r.trace) answer (λ refusal later. quiet_on first later) quiet;
       hand = links.spent;
       steps = within_all steps;
-      spares = record {
+      bounds = record {
         advances = needed_before {p = p} {q = q} {r = r} prepares.advances more.0 more.1 links.takes_no_slot.count;
         kept = slots_kept_on p q r prepares.kept links.takes_no_slot.kept;
         had = had_then p q r answer prepares.had unpublished;

@@ -4,7 +4,7 @@ use Rattle.vbr_list.proofs.Names.{CountsSteps, Ghosts, had_back, had_grown, had_
 use Rattle.vbr_list.specs.Inserting.{CountsWithin, denied, AnswersNone, HasHandAndRoom, Links}
 use Rattle.vbr_list.specs.Pieces.{GoesOn, IsSameCall, pass_in, trace_in}
 use Rattle.vbr_list.specs.Places.{IsCur, IsEnd, Locates}
-use Rattle.vbr_list.specs.Traversing.{Finds, LastWalk, LocatesFor}
+use Rattle.vbr_list.specs.Traversing.{SearchFinds, LastWalk, LocatesFor}
 use Rattle.vbr_list.specs.Walking.{LosesFound}
 use Rattle.vbr_list.specs.declared.call.PendingCall.{PendingCall}
 use Rattle.vbr_list.specs.declared.found.Found.{Found}
@@ -66,7 +66,7 @@ module _ {N : Type 0} {kind : Ghosts N} {each : ℕ} {b c d : PendingCall N kind
       record { call = same; counts = within_on counts_until x.counts x.more (within_call same); takes_no_slot = none_on none_until x.takes_no_slot; spent = spent }
 
 -- a search whose place was lost: the slot is in hand again
-pub lost_then : {N : Type 0} {kind : Ghosts N} → (each : ℕ) → {b c d e : PendingCall N kind} {hand back : HandView} → PassLaw (pass_in b) → IsLinking (3 + each) b c hand → GoesOn c d → TakesOn d e → e.used ≤ d.used + each → Quiet (trace_in d) (trace_in e) → HasHandAndRoom (pass_in e) back → HasStill (pass_in d) (pass_in e) → (found : Found) → Finds c d found → LosesFound (trace_in d) (trace_in e) found → IsLinking (3 + each) b e back
+pub lost_then : {N : Type 0} {kind : Ghosts N} → (each : ℕ) → {b c d e : PendingCall N kind} {hand back : HandView} → PassLaw (pass_in b) → IsLinking (3 + each) b c hand → GoesOn c d → TakesOn d e → e.used ≤ d.used + each → Quiet (trace_in d) (trace_in e) → HasHandAndRoom (pass_in e) back → HasStill (pass_in d) (pass_in e) → (found : Found) → SearchFinds c d found → LosesFound (trace_in d) (trace_in e) found → IsLinking (3 + each) b e back
 lost_then each {b} {c} {d} {e} law so went x few quiet has had found finds loses =
     let same = call_on (begun so went) x.call in
     let whole = quiet_on (quiet_until so went) quiet in
@@ -84,7 +84,7 @@ lost_then each {b} {c} {d} {e} law so went x few quiet has had found finds loses
 -- ---- an answer no, and the end of the budget
 
 -- the answer was lost: the slot is in hand again
-pub denied_then : {N : Type 0} {kind : Ghosts N} → (each : ℕ) → 1 ≤ each → {b c d e : PendingCall N kind} {hand : HandView} → PassLaw (pass_in b) → IsLinking (3 + each) b c hand → GoesOn c d → IsSameCall d e → e.used ≡ d.used + 1 → KeepsIn (pass_in d) (pass_in e) 1 → (found : Found) → Finds c d found → AnswersNone d e found → IsLinking (3 + each) b e hand
+pub denied_then : {N : Type 0} {kind : Ghosts N} → (each : ℕ) → 1 ≤ each → {b c d e : PendingCall N kind} {hand : HandView} → PassLaw (pass_in b) → IsLinking (3 + each) b c hand → GoesOn c d → IsSameCall d e → e.used ≡ d.used + 1 → KeepsIn (pass_in d) (pass_in e) 1 → (found : Found) → SearchFinds c d found → AnswersNone d e found → IsLinking (3 + each) b e hand
 denied_then each one {d = d} {e = e} law so went same used keeps found finds lost =
     lost_then each law so went (takes_on 1 same used keeps.took keeps.takes_no_slot) (omega (arith, used, one)) lost.quiet
     (has_denied so went keeps)
@@ -127,11 +127,11 @@ module _ {N : Type 0} {kind : Ghosts N} {each : ℕ} {b c d : PendingCall N kind
 -- ---- what was found
 
 -- it tells where the key stands, after the search too
-pub located : {N : Type 0} {kind : Ghosts N} {c d : PendingCall N kind} → GoesOn c d → (found : Found) → Finds c d found → LocatesFor d found
+pub located : {N : Type 0} {kind : Ghosts N} {c d : PendingCall N kind} → GoesOn c d → (found : Found) → SearchFinds c d found → LocatesFor d found
 located {d = d} went found finds = let P : ℕ → Type 0 = λ key. Locates (trace_in d).start (knows (trace_in d)) key found in subst P (sym went.call.key) finds.found.locates
 
 -- an absent key would stand behind the place
-pub gap_found : {N : Type 0} {kind : Ghosts N} {c d : PendingCall N kind} → GoesOn c d → (found : Found) → Finds c d found → found.present ≡ false → IsGap (trace_in d) d.key found.pred
+pub gap_found : {N : Type 0} {kind : Ghosts N} {c d : PendingCall N kind} → GoesOn c d → (found : Found) → SearchFinds c d found → found.present ≡ false → IsGap (trace_in d) d.key found.pred
 gap_found {d = d} went found finds absent =
     let x = located went found finds in
     let P : Bool → Type 0 = IsEnd (knows (trace_in d)) d.key found.pred found.cur in

@@ -1,8 +1,8 @@
 -- A pass that is its table's only one made all the calls of its run, and those are legal.
 use Rattle.vbr_list.proofs.Names.{◌≡◌, ℕ, ◌<◌, List, [], ◌∷◌, ◌++◌, Result, Ok, Err, refl, sym, ap, ◌∙◌, subst, arith, IfOk}
 use Rattle.vbr_list.proofs.Names.{added_own, after, AreAccepted, Call, calls_added, calls_after, calls_by, calls_by-append, Event, every_run, GiveStored, IsLegal, IsRun, IsSame, IsStart, Keys, keys_after, Made, made_by, opening, opening_keys, opening_payloads, Payloads, payloads_after, set_after, Start, Trace, values_after, World, world_from}
-use Rattle.vbr_list.specs.Alone.{AnswersAlone, AreAnsweredAlone}
-use Rattle.vbr_list.specs.Sparing.{GivesAlone}
+use Rattle.vbr_list.specs.LoneReplies.{AnswersAlone, AreAnsweredAlone}
+use Rattle.vbr_list.specs.CallBounds.{GivesAlone}
 
 -- the last calls of a legal history have the replies of the set before them
 legal_after : (keys : Keys) (calls more : List Call) → IsLegal keys (calls ++ more) → IsLegal (set_after keys calls) more

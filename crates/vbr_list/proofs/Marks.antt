@@ -8,7 +8,7 @@ use Rattle.vbr_list.specs.Leaving.{Leaves}
 use Rattle.vbr_list.specs.Pieces.{trace_in}
 use Rattle.vbr_list.specs.Removing.{MarksAndSearches, MarksBehind, SearchesOn}
 use Rattle.vbr_list.specs.Helping.{GoesIn}
-use Rattle.vbr_list.specs.Traversing.{Finds, LastWalk, SearchTires}
+use Rattle.vbr_list.specs.Traversing.{SearchFinds, LastWalk, SearchTires}
 use Rattle.vbr_list.specs.Walking.{KnowsEpoch, LosesPlace, StandsStill, WalksAgain, met_since, nodes_after}
 use Rattle.vbr_list.specs.declared.call.PendingCall.{PendingCall}
 use Rattle.vbr_list.specs.declared.found.Found.{Found}
@@ -33,7 +33,7 @@ lost_unlinking {p = p} {q = q} {steps = steps} {pred = pred} before tried failed
 }
 
 -- whatever it came to
-pub walked : {N : Type 0} {kind : Ghosts N} (c d : PendingCall N kind) (found : Option Found) → IfSome found (Finds c d) → IfNone found (SearchTires c d) → WalksAgain 9 (trace_in c) (trace_in d) c.key c.used d.used
+pub walked : {N : Type 0} {kind : Ghosts N} (c d : PendingCall N kind) (found : Option Found) → IfSome found (SearchFinds c d) → IfNone found (SearchTires c d) → WalksAgain 9 (trace_in c) (trace_in d) c.key c.used d.used
 walked c d found x tired = grind arith
 
 -- ---- a mark

@@ -57,19 +57,19 @@ pub use Rattle.vbr_slots.specs.declared.at_table.AtTable.{AtTable}
 pub use Rattle.vbr_slots.specs.declared.pass.TheConstants.{POOL}
 pub use Rattle.vbr_slots.proofs.Lemmas.{adds_on, adds_refl, alone_first, alone_then, answer_on, loads_on, loads_refl, made_on, made_then, moment_after, moment_before, quiet_adds_none, quiet_on, quiet_refl, same_on, same_refl}
 pub use Rattle.vbr_at_table.specs.Advances.{AdvancesWhereNeeded}
-pub use Rattle.vbr_at_table.specs.Alone.{StandsNow}
+pub use Rattle.vbr_at_table.specs.WonAlone.{StandsNow}
 pub use Rattle.vbr_at_table.specs.Answering.{FindsAnother, KeepsIn}
 pub use Rattle.vbr_at_table.specs.Budgets.{most_to_take, most_to_take_among, steps_to_take_among}
-pub use Rattle.vbr_at_table.specs.CallSteps.{next_steps, steps_to_birth}
-pub use Rattle.vbr_at_table.specs.Counts.{advances, ChangesNone, is_advance}
+pub use Rattle.vbr_at_table.specs.StepCosts.{next_steps, steps_to_birth}
+pub use Rattle.vbr_at_table.specs.StepKinds.{advances, ChangesNone, is_advance}
 pub use Rattle.vbr_at_table.specs.Exchanges.{IsGap, IsUnmarked}
 pub use Rattle.vbr_at_table.specs.Gained.{gained}
 pub use Rattle.vbr_at_table.specs.GivingBack.{PutsBack}
 pub use Rattle.vbr_at_table.specs.Hands.{HandView}
 pub use Rattle.vbr_at_table.specs.Held.{held_of, HoldsMarked, IsHeld, IsSlot, IsSucc, Names}
-pub use Rattle.vbr_at_table.specs.Keeping.{Keeps, KeepsOwn, KeepsUnlinked}
+pub use Rattle.vbr_at_table.specs.KeptKnowledge.{Keeps, KeepsOwn, KeepsUnlinked}
 pub use Rattle.vbr_at_table.specs.KeptSlots.{HasAllButOne, HasStill, HasUnpublished, KeepsSlots, SharesWhereFull, StaysInTurn, TakesNoSlot, TriesNoFlag, TriesOnlyWhere, TriesWhereEmpty}
-pub use Rattle.vbr_at_table.specs.LookUps.{DecidesKey}
+pub use Rattle.vbr_at_table.specs.DecidedKeys.{DecidesKey}
 pub use Rattle.vbr_at_table.specs.Marks.{LeavesOthers}
 pub use Rattle.vbr_at_table.specs.Moments.{IsNext, IsRead, Stood, WasEntry, WasSo}
 pub use Rattle.vbr_at_table.specs.Reading.{IsHeadRead, IsKeyRead, ReadsIn, RollsBack}
@@ -77,7 +77,7 @@ pub use Rattle.vbr_at_table.specs.Refusals.{IsSpent, LeavesRoom, RefusesTake}
 pub use Rattle.vbr_at_table.specs.Replacing.{MadeTwo}
 pub use Rattle.vbr_at_table.specs.Retiring.{is_kept, know_retired, pool_retired, StampsFreshly}
 pub use Rattle.vbr_at_table.specs.Rollbacks.{FreshIfMoved, IsLost, IsMovedOrLost}
-pub use Rattle.vbr_at_table.specs.Steps.{CountsSteps, TookWithin}
+pub use Rattle.vbr_at_table.specs.WithinBudget.{CountsSteps, TookWithin}
 pub use Rattle.vbr_at_table.specs.Values.{entry_call, steps_to_update, steps_to_value, ValueAt}
 pub use Rattle.vbr_at_table.specs.declared.budget.TheConstants.{PIECE}
 pub use Rattle.vbr_at_table.specs.declared.held.Held.{Held}

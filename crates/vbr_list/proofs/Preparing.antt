@@ -5,7 +5,7 @@ use Rattle.vbr_machine.specs.declared.history.Call.{Call as ListedCall}
 use Rattle.vbr_list.specs.Inserting.{CountsWithin, InsertIsShort, InsertShowsSpent, Prepares, TakesNone}
 use Rattle.vbr_list.specs.Wanted.{WasWantedFor}
 use Rattle.vbr_list.specs.declared.wanted.Wanted.TheVariants.{Absent}
-use Rattle.vbr_list.specs.Pieces.{GoesOn, HasRoom, IsSameCall, pass_in, trace_in}
+use Rattle.vbr_list.specs.Pieces.{GoesOn, HasRoomForPiece, IsSameCall, pass_in, trace_in}
 use Rattle.vbr_list.specs.Refusals.{IsRefusedInsert}
 use Rattle.vbr_list.specs.declared.call.PendingCall.{PendingCall}
 use Rattle.vbr_list.proofs.Going.{call_on, counts_step, within_call}
@@ -39,7 +39,7 @@ pub prepares_still : {N : Type 0} {kind : Ghosts N} → {c d : PendingCall N kin
 prepares_still {c = c} {d = d} x = prepares_none c d x.call (steps_gone x) x.goes.hand.takes_no_slot x.goes.hand.hand
 
 -- a step that answers comes after that
-pub prepares_answered : {N : Type 0} {kind : Ghosts N} → {c d e : PendingCall N kind} → GoesOn c d → IsSameCall d e → e.used ≡ d.used + 1 → HasRoom d → Took (trace_in d) (trace_in e) 1 → TakesNoSlot (pass_in d) (pass_in e) → (pass_in e).hand ≡ (pass_in d).hand → Prepares c e
+pub prepares_answered : {N : Type 0} {kind : Ghosts N} → {c d e : PendingCall N kind} → GoesOn c d → IsSameCall d e → e.used ≡ d.used + 1 → HasRoomForPiece d → Took (trace_in d) (trace_in e) 1 → TakesNoSlot (pass_in d) (pass_in e) → (pass_in e).hand ≡ (pass_in d).hand → Prepares c e
 prepares_answered {c = c} {d = d} {e = e} x same used fits took none hand =
     let budget = x.call.budget in
     let P : ℕ → Type 0 = λ since. CountsWithin (trace_in c) (trace_in e) c.used since c.budget in

@@ -3,7 +3,7 @@ use Rattle.vbr_list.proofs.Names.{◌≡◌, ℕ, ◌<◌, ◌≤◌, Bool, true
 use Rattle.vbr_list.proofs.Names.{At, at_head, behind_kept, bucket_of, Head, Held, held_in_kept, held_in_next, held_kept, HeldIn, IsNext, IsRead, IsSame, IsSlot, Keeps, KeyAt, KeyOf, Know, know_retired, knows, link_of, PassView, Quiet, Slot, StandsBehind, Start, Stood, stood_after, stood_before, Trace}
 use Rattle.vbr_list.specs.Pieces.{Goes}
 use Rattle.vbr_list.specs.Places.{IsCur, IsInside, IsPlaceIn, IsPred}
-use Rattle.vbr_list.specs.Traversing.{ComesBefore, HasComeTo}
+use Rattle.vbr_list.specs.Traversing.{StoodBefore, HasComeTo}
 use Rattle.vbr_list.specs.Visiting.{HasKey, StartsAt}
 use Rattle.vbr_list.specs.Walking.{ReadsNext, Walks}
 use Rattle.vbr_list.proofs.Going.{tries_on}
@@ -38,7 +38,7 @@ pred_inside x = record { held = x.held; inside = x.inside }
 -- ---- the head and a node
 
 -- the head is a place before each number
-pub head_before : {p q : Trace} (bucket from : ℕ) (head : Held) → StartsAt p q bucket head → ComesBefore p q bucket from head
+pub head_before : {p q : Trace} (bucket from : ℕ) (head : Held) → StartsAt p q bucket head → StoodBefore p q bucket from head
 head_before {p} {q} bucket from head x =
     let P : At → Type 0 = λ place. HeldIn (knows q) place bucket in
     record {
@@ -64,7 +64,7 @@ behind_node start know at s here key e x b l =
     subst P (sym e) (λ h. (here, h, b, l)) x
 
 -- a node with a key below a number is a place before it
-pub node_before : {p q : Trace} (bucket from key : ℕ) (here node : Held) → IsPlaceIn (knows p) bucket here → Keeps (knows p) (knows q) → ReadsNext p q here node → HasKey p q here node key → key < from → ComesBefore p q bucket from node
+pub node_before : {p q : Trace} (bucket from key : ℕ) (here node : Held) → IsPlaceIn (knows p) bucket here → Keeps (knows p) (knows q) → ReadsNext p q here node → HasKey p q here node key → key < from → StoodBefore p q bucket from node
 node_before {p} {q} bucket from key here node x keeps n k low = record {
   is = record {
     held = k.held;
@@ -76,9 +76,9 @@ node_before {p} {q} bucket from key here node x keeps n k low = record {
 }
 
 -- a place before a number of its bucket is one before that key
-pub come_to : {p q : Trace} (bucket key : ℕ) (place : Held) → IsSame p q → bucket ≡ bucket_of p.start.shape key → ComesBefore p q bucket key place → HasComeTo p q key place
+pub come_to : {p q : Trace} (bucket key : ℕ) (place : Held) → IsSame p q → bucket ≡ bucket_of p.start.shape key → StoodBefore p q bucket key place → HasComeTo p q key place
 come_to {p} {q} bucket key place s is x =
-    let P : ℕ → Type 0 = λ b. ComesBefore p q b key place in
+    let P : ℕ → Type 0 = λ b. StoodBefore p q b key place in
     let y = subst P (is ∙ ap (λ (start : Start). bucket_of start.shape key) (sym s.start)) x in
     record { is = record { held = y.is.held; unmarked = y.is.unmarked; inside = y.is.inside; behind = y.is.behind key refl (omega arith) }; stood = y.stood }
 

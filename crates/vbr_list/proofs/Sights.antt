@@ -1,7 +1,7 @@
 -- What a look-up came to, as what its answer asks.
 use Rattle.vbr_list.proofs.Names.{◌≡◌, ℕ, ◌≤◌, Bool, false, arith}
 use Rattle.vbr_list.proofs.Names.{At, DecidesKey, IsHeld, IsSlot, KeyAt, Know, link_of, Start}
-use Rattle.vbr_list.specs.LookingUp.{steps_to_answer}
+use Rattle.vbr_list.specs.LookUpPieces.{steps_to_answer}
 use Rattle.vbr_list.specs.Places.{IsSight, sighted, is_present}
 use Rattle.vbr_list.specs.declared.looking.Sight.{Sight}
 use Rattle.vbr_list.specs.declared.looking.Sight.TheVariants.{Present, Absent}

@@ -127,7 +127,7 @@ module _ {N : Type 0} {kind : Ghosts N} (p : PassView) (d e : PendingCall N kind
         hand = links.spent;
         steps = within_all all;
         kept = kept_all;
-        spares = record {
+        bounds = record {
           advances = needed_before {p = p} {q = pass_in d} {r = pass_in e} advances none.quiet.seen none.quiet.is_run links.takes_no_slot.count;
           had = had_on p (pass_in d) (pass_in e) had had_then;
           shared = shared_all;
@@ -161,7 +161,7 @@ module _ {N : Type 0} {kind : Ghosts N} (p : PassView) (d e : PendingCall N kind
         hand = x.spent;
         steps = within_all all;
         kept = kept_all;
-        spares = record {
+        bounds = record {
           advances = needed_before {p = p} {q = pass_in d} {r = pass_in e} advances last.seen (λ _. last.is_run) links.takes_no_slot.count;
           had = had_since {E = Refusal} wanted p (pass_in d) (pass_in e) (Ok there) had had_then;
           shared = shared_all;

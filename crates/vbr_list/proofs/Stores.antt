@@ -1,7 +1,7 @@
 -- The calls of a store, its slots and its steps, and what its refusals say.
 use Rattle.vbr_list.proofs.Names.{◌≡◌, ◌≢◌, ℕ, ◌+◌, ◌*◌, ◌<◌, ◌≤◌, Bool, true, false, List, [], ◌∷◌, ◌++◌, Option, Some, None, Result, Ok, Err, sym, ap, refl, ◌∙◌, arith, mul-le, subst, IfErr, if◌then◌else◌}
 use Rattle.vbr_list.proofs.Names.{Begins, birth_in_hand, Call, counts_on, EpochSpent, Get, grows_same, had_grown, HandView, HasAllButOne, HasStill, IsAlone, IsRun, IsSame, IsStart, made_by, MadeTwo, made_then, made_on, most_to_take, NoSlot, OutOfSteps, PassView, Quiet, Refusal, Remove, took_all, TookWithin, Trace, two_before, two_on}
-use Rattle.vbr_list.specs.Alone.{AreAnsweredAlone}
+use Rattle.vbr_list.specs.LoneReplies.{AreAnsweredAlone}
 use Rattle.vbr_list.specs.Budgets.{IsAnsweredOrSpent, LacksSteps, enough_to_store, listed_for, store_costs}
 use Rattle.vbr_list.specs.Disturbed.{disturbed, enough_to_store_among, steps_to_prepare, store_costs_among}
 use Rattle.vbr_list.specs.Inserting.{CountsWithin, HasHandAndRoom, InsertIsShort, SearchedFor, SearchesInVain, TakesNone}

@@ -4,7 +4,7 @@ use Rattle.vbr_list.proofs.Names.{At, begins_refl, found_left, Ghosts, has_key, 
 use Rattle.vbr_list.specs.Found.{IsFound}
 use Rattle.vbr_list.specs.Leaving.{LeavesAt, LeavesReplaced, Sweeps}
 use Rattle.vbr_list.specs.Pieces.{trace_in}
-use Rattle.vbr_list.specs.Traversing.{Finds, SearchTires}
+use Rattle.vbr_list.specs.Traversing.{SearchFinds, SearchTires}
 use Rattle.vbr_list.specs.declared.call.PendingCall.{PendingCall}
 use Rattle.vbr_list.specs.declared.found.Found.{Found}
 use Rattle.vbr_list.proofs.Clearing.{was_shown}
@@ -52,7 +52,7 @@ pub swept_found : {p q : Trace} (key : ℕ) (found : Found) → IsStart p.start 
 swept_found key found start ok quiet x node removed of_key = found_swept key start ok quiet node removed of_key found x
 
 -- of a walk that ended with room in its budget
-pub swept_walked : {N : Type 0} {kind : Ghosts N} → (c d : PendingCall N kind) (found : Option Found) → IsStart (trace_in c).start → IsRun (trace_in c).start (trace_in c).passes (trace_in c).seen → Quiet (trace_in c) (trace_in d) → IfSome found (Finds c d) → IfNone found (SearchTires c d) → d.used + PIECE ≤ c.budget → Sweeps (trace_in c) (trace_in d) c.key
+pub swept_walked : {N : Type 0} {kind : Ghosts N} → (c d : PendingCall N kind) (found : Option Found) → IsStart (trace_in c).start → IsRun (trace_in c).start (trace_in c).passes (trace_in c).seen → Quiet (trace_in c) (trace_in d) → IfSome found (SearchFinds c d) → IfNone found (SearchTires c d) → d.used + PIECE ≤ c.budget → Sweeps (trace_in c) (trace_in d) c.key
 swept_walked c d None start ok quiet x tired room = let short = tired.tired in absurd (omega (arith, short, room))
 swept_walked c d (Some found) start ok quiet x tired room = swept_found c.key found start ok quiet x.found
 

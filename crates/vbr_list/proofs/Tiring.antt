@@ -4,10 +4,10 @@ use Rattle.vbr_list.proofs.Names.{◌≡◌, ℕ, ◌+◌, ◌<◌, ◌≤◌, B
 use Rattle.vbr_list.proofs.Names.{Call, IsRun, OutOfSteps, PassLaw, PassView, PIECE, Refusal, took_all}
 use Rattle.vbr_list.specs.Budgets.{listed_for}
 use Rattle.vbr_list.specs.Disturbed.{enough_among, enough_to_search_among}
-use Rattle.vbr_list.specs.Leaving.{SparesRemove}
+use Rattle.vbr_list.specs.Leaving.{BoundsOfRemove}
 use Rattle.vbr_list.specs.Pieces.{Goes, Observes, Tries}
 use Rattle.vbr_list.specs.Refusals.{IsTired}
-use Rattle.vbr_list.specs.Sparing.{CallsAs, SparesLookUp}
+use Rattle.vbr_list.specs.CallBounds.{CallsAs, BoundsOfLookUp}
 use Rattle.vbr_list.specs.Walking.{WalksAgain}
 use Rattle.vbr_list.proofs.Disturbing.{run_at, undisturbed}
 use Rattle.vbr_list.proofs.Going.{goes_on, within_of}
@@ -26,12 +26,12 @@ module _ {p q r : PassView} (law : PassLaw p) (key : ℕ) {a b budget : ℕ} (tr
   tired = record { took = took_all whole.counts; within = within; short = short }
 
   refused : {A : Type 0} {told : A → Call} {S : Result A Refusal → Type 0} → S (Err (OutOfSteps b)) → CallsAs told S p r budget (Err (OutOfSteps b))
-  refused spares = record { same = whole.quiet.same; made = tt; alone = tt; quiet = whole.quiet; hand = hand; steps = within_of b budget within whole.counts; spares = spares }
+  refused bounds = record { same = whole.quiet.same; made = tt; alone = tt; quiet = whole.quiet; hand = hand; steps = within_of b budget within whole.counts; bounds = bounds }
 
-  pub remove_tires : {A : Type 0} {told : A → Call} {yes : A → Bool} → HasRepeated 9 p.trace q.trace key 6 0 a → WalksAgain 9 q.trace r.trace key a b → CallsAs told (SparesRemove yes p r key budget) p r budget (Err (OutOfSteps b))
+  pub remove_tires : {A : Type 0} {told : A → Call} {yes : A → Bool} → HasRepeated 9 p.trace q.trace key 6 0 a → WalksAgain 9 q.trace r.trace key a b → CallsAs told (BoundsOfRemove yes p r key budget) p r budget (Err (OutOfSteps b))
   remove_tires {A} {told} {yes} lost walks =
       let lacks = lacks_steps p.trace q.trace r.trace law.start ok key tries.goes.quiet went.quiet (omega arith) lost walks budget short in
-      refused {S = SparesRemove yes p r key budget} (record {
+      refused {S = BoundsOfRemove yes p r key budget} (record {
         takes_no_slot = whole.hand.takes_no_slot;
         unlists = tt;
         refused = tired;
@@ -42,11 +42,11 @@ module _ {p q r : PassView} (law : PassLaw p) (key : ℕ) {a b budget : ℕ} (tr
         fewer = tt;
       })
 
-  pub look_up_tires : {A : Type 0} {told : A → Call} {reading each : ℕ} → each ≤ 3 → Observes p.trace q.trace → Observes q.trace r.trace → HasRepeated 5 p.trace q.trace key (3 + each) 0 a → WalksAgain 5 q.trace r.trace key a b → CallsAs told (SparesLookUp told reading p r key budget) p r budget (Err (OutOfSteps b))
+  pub look_up_tires : {A : Type 0} {told : A → Call} {reading each : ℕ} → each ≤ 3 → Observes p.trace q.trace → Observes q.trace r.trace → HasRepeated 5 p.trace q.trace key (3 + each) 0 a → WalksAgain 5 q.trace r.trace key a b → CallsAs told (BoundsOfLookUp told reading p r key budget) p r budget (Err (OutOfSteps b))
   look_up_tires {A} {told} {reading} {each} few before now rounds looks =
       let seen = observes_on before now in
       let lacks = lacks_steps p.trace q.trace r.trace law.start ok key tries.goes.quiet went.quiet (omega (arith, few)) rounds looks budget short in
-      refused {S = SparesLookUp told reading p r key budget} (record {
+      refused {S = BoundsOfLookUp told reading p r key budget} (record {
         only_loads = seen.only_loads;
         adds = tt;
         adds_none = seen.adds_none;

@@ -1,9 +1,9 @@
 -- The calls that answers tell, at tables of both kinds, and the same record of a call with another answer.
 use Rattle.vbr_list.proofs.Names.{◌≡◌, ℕ, Bool, true, false, Option, Some, None, Result, Ok, Err, refl, sym, ap, subst, is_some, if◌then◌else◌, arith}
 use Rattle.vbr_list.proofs.Names.{AddsAnswer, Call, Insert, IsSame, Made, made_on, Op, PassLaw, PassView, payload_kept, Quiet, Refusal, set_call, Start, Trace}
-use Rattle.vbr_list.specs.Alone.{AnswersAlone}
-use Rattle.vbr_list.specs.Sparing.{CallsAs, CallsEntry, SparesLookUp}
-use Rattle.vbr_list.specs.Leaving.{SparesRemove}
+use Rattle.vbr_list.specs.LoneReplies.{AnswersAlone}
+use Rattle.vbr_list.specs.CallBounds.{CallsAs, CallsEntry, BoundsOfLookUp}
+use Rattle.vbr_list.specs.Leaving.{BoundsOfRemove}
 use Rattle.vbr_list.specs.Told.{given_call, given_in, is_yes, kept_call, stored_call, stored_in}
 use Rattle.vbr_list.proofs.LonePasses.{gives_alone}
 
@@ -56,26 +56,26 @@ told_since quiet same made = told_as same (made_on quiet made)
 -- ---- another answer
 
 calls_read : {A B : Type 0} {f : A → Call} {g : B → Call} {S : Result A Refusal → Type 0} {T : Result B Refusal → Type 0} {p q : PassView} {budget : ℕ} (reply : A) (given : B) → f reply ≡ g given → (S (Ok reply) → T (Ok given)) → CallsAs f S p q budget (Ok reply) → CallsAs g T p q budget (Ok given)
-calls_read {p = p} reply given same spares x = record {
+calls_read {p = p} reply given same bounds x = record {
   same = x.same;
   made = told_as same x.made;
   alone = subst (λ (call : Call). AnswersAlone p.trace call.op call.key call.reply) same x.alone;
   quiet = tt;
   hand = x.hand;
   steps = x.steps;
-  spares = spares x.spares;
+  bounds = bounds x.bounds;
 }
 
 calls_refused : {A B : Type 0} {f : A → Call} {g : B → Call} {S : Result A Refusal → Type 0} {T : Result B Refusal → Type 0} {p q : PassView} {budget : ℕ} {refusal : Refusal} → (S (Err refusal) → T (Err refusal)) → CallsAs f S p q budget (Err refusal) → CallsAs g T p q budget (Err refusal)
-calls_refused spares x = record { same = x.same; made = tt; alone = tt; quiet = x.quiet; hand = x.hand; steps = x.steps; spares = spares x.spares }
+calls_refused bounds x = record { same = x.same; made = tt; alone = tt; quiet = x.quiet; hand = x.hand; steps = x.steps; bounds = bounds x.bounds }
 
 pub calls_as : {A : Type 0} {f g : A → Call} {S T : Result A Refusal → Type 0} {p q : PassView} {budget : ℕ} (answer : Result A Refusal) → CallsAs f S p q budget answer → ((reply : A) → f reply ≡ g reply) → (S answer → T answer) → CallsAs g T p q budget answer
-calls_as {S = S} {T = T} (Ok reply) x same spares = calls_read {S = S} {T = T} reply reply (same reply) spares x
-calls_as {S = S} {T = T} (Err refusal) x same spares = calls_refused {S = S} {T = T} spares x
+calls_as {S = S} {T = T} (Ok reply) x same bounds = calls_read {S = S} {T = T} reply reply (same reply) bounds x
+calls_as {S = S} {T = T} (Err refusal) x same bounds = calls_refused {S = S} {T = T} bounds x
 
 pub calls_yes : {f : Option ℕ → Call} {g : Bool → Call} {S : Result (Option ℕ) Refusal → Type 0} {T : Result Bool Refusal → Type 0} {p q : PassView} {budget : ℕ} (answer : Result (Option ℕ) Refusal) → CallsAs f S p q budget answer → ((given : Option ℕ) → f given ≡ g (is_some given)) → (S answer → T (is_yes answer)) → CallsAs g T p q budget (is_yes answer)
-calls_yes {S = S} {T = T} (Ok given) x same spares = calls_read {S = S} {T = T} given (is_some given) (same given) spares x
-calls_yes {S = S} {T = T} (Err refusal) x same spares = calls_refused {S = S} {T = T} spares x
+calls_yes {S = S} {T = T} (Ok given) x same bounds = calls_read {S = S} {T = T} given (is_some given) (same given) bounds x
+calls_yes {S = S} {T = T} (Err refusal) x same bounds = calls_refused {S = S} {T = T} bounds x
 
 -- and with its value
 pub calls_entry : {A : Type 0} {told : A → Call} {S : Result A Refusal → Type 0} {p q : PassView} {budget : ℕ} (answer : Result A Refusal) → PassLaw p → CallsAs told S p q budget answer → CallsEntry told S p q budget answer
@@ -85,7 +85,7 @@ calls_entry (Err refusal) law x = record { calls = x; gives = tt }
 -- ---- what a call promises besides
 
 -- of an answer, told as another, and of a refusal
-look_up_read : {A B : Type 0} {f : A → Call} {g : B → Call} {reading : ℕ} {p q : PassView} {key budget : ℕ} (reply : A) (given : B) → f reply ≡ g given → SparesLookUp f reading p q key budget (Ok reply) → SparesLookUp g reading p q key budget (Ok given)
+look_up_read : {A B : Type 0} {f : A → Call} {g : B → Call} {reading : ℕ} {p q : PassView} {key budget : ℕ} (reply : A) (given : B) → f reply ≡ g given → BoundsOfLookUp f reading p q key budget (Ok reply) → BoundsOfLookUp g reading p q key budget (Ok given)
 look_up_read {p = p} {q = q} reply given same x = record {
   only_loads = x.only_loads;
   adds = subst (λ (call : Call). AddsAnswer call p.trace q.trace) same x.adds;
@@ -98,17 +98,17 @@ look_up_read {p = p} {q = q} reply given same x = record {
   disturbed_costs = x.disturbed_costs;
 }
 
-look_up_refused : {A B : Type 0} {f : A → Call} {g : B → Call} {reading : ℕ} {p q : PassView} {key budget : ℕ} {refusal : Refusal} → SparesLookUp f reading p q key budget (Err refusal) → SparesLookUp g reading p q key budget (Err refusal)
+look_up_refused : {A B : Type 0} {f : A → Call} {g : B → Call} {reading : ℕ} {p q : PassView} {key budget : ℕ} {refusal : Refusal} → BoundsOfLookUp f reading p q key budget (Err refusal) → BoundsOfLookUp g reading p q key budget (Err refusal)
 look_up_refused x = record { only_loads = x.only_loads; adds = tt; adds_none = x.adds_none; takes_no_slot = x.takes_no_slot; refused = x.refused; within = x.within; disturbed_within = x.disturbed_within; costs = tt; disturbed_costs = tt }
 
-pub look_up_as : {A : Type 0} {f g : A → Call} {reading : ℕ} {p q : PassView} {key budget : ℕ} (answer : Result A Refusal) → SparesLookUp f reading p q key budget answer → ((reply : A) → f reply ≡ g reply) → SparesLookUp g reading p q key budget answer
+pub look_up_as : {A : Type 0} {f g : A → Call} {reading : ℕ} {p q : PassView} {key budget : ℕ} (answer : Result A Refusal) → BoundsOfLookUp f reading p q key budget answer → ((reply : A) → f reply ≡ g reply) → BoundsOfLookUp g reading p q key budget answer
 look_up_as (Ok reply) x same = look_up_read reply reply (same reply) x
 look_up_as (Err refusal) x same = look_up_refused x
 
-pub look_up_yes : {f : Option ℕ → Call} {g : Bool → Call} {reading : ℕ} {p q : PassView} {key budget : ℕ} (answer : Result (Option ℕ) Refusal) → SparesLookUp f reading p q key budget answer → ((given : Option ℕ) → f given ≡ g (is_some given)) → SparesLookUp g reading p q key budget (is_yes answer)
+pub look_up_yes : {f : Option ℕ → Call} {g : Bool → Call} {reading : ℕ} {p q : PassView} {key budget : ℕ} (answer : Result (Option ℕ) Refusal) → BoundsOfLookUp f reading p q key budget answer → ((given : Option ℕ) → f given ≡ g (is_some given)) → BoundsOfLookUp g reading p q key budget (is_yes answer)
 look_up_yes (Ok given) x same = look_up_read given (is_some given) (same given) x
 look_up_yes (Err refusal) x same = look_up_refused x
 
-pub remove_yes : {p q : PassView} {key budget : ℕ} (answer : Result (Option ℕ) Refusal) → SparesRemove is_some p q key budget answer → SparesRemove (λ removed. removed) p q key budget (is_yes answer)
+pub remove_yes : {p q : PassView} {key budget : ℕ} (answer : Result (Option ℕ) Refusal) → BoundsOfRemove is_some p q key budget answer → BoundsOfRemove (λ removed. removed) p q key budget (is_yes answer)
 remove_yes (Ok given) x = record { takes_no_slot = x.takes_no_slot; unlists = x.unlists; refused = tt; within = tt; disturbed_within = tt; costs = x.costs; disturbed_costs = x.disturbed_costs; fewer = x.fewer }
 remove_yes (Err refusal) x = record { takes_no_slot = x.takes_no_slot; unlists = tt; refused = x.refused; within = x.within; disturbed_within = x.disturbed_within; costs = tt; disturbed_costs = tt; fewer = tt }

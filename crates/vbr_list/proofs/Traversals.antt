@@ -3,7 +3,7 @@ use Rattle.vbr_list.proofs.Names.{ℕ, ◌<◌}
 use Rattle.vbr_list.proofs.Names.{Held, IsFresh, knows, LeadsTo, link_of, PassView}
 use Rattle.vbr_list.specs.Pieces.{Peeks, Tries}
 use Rattle.vbr_list.specs.Places.{IsPlaceIn}
-use Rattle.vbr_list.specs.Traversing.{ComesBefore, HasComeTo}
+use Rattle.vbr_list.specs.Traversing.{StoodBefore, HasComeTo}
 use Rattle.vbr_list.specs.Walking.{Walks}
 
 -- a traversal of a bucket that began with so many steps stands at this place before a key
@@ -17,7 +17,7 @@ pub record Traverses (p q : PassView) (bucket key before since budget : ℕ) (pr
 pub record Follows (p q : PassView) (bucket from before since budget : ℕ) (pred here : Held) : Type 0 where
   pub peeks : Peeks p q before since budget
   pub some : before < since
-  pub come : ComesBefore p.trace q.trace bucket from pred
+  pub come : StoodBefore p.trace q.trace bucket from pred
   pub inside : IsPlaceIn (knows q.trace) bucket here
   pub leads : LeadsTo (knows q.trace) (link_of pred.word) (link_of here.word)
   pub fresh : IsFresh q.trace

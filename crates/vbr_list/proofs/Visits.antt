@@ -4,7 +4,7 @@ use Rattle.vbr_list.proofs.Names.{ahead_few, At, Begins, begins_refl, begins_run
 use Rattle.vbr_list.specs.Disturbed.{changed_at, disturbed_at}
 use Rattle.vbr_list.specs.Helping.{OpensPlace}
 use Rattle.vbr_list.specs.Pieces.{Observes}
-use Rattle.vbr_list.specs.Visiting.{Meets, StartsAt, met_place}
+use Rattle.vbr_list.specs.Visiting.{MeetsBehind, StartsAt, met_place}
 use Rattle.vbr_list.specs.Walking.{IsDisturbed, KnowsEpoch, MovesEpoch, MovesSince, ReadsNext, StandsStill, StoodOpen, Walks, WalksOnce, met_in, nodes_after}
 use Rattle.vbr_list.specs.declared.visiting.Visited.{Visited}
 use Rattle.vbr_list.proofs.Disturbing.{fresh_at, kept_between, met_until, moves_disturb, run_at, unchanged_at}
@@ -151,7 +151,7 @@ module _ {p : PassView} {q r : Trace} (law : PassLaw p) (bucket : ℕ) (first : 
     pub visit_moved : IsFresh q → MovesEpoch q r → disturbed_at p.trace bucket q.seen < disturbed_at p.trace bucket r.seen
     visit_moved fresh moves = moves_disturb p.trace r law.start visited_run bucket q first.same whole.same visit.seen visit_changes_none fresh moves
 
-    module _ {per before since_then : ℕ} {pred here : Held} (w : Walks per p.trace q bucket before since_then pred here) {c number : ℕ} {met : Visited} (m : Meets q r since_then c here number met) where
+    module _ {per before since_then : ℕ} {pred here : Held} (w : Walks per p.trace q bucket before since_then pred here) {c number : ℕ} {met : Visited} (m : MeetsBehind q r since_then c here number met) where
       abbrev node : Held
       node = met_place met
 

@@ -2,7 +2,7 @@
 use Rattle.vbr_list.proofs.Names.{◌≡◌, ℕ, suc, ◌+◌, ◌*◌, ◌<◌, ◌≤◌, true, false, List, Option, Some, None, refl, sym, ap, ◌∙◌, subst, arith, is_some, mul-le}
 use Rattle.vbr_list.proofs.Names.{advances, ahead_few, At, Begins, begins_refl, begins_run, begins_trans, bucket_of, disturbances_grow, EpochSpent, Event, HasVisited, Head, head_visited, Held, held_of, HeldIn, incarnations_after, IsAhead, IsFresh, IsOpenIn, IsRun, IsSame, IsStart, knows, link_at, link_of, link_shown_at, Marked, next_visited, NoSlot, OutOfSteps, own_between, own_changes, PassLaw, PassView, Quiet, quiet_on, Refusal, same_on, shown_there, since, Slot, Start, Trace, unmarked_open, visited_few, visited_on, world_after}
 use Rattle.vbr_list.specs.Helping.{OpensPlace}
-use Rattle.vbr_list.specs.Budgets.{LacksSteps, enough_past, listed_for, listed_in}
+use Rattle.vbr_list.specs.Budgets.{LacksSteps, enough_past, listed_for, nodes_listed_in}
 use Rattle.vbr_list.specs.declared.found.Found.{Found}
 use Rattle.vbr_list.specs.Disturbed.{changed_after, changed_at, disturbed, disturbed_after, disturbed_at, disturbed_in, enough_to_insert_among, searches_more}
 use Rattle.vbr_list.specs.Inserting.{SearchedFor, Searches, SearchesFor, SearchesInVain}
@@ -169,12 +169,12 @@ searched_few per before each lost m n t now more x l f =
     omega (arith, x, high, u)
 
 -- until a moment at which the pass had made no call yet: so many for each node of the list, and once more for each time that it was disturbed
-pub searched_in : (p m r : Trace) → IsStart p.start → IsRun p.start p.passes r.seen → (bucket : ℕ) → Quiet p m → Begins m.seen r.seen → {per each before since_then more : ℕ} → SearchesIn per each p m bucket before since_then more → since_then ≤ before + (per * (listed_in p bucket + disturbed_in p r bucket) + disturbed_in p r bucket * (per * (listed_in p bucket + disturbed_in p r bucket) + each) + more)
+pub searched_in : (p m r : Trace) → IsStart p.start → IsRun p.start p.passes r.seen → (bucket : ℕ) → Quiet p m → Begins m.seen r.seen → {per each before since_then more : ℕ} → SearchesIn per each p m bucket before since_then more → since_then ≤ before + (per * (nodes_listed_in p bucket + disturbed_in p r bucket) + disturbed_in p r bucket * (per * (nodes_listed_in p bucket + disturbed_in p r bucket) + each) + more)
 searched_in p m r is ok bucket quiet on {per} {each} {before} {since_then} {more} x =
     let few = x.few in
     let met = met_unanswered p m is (begins_run p.start p.passes m.seen r.seen on ok) bucket quiet in
     let grows = grows_disturbed p r is ok bucket m.seen on in
-    searched_few per before each x.lost (met_in p m bucket) (listed_in p bucket + disturbed_in p r bucket) (disturbed_in p r bucket) since_then more x.paid (omega (arith, met, grows)) (omega (arith, few, grows))
+    searched_few per before each x.lost (met_in p m bucket) (nodes_listed_in p bucket + disturbed_in p r bucket) (disturbed_in p r bucket) since_then more x.paid (omega (arith, met, grows)) (omega (arith, few, grows))
 
 -- what a call costs that searched to the end, and what came then
 pub call_paid : (p q m r : Trace) → IsStart p.start → IsRun p.start p.passes r.seen → (key each : ℕ) → Quiet p q → Quiet q m → Begins m.seen r.seen → {per e used mid : ℕ} → (e ≤ each) × (3 ≤ each) → HasRepeated per p q key e 0 used → WalksAgain per q m key used mid → (since_then more : ℕ) → since_then ≤ mid + more → since_then ≤ per * (listed_for p key + disturbed p r key) + disturbed p r key * (per * (listed_for p key + disturbed p r key) + each) + (more + 3)

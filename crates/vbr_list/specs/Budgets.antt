@@ -13,12 +13,12 @@ use Rattle.vbr_at_table.specs.declared.refusal.Refusal.{Refusal}
 use Rattle.vbr_at_table.specs.declared.refusal.Refusal.TheVariants.{OutOfSteps, NoSlot, EpochSpent}
 
 -- how many nodes, linked or marked, are in the list of a bucket, in what the pass has seen
-abbrev pub listed_in : Trace → ℕ → ℕ
-listed_in p bucket = ahead p bucket (Head bucket)
+abbrev pub nodes_listed_in : Trace → ℕ → ℕ
+nodes_listed_in p bucket = ahead p bucket (Head bucket)
 
 -- and in that of a key's bucket
 abbrev pub listed_for : Trace → ℕ → ℕ
-listed_for p key = listed_in p (bucket_of p.start.shape key)
+listed_for p key = nodes_listed_in p (bucket_of p.start.shape key)
 
 -- for a look-up: five steps for each of them, and eleven
 abbrev pub enough_to_look_up : Trace → ℕ → ℕ

@@ -9,7 +9,7 @@ use Rattle.vbr_slots.specs.Calls.{AddsNone, IsSame, OnlyLoads, Quiet}
 use Rattle.vbr_slots.specs.Views.{PassView, Trace}
 use Rattle.vbr_at_table.specs.KeptSlots.{TakesNoSlot}
 use Rattle.vbr_at_table.specs.Moments.{WasEntry, WasSo}
-use Rattle.vbr_at_table.specs.Steps.{TookWithin}
+use Rattle.vbr_at_table.specs.WithinBudget.{TookWithin}
 use Rattle.vbr_list.specs.Next.{enough_to_seek, seek_costs}
 use Rattle.vbr_list.specs.Refusals.{IsTired}
 use Rattle.vbr_list.specs.declared.cursor.Cursor.{Cursor}
@@ -34,8 +34,8 @@ abbrev pub IsPastKey : ℕ → ℕ → Cursor → Type 0
 IsPastKey bucket key c = ((c.bucket ≡ bucket) × (c.from ≡ key + 1)) ⊎ ((c.bucket ≡ bucket + 1) × (c.from ≡ 0))
 
 -- a key stands before a cursor: it is of an earlier bucket, or of its bucket and below its number
-abbrev pub IsPassed : Start → Cursor → ℕ → Type 0
-IsPassed start c key = (bucket_of start.shape key < c.bucket) ⊎ ((bucket_of start.shape key ≡ c.bucket) × (key < c.from))
+abbrev pub IsBeforeCursor : Start → Cursor → ℕ → Type 0
+IsBeforeCursor start c key = (bucket_of start.shape key < c.bucket) ⊎ ((bucket_of start.shape key ≡ c.bucket) × (key < c.from))
 
 -- a key is to come at a cursor: it is of a later bucket, or of its bucket and no less than its number
 abbrev pub IsToCome : Start → Cursor → ℕ → Type 0
@@ -49,9 +49,9 @@ ComesFirst start key other = (bucket_of start.shape key < bucket_of start.shape 
 
 -- from one cursor on to another: the key that was given stands between them and was there at a moment of what the pass did, and each other key between them was absent at a moment of it
 pub record PassesBy (p q : Trace) (c d : Cursor) (given : Option ℕ) : Type 0 where
-  pub onward : (key : ℕ) → IsPassed p.start c key → IsPassed p.start d key
-  pub was : IfSome given (λ key. IsToCome p.start c key × IsPassed p.start d key × WasSo p q key true)
-  pub others : (key : ℕ) → key < 2 ^ 64 → IsToCome p.start c key → IsPassed p.start d key → (given ≡ Some key) ⊎ WasSo p q key false
+  pub onward : (key : ℕ) → IsBeforeCursor p.start c key → IsBeforeCursor p.start d key
+  pub was : IfSome given (λ key. IsToCome p.start c key × IsBeforeCursor p.start d key × WasSo p q key true)
+  pub others : (key : ℕ) → key < 2 ^ 64 → IsToCome p.start c key → IsBeforeCursor p.start d key → (given ≡ Some key) ⊎ WasSo p q key false
 
 -- a cursor stands behind the last bucket, so all keys stand before it
 abbrev pub IsAtEnd : Start → Cursor → Type 0
@@ -132,8 +132,8 @@ AreInOrder start (key ∷ keys) = AllByRecursion (ComesFirst start key) keys × 
 -- what an iteration has given by the time that it has come to a cursor: keys in order that stand before it, each of which was there at a moment since it began; and each other key before the cursor was absent at a moment since
 pub record HasGiven (p q : Trace) (c : Cursor) (keys : List ℕ) : Type 0 where
   pub in_order : AreInOrder p.start keys
-  pub were : (key : ℕ) → Contains keys key → IsPassed p.start c key × WasSo p q key true
-  pub others : (key : ℕ) → key < 2 ^ 64 → IsPassed p.start c key → Contains keys key ⊎ WasSo p q key false
+  pub were : (key : ℕ) → Contains keys key → IsBeforeCursor p.start c key × WasSo p q key true
+  pub others : (key : ℕ) → key < 2 ^ 64 → IsBeforeCursor p.start c key → Contains keys key ⊎ WasSo p q key false
 
 -- what a whole iteration has given: keys in order, each of which was there at a moment of it; and each other key was absent at a moment of it. So a key that was there all the while was given, once
 pub record HasGivenAll (p q : Trace) (keys : List ℕ) : Type 0 where

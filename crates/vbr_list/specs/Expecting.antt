@@ -4,8 +4,8 @@ use Rattle.vbr_machine.specs.declared.history.Call.{Call}
 use Rattle.vbr_machine.specs.declared.history.Op.{Op}
 use Rattle.vbr_machine.specs.declared.history.Op.TheVariants.{Get, Remove}
 use Rattle.vbr_slots.specs.Views.{PassView, Trace}
-use Rattle.vbr_list.specs.Leaving.{SparesRemove}
-use Rattle.vbr_list.specs.Sparing.{CallsEntry}
+use Rattle.vbr_list.specs.Leaving.{BoundsOfRemove}
+use Rattle.vbr_list.specs.CallBounds.{CallsEntry}
 use Rattle.vbr_list.specs.Told.{given_call, given_in}
 use Rattle.vbr_list.specs.Wanted.{wants}
 use Rattle.vbr_list.specs.declared.wanted.Wanted.TheVariants.{Value}
@@ -31,4 +31,4 @@ removal_in p key expected there = given_in p (op_to_remove expected there) key t
 
 -- a remove of an entry with the value that is expected, which tells what was there
 abbrev pub CallsRemoveIf : PassView → PassView → ℕ → ℕ → ℕ → Result (Option ℕ) Refusal → Type 0
-CallsRemoveIf p q key expected budget answer = CallsEntry (removal_call p.trace.who key (Some expected)) (SparesRemove (wants (Value expected)) p q key budget) p q budget answer
+CallsRemoveIf p q key expected budget answer = CallsEntry (removal_call p.trace.who key (Some expected)) (BoundsOfRemove (wants (Value expected)) p q key budget) p q budget answer

@@ -36,7 +36,7 @@ pub record FindsIn (p q : PassView) (key budget : ℕ) (told : Found) : Type 0 w
   pub disturbed_costs : told.used ≤ find_costs_among (listed_for p.trace key) (disturbed p.trace q.trace key)
 
 -- a find gave up for want of steps, and made no call; a pass that was alone had fewer than are enough for the nodes that were listed, and one that was disturbed so often, fewer than are enough then
-pub record GivesUp (p q : PassView) (key budget : ℕ) (refusal : Refusal) : Type 0 where
+pub record FindGivesUp (p q : PassView) (key budget : ℕ) (refusal : Refusal) : Type 0 where
   pub quiet : Quiet p.trace q.trace
   pub refused : IsTired p q budget refusal
   pub lacks : IsAlone p.trace q.trace → budget < enough_to_search p.trace key

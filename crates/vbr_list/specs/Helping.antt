@@ -58,7 +58,7 @@ abbrev pub HelpsNone : PassView → PassView → Held → Rollback → Type 0
 HelpsNone p q pred rollback = LosesPlace p.trace q.trace pred
 
 -- the marked node was unlinked and retired, so no marked node of its key was in a list but one that was replaced, where it was taken out, and it has left its list, if it stood behind the place by its key; where the epoch stayed, that helped
-pub record Retires (p q : PassView) (pred : Held) (gone : Marked) (place : Held) : Type 0 where
+pub record RetiresMarked (p q : PassView) (pred : Held) (gone : Marked) (place : Held) : Type 0 where
   pub helps : place.epoch ≡ (knows q.trace).epoch → Helps p q pred gone place
   pub late : place.epoch ≢ (knows q.trace).epoch → MovesOn p.trace q.trace
   pub clear : (key : ℕ) → KeyAt (knows p.trace) (Slot gone.slot) key → StandsBehind p.trace.start (knows p.trace) pred.at key → IsTakenOut (nodes p.trace) (knows p.trace).epoch gone.slot → WasClear p.trace q.trace key

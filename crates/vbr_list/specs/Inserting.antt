@@ -14,7 +14,7 @@ use Rattle.vbr_at_table.specs.Gained.{gained}
 use Rattle.vbr_at_table.specs.Hands.{HandView, IsHandOf}
 use Rattle.vbr_at_table.specs.KeptSlots.{HasStill, KeepsSlots, SharesWhereFull, TakesNoSlot, TriesOnlyWhere}
 use Rattle.vbr_at_table.specs.Refusals.{HasNoSlot, IsSpent}
-use Rattle.vbr_at_table.specs.Steps.{CountsSteps}
+use Rattle.vbr_at_table.specs.WithinBudget.{CountsSteps}
 use Rattle.vbr_at_table.specs.declared.budget.TheConstants.{PIECE}
 use Rattle.vbr_list.specs.Budgets.{LacksSteps}
 use Rattle.vbr_list.specs.Disturbed.{steps_for_slot}

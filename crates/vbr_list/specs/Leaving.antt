@@ -10,7 +10,7 @@ use Rattle.vbr_slots.specs.Calls.{Moment}
 use Rattle.vbr_slots.specs.Views.{PassView, Trace, knows}
 use Rattle.vbr_at_table.specs.KeptSlots.{TakesNoSlot}
 use Rattle.vbr_at_table.specs.Refusals.{LeavesRoom}
-use Rattle.vbr_at_table.specs.Steps.{TookWithin}
+use Rattle.vbr_at_table.specs.WithinBudget.{TookWithin}
 use Rattle.vbr_list.specs.Budgets.{enough_to_search, enough_to_unlink, listed_for, remove_costs, steps_to_value_of}
 use Rattle.vbr_list.specs.Disturbed.{disturbed, enough_to_search_among, remove_costs_among}
 use Rattle.vbr_list.specs.Refusals.{IsTired}
@@ -44,7 +44,7 @@ LeavesReplaced p q key = ReplacedLeft p.start p.seen q.seen p.who key
 -- Alone it has steps enough with a budget that is known before, and its answer costs no more than is known before.
 -- With two steps more, one that is answered yes leaves fewer nodes in the list.
 -- A pass that was disturbed so often has steps enough with a budget for that, and its answer costs no more than that allows.
-pub record SparesRemove {A : Type 0} (yes : A → Bool) (p q : PassView) (key budget : ℕ) (answer : Result A Refusal) : Type 0 where
+pub record BoundsOfRemove {A : Type 0} (yes : A → Bool) (p q : PassView) (key budget : ℕ) (answer : Result A Refusal) : Type 0 where
   pub takes_no_slot : TakesNoSlot p q
   pub unlists : IfOk answer (λ removed. yes removed ≡ true → LeavesRoom p q budget → Leaves p.trace q.trace key)
   pub refused : IfErr answer (IsTired p q budget)

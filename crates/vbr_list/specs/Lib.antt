@@ -4,10 +4,10 @@ pub mod Disturbed
 pub mod Refusals
 pub mod Leaving
 pub mod Found
-pub mod Alone
+pub mod LoneReplies
 pub mod Told
 pub mod Wanted
-pub mod Sparing
+pub mod CallBounds
 pub mod Expecting
 pub mod Pieces
 pub mod Walking
@@ -16,7 +16,7 @@ pub mod Traversing
 pub mod Helping
 pub mod Valuing
 pub mod Telling
-pub mod LookingUp
+pub mod LookUpPieces
 pub mod Next
 pub mod Cursors
 pub mod Seeking

@@ -6,8 +6,8 @@ use Rattle.vbr_slots.specs.Calls.{AddsNone, OnlyLoads, Quiet}
 use Rattle.vbr_slots.specs.Views.{PassView, Trace}
 use Rattle.vbr_at_table.specs.KeptSlots.{TakesNoSlot}
 use Rattle.vbr_at_table.specs.Moments.{WasEntry, WasSo}
-use Rattle.vbr_at_table.specs.Steps.{TookWithin}
-use Rattle.vbr_list.specs.Budgets.{listed_in, steps_to_value_of}
+use Rattle.vbr_at_table.specs.WithinBudget.{TookWithin}
+use Rattle.vbr_list.specs.Budgets.{nodes_listed_in, steps_to_value_of}
 use Rattle.vbr_list.specs.Disturbed.{disturbed_in, enough_among, seek_costs_among}
 use Rattle.vbr_list.specs.Refusals.{IsTired}
 use Rattle.vbr_at_table.specs.declared.refusal.Refusal.{Refusal}
@@ -44,11 +44,11 @@ IsNextEntryIfAny p q bucket from (Some entry) = IsNextEntry p q bucket from entr
 
 -- what is enough to find the next key: five steps for each node in the bucket's list, and eleven
 abbrev pub enough_to_seek : Trace → ℕ → ℕ
-enough_to_seek p bucket = 5 * listed_in p bucket + 11
+enough_to_seek p bucket = 5 * nodes_listed_in p bucket + 11
 
 -- the most that it costs a pass that is alone: five for each, and three, and those of reading the value
 abbrev pub seek_costs : Trace → ℕ → ℕ
-seek_costs p bucket = 5 * listed_in p bucket + 3 + steps_to_value_of p.start
+seek_costs p bucket = 5 * nodes_listed_in p bucket + 3 + steps_to_value_of p.start
 
 -- the pass told what it was to tell, or was refused for want of steps alone
 -- It made no call, and loads alone, added nothing to the chronicle, and has the slots that it had. It made no more steps than its budget.
@@ -64,9 +64,9 @@ pub record Seeks {A : Type 0} (Tells : A → Type 0) (p q : PassView) (bucket bu
   pub steps : TookWithin p.trace q.trace budget
   pub refused : IfErr answer (IsTired p q budget)
   pub within : IfErr answer (λ refusal. IsAlone p.trace q.trace → budget < enough_to_seek p.trace bucket)
-  pub disturbed_within : IfErr answer (λ refusal. budget < enough_among (listed_in p.trace bucket) (disturbed_in p.trace q.trace bucket))
+  pub disturbed_within : IfErr answer (λ refusal. budget < enough_among (nodes_listed_in p.trace bucket) (disturbed_in p.trace q.trace bucket))
   pub costs : IfOk answer (λ told. IsAlone p.trace q.trace → TookWithin p.trace q.trace (seek_costs p.trace bucket))
-  pub disturbed_costs : IfOk answer (λ told. TookWithin p.trace q.trace (seek_costs_among (listed_in p.trace bucket) (disturbed_in p.trace q.trace bucket) (steps_to_value_of p.trace.start)))
+  pub disturbed_costs : IfOk answer (λ told. TookWithin p.trace q.trace (seek_costs_among (nodes_listed_in p.trace bucket) (disturbed_in p.trace q.trace bucket) (steps_to_value_of p.trace.start)))
 
 -- so it is of a key, and of an entry
 abbrev pub SeeksKey : PassView → PassView → ℕ → ℕ → ℕ → Result (Option ℕ) Refusal → Type 0

@@ -8,7 +8,7 @@ use Rattle.vbr_slots.specs.Calls.{AddsNone, Made, OnlyLoads, Quiet}
 use Rattle.vbr_slots.specs.Views.{PassView, Trace, knows}
 use Rattle.vbr_slots.specs.declared.pass.TheConstants.{POOL}
 use Rattle.vbr_at_table.specs.KeptSlots.{TakesNoSlot}
-use Rattle.vbr_at_table.specs.Steps.{CountsSteps}
+use Rattle.vbr_at_table.specs.WithinBudget.{CountsSteps}
 use Rattle.vbr_at_table.specs.declared.budget.TheConstants.{PIECE}
 use Rattle.vbr_list.specs.Told.{given_in, stored_in}
 use Rattle.vbr_list.specs.declared.call.PendingCall.{PendingCall}
@@ -23,8 +23,8 @@ abbrev pub trace_in : {N : Type 0} {kind : Ghosts N} → PendingCall N kind → 
 trace_in c = c.at.stepper.now.trace
 
 -- its budget has room for one more piece
-abbrev pub HasRoom : {N : Type 0} {kind : Ghosts N} → PendingCall N kind → Type 0
-HasRoom c = c.used + PIECE ≤ c.budget
+abbrev pub HasRoomForPiece : {N : Type 0} {kind : Ghosts N} → PendingCall N kind → Type 0
+HasRoomForPiece c = c.used + PIECE ≤ c.budget
 
 -- the call is at the same table, by the same pass, for the same key, and has the same budget
 pub record IsSameCall {N : Type 0} {kind : Ghosts N} (c d : PendingCall N kind) : Type 0 where
@@ -38,12 +38,12 @@ abbrev pub Replies : {N : Type 0} {kind : Ghosts N} → Op → PendingCall N kin
 Replies op c d reply = Made (set_call (trace_in c).who op c.key reply) (trace_in c) (trace_in d)
 
 -- the pass made the call with this answer, which gives a value where nodes have values
-abbrev pub Gives : {N : Type 0} {kind : Ghosts N} → Op → PendingCall N kind → PendingCall N kind → Option ℕ → Type 0
-Gives op c d answer = Made (given_in (trace_in c) op c.key answer) (trace_in c) (trace_in d)
+abbrev pub MadeGiving : {N : Type 0} {kind : Ghosts N} → Op → PendingCall N kind → PendingCall N kind → Option ℕ → Type 0
+MadeGiving op c d answer = Made (given_in (trace_in c) op c.key answer) (trace_in c) (trace_in d)
 
 -- the pass made the insert of this value with this reply
-abbrev pub Stores : {N : Type 0} {kind : Ghosts N} → ℕ → PendingCall N kind → PendingCall N kind → Bool → Type 0
-Stores value c d reply = Made (stored_in (trace_in c) c.key value reply) (trace_in c) (trace_in d)
+abbrev pub MadeInsert : {N : Type 0} {kind : Ghosts N} → ℕ → PendingCall N kind → PendingCall N kind → Bool → Type 0
+MadeInsert value c d reply = Made (stored_in (trace_in c) c.key value reply) (trace_in c) (trace_in d)
 
 -- ---- what a piece keeps
 

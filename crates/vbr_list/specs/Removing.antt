@@ -14,7 +14,7 @@ use Rattle.vbr_machine.specs.declared.event.Event.{Event}
 use Rattle.vbr_slots.specs.Alone.{nodes}
 use Rattle.vbr_slots.specs.Calls.{IsSame, Quiet}
 use Rattle.vbr_slots.specs.Views.{Trace, knows}
-use Rattle.vbr_at_table.specs.Counts.{advances}
+use Rattle.vbr_at_table.specs.StepKinds.{advances}
 use Rattle.vbr_at_table.specs.declared.held.Held.{Held}
 use Rattle.vbr_at_table.specs.declared.held.Marked.{Marked}
 use Rattle.vbr_at_table.specs.declared.rollback.Rollback.{Rollback}
@@ -22,7 +22,7 @@ use Rattle.vbr_list.specs.Budgets.{steps_to_value_of}
 use Rattle.vbr_list.specs.Expecting.{op_to_remove, takes_out}
 use Rattle.vbr_list.specs.Helping.{MayHelp}
 use Rattle.vbr_list.specs.Leaving.{Leaves, WasClear}
-use Rattle.vbr_list.specs.Pieces.{Gives, HasRoom, trace_in}
+use Rattle.vbr_list.specs.Pieces.{MadeGiving, HasRoomForPiece, trace_in}
 use Rattle.vbr_list.specs.Disturbed.{changed_after}
 use Rattle.vbr_list.specs.Walking.{LosesFound, LosesPlace, WalksAgain, nodes_after}
 use Rattle.vbr_list.specs.declared.call.PendingCall.{PendingCall}
@@ -38,7 +38,7 @@ pub record IsMarkedFor {N : Type 0} {kind : Ghosts N} (c : PendingCall N kind) (
 
 -- at a moment no marked node of the key was in a list, unless the budget has no room for one more piece
 abbrev pub Clears : {N : Type 0} {kind : Ghosts N} → PendingCall N kind → PendingCall N kind → Type 0
-Clears c d = HasRoom d → WasClear (trace_in c) (trace_in d) c.key
+Clears c d = HasRoomForPiece d → WasClear (trace_in c) (trace_in d) c.key
 
 -- the steps of an answer: those of reading the value, one for the mark, and six
 abbrev pub steps_to_remove : Start → ℕ
@@ -100,8 +100,8 @@ pub record RemovesLate {N : Type 0} {kind : Ghosts N} (expected : Option ℕ) (c
 
 -- the remove is answered, and gives the value that was read of the node where nodes have values; where the node was taken out, it has left its list, unless the budget has no room for one more piece; it is answered soon, but for a search once the place before the node was lost
 pub record RemoveAnswers {N : Type 0} {kind : Ghosts N} (expected : Option ℕ) (c d : PendingCall N kind) (found : Found) (answer : Option ℕ) : Type 0 where
-  pub made : Gives (op_to_remove expected answer) c d answer
-  pub unlists : takes_out expected answer ≡ true → HasRoom d → Leaves (trace_in c) (trace_in d) c.key
+  pub made : MadeGiving (op_to_remove expected answer) c d answer
+  pub unlists : takes_out expected answer ≡ true → HasRoomForPiece d → Leaves (trace_in c) (trace_in d) c.key
   pub paid : RemovesSoon expected c d answer ⊎ RemovesLate expected c d found answer
 
 -- it isn't answered in three steps at most, and no call was made, as what was found is lost

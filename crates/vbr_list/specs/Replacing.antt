@@ -6,12 +6,12 @@ use Rattle.vbr_machine.specs.Membership.{KeyAt, StandsBehind}
 use Rattle.vbr_machine.specs.Removals.{ReplacedAt}
 use Rattle.vbr_slots.specs.Views.{PassView, knows}
 use Rattle.vbr_at_table.specs.KeptSlots.{HasAllButOne, HasStill, TakesNoSlot}
-use Rattle.vbr_at_table.specs.Steps.{CountsSteps}
+use Rattle.vbr_at_table.specs.WithinBudget.{CountsSteps}
 use Rattle.vbr_at_table.specs.declared.held.Held.{Held}
 use Rattle.vbr_at_table.specs.declared.held.Marked.{Marked}
 use Rattle.vbr_list.specs.Helping.{MayHelp}
 use Rattle.vbr_list.specs.Leaving.{LeavesAt}
-use Rattle.vbr_list.specs.Pieces.{HasRoom, IsSameCall, pass_in, trace_in}
+use Rattle.vbr_list.specs.Pieces.{HasRoomForPiece, IsSameCall, pass_in, trace_in}
 use Rattle.vbr_list.specs.Removing.{MarksBehind, SearchesOn}
 use Rattle.vbr_list.specs.Settling.{SettlesIn, Stores, StoresAndLeaves}
 use Rattle.vbr_list.specs.Telling.{KnowsThere}
@@ -19,8 +19,8 @@ use Rattle.vbr_list.specs.declared.call.PendingCall.{PendingCall}
 use Rattle.vbr_list.specs.declared.found.Found.{Found}
 
 -- the key was found present, and its value was read
-abbrev pub KnowsValue : {N : Type 0} {kind : Ghosts N} → PendingCall N kind → Found → Type 0
-KnowsValue c found = (old : ℕ) × KnowsThere c found (Some old)
+abbrev pub KnowsFoundValue : {N : Type 0} {kind : Ghosts N} → PendingCall N kind → Found → Type 0
+KnowsFoundValue c found = (old : ℕ) × KnowsThere c found (Some old)
 
 -- a piece that may store a node: its steps are counted, at most six, and it takes no slot
 pub record MayStoreNode {N : Type 0} {kind : Ghosts N} (c d : PendingCall N kind) : Type 0 where
@@ -37,7 +37,7 @@ pub record IsOldNode {N : Type 0} {kind : Ghosts N} (c : PendingCall N kind) (pr
   pub behind : StandsBehind (trace_in c).start (knows (trace_in c)) pred.at c.key
 
 -- the key had the value that was read, and has this one; the old node is the one that was replaced, and the place before it shows what it showed before
-pub record Replaces {N : Type 0} {kind : Ghosts N} (value : ℕ) (c d : PendingCall N kind) (found : Found) (gone : Marked) : Type 0 where
+pub record ReplacesFound {N : Type 0} {kind : Ghosts N} (value : ℕ) (c d : PendingCall N kind) (found : Found) (gone : Marked) : Type 0 where
   pub stores : (old : ℕ) → KnowsThere c found (Some old) → Stores value c d (Some old)
   pub old : IsOldNode d found.pred gone
   pub replaced : ReplacedAt (trace_in c).start (trace_in c).seen (trace_in d).seen (trace_in c).who (knows (trace_in d)).epoch gone.slot
@@ -54,7 +54,7 @@ ReplacesPaid c d found = SettlesIn 6 true c d found
 -- the old node is unlinked in six steps at most, if the budget has room for a piece
 pub record UnlinksAtOnce {N : Type 0} {kind : Ghosts N} (c d : PendingCall N kind) (slot : ℕ) : Type 0 where
   pub few : d.used ≤ c.used + 6
-  pub leaves : HasRoom c → LeavesAt (trace_in c) (trace_in d) slot
+  pub leaves : HasRoomForPiece c → LeavesAt (trace_in c) (trace_in d) slot
 
 -- so it is, or the place before it was lost, and a search follows
 abbrev pub UnlinksReplaced : {N : Type 0} {kind : Ghosts N} → PendingCall N kind → PendingCall N kind → Held → ℕ → Type 0

@@ -6,12 +6,12 @@ use Rattle.vbr_slots.specs.Calls.{Quiet}
 use Rattle.vbr_slots.specs.Views.{Trace}
 use Rattle.vbr_at_table.specs.Hands.{HandView}
 use Rattle.vbr_at_table.specs.KeptSlots.{TakesNoSlot}
-use Rattle.vbr_at_table.specs.Steps.{CountsSteps}
+use Rattle.vbr_at_table.specs.WithinBudget.{CountsSteps}
 use Rattle.vbr_at_table.specs.declared.budget.TheConstants.{PIECE}
 use Rattle.vbr_list.specs.Disturbed.{disturbed_after, steps_to_prepare}
 use Rattle.vbr_list.specs.Inserting.{CountsWithin, GivesHandBack, HasHandAndRoom, InsertIsShort, SearchedFor, Searches, SearchesFor, SearchesInVain, TakesNone}
 use Rattle.vbr_list.specs.Leaving.{LeavesReplaced}
-use Rattle.vbr_list.specs.Pieces.{HasRoom, IsSameCall, KeepsHand, pass_in, trace_in}
+use Rattle.vbr_list.specs.Pieces.{HasRoomForPiece, IsSameCall, KeepsHand, pass_in, trace_in}
 use Rattle.vbr_list.specs.Removing.{MarksAndSearches}
 use Rattle.vbr_list.specs.Storing.{Makes, replaced, stored_calls, storing_calls}
 use Rattle.vbr_list.specs.Telling.{ReadsFound, TellsThere}
@@ -148,7 +148,7 @@ had_node (Some old) = true
 
 -- a node that was replaced has left its list, unless the budget has no room for one more piece
 abbrev pub LeavesIf : {N : Type 0} {kind : Ghosts N} → Bool → PendingCall N kind → PendingCall N kind → Type 0
-LeavesIf stored c d = stored ≡ true → HasRoom d → LeavesReplaced (trace_in c) (trace_in d) c.key
+LeavesIf stored c d = stored ≡ true → HasRoomForPiece d → LeavesReplaced (trace_in c) (trace_in d) c.key
 
 -- so it is, and the value is stored
 pub record StoresAndLeaves {N : Type 0} {kind : Ghosts N} (value : ℕ) (c d : PendingCall N kind) (there : Option ℕ) : Type 0 where

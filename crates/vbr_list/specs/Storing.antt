@@ -9,8 +9,8 @@ use Rattle.vbr_at_table.specs.Advances.{AdvancesWhereNeeded}
 use Rattle.vbr_at_table.specs.KeptSlots.{HasAllButOne, HasStill, KeepsSlots, SharesWhereFull, TriesOnlyWhere}
 use Rattle.vbr_at_table.specs.Refusals.{HasNoSlot, IsOutOfSteps, IsSpent, LeavesRoom}
 use Rattle.vbr_at_table.specs.Replacing.{MadeTwo}
-use Rattle.vbr_at_table.specs.Steps.{TookWithin}
-use Rattle.vbr_list.specs.Alone.{AreAnsweredAlone}
+use Rattle.vbr_at_table.specs.WithinBudget.{TookWithin}
+use Rattle.vbr_list.specs.LoneReplies.{AreAnsweredAlone}
 use Rattle.vbr_list.specs.Budgets.{IsAnsweredOrSpent, LacksSteps, enough_to_store, enough_to_store_with_a_slot, enough_to_unlist, listed_for, store_costs}
 use Rattle.vbr_list.specs.Disturbed.{disturbed, enough_to_store_among, steps_to_prepare, store_costs_among}
 use Rattle.vbr_list.specs.Leaving.{LeavesReplaced}
@@ -83,7 +83,7 @@ IsRefusedStore wanted p q key budget (EpochSpent epoch) = WantedAndSpent wanted 
 -- A node that it replaced has left its list, unless its steps leave no room in the budget for one more piece; alone it has with a budget that is known before.
 -- Alone its answer costs no more than is known before. All that holds of a pass that was disturbed so often, too.
 -- With an empty own pool one step more is then counted for each slot that others took out of the shared pool.
-pub record SparesStore (wanted : Wanted) (p q : PassView) (key budget : ℕ) (answer : Result (Option ℕ) Refusal) : Type 0 where
+pub record BoundsOfStore (wanted : Wanted) (p q : PassView) (key budget : ℕ) (answer : Result (Option ℕ) Refusal) : Type 0 where
   pub advances : AdvancesWhereNeeded p q
   pub had : HasUnstored wanted p q answer
   pub shared : SharesWhereFull 2 p q
@@ -106,4 +106,4 @@ pub record CallsStore (p q : PassView) (key value : ℕ) (wanted : Wanted) (budg
   pub hand : q.hand ≡ None
   pub steps : TookWithin p.trace q.trace budget
   pub kept : KeepsSlots p q
-  pub spares : SparesStore wanted p q key budget answer
+  pub bounds : BoundsOfStore wanted p q key budget answer

@@ -6,7 +6,7 @@ use Rattle.vbr_machine.specs.Runs.{Begins}
 use Rattle.vbr_slots.specs.Calls.{IsSame}
 use Rattle.vbr_slots.specs.Views.{Trace, knows}
 use Rattle.vbr_at_table.specs.declared.budget.TheConstants.{PIECE}
-use Rattle.vbr_at_table.specs.Counts.{advances}
+use Rattle.vbr_at_table.specs.StepKinds.{advances}
 use Rattle.vbr_at_table.specs.Moments.{Stood}
 use Rattle.vbr_at_table.specs.declared.held.Held.{Held}
 use Rattle.vbr_list.specs.Disturbed.{disturbed_after}
@@ -37,7 +37,7 @@ pub record HasComeTo (p q : Trace) (key : ℕ) (pred : Held) : Type 0 where
   pub stood : Stood p q pred
 
 -- so it is of a place before a number of a bucket
-pub record ComesBefore (p q : Trace) (bucket from : ℕ) (place : Held) : Type 0 where
+pub record StoodBefore (p q : Trace) (bucket from : ℕ) (place : Held) : Type 0 where
   pub is : IsPlaceBefore q.start (knows q) bucket from place
   pub stood : Stood p q place
 
@@ -71,7 +71,7 @@ pub record LastWalk (p q : Trace) (key before since : ℕ) (told : Found) : Type
   pub repeats : Repeats 9 p q key 3 before since (lost + 1) (disturbed_after p key begun.seen + 1)
 
 -- a search has come to the key: each traversal but the last was disturbed
-pub record Finds {N : Type 0} {kind : Ghosts N} (c d : PendingCall N kind) (told : Found) : Type 0 where
+pub record SearchFinds {N : Type 0} {kind : Ghosts N} (c d : PendingCall N kind) (told : Found) : Type 0 where
   pub found : IsFound (trace_in c) (trace_in d) c.key told
   pub used : told.used ≡ d.used
   pub last : LastWalk (trace_in c) (trace_in d) c.key c.used d.used told

@@ -2,7 +2,7 @@
 use Rattle.std.specs.Prelude.{◌≡◌, ℕ, true}
 use Rattle.vbr_words.specs.declared.place.At.{At}
 use Rattle.vbr_slots.specs.Views.{PassView, knows}
-use Rattle.vbr_at_table.specs.Keeping.{Keeps}
+use Rattle.vbr_at_table.specs.KeptKnowledge.{Keeps}
 use Rattle.vbr_at_table.specs.Reading.{RollsBack}
 use Rattle.vbr_at_table.specs.Values.{ValueAt}
 use Rattle.vbr_at_table.specs.declared.rollback.Rollback.{Rollback}

@@ -7,7 +7,7 @@ use Rattle.vbr_machine.specs.Membership.{HeldIn, KeyAt}
 use Rattle.vbr_slots.specs.Alone.{IsFresh}
 use Rattle.vbr_slots.specs.Views.{Trace, knows}
 use Rattle.vbr_at_table.specs.Held.{HoldsMarked, IsHeld, Names, held_of}
-use Rattle.vbr_at_table.specs.Keeping.{Keeps}
+use Rattle.vbr_at_table.specs.KeptKnowledge.{Keeps}
 use Rattle.vbr_at_table.specs.declared.held.Held.{Held}
 use Rattle.vbr_at_table.specs.declared.rollback.Rollback.{Rollback}
 use Rattle.vbr_list.specs.Walking.{MovesEpoch, MovesSince, ReadsFresh, ReadsNext}
@@ -65,7 +65,7 @@ Visits p q here number (Smaller node) = HasKeyBelow p q here node number
 Visits p q here number (Beyond node key) = HasKey p q here node key × (number ≤ key)
 
 -- it met this behind a place, in so many steps, in the epoch that stood, and knows what it knew
-pub record Meets (p q : Trace) (before since : ℕ) (here : Held) (number : ℕ) (met : Visited) : Type 0 where
+pub record MeetsBehind (p q : Trace) (before since : ℕ) (here : Held) (number : ℕ) (met : Visited) : Type 0 where
   pub keeps : Keeps (knows p) (knows q)
   pub visits : Visits p q here number met
   pub reads : ReadsNext p q here (met_place met)

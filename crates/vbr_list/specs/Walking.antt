@@ -12,7 +12,7 @@ use Rattle.vbr_machine.specs.declared.event.Event.{Event}
 use Rattle.vbr_slots.specs.Alone.{IsFresh}
 use Rattle.vbr_slots.specs.Calls.{IsSame}
 use Rattle.vbr_slots.specs.Views.{Trace, knows}
-use Rattle.vbr_at_table.specs.Counts.{ChangesNone}
+use Rattle.vbr_at_table.specs.StepKinds.{ChangesNone}
 use Rattle.vbr_at_table.specs.Held.{Names}
 use Rattle.vbr_at_table.specs.Moments.{Stood}
 use Rattle.vbr_at_table.specs.Rollbacks.{FreshIfMoved, IsLost, IsMovedOrLost}

@@ -3,9 +3,9 @@ ghost use Rattle.std.specs.Prelude.{◌≡◌, None, IfOk, IfErr, IfSome, IfNone
 ghost use Rattle.vbr_slots.specs.Calls.{Took};
 ghost use Rattle.vbr_slots.specs.Views.{IsOf};
 ghost use Rattle.vbr_at_table.specs.KeptSlots.{TakesNoSlot};
-ghost use Rattle.vbr_list.specs.Found.{FindsIn, GivesUp};
-ghost use Rattle.vbr_list.specs.Pieces.{GoesOn, HasRoom};
-ghost use Rattle.vbr_list.specs.Traversing.{Finds, SearchTires};
+ghost use Rattle.vbr_list.specs.Found.{FindsIn, FindGivesUp};
+ghost use Rattle.vbr_list.specs.Pieces.{GoesOn, HasRoomForPiece};
+ghost use Rattle.vbr_list.specs.Traversing.{SearchFinds, SearchTires};
 
 use crate::call::{PendingCall, begin};
 use crate::found::Found;
@@ -20,7 +20,7 @@ impl<N: Nodes> PendingCall<'_, N> {
     #[inline(always)]
     pub(crate) fn search(&mut self) -> Option<Found>
         ensures goes { GoesOn self.old self.new }
-        ensures found { IfSome result (Finds self.old self.new) }
+        ensures found { IfSome result (SearchFinds self.old self.new) }
         ensures tired { IfNone result (SearchTires self.old self.new) }
     {
         self.at.law();
@@ -37,8 +37,8 @@ impl<N: Nodes> PendingCall<'_, N> {
     #[inline(always)]
     pub(crate) fn reach(&mut self) -> Option<Found>
         ensures goes { GoesOn self.old self.new }
-        ensures found { IfSome result (Finds self.old self.new) }
-        ensures room { IfSome result (λ _. HasRoom self.new) }
+        ensures found { IfSome result (SearchFinds self.old self.new) }
+        ensures room { IfSome result (λ _. HasRoomForPiece self.new) }
         ensures tired { IfNone result (SearchTires self.old self.new) }
     {
         let found = self.search()?;
@@ -68,7 +68,7 @@ pub fn find<N: Nodes>(
     ensures hand { pass.new.hand ≡ None }
     ensures takes_no_slot { TakesNoSlot pass.old pass.new }
     ensures found { IfOk result (FindsIn pass.old pass.new key budget) }
-    ensures tired { IfErr result (GivesUp pass.old pass.new key budget) }
+    ensures tired { IfErr result (FindGivesUp pass.old pass.new key budget) }
 {
     pass.during(
         |stepper|
@@ -91,7 +91,7 @@ fn find_by<N: Nodes>(
     ensures hand { stepper.new.hand ≡ None }
     ensures takes_no_slot { TakesNoSlot stepper.old stepper.new }
     ensures found { IfOk result.0 (FindsIn stepper.old stepper.new key budget) }
-    ensures tired { IfErr result.0 (GivesUp stepper.old stepper.new key budget) }
+    ensures tired { IfErr result.0 (FindGivesUp stepper.old stepper.new key budget) }
 {
     let mut call = begin!(slots, stepper, key, budget, 0);
     call.at.law();

@@ -2,7 +2,7 @@
 ghost use Rattle.std.specs.Prelude.{◌≤◌, IfOk, IfErr};
 ghost use Rattle.vbr_slots.specs.AtTables.{IsSameTable, pass_of, trace_of};
 ghost use Rattle.vbr_slots.specs.Views.{IsOf};
-ghost use Rattle.vbr_list.specs.Helping.{GoesIn, Helps, HelpsNone, MayHelp, Retires};
+ghost use Rattle.vbr_list.specs.Helping.{GoesIn, Helps, HelpsNone, MayHelp, RetiresMarked};
 
 use vbr_at_table::{Held, Marked, Rollback, retire, steps_to_unlink, unlink};
 use vbr_slots::{AtTable, Slots, Stepper};
@@ -20,7 +20,8 @@ pub(crate) fn unlink_and_retire<N: Nodes>(
     ensures table { IsSameTable at.old at.new }
     ensures goes { GoesIn (pass_of at.old) (pass_of at.new) result.1 }
     ensures few { result.1 ≤ 6 }
-    ensures unlinks { IfOk result.0 (Retires (pass_of at.old) (pass_of at.new) pred.now marked) }
+    ensures unlinks { IfOk result.0
+        (RetiresMarked (pass_of at.old) (pass_of at.new) pred.now marked) }
     ensures lost { IfErr result.0 (HelpsNone (pass_of at.old) (pass_of at.new) pred.now) }
 {
     at.law();

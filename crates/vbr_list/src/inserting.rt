@@ -3,7 +3,7 @@ ghost use Rattle.std.specs.Prelude.{◌≡◌, None};
 ghost use Rattle.vbr_machine.specs.declared.history.Op.TheVariants.{Insert};
 ghost use Rattle.vbr_slots.specs.Calls.{Took};
 ghost use Rattle.vbr_slots.specs.Views.{IsOf};
-ghost use Rattle.vbr_list.specs.Sparing.{Calls, CallsAs, CallsInsert, SparesInsert};
+ghost use Rattle.vbr_list.specs.CallBounds.{Calls, CallsAs, CallsInsert, BoundsOfInsert};
 ghost use Rattle.vbr_list.specs.Told.{stored_in};
 
 use crate::call::begin;
@@ -76,7 +76,7 @@ fn insert_by<N: Nodes>(
     requires empty_hand { stepper.old.hand ≡ None }
     ensures took { Took stepper.old.trace stepper.new.trace result.1 }
     ensures calls { CallsAs (stored_in stepper.old.trace key value)
-        (SparesInsert stepper.old stepper.new key budget)
+        (BoundsOfInsert stepper.old stepper.new key budget)
         stepper.old stepper.new budget result.0 }
 {
     let call = &mut begin!(slots, stepper, key, budget, 0);

@@ -3,7 +3,7 @@
 //! goes on.
 ghost use Rattle.std.specs.Prelude.{◌≡◌, IfOk, IfErr, IfSome, IfNone};
 ghost use Rattle.vbr_at_table.specs.Held.{held_of};
-ghost use Rattle.vbr_list.specs.LookingUp.{LookTires, Sees, WalkStops, WalksTo};
+ghost use Rattle.vbr_list.specs.LookUpPieces.{LookTires, Sees, WalkStops, WalksTo};
 ghost use Rattle.vbr_list.specs.Pieces.{GoesOn, Observes, trace_in};
 
 use crate::call::PendingCall;

@@ -3,11 +3,11 @@ ghost use Rattle.std.specs.Prelude.{◌≡◌, ◌+◌, ◌≤◌, true, false, 
 ghost use Rattle.vbr_machine.specs.declared.history.Op.TheVariants.{Has};
 ghost use Rattle.vbr_slots.specs.Calls.{OnlyLoads, Took};
 ghost use Rattle.vbr_slots.specs.Views.{IsOf};
-ghost use Rattle.vbr_list.specs.Sparing.{Calls, CallsAs, CallsGet, SparesLookUp};
+ghost use Rattle.vbr_list.specs.CallBounds.{Calls, CallsAs, CallsGet, BoundsOfLookUp};
 ghost use Rattle.vbr_list.specs.Budgets.{steps_where};
 ghost use Rattle.vbr_list.specs.declared.looking.Sight.TheVariants.{Present, Absent};
-ghost use Rattle.vbr_list.specs.LookingUp.{IsAskedOf, IsSightFor, LookUpAnswers, LookUpRollsBack, steps_to_answer};
-ghost use Rattle.vbr_list.specs.Pieces.{HasRoom, Settles, trace_in};
+ghost use Rattle.vbr_list.specs.LookUpPieces.{IsAskedOf, IsSightFor, LookUpAnswers, LookUpRollsBack, steps_to_answer};
+ghost use Rattle.vbr_list.specs.Pieces.{HasRoomForPiece, Settles, trace_in};
 ghost use Rattle.vbr_list.specs.Places.{sighted, is_present};
 ghost use Rattle.vbr_list.specs.Told.{given_in, look_up_op};
 
@@ -25,7 +25,7 @@ impl<N: Nodes> PendingCall<'_, N> {
     #[inline(always)]
     fn answer_has(&mut self, sight: Sight) -> Result<Option<u64>, Rollback>
         requires sight { IsSightFor self.old sight }
-        requires room { HasRoom self.old }
+        requires room { HasRoomForPiece self.old }
         ensures settles { Settles self.old self.new }
         ensures few { self.new.used ≡ self.old.used + 1 }
         ensures only_loads { OnlyLoads (trace_in self.old) (trace_in self.new) }
@@ -47,7 +47,7 @@ impl<N: Nodes> PendingCall<'_, N> {
     fn give_value(&mut self, node: &Held) -> Result<Option<u64>, Rollback>
         requires sight { IsSightFor self.old (Present node.now) }
         requires values { (trace_in self.old).start.shape.values ≡ true }
-        requires room { HasRoom self.old }
+        requires room { HasRoomForPiece self.old }
         ensures settles { Settles self.old self.new }
         ensures few { self.new.used ≤ self.old.used + 3 }
         ensures only_loads { OnlyLoads (trace_in self.old) (trace_in self.new) }
@@ -70,7 +70,7 @@ impl<N: Nodes> PendingCall<'_, N> {
     fn give_none(&mut self, pred: &Held) -> Result<Option<u64>, Rollback>
         requires sight { IsSightFor self.old (Absent pred.now) }
         requires values { (trace_in self.old).start.shape.values ≡ true }
-        requires room { HasRoom self.old }
+        requires room { HasRoomForPiece self.old }
         ensures settles { Settles self.old self.new }
         ensures few { self.new.used ≤ self.old.used + 3 }
         ensures only_loads { OnlyLoads (trace_in self.old) (trace_in self.new) }
@@ -90,7 +90,7 @@ impl<N: Nodes> PendingCall<'_, N> {
     fn settle_look_up(&mut self, gives: bool, sight: Sight) -> Result<Option<u64>, Rollback>
         requires sight { IsSightFor self.old sight }
         requires asked { IsAskedOf self.old gives }
-        requires room { HasRoom self.old }
+        requires room { HasRoomForPiece self.old }
         ensures settles { Settles self.old self.new }
         ensures few { self.new.used ≤ self.old.used + steps_to_answer gives }
         ensures only_loads { OnlyLoads (trace_in self.old) (trace_in self.new) }
@@ -197,7 +197,7 @@ fn look_up<N: Nodes>(
     requires asked { gives ≡ true → slots.now.start.shape.values ≡ true }
     ensures took { Took stepper.old.trace stepper.new.trace result.1 }
     ensures calls { CallsAs (given_in stepper.old.trace (look_up_op gives) key)
-        (SparesLookUp (given_in stepper.old.trace (look_up_op gives) key)
+        (BoundsOfLookUp (given_in stepper.old.trace (look_up_op gives) key)
         (steps_where gives) stepper.old stepper.new key budget)
         stepper.old stepper.new budget result.0 }
 {

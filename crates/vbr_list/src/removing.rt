@@ -6,9 +6,9 @@ ghost use Rattle.vbr_slots.specs.Calls.{Took};
 ghost use Rattle.vbr_slots.specs.Views.{IsOf};
 ghost use Rattle.vbr_at_table.specs.declared.budget.TheConstants.{PIECE};
 ghost use Rattle.vbr_list.specs.Expecting.{CallsRemoveIf, removal_in, takes_out};
-ghost use Rattle.vbr_list.specs.Sparing.{Calls, CallsAs, CallsRemove};
-ghost use Rattle.vbr_list.specs.Leaving.{SparesRemove, Sweeps, WasClear};
-ghost use Rattle.vbr_list.specs.Pieces.{Goes, GoesOn, HasRoom, Settles, trace_in};
+ghost use Rattle.vbr_list.specs.CallBounds.{Calls, CallsAs, CallsRemove};
+ghost use Rattle.vbr_list.specs.Leaving.{BoundsOfRemove, Sweeps, WasClear};
+ghost use Rattle.vbr_list.specs.Pieces.{Goes, GoesOn, HasRoomForPiece, Settles, trace_in};
 ghost use Rattle.vbr_list.specs.Removing.{Clears, IsMarkedFor, MayExpect, RemoveAnswers, RemoveRollsBack, UnlinksOrSearches};
 ghost use Rattle.vbr_list.specs.Traversing.{LocatesFor};
 ghost use Rattle.vbr_list.specs.Walking.{WalksAgain};
@@ -71,7 +71,7 @@ impl<N: Nodes> PendingCall<'_, N> {
     #[inline(always)]
     fn unlink_marked(&mut self, pred: &Held, marked: Marked)
         requires marked { IsMarkedFor self.old pred.now marked }
-        requires room { HasRoom self.old }
+        requires room { HasRoomForPiece self.old }
         ensures goes { GoesOn self.old self.new }
         ensures clear { Clears self.old self.new }
         ensures paid { UnlinksOrSearches self.old self.new pred.now }
@@ -95,7 +95,7 @@ impl<N: Nodes> PendingCall<'_, N> {
         requires expects { MayExpect self.old expected }
         requires locates { LocatesFor self.old found.now }
         requires present { found.now.present ≡ true }
-        requires room { HasRoom self.old }
+        requires room { HasRoomForPiece self.old }
         ensures settles { Settles self.old self.new }
         ensures answers { IfOk result (RemoveAnswers expected self.old self.new found.now) }
         ensures rolls { IfErr result (RemoveRollsBack self.old self.new found.now) }
@@ -129,7 +129,7 @@ impl<N: Nodes> PendingCall<'_, N> {
     ) -> Result<Option<u64>, Rollback>
         requires expects { MayExpect self.old expected }
         requires locates { LocatesFor self.old found.now }
-        requires room { HasRoom self.old }
+        requires room { HasRoomForPiece self.old }
         ensures settles { Settles self.old self.new }
         ensures answers { IfOk result (RemoveAnswers expected self.old self.new found.now) }
         ensures rolls { IfErr result (RemoveRollsBack self.old self.new found.now) }
@@ -250,7 +250,7 @@ fn remove_by<N: Nodes>(
     requires expects { is_some expected ≡ true → slots.now.start.shape.values ≡ true }
     ensures took { Took stepper.old.trace stepper.new.trace result.1 }
     ensures calls { CallsAs (removal_in stepper.old.trace key expected)
-        (SparesRemove (takes_out expected) stepper.old stepper.new key budget)
+        (BoundsOfRemove (takes_out expected) stepper.old stepper.new key budget)
         stepper.old stepper.new budget result.0 }
 {
     let mut call = begin!(slots, stepper, key, budget, 0);

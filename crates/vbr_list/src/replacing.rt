@@ -1,10 +1,10 @@
 //! Replacing a node: its key gets another value, and the old node leaves its list.
 ghost use Rattle.std.specs.Prelude.{◌+◌, ◌≡◌, ◌≤◌, IfOk, IfErr};
-ghost use Rattle.vbr_at_table.specs.CallSteps.{steps_to_birth};
+ghost use Rattle.vbr_at_table.specs.StepCosts.{steps_to_birth};
 ghost use Rattle.vbr_list.specs.Inserting.{GivesHandBack, HasHandAndRoom};
 ghost use Rattle.vbr_list.specs.Leaving.{LeavesAt};
-ghost use Rattle.vbr_list.specs.Pieces.{GoesOn, HasRoom, pass_in, trace_in};
-ghost use Rattle.vbr_list.specs.Replacing.{HasUnused, IsOldNode, KnowsValue, MayStoreNode, Replaces, ReplacesAndLeaves, ReplacesPaid, UnlinksReplaced};
+ghost use Rattle.vbr_list.specs.Pieces.{GoesOn, HasRoomForPiece, pass_in, trace_in};
+ghost use Rattle.vbr_list.specs.Replacing.{HasUnused, IsOldNode, KnowsFoundValue, MayStoreNode, ReplacesFound, ReplacesAndLeaves, ReplacesPaid, UnlinksReplaced};
 ghost use Rattle.vbr_list.specs.Settling.{MaySettle, SettlesNone};
 
 use crate::call::PendingCall;
@@ -29,12 +29,12 @@ impl<N: Nodes> PendingCall<'_, N> {
     // value, in six steps at most; the node is marked then. Else the hand comes back.
     #[inline(always)]
     fn replace_found(&mut self, found: &Found, value: u64, hand: Hand) -> Result<Marked, Hand>
-        requires read { KnowsValue self.old found.now }
+        requires read { KnowsFoundValue self.old found.now }
         requires hand { HasHandAndRoom (pass_in self.old) hand }
         requires room { self.old.used + 6 ≤ self.old.budget }
         ensures tries { MayStoreNode self.old self.new }
         ensures had { HasUnused (pass_in self.old) (pass_in self.new) result }
-        ensures replaced { IfOk result (Replaces value self.old self.new found.now) }
+        ensures replaced { IfOk result (ReplacesFound value self.old self.new found.now) }
         ensures back { IfErr result (GivesHandBack self.old self.new found.now) }
     {
         self.at.law();
@@ -59,7 +59,7 @@ impl<N: Nodes> PendingCall<'_, N> {
     fn unlink_replaced(&mut self, pred: &Held, marked: Marked)
         requires old { IsOldNode self.old pred.now marked }
         ensures goes { GoesOn self.old self.new }
-        ensures leaves { HasRoom self.new → LeavesAt (trace_in self.old) (trace_in self.new)
+        ensures leaves { HasRoomForPiece self.new → LeavesAt (trace_in self.old) (trace_in self.new)
             marked.slot }
         ensures paid { UnlinksReplaced self.old self.new pred.now marked.slot }
     {
@@ -85,7 +85,7 @@ impl<N: Nodes> PendingCall<'_, N> {
         value: u64,
         hand: Hand,
     ) -> Result<(), Hand>
-        requires read { KnowsValue self.old found.now }
+        requires read { KnowsFoundValue self.old found.now }
         requires hand { HasHandAndRoom (pass_in self.old) hand }
         requires room { self.old.used + 6 ≤ self.old.budget }
         ensures settles { MaySettle self.old self.new }

@@ -3,7 +3,7 @@ ghost use Rattle.std.specs.Prelude.{◌≡◌, ◌+◌, ◌≤◌, false, true, 
 ghost use Rattle.vbr_slots.specs.Calls.{Took};
 ghost use Rattle.vbr_slots.specs.Views.{IsOf};
 ghost use Rattle.vbr_list.specs.Inserting.{HasHandAndRoom, Links, Prepares, TriesFor};
-ghost use Rattle.vbr_list.specs.Pieces.{HasRoom, pass_in, trace_in};
+ghost use Rattle.vbr_list.specs.Pieces.{HasRoomForPiece, pass_in, trace_in};
 ghost use Rattle.vbr_list.specs.Replacing.{HasUnused};
 ghost use Rattle.vbr_list.specs.Settling.{AnswersPaid, AskLoses, Asks, AsksMet, ChangePaid, HasHandForValue, IsMet, IsPreparedStore, MaySettle, Meeting, MeetTires, PreparesNoStore, SettlesNone, SettlesPaid, StoreAnswers, StoresAndLeaves, StoresNone, has_wanted};
 ghost use Rattle.vbr_list.specs.Storing.{CallsStore, HasUnstored};
@@ -58,7 +58,7 @@ impl<N: Nodes> PendingCall<'_, N> {
         requires values { (trace_in self.old).start.shape.values ≡ true }
         requires locates { LocatesFor self.old found.now }
         requires open { has_wanted wanted found.now.present ≡ false }
-        requires room { HasRoom self.old }
+        requires room { HasRoomForPiece self.old }
         ensures asks { Asks self.old self.new }
         ensures met { IfOk result (AsksMet wanted self.old self.new found.now) }
         ensures lost { IfErr result (λ _. AskLoses self.old self.new found.now) }
@@ -193,7 +193,7 @@ impl<N: Nodes> PendingCall<'_, N> {
     ) -> Result<Option<u64>, Hand>
         requires found { LocatesFor self.old found.now }
         requires has { HasHandForValue self.old hand }
-        requires room { HasRoom self.old }
+        requires room { HasRoomForPiece self.old }
         ensures settles { MaySettle self.old self.new }
         ensures had { HasUnstored wanted (pass_in self.old) (pass_in self.new) result }
         ensures answers { IfOk result (StoreAnswers value wanted self.old self.new) }

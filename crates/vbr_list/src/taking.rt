@@ -5,7 +5,7 @@ ghost use Rattle.vbr_slots.specs.Calls.{Quiet};
 ghost use Rattle.vbr_at_table.specs.Answering.{KeepsIn};
 ghost use Rattle.vbr_at_table.specs.KeptSlots.{TriesWhereEmpty};
 ghost use Rattle.vbr_list.specs.Inserting.{AnswersNone, Prepares, PreparesHand, PreparesNone, Provides, ProvidesNone, TriesFor, denied};
-ghost use Rattle.vbr_list.specs.Pieces.{HasRoom, IsSameCall, Replies, pass_in, trace_in};
+ghost use Rattle.vbr_list.specs.Pieces.{HasRoomForPiece, IsSameCall, Replies, pass_in, trace_in};
 ghost use Rattle.vbr_list.specs.Traversing.{LocatesFor};
 ghost use Rattle.vbr_list.specs.declared.wanted.Wanted.TheVariants.{Absent};
 
@@ -22,7 +22,7 @@ impl<N: Nodes> PendingCall<'_, N> {
     #[inline]
     pub(crate) fn answer_no(&mut self, found: &Found) -> Result<(), Rollback>
         requires locates { LocatesFor self.old found.now }
-        requires room { HasRoom self.old }
+        requires room { HasRoomForPiece self.old }
         ensures call { IsSameCall self.old self.new }
         ensures keeps { KeepsIn (pass_in self.old) (pass_in self.new) 1 }
         ensures used { self.new.used ≡ self.old.used + 1 }

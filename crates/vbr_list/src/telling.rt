@@ -5,7 +5,7 @@ ghost use Rattle.vbr_at_table.specs.Answering.{KeepsIn};
 ghost use Rattle.vbr_at_table.specs.Reading.{ReadsIn};
 ghost use Rattle.vbr_list.specs.Budgets.{steps_where};
 ghost use Rattle.vbr_list.specs.Inserting.{AnswersNone};
-ghost use Rattle.vbr_list.specs.Pieces.{HasRoom, IsSameCall, pass_in, trace_in};
+ghost use Rattle.vbr_list.specs.Pieces.{HasRoomForPiece, IsSameCall, pass_in, trace_in};
 ghost use Rattle.vbr_list.specs.Telling.{KnowsThere, LosesRead, ReadsFound, TellsThere};
 ghost use Rattle.vbr_list.specs.Traversing.{LocatesFor};
 
@@ -21,7 +21,7 @@ impl<N: Nodes> PendingCall<'_, N> {
     pub(crate) fn read_found(&mut self, found: &Found) -> Result<Option<u64>, Rollback>
         requires values { (trace_in self.old).start.shape.values ≡ true }
         requires locates { LocatesFor self.old found.now }
-        requires room { HasRoom self.old }
+        requires room { HasRoomForPiece self.old }
         ensures call { IsSameCall self.old self.new }
         ensures used { self.new.used ≡ self.old.used + steps_where found.now.present }
         ensures reads { ReadsIn (pass_in self.old) (pass_in self.new)

@@ -4,9 +4,9 @@ ghost use Rattle.vbr_words.specs.Words.{link_of};
 ghost use Rattle.vbr_slots.specs.Views.{knows};
 ghost use Rattle.vbr_at_table.specs.Held.{HoldsMarked, IsHeld, Names};
 ghost use Rattle.vbr_list.specs.Helping.{Helps, HelpsNone};
-ghost use Rattle.vbr_list.specs.Pieces.{GoesOn, HasRoom, Observes, pass_in, trace_in};
+ghost use Rattle.vbr_list.specs.Pieces.{GoesOn, HasRoomForPiece, Observes, pass_in, trace_in};
 ghost use Rattle.vbr_list.specs.Traversing.{HasComeTo, IsPredFor, SearchStops, WalkFinds};
-ghost use Rattle.vbr_list.specs.Visiting.{IsVisit, Meets, RollsBackFrom, StartsAt, StartsNone};
+ghost use Rattle.vbr_list.specs.Visiting.{IsVisit, MeetsBehind, RollsBackFrom, StartsAt, StartsNone};
 
 use crate::call::PendingCall;
 use crate::found::Found;
@@ -29,7 +29,7 @@ impl<N: Nodes> PendingCall<'_, N> {
     // Starts at the head of the bucket, in three steps.
     #[inline(always)]
     pub(crate) fn start(&mut self) -> Result<Held, Rollback>
-        requires room { HasRoom self.old }
+        requires room { HasRoomForPiece self.old }
         ensures goes { GoesOn self.old self.new }
         ensures observes { Observes (trace_in self.old) (trace_in self.new) }
         ensures used { self.new.used ≡ self.old.used + 3 }
@@ -49,11 +49,11 @@ impl<N: Nodes> PendingCall<'_, N> {
     pub(crate) fn visit(&mut self, here: &Held) -> Result<Visited, Rollback>
         requires held { IsHeld (knows (trace_in self.old)) here.now }
         requires some { IsSome (link_of here.now.word).slot }
-        requires room { HasRoom self.old }
+        requires room { HasRoomForPiece self.old }
         ensures goes { GoesOn self.old self.new }
         ensures observes { Observes (trace_in self.old) (trace_in self.new) }
         ensures used { IsVisit self.old.used self.new.used }
-        ensures met { IfOk result (Meets (trace_in self.old) (trace_in self.new)
+        ensures met { IfOk result (MeetsBehind (trace_in self.old) (trace_in self.new)
             self.old.used self.new.used here.now self.old.key) }
         ensures moved { IfErr result (RollsBackFrom (trace_in self.old) (trace_in self.new)) }
     {
@@ -71,7 +71,7 @@ impl<N: Nodes> PendingCall<'_, N> {
         requires pred { IsPredFor self.old pred }
         requires marked { HoldsMarked (knows (trace_in self.old)) marked }
         requires names { Names pred marked.slot }
-        requires room { HasRoom self.old }
+        requires room { HasRoomForPiece self.old }
         ensures goes { GoesOn self.old self.new }
         ensures few { self.new.used ≤ self.old.used + 6 }
         ensures helps { IfOk result (Helps (pass_in self.old) (pass_in self.new) pred marked) }

@@ -8,7 +8,7 @@ ghost use Rattle.vbr_at_table.specs.Held.{IsHeld};
 ghost use Rattle.vbr_at_table.specs.Reading.{ReadsIn};
 ghost use Rattle.vbr_at_table.specs.declared.budget.TheConstants.{PIECE};
 ghost use Rattle.vbr_list.specs.Pieces.{LooksOn};
-ghost use Rattle.vbr_list.specs.Visiting.{IsVisit, Meets, RollsBackFrom, StartsAt, StartsNone};
+ghost use Rattle.vbr_list.specs.Visiting.{IsVisit, MeetsBehind, RollsBackFrom, StartsAt, StartsNone};
 
 use vbr_at_table::{Held, Marked, Rollback, checkpoint, first, key_of, next};
 use vbr_slots::AtTable;
@@ -52,7 +52,7 @@ pub(crate) fn visit_behind<N: Nodes>(
     ensures table { IsSameTable at.old at.new }
     ensures looks { LooksOn (pass_of at.old) (pass_of at.new) used.old used.new }
     ensures used { IsVisit used.old used.new }
-    ensures met { IfOk result (Meets (trace_of at.old) (trace_of at.new)
+    ensures met { IfOk result (MeetsBehind (trace_of at.old) (trace_of at.new)
         used.old used.new here.now number) }
     ensures moved { IfErr result (RollsBackFrom (trace_of at.old) (trace_of at.new)) }
 {

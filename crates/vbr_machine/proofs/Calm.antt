@@ -13,7 +13,7 @@ use Rattle.vbr_machine.specs.Links.{link_to}
 use Rattle.vbr_machine.specs.Images.{key_shown, link_in_state, link_shown, link_shown_at, link_to_next}
 use Rattle.vbr_machine.specs.Incarnations.{State, InHand, GivenUp, Linked, Marked, Unlinked, Stamped, Incarnations}
 use Rattle.vbr_machine.specs.Chronicles.{Happening, Advances, Gains, Probes, Raises, GivesUp, Bears, Keyed, Valued, Aims, Inserts, Removes, Replaces, Unlinks, Stamps, Confirms, AtHead, AtNode, Entry, Allowed, IsLastDead, IsGivenUp, IsDead, MayBeBornIn, MayStamp, becomes, incarnations_from, IsLawful, entries_by, unlinked_at}
-use Rattle.vbr_machine.specs.Disturbances.{changes, counted, disturbances_in, own_changes_in, IsLinkedIn, IsOpenIn}
+use Rattle.vbr_machine.specs.Disturbances.{changes, one_if, disturbances_in, own_changes_in, IsLinkedIn, IsOpenIn}
 use Rattle.vbr_machine.specs.Sound.{Sound, Grows}
 use Rattle.vbr_machine.specs.declared.knowledge.SlotPlace.{SlotPlace}
 use Rattle.vbr_machine.specs.declared.knowledge.SlotPlace.TheVariants.{Shared, Own, Hand, Listed}
@@ -42,7 +42,7 @@ none_by who (entry ∷ entries) e = go (cases_eq entry.pass who) (λ rest. none_
     go (inl mine) on = absurd (let z : entry ∷ entries_by who entries ≡ [] = rw (eq-eqb entry.pass who mine) at e in cc)
     go (inr other) on = (other, on (rw (ne_eqb entry.pass who other) at e))
 
-one_of_two : (p q : Bool) (m n : ℕ) → counted (not p && q) + m ≡ 0 → counted (p && q) + n ≡ 0 → (q ≡ false) × (m ≡ 0) × (n ≡ 0)
+one_of_two : (p q : Bool) (m n : ℕ) → one_if (not p && q) + m ≡ 0 → one_if (p && q) + n ≡ 0 → (q ≡ false) × (m ≡ 0) × (n ≡ 0)
 one_of_two true true m n x y = absurd (omega (arith, y))
 one_of_two false true m n x y = absurd (omega (arith, x))
 one_of_two true false m n x y = (refl, omega (arith, x), omega (arith, y))
@@ -56,7 +56,7 @@ calm_from start who bucket a (entry ∷ entries) own z =
     let one = one_of_two (entry.pass == who) (changes start a bucket entry.what) (disturbances_in start who bucket b entries) (own_changes_in start who bucket b entries) z own in
     (one.0, calm_from start who bucket b entries one.2 one.1)
 
-counts_no_own : (p q : Bool) → p ≡ false → counted (p && q) ≡ 0
+counts_no_own : (p q : Bool) → p ≡ false → one_if (p && q) ≡ 0
 counts_no_own true q e = absurd (cc)
 counts_no_own false q e = refl
 

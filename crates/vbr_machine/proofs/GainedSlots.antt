@@ -10,7 +10,7 @@ use Rattle.vbr_machine.specs.Accounts.{chronicle, chronicle_from, happens, incar
 use Rattle.vbr_machine.specs.Incarnations.{State, Unborn, InHand, GivenUp, Linked, Marked, Unlinked, Stamped, Incarnations, at_opening}
 use Rattle.vbr_machine.specs.Opened.{opening_keys}
 use Rattle.vbr_machine.specs.Chronicles.{Happening, Advances, Gains, Probes, Raises, GivesUp, Bears, Keyed, Valued, Aims, Inserts, Removes, Replaces, Unlinks, Stamps, Confirms, Entry, Allowed, MayBeBornIn, becomes, incarnations_from, IsLawful}
-use Rattle.vbr_machine.specs.Disturbances.{counted}
+use Rattle.vbr_machine.specs.Disturbances.{one_if}
 use Rattle.vbr_machine.specs.Gains.{gains, gains_in, is_gain}
 use Rattle.vbr_machine.specs.Sound.{PlaceFits, Sound}
 use Rattle.vbr_machine.specs.declared.event.Event.{Event}
@@ -39,7 +39,7 @@ gains_grow start first run who b =
     let P : List Event → Type 0 = λ l. gains start first who ≤ gains start l who in
     subst P (sym b.1) (let sum = gains-append start first b.0 who in omega (arith, sum))
 
-counts_no_own : (p q : Bool) → p ≡ true → counted (not p && q) ≡ 0
+counts_no_own : (p q : Bool) → p ≡ true → one_if (not p && q) ≡ 0
 counts_no_own true q e = refl
 counts_no_own false q e = absurd (cc)
 
@@ -100,7 +100,7 @@ shared_kept start keys a pass s (Unlinks c behind) sound h e shared = put_other 
 shared_kept start keys a pass s (Stamps c stamp) sound h e shared = shared
 shared_kept start keys a pass s (Confirms call) sound h e shared = shared
 
-none_gained : (p q : Bool) (m : ℕ) → p ≡ false → counted (not p && q) + m ≡ 0 → (q ≡ false) × (m ≡ 0)
+none_gained : (p q : Bool) (m : ℕ) → p ≡ false → one_if (not p && q) + m ≡ 0 → (q ≡ false) × (m ≡ 0)
 none_gained true q m e z = absurd (cc)
 none_gained false true m e z = absurd (omega (arith, z))
 none_gained false false m e z = (refl, omega (arith, z))

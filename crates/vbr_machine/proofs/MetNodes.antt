@@ -13,7 +13,7 @@ use Rattle.vbr_machine.specs.Agreement.{Fits}
 use Rattle.vbr_machine.specs.Images.{key_shown}
 use Rattle.vbr_machine.specs.Incarnations.{State, Unborn, InHand, GivenUp, Linked, Marked, Unlinked, Stamped, Incarnations}
 use Rattle.vbr_machine.specs.Chronicles.{Happening, Advances, Gains, Probes, Raises, GivesUp, Bears, Keyed, Valued, Aims, Inserts, Removes, Replaces, Unlinks, Stamps, Confirms, AtHead, AtNode, Entry, Allowed, MayStamp, becomes, incarnations_from, IsLawful, unlinked_at}
-use Rattle.vbr_machine.specs.Disturbances.{changes, counted, disturbances_in, is_inserted, has_left, is_met, met, is_met_below, met_below}
+use Rattle.vbr_machine.specs.Disturbances.{changes, one_if, disturbances_in, is_inserted, has_left, is_met, met, is_met_below, met_below}
 use Rattle.vbr_machine.specs.Nodes.{count_below, behind, is_behind, is_lower}
 use Rattle.vbr_machine.specs.Removals.{HasLeft}
 use Rattle.vbr_machine.specs.Sound.{IsInserted, IsListed, IsOrderedBefore, Sound, Grows}
@@ -359,13 +359,13 @@ module _ (start : Start) (keys : Keys) (first a : Incarnations) (bucket : ℕ) (
   at_most m n k l = omega (arith, l)
 
   -- where each but one that was there then was there before, they are one more at the most, and none where that one is of another bucket
-  with_one : (b : Incarnations) (c : ℕ) → b.count ≡ a.count → b.key ≡ a.key → ((d : ℕ) → d ≢ c → IsMet start first b bucket d → IsMet start first a bucket d) → met start first b bucket ≤ counted (bucket_of start.shape (a.key c) == bucket) + met start first a bucket
+  with_one : (b : Incarnations) (c : ℕ) → b.count ≡ a.count → b.key ≡ a.key → ((d : ℕ) → d ≢ c → IsMet start first b bucket d → IsMet start first a bucket d) → met start first b bucket ≤ one_if (bucket_of start.shape (a.key c) == bucket) + met start first a bucket
   with_one b c same keys_same was = go (cases_Bool (bucket_of start.shape (a.key c) == bucket))
     where
-      go : ((bucket_of start.shape (a.key c) == bucket) ≡ true) ⊎ ((bucket_of start.shape (a.key c) == bucket) ≡ false) → met start first b bucket ≤ counted (bucket_of start.shape (a.key c) == bucket) + met start first a bucket
+      go : ((bucket_of start.shape (a.key c) == bucket) ≡ true) ⊎ ((bucket_of start.shape (a.key c) == bucket) ≡ false) → met start first b bucket ≤ one_if (bucket_of start.shape (a.key c) == bucket) + met start first a bucket
       go (inl t) =
           let x = count_one_more (is_met start first a bucket) (is_met start first b bucket) a.count c (λ d l ne t. met_is start first a bucket d (was d ne (met_from start first b bucket d t))) in
-          let y = ap counted t in
+          let y = ap one_if t in
           let z = ap (count_below (is_met start first b bucket)) same in
           omega (arith, x, y, z)
       go (inr f) =
@@ -373,7 +373,7 @@ module _ (start : Start) (keys : Keys) (first a : Incarnations) (bucket : ℕ) (
           let x = fewer b (λ d x. was d (λ q. apart (ap (λ i. bucket_of start.shape (a.key i)) (sym q) ∙ ap (λ (k : ℕ → ℕ). bucket_of start.shape (k d)) (sym keys_same) ∙ x.of_bucket)) x) in
           omega (arith, x)
 
-  pub met_with : (pass : ℕ) (what : Happening) → Allowed start keys a pass what → met start first (becomes start a pass what) bucket ≤ counted (comes start a bucket what) + met start first a bucket
+  pub met_with : (pass : ℕ) (what : Happening) → Allowed start keys a pass what → met start first (becomes start a pass what) bucket ≤ one_if (comes start a bucket what) + met start first a bucket
   unfolding comes
   met_with pass Advances h = at_most (met start first (becomes start a pass Advances) bucket) (met start first a bucket) 0 (same_all (becomes start a pass Advances) refl refl)
   met_with pass (Gains v) h = at_most (met start first (becomes start a pass (Gains v)) bucket) (met start first a bucket) 0 (same_all (becomes start a pass (Gains v)) refl refl)
@@ -411,15 +411,15 @@ module _ (start : Start) (keys : Keys) (first a : Incarnations) (bucket : ℕ) (
   })
 
 -- what is of another pass counts
-of_another : (who pass : ℕ) (q : Bool) → (pass ≡ who → ⊥) → counted q ≤ counted (not (pass == who) && q)
+of_another : (who pass : ℕ) (q : Bool) → (pass ≡ who → ⊥) → one_if q ≤ one_if (not (pass == who) && q)
 of_another who pass q ne = other (pass == who) q (ne_eqb pass who ne)
   where
-    other : (p q : Bool) → p ≡ false → counted q ≤ counted (not p && q)
+    other : (p q : Bool) → p ≡ false → one_if q ≤ one_if (not p && q)
     other true q e = absurd (cc)
     other false q e = omega arith
 
 -- where another pass does it, it disturbs; and the pass itself links none
-pub comes_less : (start : Start) (a : Incarnations) (bucket who pass : ℕ) (what : Happening) → (pass ≡ who → is_insert what ≡ false) → counted (comes start a bucket what) ≤ counted (not (pass == who) && changes start a bucket what)
+pub comes_less : (start : Start) (a : Incarnations) (bucket who pass : ℕ) (what : Happening) → (pass ≡ who → is_insert what ≡ false) → one_if (comes start a bucket what) ≤ one_if (not (pass == who) && changes start a bucket what)
 unfolding comes
 comes_less start a bucket who pass (Inserts c behind) none = of_another who pass (bucket_of start.shape (a.key c) == bucket) (λ is. (let z : true ≡ false = none is in cc))
 comes_less start a bucket who pass (Replaces old c) none = of_another who pass (bucket_of start.shape (a.key c) == bucket) (λ is. (let z : true ≡ false = none is in cc))

@@ -13,7 +13,7 @@ use Rattle.vbr_machine.specs.Runs.{world_after}
 use Rattle.vbr_machine.specs.Incarnations.{Incarnations, at_opening, last_in}
 use Rattle.vbr_machine.specs.Chronicles.{Happening, Advances, Raises, GivesUp, Bears, Entry, becomes, incarnations_from}
 use Rattle.vbr_machine.specs.Accounts.{after_giving_up, chronicle_from, entry_of_call, happens, incarnations_after, incarnations_with, just}
-use Rattle.vbr_machine.specs.Disturbances.{counted, disturbances_in, disturbances}
+use Rattle.vbr_machine.specs.Disturbances.{one_if, disturbances_in, disturbances}
 use Rattle.vbr_machine.specs.declared.history.Call.{Call}
 use Rattle.vbr_machine.specs.declared.event.Event.{Event}
 use Rattle.vbr_machine.specs.declared.event.Step.{Step}
@@ -146,8 +146,8 @@ module _ (start : Start) (who bucket : ℕ) where
   abbrev Moves : Incarnations → List Entry → Type 0
   Moves a entries = (incarnations_from start a entries).epoch ≤ a.epoch + disturbances_in start who bucket a entries
 
-  one_of_another : (p : ℕ) → p ≢ who → counted (not (p == who) && true) ≡ 1
-  one_of_another p ne = ap (λ b. counted (not b && true)) (ne_eqb p who ne)
+  one_of_another : (p : ℕ) → p ≢ who → one_if (not (p == who) && true) ≡ 1
+  one_of_another p ne = ap (λ b. one_if (not b && true)) (ne_eqb p who ne)
 
   advance_disturbs : (w : World) (a : Incarnations) (p from : ℕ) → p ≢ who → Moves a (happens start w a p (Advance from))
   advance_disturbs w a p from ne = either (found start w (Advance from) == from)

@@ -8,7 +8,7 @@ use Rattle.vbr_machine.specs.Incarnations.{Incarnations}
 use Rattle.vbr_machine.specs.Chronicles.{Happening, Advances, Gains, Probes, Raises, GivesUp, Bears, Keyed, Valued, Aims, Inserts, Removes, Replaces, Unlinks, Stamps, Confirms, Entry, becomes, calls_made, incarnations_from, IsLawful}
 use Rattle.vbr_machine.specs.Accounts.{incarnations_after}
 use Rattle.vbr_machine.specs.Nodes.{behind}
-use Rattle.vbr_machine.specs.Disturbances.{changes, counted, disturbances, disturbances_in, met}
+use Rattle.vbr_machine.specs.Disturbances.{changes, one_if, disturbances, disturbances_in, met}
 use Rattle.vbr_machine.specs.declared.event.Event.{Event}
 use Rattle.vbr_machine.specs.declared.history.Call.{Call}
 use Rattle.vbr_machine.specs.declared.history.Op.{Op}
@@ -32,7 +32,7 @@ is_insert_call _ = false
 -- how many of these calls are inserts
 pub inserts_in : List Call → ℕ
 inserts_in [] = 0
-inserts_in (call ∷ calls) = counted (is_insert_call call.op) + inserts_in calls
+inserts_in (call ∷ calls) = one_if (is_insert_call call.op) + inserts_in calls
 
 inserts_in-append : (xs ys : List Call) → inserts_in (xs ++ ys) ≡ inserts_in xs + inserts_in ys
 unfolding inserts_in
@@ -44,7 +44,7 @@ pub inserts_in-remove : (xs : List Call) (call : Call) → call.op ≡ Remove �
 unfolding inserts_in is_insert_call
 inserts_in-remove xs call is =
     let sum = inserts_in-append xs (call ∷ []) in
-    let none : counted (is_insert_call call.op) ≡ 0 = ap (λ (op : Op). counted (is_insert_call op)) is in
+    let none : one_if (is_insert_call call.op) ≡ 0 = ap (λ (op : Op). one_if (is_insert_call op)) is in
     omega (arith, sum, none)
 
 made_count : (who : ℕ) (a b : List Call) → inserts_in (calls_by who a) ≤ inserts_in (calls_by who (a ++ b))
@@ -140,14 +140,14 @@ met_bound_quiet start passes first run is ok begins who bucket h same = met_boun
 -- ---- a pass that makes inserts
 
 -- a node that comes to be met by an event disturbs the pass, or is an insert of its own
-comes_or_made : (start : Start) (a : Incarnations) (bucket who pass : ℕ) (what : Happening) → counted (comes start a bucket what) + inserts_in (calls_by who a.calls) ≤ counted (not (pass == who) && changes start a bucket what) + inserts_in (calls_by who (becomes start a pass what).calls)
+comes_or_made : (start : Start) (a : Incarnations) (bucket who pass : ℕ) (what : Happening) → one_if (comes start a bucket what) + inserts_in (calls_by who a.calls) ≤ one_if (not (pass == who) && changes start a bucket what) + inserts_in (calls_by who (becomes start a pass what).calls)
 comes_or_made start a bucket who pass what = go (cases_eq pass who) (is_insert what) refl
   where
-    one : (b : Bool) → counted b ≤ 1
+    one : (b : Bool) → one_if b ≤ 1
     one true = omega arith
     one false = omega arith
 
-    go : (pass ≡ who) ⊎ (pass ≢ who) → (b : Bool) → is_insert what ≡ b → counted (comes start a bucket what) + inserts_in (calls_by who a.calls) ≤ counted (not (pass == who) && changes start a bucket what) + inserts_in (calls_by who (becomes start a pass what).calls)
+    go : (pass ≡ who) ⊎ (pass ≢ who) → (b : Bool) → is_insert what ≡ b → one_if (comes start a bucket what) + inserts_in (calls_by who a.calls) ≤ one_if (not (pass == who) && changes start a bucket what) + inserts_in (calls_by who (becomes start a pass what).calls)
     go (inl mine) true e = let more = own_insert start a who pass what mine e in let most = one (comes start a bucket what) in omega (arith, more, most)
     go (inl mine) false e = let less = comes_less start a bucket who pass what (λ _. e) in let more = one_event start a who pass what in omega (arith, less, more)
     go (inr ne) b e = let less = comes_less start a bucket who pass what (λ mine. absurd (ne mine)) in let more = one_event start a who pass what in omega (arith, less, more)
@@ -183,6 +183,6 @@ pub inserts_in-two : (xs : List Call) (x y : Call) → x.op ≡ Remove → y.op 
 unfolding inserts_in is_insert_call
 inserts_in-two xs x y first second =
     let sum = inserts_in-append xs (x ∷ y ∷ []) in
-    let none : counted (is_insert_call x.op) ≡ 0 = ap (λ (op : Op). counted (is_insert_call op)) first in
-    let one : counted (is_insert_call y.op) ≡ 1 = ap (λ (op : Op). counted (is_insert_call op)) second in
+    let none : one_if (is_insert_call x.op) ≡ 0 = ap (λ (op : Op). one_if (is_insert_call op)) first in
+    let one : one_if (is_insert_call y.op) ≡ 1 = ap (λ (op : Op). one_if (is_insert_call op)) second in
     omega (arith, sum, none, one)

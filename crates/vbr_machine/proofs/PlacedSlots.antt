@@ -17,7 +17,7 @@ use Rattle.vbr_machine.specs.Sound.{IsListed, IsOrderedBefore, IsFrom, IsApart, 
 use Rattle.vbr_machine.specs.Accounts.{incarnations_after, notes_after}
 use Rattle.vbr_machine.specs.Agreement.{IsNotOf, OwnFits, Fits, Agrees}
 use Rattle.vbr_machine.specs.Nodes.{behind, key_in_slot}
-use Rattle.vbr_machine.specs.SlotPlaces.{LiesInHand, IsReachedFrom, at_once, onward, FitsPlace, ArePlaced}
+use Rattle.vbr_machine.specs.AgreedPlaces.{LiesInHand, IsReachedFrom, at_once, onward, FitsPlace, ArePlaced}
 use Rattle.vbr_machine.specs.declared.event.Event.{Event}
 use Rattle.vbr_machine.specs.declared.knowledge.Holding.{Holding}
 use Rattle.vbr_machine.specs.declared.knowledge.Holding.TheVariants as holding

@@ -10,7 +10,7 @@ use Rattle.vbr_machine.specs.Runs.{Begins, IsRun}
 use Rattle.vbr_machine.specs.Accounts.{chronicle, incarnations_after}
 use Rattle.vbr_machine.specs.Incarnations.{State, Unborn, InHand, GivenUp, Linked, Marked, Unlinked, Stamped, Incarnations, at_opening, opening_state}
 use Rattle.vbr_machine.specs.Chronicles.{Happening, Advances, Gains, Probes, Raises, GivesUp, Bears, Keyed, Valued, Aims, Inserts, Removes, Replaces, Unlinks, Stamps, Confirms, Entry, Allowed, MayStamp, MayTakePlace, becomes, calls_made, incarnations_from, IsLawful, unlinked_at}
-use Rattle.vbr_machine.specs.Disturbances.{changes, counted, disturbances_in, disturbances, how_many, is_removal, is_unlinking, updates}
+use Rattle.vbr_machine.specs.Disturbances.{changes, one_if, disturbances_in, disturbances, how_many, is_removal, is_unlinking, updates}
 use Rattle.vbr_machine.specs.Nodes.{count_below, is_marked, marked_after}
 use Rattle.vbr_machine.specs.Sound.{Sound}
 use Rattle.vbr_machine.specs.declared.event.Event.{Event}
@@ -79,9 +79,9 @@ marked_replaced {start} {a} s pass old c h =
 
 -- an event that changes a list is paid: by an advance, by a call, or by a marked node that is so no more
 abbrev Pays : Start → ℕ → Incarnations → ℕ → Happening → Type 0
-Pays start bucket a pass what = counted (changes start a bucket what) + marked_births (becomes start a pass what) + a.epoch + 2 * updates a.calls ≤ marked_births a + (becomes start a pass what).epoch + 2 * updates (becomes start a pass what).calls
+Pays start bucket a pass what = one_if (changes start a bucket what) + marked_births (becomes start a pass what) + a.epoch + 2 * updates a.calls ≤ marked_births a + (becomes start a pass what).epoch + 2 * updates (becomes start a pass what).calls
 
-at_most_one : (b : Bool) → counted b ≤ 1
+at_most_one : (b : Bool) → one_if b ≤ 1
 at_most_one true = omega arith
 at_most_one false = omega arith
 
@@ -119,7 +119,7 @@ pays start keys bucket a pass (Unlinks c behind) s h =
 
 -- ---- events in a row
 
-no_more_than : (p q : Bool) → counted (not p && q) ≤ counted q
+no_more_than : (p q : Bool) → one_if (not p && q) ≤ one_if q
 no_more_than true q = omega arith
 no_more_than false q = omega arith
 
@@ -153,7 +153,7 @@ disturbances_paid start passes first run is ok begins who bucket =
 -- ---- unlinkings and removals
 
 abbrev Follows : Start → Incarnations → ℕ → Happening → Type 0
-Follows start a pass what = counted (is_unlinking what) + marked_births (becomes start a pass what) ≡ counted (is_removal what) + marked_births a
+Follows start a pass what = one_if (is_unlinking what) + marked_births (becomes start a pass what) ≡ one_if (is_removal what) + marked_births a
 
 follows : (start : Start) (keys : Keys) (a : Incarnations) (pass : ℕ) (what : Happening) → Sound start a → Allowed start keys a pass what → Follows start a pass what
 follows start keys a pass Advances s h = refl

@@ -12,7 +12,7 @@ use Rattle.vbr_machine.specs.Images.{link_shown_at}
 use Rattle.vbr_machine.specs.Incarnations.{Incarnations, at_opening}
 use Rattle.vbr_machine.specs.Chronicles.{Entry, becomes, incarnations_from, IsLawful, entries_by}
 use Rattle.vbr_machine.specs.Accounts.{chronicle, chronicle_from, happens, incarnations_after, notes_after, own_entries}
-use Rattle.vbr_machine.specs.Disturbances.{changes, counted, disturbances_in, disturbances, own_changes_in, own_changes, IsOpenIn}
+use Rattle.vbr_machine.specs.Disturbances.{changes, one_if, disturbances_in, disturbances, own_changes_in, own_changes, IsOpenIn}
 use Rattle.vbr_machine.specs.Sound.{Sound, Grows}
 use Rattle.vbr_machine.specs.declared.event.Event.{Event}
 use Rattle.vbr_machine.specs.declared.event.Step.{Step}
@@ -161,7 +161,7 @@ step_changes_none start seen rest who bucket step none changes_none =
 
 -- ---- a pass that is alone
 
-counts_no_own : (p q : Bool) → p ≡ true → counted (not p && q) ≡ 0
+counts_no_own : (p q : Bool) → p ≡ true → one_if (not p && q) ≡ 0
 counts_no_own true q e = refl
 counts_no_own false q e = absurd (cc)
 

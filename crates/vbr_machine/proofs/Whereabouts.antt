@@ -11,7 +11,7 @@ use Rattle.vbr_machine.specs.Machine.{World, is_shared}
 use Rattle.vbr_machine.specs.Nodes.{is_linked, is_marked, state_in, state_shown}
 use Rattle.vbr_machine.specs.Runs.{IsRun, know_after, world_after}
 use Rattle.vbr_machine.specs.Safety.{IsSafe}
-use Rattle.vbr_machine.specs.SlotPlaces.{WasUnlinkedBy, LiesInHand, IsOfList, FitsPlace}
+use Rattle.vbr_machine.specs.AgreedPlaces.{WasUnlinkedBy, LiesInHand, IsOfList, FitsPlace}
 use Rattle.vbr_machine.specs.Sound.{IsListed}
 use Rattle.vbr_machine.specs.Whereabouts.{Whereabouts, InSharedPool, WithPass, InSet, MarkedInList, Unstamped, may_bear, is_unstamped, is_at, IsOfPasses, IsSomewhere}
 use Rattle.vbr_machine.specs.declared.event.Event.{Event}

@@ -247,7 +247,7 @@ IsBelowLast start _ = Unit {0}
 
 -- ---- acceptance
 
--- the core accepts the step of a pass that knows this
+-- the machine accepts the step of a pass that knows this
 pub record Accepts (start : Start) (know : Know) (step : Step) : Type 0 where
   pub in_shape : IsInShape start step
   pub owned : IsOwned know step

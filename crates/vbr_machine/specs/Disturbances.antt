@@ -27,9 +27,9 @@ changes start a bucket (Unlinks c behind) = bucket_of start.shape (a.key c) == b
 changes start a bucket _ = false
 
 -- one where a test is passed
-abbrev pub counted : Bool → ℕ
-counted true = 1
-counted false = 0
+abbrev pub one_if : Bool → ℕ
+one_if true = 1
+one_if false = 0
 
 -- whether an event disturbs a pass at a bucket: it changes the list there, or moves the epoch, and is of another pass
 abbrev pub disturbs : Start → ℕ → ℕ → Incarnations → Entry → Bool
@@ -38,7 +38,7 @@ disturbs start who bucket a entry = not (entry.pass == who) && changes start a b
 -- how many of these events do, in a row
 abbrev pub disturbances_in : Start → ℕ → ℕ → Incarnations → List Entry → ℕ
 disturbances_in start who bucket a [] = 0
-disturbances_in start who bucket a (entry ∷ entries) = counted (disturbs start who bucket a entry) + disturbances_in start who bucket (becomes start a entry.pass entry.what) entries
+disturbances_in start who bucket a (entry ∷ entries) = one_if (disturbs start who bucket a entry) + disturbances_in start who bucket (becomes start a entry.pass entry.what) entries
 
 -- how many events of a run did
 abbrev pub disturbances : Start → List Event → ℕ → ℕ → ℕ
@@ -53,7 +53,7 @@ own_changes_by start who bucket a entry = (entry.pass == who) && changes start a
 -- how many of these events are, in a row
 abbrev pub own_changes_in : Start → ℕ → ℕ → Incarnations → List Entry → ℕ
 own_changes_in start who bucket a [] = 0
-own_changes_in start who bucket a (entry ∷ entries) = counted (own_changes_by start who bucket a entry) + own_changes_in start who bucket (becomes start a entry.pass entry.what) entries
+own_changes_in start who bucket a (entry ∷ entries) = one_if (own_changes_by start who bucket a entry) + own_changes_in start who bucket (becomes start a entry.pass entry.what) entries
 
 -- how many events of a run are
 abbrev pub own_changes : Start → List Event → ℕ → ℕ → ℕ
@@ -127,7 +127,7 @@ is_update _ = false
 -- how many of these calls changed the set: inserts and removes that were answered yes
 abbrev pub updates : List Call → ℕ
 updates [] = 0
-updates (call ∷ calls) = counted (is_update call.op && call.reply) + updates calls
+updates (call ∷ calls) = one_if (is_update call.op && call.reply) + updates calls
 
 -- whether an event is an unlinking, or a removal, as a replacement is of the node that it replaces
 abbrev pub is_unlinking : Happening → Bool
@@ -142,4 +142,4 @@ is_removal _ = false
 -- how many of these events are of a kind
 abbrev pub how_many : (Happening → Bool) → List Entry → ℕ
 how_many test [] = 0
-how_many test (entry ∷ entries) = counted (test entry.what) + how_many test entries
+how_many test (entry ∷ entries) = one_if (test entry.what) + how_many test entries

@@ -25,7 +25,7 @@ pub mod Removals
 pub mod Agreement
 pub mod Disturbances
 pub mod Gains
-pub mod SlotPlaces
+pub mod AgreedPlaces
 pub mod Whereabouts
 pub mod Safety
 pub mod Making

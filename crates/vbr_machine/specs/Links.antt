@@ -1,4 +1,4 @@
--- Link words as the core makes and compares them.
+-- Link words as the machine makes and compares them.
 use Rattle.std.specs.Prelude.{ℕ, max, Bool, true, false, not, ◌==◌, ◌&&◌, Option, Some, None}
 use Rattle.vbr_words.specs.declared.link.Link.{Link}
 

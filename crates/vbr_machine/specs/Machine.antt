@@ -1,4 +1,4 @@
--- The core: its world, and what an accepted step does to it.
+-- The machine: its world, and what an accepted step does to it.
 use Rattle.std.specs.Prelude.{ℕ, ◌+◌, ◌-◌, ◌*◌, ◌^◌, min, ◌==◌, nat_lt, Bool, true, false, ◌&&◌, bit_and, bit_or, List, [], ◌∷◌, ◌++◌, Option, Some, None, if◌then◌else◌}
 use Rattle.vbr_machine.specs.Start.{Start}
 use Rattle.vbr_words.specs.Words.{word_of}

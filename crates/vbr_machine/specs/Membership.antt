@@ -175,7 +175,7 @@ IsInRangeKnown start know (ConfirmAbsent op key at expected) =
     ((link_of expected).mark ≡ false) × (op ≢ Insert) × StandsBehind start know at key × StandsBeforeOn know key (link_of expected)
 IsInRangeKnown start know step = IsInRange start know step
 
--- the core accepts the step of a pass that knows this: as acceptance by searches, but any known key, birth or marked link serves
+-- the machine accepts the step of a pass that knows this: as acceptance by searches, but any known key, birth or marked link serves
 pub record AcceptsKnown (start : Start) (know : Know) (step : Step) : Type 0 where
   pub in_shape : IsInShape start step
   pub owned : IsOwned know step

@@ -1,4 +1,4 @@
--- Runs of the core: lists of events, each accepted after those before it.
+-- Runs of the machine: lists of events, each accepted after those before it.
 use Rattle.std.specs.Prelude.{◌≡◌, ◌≢◌, ℕ, ◌<◌, ◌≤◌, List, [], ◌∷◌, ◌++◌, ◌⊎◌}
 use Rattle.vbr_machine.specs.Start.{Start}
 use Rattle.vbr_machine.specs.Knowledge.{Know}

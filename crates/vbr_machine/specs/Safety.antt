@@ -16,7 +16,7 @@ use Rattle.vbr_machine.specs.Chronicles.{IsLawful}
 use Rattle.vbr_machine.specs.Notes.{IsHeldBy, HoldsJust, AreRightReads}
 use Rattle.vbr_machine.specs.Accounts.{chronicle, incarnations_after, notes_after, IsRightExchange}
 use Rattle.vbr_machine.specs.Agreement.{IsHeldIncarnation, IsNotOf, OwnFits, reads_of}
-use Rattle.vbr_machine.specs.SlotPlaces.{ArePlaced}
+use Rattle.vbr_machine.specs.AgreedPlaces.{ArePlaced}
 use Rattle.vbr_machine.specs.declared.event.Event.{Event}
 use Rattle.vbr_machine.specs.declared.event.Effect.TheVariants.{Won}
 use Rattle.vbr_machine.specs.declared.event.Step.{Step}

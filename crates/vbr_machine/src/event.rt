@@ -1,4 +1,4 @@
-//! The events of the core: which pass makes which step, and what a step answers.
+//! The events of the machine: which pass makes which step, and what a step answers.
 use crate::history::Op;
 use std::error::Error;
 use std::fmt;
@@ -13,7 +13,7 @@ pub struct Event {
     pub step: Step,
 }
 
-/// A step of the core: one atomic operation on one word.
+/// A step of the machine: one atomic operation on one word.
 #[derive(Clone, Copy, Debug, PartialEq, Eq)]
 pub enum Step {
     /// Loads the epoch. Where it is the one that the pass read last, its pending reads are checked;
@@ -132,7 +132,7 @@ pub enum Effect {
     Answered(bool),
 }
 
-/// Why the core refuses an event. The tests are of the pass, the slots and buckets, what
+/// Why the machine refuses an event. The tests are of the pass, the slots and buckets, what
 /// the pass owns, what it has checked, the numbers, and the last epoch, in this order.
 #[derive(Clone, Copy, Debug, PartialEq, Eq)]
 pub enum CoreRefusal {

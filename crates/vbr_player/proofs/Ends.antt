@@ -12,14 +12,14 @@ use Rattle.vbr_script.specs.Grammar.{is_map}
 use Rattle.vbr_script.specs.declared.script.Kind.{Kind}
 use Rattle.vbr_script.specs.declared.script.Kind.TheVariants.{Set, Map}
 use Rattle.vbr_transcript.specs.Contents.{AreContents, Contents, Item, opened_with, opening_contents}
-use Rattle.vbr_player.specs.Closing.{ClosesAs, RenewsAs}
+use Rattle.vbr_player.specs.Closing.{ClosesListing, RenewsAs}
 use Rattle.vbr_player.specs.EndLaws.{IsPlayedAs}
-use Rattle.vbr_player.specs.Playing.{start_of}
+use Rattle.vbr_player.specs.Playing.{start_for}
 
 -- ---- what it opens with
 
 -- nodes have values in a map alone, where it opens and where another follows it
-pub start_values : (kind : Kind) (shape : Dimensions) → (start_of kind shape).shape.values ≡ is_map kind
+pub start_values : (kind : Kind) (shape : Dimensions) → (start_for kind shape).shape.values ≡ is_map kind
 start_values Set shape = refl
 start_values Map shape = refl
 
@@ -44,7 +44,7 @@ opens_listed Map start listed left opens_as values are =
 
 module _ {I R : Type 0} {kind : KindOf I R} {script : Kind} {listed : R → List (Item script)} {epoch : R → ℕ} (plays : IsPlayedAs kind script listed epoch) (set : TableView) (passes : List PassView) where
   -- it is closed
-  pub closes_as : (report : R) → ClosesBy kind set passes report → ClosesAs script set passes (listed report) (epoch report)
+  pub closes_as : (report : R) → ClosesBy kind set passes report → ClosesListing script set passes (listed report) (epoch report)
   closes_as report closes =
       let calls = calls_of set.start closes.run in
       record {

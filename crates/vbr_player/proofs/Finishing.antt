@@ -7,7 +7,7 @@ use Rattle.vbr_slots.specs.Closing.{AllOf, EachSeen}
 use Rattle.vbr_slots.specs.Views.{PassView, TableView}
 use Rattle.vbr_player.specs.Calling.{ArePlayed}
 use Rattle.vbr_player.specs.Ending.{PlayedWhole, passes_of}
-use Rattle.vbr_player.specs.Closing.{ClosesAs, RenewsAs}
+use Rattle.vbr_player.specs.Closing.{ClosesListing, RenewsAs}
 use Rattle.vbr_player.specs.Spans.{HasPlayedSpan, IsFollowed, PlayedSpan}
 use Rattle.vbr_transcript.specs.Contents.{Item}
 use Rattle.vbr_transcript.specs.Merging.{HaveReplies, IsMerged}
@@ -38,7 +38,7 @@ pub as_many : {N : Type 0} {kind : Kind} → (set : TableView) (budget : ℕ) (l
 as_many {N} {kind} set budget lines from phases passes own played = ap length played.passes_are ∙ length-map played.workers (λ (worker : Worker N). worker.caller.pass) ∙ played.stand.count_is
 
 -- what the passes have played has been played when it is closed
-pub closed : {N : Type 0} {kind : Kind} → (set : TableView) (budget : ℕ) (lines : List Line) (from phases : ℕ) (passes : List PassView) (replies : List Reply) (listed : List (Item kind)) (epoch : ℕ) → ArePhased kind set.passes phases lines → 0 < set.passes → PlayedSpan kind N set budget lines from phases passes replies → ClosesAs kind set passes listed epoch → HasPlayedSpan kind set budget lines (phases - from) replies listed epoch
+pub closed : {N : Type 0} {kind : Kind} → (set : TableView) (budget : ℕ) (lines : List Line) (from phases : ℕ) (passes : List PassView) (replies : List Reply) (listed : List (Item kind)) (epoch : ℕ) → ArePhased kind set.passes phases lines → 0 < set.passes → PlayedSpan kind N set budget lines from phases passes replies → ClosesListing kind set passes listed epoch → HasPlayedSpan kind set budget lines (phases - from) replies listed epoch
 closed {N} {kind} set budget lines from phases passes replies listed epoch phased some played closes =
     let whole = played.whole in
     let seen : EachSeen closes.run (passes_of whole.workers) = subst (EachSeen closes.run) whole.passes_are closes.begins in

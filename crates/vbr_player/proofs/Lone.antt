@@ -15,7 +15,7 @@ use Rattle.vbr_slots.specs.Calls.{IsSame, Quiet}
 use Rattle.vbr_slots.specs.Views.{PassView, TableView, Trace, new_trace}
 use Rattle.vbr_slots.proofs.Lemmas.{same_on, same_refl}
 use Rattle.vbr_list.specs.Budgets.{LacksSteps, enough_to_insert, enough_to_look_up, enough_to_search}
-use Rattle.vbr_list.specs.Sparing.{Spares, SparesInsert}
+use Rattle.vbr_list.specs.CallBounds.{BoundsOfCall, BoundsOfInsert}
 use Rattle.vbr_at_table.specs.declared.refusal.Refusal.{Refusal}
 use Rattle.vbr_at_table.specs.declared.refusal.Refusal.TheVariants.{OutOfSteps, NoSlot, EpochSpent}
 use Rattle.vbr_set.specs.MapCalls.{MapAnswersAll}
@@ -89,14 +89,14 @@ lacks_below steps most budget (EpochSpent epoch) within below = tt
 abbrev LacksAmple : PassView → PassView → ℕ → Refusal → Type 0
 LacksAmple p q budget refusal = IsAlone p.trace q.trace → LacksSteps (ample p.trace.start) budget refusal
 
-insert_lacks : (p q : PassView) (key budget : ℕ) (refusal : Refusal) → SparesInsert p q key budget (Err refusal) → LacksAmple p q budget refusal
-insert_lacks p q key budget refusal spares alone = lacks_more (enough_to_insert p key) (ample p.trace.start) budget refusal (insert_ample p key) (spares.within alone)
+insert_lacks : (p q : PassView) (key budget : ℕ) (refusal : Refusal) → BoundsOfInsert p q key budget (Err refusal) → LacksAmple p q budget refusal
+insert_lacks p q key budget refusal bounds alone = lacks_more (enough_to_insert p key) (ample p.trace.start) budget refusal (insert_ample p key) (bounds.within alone)
 
-lacks : (op : Op) (p q : PassView) (key budget : ℕ) (refusal : Refusal) → Spares op p q key budget (Err refusal) → LacksAmple p q budget refusal
-lacks Insert p q key budget refusal spares = insert_lacks p q key budget refusal spares
-lacks Remove p q key budget refusal spares = λ alone. lacks_below (enough_to_search p.trace key) (ample p.trace.start) budget refusal (search_ample p.trace key) (spares.within alone)
-lacks Has p q key budget refusal spares = λ alone. lacks_below (enough_to_look_up p.trace key) (ample p.trace.start) budget refusal (look_up_ample p.trace key) (spares.within alone)
-lacks Get p q key budget refusal spares = absurd spares
+lacks : (op : Op) (p q : PassView) (key budget : ℕ) (refusal : Refusal) → BoundsOfCall op p q key budget (Err refusal) → LacksAmple p q budget refusal
+lacks Insert p q key budget refusal bounds = insert_lacks p q key budget refusal bounds
+lacks Remove p q key budget refusal bounds = λ alone. lacks_below (enough_to_search p.trace key) (ample p.trace.start) budget refusal (search_ample p.trace key) (bounds.within alone)
+lacks Has p q key budget refusal bounds = λ alone. lacks_below (enough_to_look_up p.trace key) (ample p.trace.start) budget refusal (look_up_ample p.trace key) (bounds.within alone)
+lacks Get p q key budget refusal bounds = absurd bounds
 
 -- ---- replies
 
@@ -123,23 +123,23 @@ given_untired (Err refusal) untired is = untired is
 
 called_untired : (set : TableView) (budget : ℕ) (op : Op) (p q : MemberView) (key : ℕ) (answer : Result Bool Refusal) → set.passes ≡ 1 → ample set.start ≤ budget → IsSame (new_trace set 0) p.pass.trace → Called op p q key budget answer → IfErr answer (λ refusal. reply_refused refusal ≢ Tired)
 called_untired set budget op p q key (Ok reply) one enough same called = tt
-called_untired set budget op p q key (Err refusal) one enough same called = refused_untired set budget p q refusal one enough same called.quiet called.safe (lacks op p.pass q.pass key budget refusal called.spares)
+called_untired set budget op p q key (Err refusal) one enough same called = refused_untired set budget p q refusal one enough same called.quiet called.safe (lacks op p.pass q.pass key budget refusal called.bounds)
 
-entry_untired : {A : Type 0} {told : A → List Call} {SparesSo : Result A Refusal → Type 0} (set : TableView) (budget : ℕ) (p q : MemberView) (answer : Result A Refusal) → set.passes ≡ 1 → ample set.start ≤ budget → IsSame (new_trace set 0) p.pass.trace → CalledBy MapAnswersAll told SparesSo p q budget answer → ((refusal : Refusal) → SparesSo (Err refusal) → LacksAmple p.pass q.pass budget refusal) → IfErr answer (λ refusal. reply_refused refusal ≢ Tired)
+entry_untired : {A : Type 0} {told : A → List Call} {BoundsSo : Result A Refusal → Type 0} (set : TableView) (budget : ℕ) (p q : MemberView) (answer : Result A Refusal) → set.passes ≡ 1 → ample set.start ≤ budget → IsSame (new_trace set 0) p.pass.trace → CalledBy MapAnswersAll told BoundsSo p q budget answer → ((refusal : Refusal) → BoundsSo (Err refusal) → LacksAmple p.pass q.pass budget refusal) → IfErr answer (λ refusal. reply_refused refusal ≢ Tired)
 entry_untired set budget p q (Ok reply) one enough same called lacks = tt
-entry_untired set budget p q (Err refusal) one enough same called lacks = refused_untired set budget p q refusal one enough same called.quiet called.safe (lacks refusal called.spares)
+entry_untired set budget p q (Err refusal) one enough same called lacks = refused_untired set budget p q refusal one enough same called.quiet called.safe (lacks refusal called.bounds)
 
 -- ---- lines
 
 -- what a call of a map tells a lone worker
 map_untired : (set : TableView) (budget : ℕ) (op : Op) (key value : ℕ) (reply : Reply) (p q : MemberView) → set.passes ≡ 1 → ample set.start ≤ budget → IsSame (new_trace set 0) p.pass.trace → IsMapCalled op key value budget reply p q → reply ≢ Tired
 map_untired set budget Insert key value reply p q one enough same called is =
-    told_untired called.0 (entry_untired set budget p q called.0 one enough same called.1 (λ refusal spares. insert_lacks p.pass q.pass key budget refusal spares)) (sym called.2 ∙ is)
+    told_untired called.0 (entry_untired set budget p q called.0 one enough same called.1 (λ refusal bounds. insert_lacks p.pass q.pass key budget refusal bounds)) (sym called.2 ∙ is)
 map_untired set budget Remove key value reply p q one enough same called is =
-    given_untired called.0 (entry_untired set budget p q called.0 one enough same called.1 (λ refusal spares alone. lacks_below (enough_to_search p.pass.trace key) (ample p.pass.trace.start) budget refusal (search_ample p.pass.trace key) (spares.within alone))) (sym called.2 ∙ is)
+    given_untired called.0 (entry_untired set budget p q called.0 one enough same called.1 (λ refusal bounds alone. lacks_below (enough_to_search p.pass.trace key) (ample p.pass.trace.start) budget refusal (search_ample p.pass.trace key) (bounds.within alone))) (sym called.2 ∙ is)
 map_untired set budget Has key value reply p q one enough same called is = told_untired called.0 (called_untired set budget Has p q key called.0 one enough same called.1) (sym called.2 ∙ is)
 map_untired set budget Get key value reply p q one enough same called is =
-    given_untired called.0 (entry_untired set budget p q called.0 one enough same called.1 (λ refusal spares alone. lacks_below (enough_to_look_up p.pass.trace key) (ample p.pass.trace.start) budget refusal (look_up_ample p.pass.trace key) (spares.within alone))) (sym called.2 ∙ is)
+    given_untired called.0 (entry_untired set budget p q called.0 one enough same called.1 (λ refusal bounds alone. lacks_below (enough_to_look_up p.pass.trace key) (ample p.pass.trace.start) budget refusal (look_up_ample p.pass.trace key) (bounds.within alone))) (sym called.2 ∙ is)
 
 -- what the call of a line does
 line_untired : (kind : Kind) (set : TableView) (budget : ℕ) (outcome : Outcome) (p q : MemberView) → set.passes ≡ 1 → ample set.start ≤ budget → IsSame (new_trace set 0) p.pass.trace → IsCalled kind budget outcome p q → outcome.1 ≢ Tired

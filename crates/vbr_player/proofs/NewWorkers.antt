@@ -11,7 +11,7 @@ use Rattle.vbr_set.specs.Members.{MemberView, as_member}
 use Rattle.vbr_transcript.specs.Calls.{Outcome, lines_by, lines_up_to}
 use Rattle.vbr_script.specs.Scripts.{AscendFrom}
 use Rattle.vbr_transcript.proofs.Lemmas.{ascend_lower}
-use Rattle.vbr_player.specs.Standing.{AreNumberedFrom, HasPlayed, IsNew, Stand}
+use Rattle.vbr_player.specs.Standing.{AreNumberedFrom, HasPlayed, IsNewWorker, Stand}
 use Rattle.vbr_player.specs.Working.{TellsReply}
 use Rattle.vbr_script.specs.declared.script.Kind.{Kind}
 use Rattle.vbr_script.specs.declared.script.Line.{Line}
@@ -30,7 +30,7 @@ new_is_of set n passes before pass after are all =
     one_behind (λ (p : PassView). IsOf p.trace set × (p.hand ≡ None)) before pass after (subst (λ (ps : List PassView). All (λ p. IsOf p.trace set × (p.hand ≡ None)) ps) (sym (all ∙ are)) (new_are_of set 0 n))
 
 -- a new worker has played no lines
-new_played : {N : Type 0} → (kind : Kind) (set : TableView) (budget most : ℕ) (script : List Line) (who : ℕ) (worker : Worker N) → IsNew set script (new_pass set who) worker → HasPlayed kind set budget most script [] worker
+new_played : {N : Type 0} → (kind : Kind) (set : TableView) (budget most : ℕ) (script : List Line) (who : ℕ) (worker : Worker N) → IsNewWorker set script (new_pass set who) worker → HasPlayed kind set budget most script [] worker
 new_played kind set budget most script who worker new =
     let is : worker.caller.pass ≡ new_pass set who = ap (λ (m : MemberView). m.pass) new.caller_is in
     let number : worker.caller.pass.trace.who ≡ who = ap (λ (p : PassView). p.trace.who) is in
@@ -47,7 +47,7 @@ new_played kind set budget most script who worker new =
       room = omega arith;
     }
 
-all_played : {N : Type 0} → (kind : Kind) (set : TableView) (budget most : ℕ) (script : List Line) (who n : ℕ) (workers : List (Worker N)) → AllZip (IsNew set script) (new_passes set who n) workers → (length workers ≡ n) × AreNumberedFrom who workers × All (HasPlayed kind set budget most script []) workers
+all_played : {N : Type 0} → (kind : Kind) (set : TableView) (budget most : ℕ) (script : List Line) (who n : ℕ) (workers : List (Worker N)) → AllZip (IsNewWorker set script) (new_passes set who n) workers → (length workers ≡ n) × AreNumberedFrom who workers × All (HasPlayed kind set budget most script []) workers
 all_played kind set budget most script who zero [] are = (refl, tt, All-nil (HasPlayed kind set budget most script []))
 all_played kind set budget most script who (suc n) (w ∷ ws) are =
     let rest = all_played kind set budget most script (suc who) n ws are.1 in
@@ -55,9 +55,9 @@ all_played kind set budget most script who (suc n) (w ∷ ws) are =
 all_played kind set budget most script who zero (w ∷ ws) are = absurd are
 all_played kind set budget most script who (suc n) [] are = absurd are
 
-pub new_stand : {N : Type 0} {kind : Kind} → (set : TableView) (script : List Line) (passes : List PassView) (n : ℕ) (workers : List (Worker N)) → passes ≡ new_passes set 0 n → AllZip (IsNew set script) passes workers → (budget : ℕ) → Stand kind set budget script [] n 0 0 workers
+pub new_stand : {N : Type 0} {kind : Kind} → (set : TableView) (script : List Line) (passes : List PassView) (n : ℕ) (workers : List (Worker N)) → passes ≡ new_passes set 0 n → AllZip (IsNewWorker set script) passes workers → (budget : ℕ) → Stand kind set budget script [] n 0 0 workers
 new_stand {N} {kind} set script passes n workers is are budget =
-    let all = all_played kind set budget ((n - 1) * (0 - 0)) script 0 n workers (subst (λ (ps : List PassView). AllZip (IsNew set script) ps workers) is are) in
+    let all = all_played kind set budget ((n - 1) * (0 - 0)) script 0 n workers (subst (λ (ps : List PassView). AllZip (IsNewWorker set script) ps workers) is are) in
     record { count_is = all.0; order = omega arith; numbered = all.1; played = all.2; ended = λ phase none. absurd (omega arith) }
 
 -- behind phases that have no lines they stand too

@@ -10,7 +10,7 @@ use Rattle.vbr_transcript.specs.Calls.{lines_up_to}
 use Rattle.vbr_player.specs.Meeting.{PlayedAndMet}
 use Rattle.vbr_script.specs.Scripts.{AscendFrom}
 use Rattle.vbr_player.specs.Standing.{Stand}
-use Rattle.vbr_player.specs.Working.{HaveRoom}
+use Rattle.vbr_player.specs.Working.{HaveRoomForReplies}
 use Rattle.vbr_script.specs.declared.script.Kind.{Kind}
 use Rattle.vbr_script.specs.declared.script.Line.{Line}
 use Rattle.vbr_player.specs.declared.worker.Worker.{Worker}
@@ -61,9 +61,9 @@ pub slice_of : (lines : List Line) (first n : ℕ) → take (first + n - first) 
 slice_of lines first n = ap (λ (k : ℕ). take k (drop first lines)) (let e : first + n - first ≡ n = omega arith in e)
 
 -- the workers have room for the lines of the next phase
-pub next_room : {N : Type 0} {kind : Kind} → (set : TableView) (budget : ℕ) (script : List Line) (first n from phase count : ℕ) (workers : List (Worker N)) → Cuts script first n phase → Stand kind set budget script (take first script) count from phase workers → HaveRoom workers (take (first + n - first) (drop first script))
+pub next_room : {N : Type 0} {kind : Kind} → (set : TableView) (budget : ℕ) (script : List Line) (first n from phase count : ℕ) (workers : List (Worker N)) → Cuts script first n phase → Stand kind set budget script (take first script) count from phase workers → HaveRoomForReplies workers (take (first + n - first) (drop first script))
 next_room {N} {kind} set budget script first n from phase count workers cut stand =
-    subst (λ (lines : List Line). HaveRoom workers lines) (sym (slice_of script first n)) (all_room set budget ((count - 1) * (phase - from)) script (take first script) (take n (drop first script)) (drop (first + n) script) workers cut.left stand.played)
+    subst (λ (lines : List Line). HaveRoomForReplies workers lines) (sym (slice_of script first n)) (all_room set budget ((count - 1) * (phase - from)) script (take first script) (take n (drop first script)) (drop (first + n) script) workers cut.left stand.played)
 
 -- they stand behind it when they have played it and met
 pub stand_behind : {N : Type 0} {kind : Kind} → (set : TableView) (budget : ℕ) (script : List Line) (first n from phase count : ℕ) (ws us : List (Worker N)) → Cuts script first n phase → Stand kind set budget script (take first script) count from phase ws → PlayedAndMet kind budget (take (first + n - first) (drop first script)) ws us → Stand kind set budget script (take (first + n) script) count from (phase + 1) us

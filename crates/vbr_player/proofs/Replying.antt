@@ -15,7 +15,7 @@ use Rattle.vbr_slots.specs.Calls.{IsSame, Quiet, made_by}
 use Rattle.vbr_slots.specs.Views.{PassView}
 use Rattle.vbr_slots.proofs.Lemmas.{same_refl}
 use Rattle.vbr_list.specs.Refusals.{IsRefusedInsert, IsTired}
-use Rattle.vbr_list.specs.Sparing.{Spares}
+use Rattle.vbr_list.specs.CallBounds.{BoundsOfCall}
 use Rattle.vbr_list.specs.Told.{given_by, given_call, stored_call}
 use Rattle.vbr_at_table.specs.declared.refusal.Refusal.{Refusal}
 use Rattle.vbr_at_table.specs.declared.refusal.Refusal.TheVariants.{OutOfSteps, NoSlot, EpochSpent}
@@ -31,7 +31,7 @@ use Rattle.vbr_transcript.specs.Runs.{gives_value}
 use Rattle.vbr_transcript.specs.declared.reply.Reply.{Reply}
 use Rattle.vbr_transcript.specs.declared.reply.Reply.TheVariants.{Yes, Value, No}
 use Rattle.vbr_player.specs.Calling.{CallsInTurn, IsCalled, IsMapCalled, reply_given, reply_refused, reply_told}
-use Rattle.vbr_player.specs.Working.{HasRoom, Played, TellsReply}
+use Rattle.vbr_player.specs.Working.{HasRoomForReplies, Played, TellsReply}
 use Rattle.vbr_player.specs.declared.worker.Worker.{Worker}
 use Rattle.vbr_player.proofs.Calling.{one_turn}
 
@@ -52,11 +52,11 @@ tired_tells kind op p q budget (OutOfSteps used) tired = tt
 tired_tells kind op p q budget NoSlot tired = absurd tired
 tired_tells kind op p q budget (EpochSpent epoch) tired = absurd tired
 
-tells : (kind : Kind) (op : Op) (p q : PassView) (key budget : ℕ) (refusal : Refusal) → IsSafe q.trace.start q.trace.seen → Spares op p q key budget (Err refusal) → TellsReply kind q.trace op (reply_refused refusal)
-tells kind Insert p q key budget refusal safe spares = insert_tells kind p q key budget refusal safe spares.refused
-tells kind Remove p q key budget refusal safe spares = tired_tells kind Remove p q budget refusal spares.refused
-tells kind Has p q key budget refusal safe spares = tired_tells kind Has p q budget refusal spares.refused
-tells kind Get p q key budget refusal safe spares = absurd spares
+tells : (kind : Kind) (op : Op) (p q : PassView) (key budget : ℕ) (refusal : Refusal) → IsSafe q.trace.start q.trace.seen → BoundsOfCall op p q key budget (Err refusal) → TellsReply kind q.trace op (reply_refused refusal)
+tells kind Insert p q key budget refusal safe bounds = insert_tells kind p q key budget refusal safe bounds.refused
+tells kind Remove p q key budget refusal safe bounds = tired_tells kind Remove p q budget refusal bounds.refused
+tells kind Has p q key budget refusal safe bounds = tired_tells kind Has p q budget refusal bounds.refused
+tells kind Get p q key budget refusal safe bounds = absurd bounds
 
 -- ---- what an answer and a refusal leave
 
@@ -106,7 +106,7 @@ called_replied kind line p q budget (Ok true) who stores gives called =
 called_replied kind line p q budget (Ok false) who stores gives called =
     let is : set_call p.pass.trace.who line.op line.key false ∷ [] ≡ answer_of kind line No = λ i. set_call (sym who i) line.op line.key false ∷ [] in
     answered kind line No (set_call p.pass.trace.who line.op line.key false) budget p q called.set called.answers called.steps is tt
-called_replied kind line p q budget (Err refusal) who stores gives called = refused kind line refusal budget p q called.set called.quiet called.steps (tells kind line.op p.pass q.pass line.key budget refusal called.safe.safe called.spares)
+called_replied kind line p q budget (Err refusal) who stores gives called = refused kind line refusal budget p q called.set called.quiet called.steps (tells kind line.op p.pass q.pass line.key budget refusal called.safe.safe called.bounds)
 
 -- an insert of an entry
 inserted : (line : Line) (p q : MemberView) (budget : ℕ) (answer : Result Bool Refusal) → line.worker ≡ p.pass.trace.who → InsertsEntry p q line.key line.value budget answer → Replied Map (record line { op = Insert }) (reply_told answer) budget p q
@@ -118,10 +118,10 @@ inserted line p q budget (Ok false) who called =
     let asked = record line { op = Insert } in
     let is : stored_call p.pass.trace.who line.key line.value false ∷ [] ≡ answer_of Map asked No = λ i. stored_call (sym who i) line.key line.value false ∷ [] in
     answered Map asked No (stored_call p.pass.trace.who line.key line.value false) budget p q called.set called.answers.answers called.steps is tt
-inserted line p q budget (Err refusal) who called = refused Map (record line { op = Insert }) refusal budget p q called.set called.quiet called.steps (insert_tells Map p.pass q.pass line.key budget refusal called.safe.safe called.spares.refused)
+inserted line p q budget (Err refusal) who called = refused Map (record line { op = Insert }) refusal budget p q called.set called.quiet called.steps (insert_tells Map p.pass q.pass line.key budget refusal called.safe.safe called.bounds.refused)
 
 -- a call that gives the value of an entry
-given : {SparesSo : Result (Option ℕ) Refusal → Type 0} (op : Op) (line : Line) (p q : MemberView) (budget : ℕ) (answer : Result (Option ℕ) Refusal) → line.worker ≡ p.pass.trace.who → CalledBy MapAnswersAll (one (given_call p.pass.trace.who op line.key)) SparesSo p q budget answer → gives_value Map op ≡ true → ((value : Option ℕ) → given_by op value ≡ value) → ((refusal : Refusal) → SparesSo (Err refusal) → IsTired p.pass q.pass budget refusal) → Replied Map (record line { op = op }) (reply_given answer) budget p q
+given : {BoundsSo : Result (Option ℕ) Refusal → Type 0} (op : Op) (line : Line) (p q : MemberView) (budget : ℕ) (answer : Result (Option ℕ) Refusal) → line.worker ≡ p.pass.trace.who → CalledBy MapAnswersAll (one (given_call p.pass.trace.who op line.key)) BoundsSo p q budget answer → gives_value Map op ≡ true → ((value : Option ℕ) → given_by op value ≡ value) → ((refusal : Refusal) → BoundsSo (Err refusal) → IsTired p.pass q.pass budget refusal) → Replied Map (record line { op = op }) (reply_given answer) budget p q
 given op line p q budget (Ok (Some value)) who called gives same tired =
     let asked = record line { op = op } in
     let is : given_call p.pass.trace.who op line.key (Some value) ∷ [] ≡ answer_of Map asked (Value value) = λ i. record { who = sym who i; op = op; key = line.key; reply = true; value = same (Some value) i } ∷ [] in
@@ -130,7 +130,7 @@ given op line p q budget (Ok None) who called gives same tired =
     let asked = record line { op = op } in
     let is : given_call p.pass.trace.who op line.key None ∷ [] ≡ answer_of Map asked No = λ i. record { who = sym who i; op = op; key = line.key; reply = false; value = same None i } ∷ [] in
     answered Map asked No (given_call p.pass.trace.who op line.key None) budget p q called.set called.answers.answers called.steps is tt
-given op line p q budget (Err refusal) who called gives same tired = refused Map (record line { op = op }) refusal budget p q called.set called.quiet called.steps (tired_tells Map op p.pass q.pass budget refusal (tired refusal called.spares))
+given op line p q budget (Err refusal) who called gives same tired = refused Map (record line { op = op }) refusal budget p q called.set called.quiet called.steps (tired_tells Map op p.pass q.pass budget refusal (tired refusal called.bounds))
 
 -- a call of a map
 map_replied : (op : Op) (line : Line) (reply : Reply) (p q : MemberView) (budget : ℕ) → line.worker ≡ p.pass.trace.who → IsMapCalled op line.key line.value budget reply p q → Replied Map (record line { op = op }) reply budget p q
@@ -138,12 +138,12 @@ map_replied Insert line reply p q budget who called =
     subst (λ (r : Reply). Replied Map (record line { op = Insert }) r budget p q) (sym called.2) (inserted line p q budget called.0 who called.1)
 map_replied Remove line reply p q budget who called =
     subst (λ (r : Reply). Replied Map (record line { op = Remove }) r budget p q) (sym called.2)
-    (given Remove line p q budget called.0 who called.1 refl (λ value. refl) (λ refusal spares. spares.refused))
+    (given Remove line p q budget called.0 who called.1 refl (λ value. refl) (λ refusal bounds. bounds.refused))
 map_replied Has line reply p q budget who called =
     subst (λ (r : Reply). Replied Map (record line { op = Has }) r budget p q) (sym called.2) (called_replied Map (record line { op = Has }) p q budget called.0 who refl refl called.1)
 map_replied Get line reply p q budget who called =
     subst (λ (r : Reply). Replied Map (record line { op = Get }) r budget p q) (sym called.2)
-    (given Get line p q budget called.0 who called.1 refl (λ value. refl) (λ refusal spares. spares.refused))
+    (given Get line p q budget called.0 who called.1 refl (λ value. refl) (λ refusal bounds. bounds.refused))
 
 -- the call of a line
 pub replied : (kind : Kind) (line : Line) (reply : Reply) (p q : MemberView) (budget : ℕ) → line.worker ≡ p.pass.trace.who → IsCalled kind budget (line, reply) p q → Replied kind line reply budget p q
@@ -178,7 +178,7 @@ line_played kind line budget reply p q who called replies room =
     }
 
 -- room for a reply to it is room for one more
-pub room_for_one : {N : Type 0} → (line : Line) (p : Worker N) → line.worker ≡ p.caller.pass.trace.who → HasRoom p (line ∷ []) → length p.replies.items < vec_capacity p.replies
+pub room_for_one : {N : Type 0} → (line : Line) (p : Worker N) → line.worker ≡ p.caller.pass.trace.who → HasRoomForReplies p (line ∷ []) → length p.replies.items < vec_capacity p.replies
 room_for_one line p who room =
     let own : lines_by p.caller.pass.trace.who (line ∷ []) ≡ line ∷ [] = rw (eq-eqb line.worker p.caller.pass.trace.who who) refl in
     let one : length (lines_by p.caller.pass.trace.who (line ∷ [])) ≡ 1 = ap length own in omega arith

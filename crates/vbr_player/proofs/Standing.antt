@@ -22,7 +22,7 @@ use Rattle.vbr_player.specs.Calling.{CallsInTurn}
 use Rattle.vbr_player.specs.Meeting.{AreOfOne, HasSeenMore, Meets, PlayedAndMet}
 use Rattle.vbr_transcript.specs.Merging.{replies_by}
 use Rattle.vbr_player.specs.Standing.{replies_of, AreNumberedFrom, HasPlayed, HasEnded, Stand}
-use Rattle.vbr_player.specs.Working.{TellsReply, HasRoom, HaveRoom, Played}
+use Rattle.vbr_player.specs.Working.{TellsReply, HasRoomForReplies, HaveRoomForReplies, Played}
 use Rattle.vbr_script.specs.declared.script.Kind.{Kind}
 use Rattle.vbr_script.specs.declared.script.Line.{Line}
 use Rattle.vbr_transcript.specs.declared.reply.Reply.{Reply}
@@ -35,7 +35,7 @@ use Rattle.vbr_player.proofs.Working.{all_tell_on}
 -- ---- one worker
 
 -- it has room for the next lines
-pub room_for : {N : Type 0} {kind : Kind} → (set : TableView) (budget most : ℕ) (script front slice back : List Line) (w : Worker N) → script ≡ (front ++ slice) ++ back → HasPlayed kind set budget most script front w → HasRoom w slice
+pub room_for : {N : Type 0} {kind : Kind} → (set : TableView) (budget most : ℕ) (script front slice back : List Line) (w : Worker N) → script ≡ (front ++ slice) ++ back → HasPlayed kind set budget most script front w → HasRoomForReplies w slice
 room_for {N} {kind} set budget most script front slice back w whole has =
     let who = w.caller.pass.trace.who in
     let all : length (lines_by who script) ≡ length (lines_by who front) + length (lines_by who slice) + length (lines_by who back) =
@@ -247,7 +247,7 @@ pub are_of_stand : {N : Type 0} {kind : Kind} → (set : TableView) (budget : �
 are_of_stand {N} {kind} set budget script lines count from phases ws stand = record { set = set; all = λ k d inside. (stand.played k d inside).set_is }
 
 -- all have room for the next lines
-pub all_room : {N : Type 0} {kind : Kind} → (set : TableView) (budget most : ℕ) (script front slice back : List Line) (ws : List (Worker N)) → script ≡ (front ++ slice) ++ back → All (HasPlayed kind set budget most script front) ws → HaveRoom ws slice
+pub all_room : {N : Type 0} {kind : Kind} → (set : TableView) (budget most : ℕ) (script front slice back : List Line) (ws : List (Worker N)) → script ≡ (front ++ slice) ++ back → All (HasPlayed kind set budget most script front) ws → HaveRoomForReplies ws slice
 all_room {N} {kind} set budget most script front slice back ws whole played = λ k d inside. room_for set budget most script front slice back _ whole (played k d inside)
 
 -- one phase more, and the steps of its meeting

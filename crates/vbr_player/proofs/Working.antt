@@ -12,7 +12,7 @@ use Rattle.vbr_slots.specs.Views.{Trace}
 use Rattle.vbr_slots.proofs.Lemmas.{same_on, same_refl}
 use Rattle.vbr_transcript.specs.Calls.{Outcome, answered_calls, lines_by}
 use Rattle.vbr_player.specs.Calling.{CallsInTurn}
-use Rattle.vbr_player.specs.Working.{TellsReply, Played, HasRoom}
+use Rattle.vbr_player.specs.Working.{TellsReply, Played, HasRoomForReplies}
 use Rattle.vbr_script.specs.declared.script.Kind.{Kind}
 use Rattle.vbr_script.specs.declared.script.Line.{Line}
 use Rattle.vbr_transcript.specs.declared.reply.Reply.{Reply}
@@ -102,7 +102,7 @@ played_next {N} {kind} budget lines i d p q r inside first then =
 -- ---- room
 
 -- room for some lines and others is left for the others when the first were played
-pub room_on : {N : Type 0} {kind : Kind} → (budget : ℕ) (lines more : List Line) (p q : Worker N) → Played kind budget lines p q → HasRoom p (lines ++ more) → HasRoom q more
+pub room_on : {N : Type 0} {kind : Kind} → (budget : ℕ) (lines more : List Line) (p q : Worker N) → Played kind budget lines p q → HasRoomForReplies p (lines ++ more) → HasRoomForReplies q more
 room_on {N} {kind} budget lines more p q played room =
     let who = p.caller.pass.trace.who in
     let all : length (lines_by who (lines ++ more)) ≡ length (lines_by who lines) + length (lines_by who more) = ap length (lines_by-append who lines more) ∙ length-append (lines_by who lines) (lines_by who more) in
@@ -111,14 +111,14 @@ room_on {N} {kind} budget lines more p q played room =
     let each = played.one_each in let grows = played.room in omega arith
 
 -- room for some lines and others is room for the first
-pub room_front : {N : Type 0} → (lines more : List Line) (p : Worker N) → HasRoom p (lines ++ more) → HasRoom p lines
+pub room_front : {N : Type 0} → (lines more : List Line) (p : Worker N) → HasRoomForReplies p (lines ++ more) → HasRoomForReplies p lines
 room_front lines more p room =
     let who = p.caller.pass.trace.who in
     let all : length (lines_by who (lines ++ more)) ≡ length (lines_by who lines) + length (lines_by who more) = ap length (lines_by-append who lines more) ∙ length-append (lines_by who lines) (lines_by who more) in
     omega arith
 
 -- room for the next line
-pub room_next : {N : Type 0} {kind : Kind} → (budget : ℕ) (lines : List Line) (i : ℕ) (d : Line) (p q : Worker N) → i < length lines → Played kind budget (take i lines) p q → HasRoom p lines → HasRoom q (get_or lines i d ∷ [])
+pub room_next : {N : Type 0} {kind : Kind} → (budget : ℕ) (lines : List Line) (i : ℕ) (d : Line) (p q : Worker N) → i < length lines → Played kind budget (take i lines) p q → HasRoomForReplies p lines → HasRoomForReplies q (get_or lines i d ∷ [])
 room_next {N} {kind} budget lines i d p q inside played room =
     let parts : lines ≡ take i lines ++ (get_or lines i d ∷ drop (i + 1) lines) = sym (take-append-drop i lines) ∙ ap (λ (rest : List Line). take i lines ++ rest) (drop-cons lines i d inside ∙ ap (λ (n : ℕ). get_or lines i d ∷ drop n lines) (sym (add-one i))) in
-    room_front (get_or lines i d ∷ []) (drop (i + 1) lines) q (room_on budget (take i lines) (get_or lines i d ∷ drop (i + 1) lines) p q played (subst (λ (some : List Line). HasRoom p some) parts room))
+    room_front (get_or lines i d ∷ []) (drop (i + 1) lines) q (room_on budget (take i lines) (get_or lines i d ∷ drop (i + 1) lines) p q played (subst (λ (some : List Line). HasRoomForReplies p some) parts room))

@@ -9,7 +9,7 @@ use Rattle.vbr_script.specs.declared.script.Kind.{Kind}
 use Rattle.vbr_transcript.specs.Contents.{AreContents, IsLegalFrom, Item, contents_after, opened_with, opening_contents}
 
 -- it is closed by a safe run that begins with what each pass has seen: the calls of the run are legal from what it opened with, and leave just what is listed, at this epoch
-pub record ClosesAs (kind : Kind) (set : TableView) (passes : List PassView) (listed : List (Item kind)) (epoch : ℕ) : Type 0 where
+pub record ClosesListing (kind : Kind) (set : TableView) (passes : List PassView) (listed : List (Item kind)) (epoch : ℕ) : Type 0 where
   pub run : List Event
   pub is_run : IsRun set.start set.passes run
   pub begins : EachSeen run passes
@@ -22,7 +22,7 @@ pub record ClosesAs (kind : Kind) (set : TableView) (passes : List PassView) (li
 pub record RenewsAs (kind : Kind) (set : TableView) (passes : List PassView) (next : TableView) : Type 0 where
   pub listed : List (Item kind)
   pub epoch : ℕ
-  pub closes : ClosesAs kind set passes listed epoch
+  pub closes : ClosesListing kind set passes listed epoch
   pub start : next.start ≡ opened_with kind set.start listed
   pub opens : opening_contents kind (opened_with kind set.start listed) ≡ contents_after kind (opening_contents kind set.start) (world_after set.start closes.run).calls
   pub count : next.passes ≡ set.passes

@@ -19,15 +19,15 @@ use Rattle.vbr_transcript.specs.declared.error.RunError.TheVariants as error
 use Rattle.vbr_settings.specs.Settings.{Settings}
 
 -- what a set, or a map, starts with that a script is played on: it is empty
-abbrev pub start_of : Kind → Dimensions → Start
-start_of Set shape = set_start shape []
-start_of Map shape = map_start shape []
+abbrev pub start_for : Kind → Dimensions → Start
+start_for Set shape = set_start shape []
+start_for Map shape = map_start shape []
 
 -- the text is a script of this kind for the workers, and the output is the layout of a run of it with these totals, which they played with the budget
 abbrev pub Prints : (kind : Kind) → Settings → List ℕ → TotalsOf kind → List ℕ → Type 0
 Prints kind settings text totals output =
     (replies : List Reply) × (first_fault kind settings.workers text ≡ None)
-    × IsScriptRun kind (ArePlayed kind settings.workers settings.budget) (start_of kind settings.shape) settings.workers (phases_of kind settings.workers text) (renewals_of kind settings.workers text) (script_of kind settings.workers text) replies totals
+    × IsScriptRun kind (ArePlayed kind settings.workers settings.budget) (start_for kind settings.shape) settings.workers (phases_of kind settings.workers text) (renewals_of kind settings.workers text) (script_of kind settings.workers text) replies totals
     × (output ≡ layout_of kind settings.epoch replies totals)
 
 -- want of memory, or of a thread for a worker

@@ -52,7 +52,7 @@ pub record Stand {N : Type 0} (kind : Kind) (set : TableView) (budget : ℕ) (sc
   pub ended : (phase : ℕ) → phase < phases → HasEnded kind set script phase workers
 
 -- a pass of a set has become a worker: it has no replies, and room for those to its own lines
-pub record IsNew {N : Type 0} (set : TableView) (script : List Line) (pass : PassView) (worker : Worker N) : Type 0 where
+pub record IsNewWorker {N : Type 0} (set : TableView) (script : List Line) (pass : PassView) (worker : Worker N) : Type 0 where
   pub caller_is : worker.caller ≡ record { set = set; pass = pass }
   pub none : worker.replies.items ≡ []
   pub room : length (lines_by pass.trace.who script) ≤ vec_capacity worker.replies

@@ -30,12 +30,12 @@ TellsReply kind q op Spent = (op ≡ Insert) × (q.start.shape.last_epoch ≤ (w
 TellsReply kind q op _ = Unit {0}
 
 -- a worker has room for a reply to each of its own lines among these
-abbrev pub HasRoom : {N : Type 0} → Worker N → List Line → Type 0
-HasRoom p lines = length p.replies.items + length (lines_by p.caller.pass.trace.who lines) ≤ vec_capacity p.replies
+abbrev pub HasRoomForReplies : {N : Type 0} → Worker N → List Line → Type 0
+HasRoomForReplies p lines = length p.replies.items + length (lines_by p.caller.pass.trace.who lines) ≤ vec_capacity p.replies
 
 -- each of the workers has
-abbrev pub HaveRoom : {N : Type 0} → List (Worker N) → List Line → Type 0
-HaveRoom workers lines = All (λ worker. HasRoom worker lines) workers
+abbrev pub HaveRoomForReplies : {N : Type 0} → List (Worker N) → List Line → Type 0
+HaveRoomForReplies workers lines = All (λ worker. HasRoomForReplies worker lines) workers
 
 -- a worker played its own lines among these, in order, with a budget for each: each was given the reply of its call, the calls that its pass made are those that were answered, and the steps that it made are within the budgets
 pub record Played {N : Type 0} (kind : Kind) (budget : ℕ) (lines : List Line) (p q : Worker N) : Type 0 where

@@ -15,11 +15,11 @@ mod opened;
 mod opening;
 mod part;
 mod phase;
+mod phase_worker;
 mod phases;
 mod playable;
 pub mod playing;
 mod sets;
-mod turn;
 mod worker;
 
 pub use gate::{Gate, NoGate};

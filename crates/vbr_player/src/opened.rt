@@ -2,9 +2,9 @@
 ghost use Rattle.std.specs.Prelude.{◌≡◌, ◌<◌, IfOk, IfErr, length};
 ghost use Rattle.vbr_slots.specs.Closing.{AllOf};
 ghost use Rattle.vbr_script.specs.Grammar.{is_map};
-ghost use Rattle.vbr_player.specs.Closing.{ClosesAs, RenewsAs};
-ghost use Rattle.vbr_player.specs.Opened.{IsFresh};
-ghost use Rattle.vbr_player.specs.Playing.{start_of};
+ghost use Rattle.vbr_player.specs.Closing.{ClosesListing, RenewsAs};
+ghost use Rattle.vbr_player.specs.Opened.{IsJustOpened};
+ghost use Rattle.vbr_player.specs.Playing.{start_for};
 
 use crate::playable::Playable;
 use std::alloc::Global;
@@ -26,9 +26,9 @@ pub struct Opened<N: Nodes> {
 
 // Opens an empty set or map, with a pass for each worker.
 pub fn open<N: Playable>(alloc: Global, config: &Config) -> Result<Opened<N>, RunError>
-    ensures start { IfOk result (λ now. now.set.start ≡ start_of N.script config.now.shape) }
+    ensures start { IfOk result (λ now. now.set.start ≡ start_for N.script config.now.shape) }
     ensures count { IfOk result (λ now. now.set.passes ≡ config.now.workers) }
-    ensures fresh { IfOk result (IsFresh N.script) }
+    ensures fresh { IfOk result (IsJustOpened N.script) }
     ensures memory { IfErr result (λ error. error ≡ RunError.Memory) }
 {
     match VbrSet::<N>::open(alloc, config.shape(), config.workers()) {
@@ -49,7 +49,7 @@ pub fn renew<N: Playable>(
     requires values { set.start.shape.values ≡ is_map N.script }
     requires some { 0 < set.passes }
     ensures renewed { IfOk result (λ next. RenewsAs N.script set passes.items next.set) }
-    ensures fresh { IfOk result (IsFresh N.script) }
+    ensures fresh { IfOk result (IsJustOpened N.script) }
     ensures memory { IfErr result (λ error. error ≡ RunError.Memory) }
 {
     entries_open_as_their_map();
@@ -69,7 +69,7 @@ pub fn close<N: Playable>(
     requires all { AllOf set passes.items }
     requires count { length passes.items ≡ set.passes }
     ensures closes { IfOk result
-        (λ report. ClosesAs N.script set passes.items (N.listed report) (N.epoch report)) }
+        (λ report. ClosesListing N.script set passes.items (N.listed report) (N.epoch report)) }
     ensures memory { IfErr result (λ error. error ≡ RunError.Memory) }
 {
     match set.close(alloc, passes) {

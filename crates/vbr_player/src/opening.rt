@@ -1,7 +1,7 @@
 // The workers of a set or a map, before its first phase.
 ghost use Rattle.std.specs.Prelude.{◌≡◌, ℕ, ◌==◌, [], None, count_by, IfOk};
 ghost use Rattle.vbr_slots.specs.Views.{IsOf, new_passes};
-ghost use Rattle.vbr_player.specs.Standing.{IsNew, Stand};
+ghost use Rattle.vbr_player.specs.Standing.{IsNewWorker, Stand};
 
 use crate::asking::Asked;
 use crate::worker::Worker;
@@ -41,7 +41,7 @@ fn new_worker<'w, N: Nodes>(
 ) -> Result<Worker<'w, N>, AllocError>
     requires own { IsOf pass.trace set.now }
     requires empty_hand { pass.hand ≡ None }
-    ensures { IfOk result (λ worker. IsNew set.now lines.now pass worker) }
+    ensures { IfOk result (λ worker. IsNewWorker set.now lines.now pass worker) }
 {
     let own = count_of(lines, pass.who());
     let replies = Vec::with_capacity(alloc, own)?;

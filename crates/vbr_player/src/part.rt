@@ -1,6 +1,6 @@
 // What a worker is given to play.
 ghost use Rattle.std.specs.Prelude.{◌≡◌, ◌+◌, ◌-◌, ◌<◌, ◌≤◌, ◌^◌, length, take, drop};
-ghost use Rattle.vbr_player.specs.Working.{HasRoom};
+ghost use Rattle.vbr_player.specs.Working.{HasRoomForReplies};
 
 use crate::worker::Worker;
 use std::alloc::AllocError;
@@ -67,5 +67,5 @@ pub struct Task<'p, N: Nodes, G> {
     pub part: Part<'p, G>,
     /// The worker.
     pub worker: Worker<'p, N>,
-    ghost room: { HasRoom worker part.lines.now },
+    ghost room: { HasRoomForReplies worker part.lines.now },
 }

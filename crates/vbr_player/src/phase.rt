@@ -1,6 +1,6 @@
 // A phase: each worker that has lines in it plays them in a thread of its own.
 ghost use Rattle.std.specs.Prelude.{◌≡◌, [], IfOk, IfErr};
-ghost use Rattle.vbr_player.specs.Working.{EachPlayed, HaveRoom, MayBeAsked};
+ghost use Rattle.vbr_player.specs.Working.{EachPlayed, HaveRoomForReplies, MayBeAsked};
 ghost use Rattle.vbr_player.specs.Meeting.{AreOfOne, PlayedAndMet};
 ghost use Rattle.vbr_player.specs.Playing.{IsWant};
 ghost use Rattle.vbr_player.specs.Starting.{AreEndedBy};
@@ -9,7 +9,7 @@ use crate::asking::Asked;
 use crate::gate::Gate;
 use crate::meeting::meet_all;
 use crate::part::{Part, Task};
-use crate::turn::{Turn, end, take_turn};
+use crate::phase_worker::{PhaseWorker, end, start_worker};
 use crate::worker::Worker;
 use std::alloc::Global;
 use std::sync::Wait;
@@ -26,7 +26,7 @@ pub fn play_phase<'e, R: Threads + Wait, N: Asked + Sync, G: Gate + Sync>(
     workers: Vec<Worker<'e, N>>,
 ) -> Result<Vec<Worker<'e, N>>, RunError>
     requires of { AreOfOne workers.items }
-    requires room { HaveRoom workers.items part.lines.now }
+    requires room { HaveRoomForReplies workers.items part.lines.now }
     requires may_ask { MayBeAsked N.KIND part.lines.now }
     ensures met { IfOk result (λ met. PlayedAndMet N.KIND part.entry.budget
         part.entry.lines.now workers.entry.items met.items) }
@@ -36,53 +36,53 @@ pub fn play_phase<'e, R: Threads + Wait, N: Asked + Sync, G: Gate + Sync>(
         thread::scope_env::<'e>(),
         rt,
         move |scope| -> Result<Vec<Worker<N>>, RunError>
-            requires room { HaveRoom workers.items part.lines.now }
+            requires room { HaveRoomForReplies workers.items part.lines.now }
             requires may_ask { MayBeAsked N.KIND part.lines.now }
             ensures played { IfOk result (λ played. EachPlayed N.KIND part.entry.budget
                 part.entry.lines.now workers.entry.items played.items) }
             ensures fault { IfErr result IsWant }
-        { play_apart(scope, rt, alloc, part, workers) },
+        { play_in_threads(scope, rt, alloc, part, workers) },
     )?;
     Ok(meet_all(workers))
 }
 
-// Gives each worker its turn, and waits for all.
-fn play_apart<'s, 'e, R: Threads + Wait, N: Asked + Sync, G: Gate + Sync>(
+// Starts each worker, in a thread of its own where it has lines, and waits for all.
+fn play_in_threads<'s, 'e, R: Threads + Wait, N: Asked + Sync, G: Gate + Sync>(
     scope: &'s Scope<'s, &'e ()>,
     rt: &'e R,
     alloc: Global,
     part: Part<'e, G>,
     workers: Vec<Worker<'e, N>>,
 ) -> Result<Vec<Worker<'e, N>>, RunError>
-    requires room { HaveRoom workers.items part.lines.now }
+    requires room { HaveRoomForReplies workers.items part.lines.now }
     requires may_ask { MayBeAsked N.KIND part.lines.now }
     ensures played { IfOk result (λ played. EachPlayed N.KIND part.entry.budget
         part.entry.lines.now workers.entry.items played.items) }
     ensures fault { IfErr result IsWant }
 {
-    let mut turns = Vec::with_capacity(alloc, workers.len())?;
+    let mut all_started = Vec::with_capacity(alloc, workers.len())?;
     let played = Vec::with_capacity(alloc, workers.len())?;
     for worker in workers {
-        let turn = take_turn(scope, Task { part, worker })?;
-        let Ok(()) = turns.push(turn) else {
+        let started = start_worker(scope, Task { part, worker })?;
+        let Ok(()) = all_started.push(started) else {
             return Err(RunError::Memory);
         };
     }
-    join_all(rt, turns, played)
+    join_all(rt, all_started, played)
 }
 
 // Waits for the workers, in their order. The vector for them has room for all.
 fn join_all<'l, R: Threads, N: Asked>(
     rt: &R,
-    turns: Vec<Turn<'l, N>>,
+    all_started: Vec<PhaseWorker<'l, N>>,
     mut played: Vec<Worker<'l, N>>,
 ) -> Result<Vec<Worker<'l, N>>, RunError>
     requires none { played.items ≡ [] }
-    ensures ended { IfOk result (λ played. AreEndedBy N.KIND turns.entry.items played.items) }
+    ensures ended { IfOk result (λ played. AreEndedBy N.KIND all_started.entry.items played.items) }
     ensures fault { IfErr result IsWant }
 {
-    for turn in turns {
-        let Ok(()) = played.push(end(rt, turn)) else {
+    for started in all_started {
+        let Ok(()) = played.push(end(rt, started)) else {
             return Err(RunError::Memory);
         };
     }

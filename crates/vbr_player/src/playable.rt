@@ -6,7 +6,7 @@ ghost use Rattle.vbr_transcript.specs.Contents.{Item as Listed};
 ghost use Rattle.vbr_transcript.specs.Layout.{listed_text, text_of};
 ghost use Rattle.vbr_transcript.specs.Totals.{TotalsOf, epoch_in, listed_in, tally_in};
 ghost use Rattle.vbr_player.specs.EndLaws.{IsPlayedAs};
-ghost use Rattle.vbr_player.specs.Playing.{start_of};
+ghost use Rattle.vbr_player.specs.Playing.{start_for};
 
 mod map;
 mod set;
@@ -52,7 +52,7 @@ pub trait Playable: Asked + Kind {
 
     ghost asked: { Self.Asked.KIND ≡ script };
 
-    ghost opens: { (shape : Dimensions) → Self.Kind.kind.start shape [] ≡ start_of script shape };
+    ghost opens: { (shape : Dimensions) → Self.Kind.kind.start shape [] ≡ start_for script shape };
 
     ghost played: { IsPlayedAs Self.Kind.kind script listed epoch };
 }

@@ -4,7 +4,7 @@ ghost use Rattle.vbr_player.specs.Playing.{Plays, PlaysBy};
 
 use crate::gate::Gate;
 use crate::playable::Playable;
-use crate::sets::play_sets;
+use crate::sets::open_and_play;
 use std::alloc::Global;
 use std::io::{Read, Write};
 use std::sync::Wait;
@@ -96,7 +96,7 @@ fn play_on<N: Playable + Sync, RT: Threads + Wait, R: Read, W: Write, G: Gate + 
 {
     let text = read_text(alloc, reader)?;
     let script = parse(alloc, N::script(), &text, config.workers())?;
-    let (replies, report) = play_sets::<N, RT, G>(rt, alloc, &config, &script, gate)?;
+    let (replies, report) = open_and_play::<N, RT, G>(rt, alloc, &config, &script, gate)?;
     let tally = tally_of(&script.lines, &replies);
     let output = N::layout(alloc, config.epoch(), &replies, tally, &report)?;
     let totals = N::totals(tally, report);

@@ -4,7 +4,7 @@ ghost use Rattle.vbr_script.specs.Scripts.{ArePhased, AreRenewalsFrom};
 ghost use Rattle.vbr_script.specs.declared.script.TheConstants.{MAX_SYNCS};
 ghost use Rattle.vbr_transcript.specs.Runs.{AreExplained};
 ghost use Rattle.vbr_player.specs.Calling.{ArePlayed};
-ghost use Rattle.vbr_player.specs.Playing.{IsWant, start_of};
+ghost use Rattle.vbr_player.specs.Playing.{IsWant, start_for};
 
 use crate::gate::Gate;
 use crate::opened::{Opened, close, open, renew};
@@ -20,7 +20,7 @@ use vbr_transcript::{Reply, RunError};
 
 // Opens a set or a map, and plays a script on it, which is renewed after each of the script's renewals. It
 // gives the replies in script order, and what the last one held.
-pub fn play_sets<N: Playable + Sync, R: Threads + Wait, G: Gate + Sync>(
+pub fn open_and_play<N: Playable + Sync, R: Threads + Wait, G: Gate + Sync>(
     rt: &R,
     alloc: Global,
     config: &Config,
@@ -35,7 +35,7 @@ pub fn play_sets<N: Playable + Sync, R: Threads + Wait, G: Gate + Sync>(
         (λ ended. length ended.0.items ≡ length script.now.lines.items) }
     ensures explained { IfOk result (λ ended. AreExplained N.script
         (ArePlayed N.script config.now.workers config.now.budget)
-        (start_of N.script config.now.shape)
+        (start_for N.script config.now.shape)
         config.now.workers 0 script.now.phases script.now.renewals.items
         (zip script.now.lines.items ended.0.items) (N.listed ended.1) (N.epoch ended.1)) }
     ensures fault { IfErr result IsWant }

@@ -67,9 +67,9 @@ fault_line (Some name) error.Read = file_line (codes "can't be read") name
 fault_line file e = error_line e
 
 -- The status and the standard error tell the player's answer: nothing is told of a run that was done, and else as much of the error's line as could be written.
-abbrev pub TellsRun : {T : Type 0} → Option Text → Result T RunError → Option (List ℕ) → Option (List ℕ) → ℕ → Type 0
-TellsRun file (Ok totals) old new status = (status ≡ DONE) × Keeps old new
-TellsRun file (Err e) old new status = (status ≡ error_status e) × AppendsSome old new (fault_line file e)
+abbrev pub TellsOutcome : {T : Type 0} → Option Text → Result T RunError → Option (List ℕ) → Option (List ℕ) → ℕ → Type 0
+TellsOutcome file (Ok totals) old new status = (status ≡ DONE) × Keeps old new
+TellsOutcome file (Err e) old new status = (status ≡ error_status e) × AppendsSome old new (fault_line file e)
 
 -- what a run of the program leaves: what the writer and standard error held before and hold after, and the exit status
 pub record ProgramRun : Type 0 where
@@ -86,7 +86,7 @@ kind_asked _ = Set
 
 -- a script of this kind that was left to read, in a file if one is named, was played with these settings, and that is told
 abbrev pub IsPlayed : Kind → Settings → Option Text → Option (List ℕ) → ProgramRun → Type 0
-IsPlayed kind settings file input run = (answer : Result (TotalsOf kind) RunError) × Plays kind settings input run.output_before run.output answer × TellsRun file answer run.errors_before run.errors run.status
+IsPlayed kind settings file input run = (answer : Result (TotalsOf kind) RunError) × Plays kind settings input run.output_before run.output answer × TellsOutcome file answer run.errors_before run.errors run.status
 
 -- a file couldn't be opened: nothing is written to standard output, and that is told
 abbrev pub IsUnopened : IoErrorKind → Text → ProgramRun → Type 0
@@ -102,8 +102,8 @@ abbrev pub Opening : Type 1
 Opening = Text → Result (Option (List ℕ)) IoErrorKind → Type 0
 
 -- what a way of opening files by their names may give
-abbrev pub Gives : {F : Type 0} → (F → Option (List ℕ)) → (Text → Result F Error → Type 0) → Opening
-Gives {F} remaining opens name given = (opened : Result F Error) × opens name opened × (given ≡ opened_as remaining opened)
+abbrev pub MayOpenAs : {F : Type 0} → (F → Option (List ℕ)) → (Text → Result F Error → Type 0) → Opening
+MayOpenAs {F} remaining opens name given = (opened : Result F Error) × opens name opened × (given ≡ opened_as remaining opened)
 
 -- a file that was opened is played, and else that is told
 abbrev pub IsFilePlayed : Kind → Settings → Text → Result (Option (List ℕ)) IoErrorKind → ProgramRun → Type 0
@@ -131,10 +131,10 @@ abbrev pub IsFault : ProgramRun → Type 0
 IsFault run = (run.status ≡ USAGE) × Keeps run.output_before run.output × ((text : List ℕ) × AppendsSome run.errors_before run.errors text)
 
 -- what `clap` has for a command line is told: the help and the version where they were asked for, and all else as a fault
-abbrev pub Tells : ErrorKind → ProgramRun → Type 0
-Tells asked.DisplayHelp run = IsShown run ⊎ IsCutShort run
-Tells asked.DisplayVersion run = IsShown run ⊎ IsCutShort run
-Tells other run = IsFault run
+abbrev pub TellsOptions : ErrorKind → ProgramRun → Type 0
+TellsOptions asked.DisplayHelp run = IsShown run ⊎ IsCutShort run
+TellsOptions asked.DisplayVersion run = IsShown run ⊎ IsCutShort run
+TellsOptions other run = IsFault run
 
 -- the names of the faults and refusals that are explained
 abbrev pub explained_names : List Text
@@ -150,15 +150,15 @@ unfoldable pub is_explained : Text → Bool
 is_explained name = list_any (λ known. bytes_eq name known) explained_names
 
 -- what is known by a name is told on standard output, and an unknown name is a fault
-abbrev pub Explains : Bool → ProgramRun → Type 0
-Explains true run = IsShown run ⊎ IsCutShort run
-Explains _ run = IsFault run
+abbrev pub ExplainsName : Bool → ProgramRun → Type 0
+ExplainsName true run = IsShown run ⊎ IsCutShort run
+ExplainsName _ run = IsFault run
 
 -- what a command line without a fault asks for is done
 -- It may want something explained, name a shape that there isn't, or name a file; else the script is on standard input. The kind is that of its script.
 -- So something is explained, or it is told that there is no such shape, or the script is played.
 abbrev pub IsDone : Option Text → Option ShapeError → Option Text → Kind → Settings → Option (List ℕ) → Opening → ProgramRun → Type 0
-IsDone (Some name) shape file kind settings input opens run = Explains (is_explained name) run
+IsDone (Some name) shape file kind settings input opens run = ExplainsName (is_explained name) run
 IsDone None (Some error) file kind settings input opens run = IsUnshaped error run
 IsDone None None None kind settings input opens run = IsPlayed kind settings None input run
 IsDone None None (Some name) kind settings input opens run = (given : Result (Option (List ℕ)) IoErrorKind) × opens name given × IsFilePlayed kind settings name given run
@@ -169,7 +169,7 @@ DoesAsked arguments input opens run = IsDone (explained_of arguments) (shape_fau
 
 -- one of the faults of a command line is told
 abbrev pub TellsFault : List (List ℕ) → ProgramRun → Type 0
-TellsFault arguments run = (kind : ErrorKind) × IsAmong kind (faults arguments) × Tells kind run
+TellsFault arguments run = (kind : ErrorKind) × IsAmong kind (faults arguments) × TellsOptions kind run
 
 -- how a run of the program ends, by its arguments: what those that the command takes ask for is done; and of all others, what the command has for them is told; or else want of memory is, which a run that plays standard input tells of itself
 pub record AnswersCommand (arguments : List Text) (input : Option (List ℕ)) (opens : Opening) (run : ProgramRun) : Type 0 where
@@ -183,4 +183,4 @@ ReadsNoInput arguments = (faults arguments ≢ []) ⊎ (((error : ShapeError) ×
 -- what `clap` answers in place of options is told, or want of memory, and for want of memory that alone
 pub record ShowsError (kind : ErrorKind) (run : ProgramRun) : Type 0 where
   pub memory : kind ≡ asked.OutOfMemory → LacksMemory run
-  pub told : Tells kind run ⊎ LacksMemory run
+  pub told : TellsOptions kind run ⊎ LacksMemory run

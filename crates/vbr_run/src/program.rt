@@ -5,7 +5,7 @@ ghost use Rattle.clap.specs.Words.{kind_of};
 ghost use Rattle.vbr_settings.specs.Options.{AreComplete, settings_among, asks_map_among, shape_fault, file_among, explained_among};
 ghost use Rattle.vbr_settings.specs.Given.{rows_in};
 ghost use Rattle.vbr_run.specs.declared.program.TheConstants.{USAGE};
-ghost use Rattle.vbr_run.specs.Program.{AnswersCommand, Explains, Gives, IsCutShort, IsDone, IsPlayed, IsShown, ReadsNoInput, ShowsError, TellsRun, is_explained, kind_asked};
+ghost use Rattle.vbr_run.specs.Program.{AnswersCommand, ExplainsName, MayOpenAs, IsCutShort, IsDone, IsPlayed, IsShown, ReadsNoInput, ShowsError, TellsOutcome, is_explained, kind_asked};
 
 use crate::explanations::explanation;
 use crate::report::{report, report_shape, report_unopened};
@@ -90,7 +90,7 @@ pub fn run<
 ) -> u8
     requires { O.IsAlwaysCallable files.now }
     ensures answers { AnswersCommand (map (λ argument. argument.now) arguments.now)
-        (R.remaining reader.old) (Gives F.remaining (FnReturnsAt O.Fn files.now)) (record {
+        (R.remaining reader.old) (MayOpenAs F.remaining (FnReturnsAt O.Fn files.now)) (record {
           output_before = W.contents writer.old;
           output = W.contents writer.new;
           errors_before = E.contents errors.old;
@@ -132,7 +132,7 @@ fn do_asked<
         (shape_fault (settings_among (rows_in options.now))) (file_among (rows_in options.now))
         (kind_asked (asks_map_among (rows_in options.now)))
         (settings_among (rows_in options.now)) (R.remaining reader.old)
-        (Gives F.remaining (FnReturnsAt O.Fn files.now)) (record {
+        (MayOpenAs F.remaining (FnReturnsAt O.Fn files.now)) (record {
           output_before = W.contents writer.old;
           output = W.contents writer.new;
           errors_before = E.contents errors.old;
@@ -217,7 +217,7 @@ fn play_script<T: Threads + Wait, R: Read, W: Write, E: Write, G: Gate + Sync>(
 
 // Tells how a run ended, and answers the exit status. The script was in a file, if one is named.
 fn tell<T: Drop, E: Write>(answer: Result<T, RunError>, file: Option<&str>, errors: &mut E) -> u8
-    ensures told { TellsRun (option_map (λ name. name.now) file.entry) answer
+    ensures told { TellsOutcome (option_map (λ name. name.now) file.entry) answer
         (E.contents errors.old) (E.contents errors.new) result }
     ensures status { result ≢ USAGE }
 {
@@ -229,7 +229,7 @@ fn tell<T: Drop, E: Write>(answer: Result<T, RunError>, file: Option<&str>, erro
 
 // Tells what is known by a name of faults and refusals.
 fn explain<W: Write, E: Write>(name: &str, writer: &mut W, errors: &mut E) -> u8
-    ensures { Explains (is_explained name.now) (record {
+    ensures { ExplainsName (is_explained name.now) (record {
       output_before = W.contents writer.old;
       output = W.contents writer.new;
       errors_before = E.contents errors.old;

@@ -16,7 +16,7 @@ use Rattle.vbr_script.specs.declared.script.Meaning.TheVariants.{Blank, Sync, Re
 use Rattle.vbr_script.specs.declared.script.TheConstants.{MAX_OPERATIONS, MAX_SYNCS}
 use Rattle.vbr_script.specs.Text.{lines_of, tokens_of}
 use Rattle.vbr_script.specs.Number.{number_below}
-use Rattle.vbr_script.specs.Grammar.{operation_of, with_value, meaning_of_tokens, meaning_of, lone_token}
+use Rattle.vbr_script.specs.Grammar.{operation_of, op_with_value, meaning_of_tokens, meaning_of, lone_token}
 use Rattle.vbr_script.specs.Scripts.{all_limited, operations_from, ends_phase, meanings_of, script_of, phases_of, renewals_from, renewals_of, AscendFrom, MayAsk, ArePhased, AreRenewalsFrom}
 use Rattle.vbr_script.proofs.LinesRead.{one_more}
 
@@ -48,7 +48,7 @@ unwritten Set token op value is none = (never_get token op is, cc)
 unwritten Map token op value is none = λ other. cc
 
 -- where one is written the operation is an insert
-written : (named : Option Op) (op : Op) (value : ℕ) → with_value named ≡ Some op → MayAsk Map op value
+written : (named : Option Op) (op : Op) (value : ℕ) → op_with_value named ≡ Some op → MayAsk Map op value
 written None op value is other = absurd (cc)
 written (Some Insert) op value is other = absurd (other (cc))
 written (Some Remove) op value is other = absurd (cc)
@@ -82,7 +82,7 @@ tokens kind workers (token ∷ []) = lone kind workers token
 tokens kind workers (worker ∷ op ∷ []) = tt
 tokens kind workers (worker ∷ op ∷ key ∷ []) = request kind workers (number_below workers worker) (operation_of kind op) (number_below (2 ^ 64) key) (Some 0) (number_is_below workers worker) (unwritten kind op)
 tokens Set workers (worker ∷ op ∷ key ∷ value ∷ rest) = tt
-tokens Map workers (worker ∷ op ∷ key ∷ value ∷ []) = request Map workers (number_below workers worker) (with_value (operation_of Map op)) (number_below (2 ^ 64) key) (number_below (2 ^ 64) value) (number_is_below workers worker) (λ o v is _. written (operation_of Map op) o v is)
+tokens Map workers (worker ∷ op ∷ key ∷ value ∷ []) = request Map workers (number_below workers worker) (op_with_value (operation_of Map op)) (number_below (2 ^ 64) key) (number_below (2 ^ 64) value) (number_is_below workers worker) (λ o v is _. written (operation_of Map op) o v is)
 tokens Map workers (worker ∷ op ∷ key ∷ value ∷ more ∷ rest) = tt
 
 -- and those of all lines

@@ -26,9 +26,9 @@ operation_of kind token =
     else None)))
 
 -- the operation of a line that has a value: an insert, or none
-abbrev pub with_value : Option Op → Option Op
-with_value (Some Insert) = Some Insert
-with_value _ = None
+abbrev pub op_with_value : Option Op → Option Op
+op_with_value (Some Insert) = Some Insert
+op_with_value _ = None
 
 -- what a worker, an operation, a key and a value mean, in the order of the tests
 abbrev pub meaning_of_tokens : Option ℕ → Option Op → Option ℕ → Option ℕ → Meaning
@@ -50,7 +50,7 @@ abbrev pub meaning_of : Kind → ℕ → List (List ℕ) → Meaning
 meaning_of kind workers [] = Blank
 meaning_of kind workers (token ∷ []) = lone_token token
 meaning_of kind workers (worker ∷ operation ∷ key ∷ []) = meaning_of_tokens (number_below workers worker) (operation_of kind operation) (number_below (2 ^ 64) key) (Some 0)
-meaning_of kind.Map workers (worker ∷ operation ∷ key ∷ value ∷ []) = meaning_of_tokens (number_below workers worker) (with_value (operation_of kind.Map operation)) (number_below (2 ^ 64) key) (number_below (2 ^ 64) value)
+meaning_of kind.Map workers (worker ∷ operation ∷ key ∷ value ∷ []) = meaning_of_tokens (number_below workers worker) (op_with_value (operation_of kind.Map operation)) (number_below (2 ^ 64) key) (number_below (2 ^ 64) value)
 meaning_of kind workers _ = Faulty fault.Words
 
 -- a script fault's number, in the order of the tests but for that of a value

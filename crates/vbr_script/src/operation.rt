@@ -1,6 +1,6 @@
 // The names of the operations.
 ghost use Rattle.std.specs.Prelude.{◌≡◌};
-ghost use Rattle.vbr_script.specs.Grammar.{operation_of, with_value};
+ghost use Rattle.vbr_script.specs.Grammar.{operation_of, op_with_value};
 
 use crate::script::Kind;
 use vbr_machine::Op;
@@ -24,8 +24,8 @@ pub fn operation(kind: Kind, token: &[u8]) -> Option<Op>
 }
 
 // The operation of a line that has a value: an insert, or none.
-pub fn with_value(op: Option<Op>) -> Option<Op>
-    ensures { result ≡ with_value op }
+pub fn op_with_value(op: Option<Op>) -> Option<Op>
+    ensures { result ≡ op_with_value op }
 {
     op.filter(|op| *op == Op::Insert)
 }

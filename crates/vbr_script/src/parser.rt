@@ -8,7 +8,7 @@ ghost use Rattle.vbr_script.specs.declared.script.ScriptFault.{ScriptFault};
 ghost use Rattle.vbr_script.specs.declared.script.Kind.TheVariants.{Set, Map};
 
 use crate::number::number;
-use crate::operation::{operation, with_value};
+use crate::operation::{op_with_value, operation};
 use crate::script::{
     Kind, Line, MAX_OPERATIONS, MAX_SYNCS, Meaning, Script, ScriptError, ScriptFault,
 };
@@ -143,7 +143,7 @@ fn meaning(kind: Kind, line: &[u8], workers: u32) -> Meaning
     if kind == Kind::Set || first_token(rest).is_some() {
         return Meaning::Faulty(ScriptFault::Words);
     }
-    asked(worker, with_value(op), number(key), number(value))
+    asked(worker, op_with_value(op), number(key), number(value))
 }
 
 // What a worker, an operation, a key and a value mean, each of which may be none.

@@ -48,14 +48,14 @@ abbrev pub changed : {A : Type 0} → (A → List Call) → Result A Refusal →
 changed told (Ok reply) = change_of (told reply)
 changed told (Err refusal) = pos 0
 
-module _ {A : Type 0} {told : A → List Call} {SparesSo : Result A Refusal → Type 0} {Leave : List Call → Trace → Trace → Type 0} (once : (calls : List Call) (p q : Trace) → Leave calls p q → made_by q ≡ made_by p ++ calls) where
-  after_call : (m n : MemberView) (budget : ℕ) (answer : Result A Refusal) → CalledBy Leave told SparesSo m n budget answer → balance_of n ≡ int_wrap w64 (balance_of m +ℤ changed told answer)
+module _ {A : Type 0} {told : A → List Call} {BoundsSo : Result A Refusal → Type 0} {Leave : List Call → Trace → Trace → Type 0} (once : (calls : List Call) (p q : Trace) → Leave calls p q → made_by q ≡ made_by p ++ calls) where
+  after_call : (m n : MemberView) (budget : ℕ) (answer : Result A Refusal) → CalledBy Leave told BoundsSo m n budget answer → balance_of n ≡ int_wrap w64 (balance_of m +ℤ changed told answer)
   after_call m n budget (Ok reply) called = more_calls m n (told reply) called.set called.same (once (told reply) m.pass.trace n.pass.trace called.answers)
   after_call m n budget (Err refusal) called =
       let none : balance_of m +ℤ pos 0 ≡ balance_of m = omega (arith, ints) in
       same_calls m n called.set called.same called.quiet.calls ∙ sym (ap (int_wrap w64) none ∙ int_wrap_fits w64 (balance_of m) (SFits-int_wrap w64 _))
 
-  module _ (set shared : TableView) (p q : PassView) (budget : ℕ) (answer : Result A Refusal) (is : set ≡ shared) (called : CalledBy Leave told SparesSo (as_member set p) (as_member set q) budget answer) where
+  module _ (set shared : TableView) (p q : PassView) (budget : ℕ) (answer : Result A Refusal) (is : set ≡ shared) (called : CalledBy Leave told BoundsSo (as_member set p) (as_member set q) budget answer) where
     after : balance_of (as_member shared q) ≡ int_wrap w64 (balance_of (as_member shared p) +ℤ changed told answer)
     after = subst (λ (t : TableView). balance_of (as_member t q) ≡ int_wrap w64 (balance_of (as_member t p) +ℤ changed told answer)) is (after_call (as_member set p) (as_member set q) budget answer called)
 

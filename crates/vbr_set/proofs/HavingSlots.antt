@@ -24,18 +24,18 @@ all_kept p q kept all = record { free = λ slot m. kept.free slot (m, λ before.
 
 -- what a call of a set keeps, or one of a map
 set_kept : (op : Op) (m n : MemberView) → IsSetCall op m n → KeepsSlots m.pass n.pass
-set_kept Insert m n (key, budget, answer, c) = c.spares.kept
-set_kept Remove m n (key, budget, answer, c) = c.spares.takes_no_slot.kept
-set_kept Has m n (key, budget, answer, c) = c.spares.takes_no_slot.kept
-set_kept Get m n (key, budget, answer, c) = absurd c.spares
+set_kept Insert m n (key, budget, answer, c) = c.bounds.kept
+set_kept Remove m n (key, budget, answer, c) = c.bounds.takes_no_slot.kept
+set_kept Has m n (key, budget, answer, c) = c.bounds.takes_no_slot.kept
+set_kept Get m n (key, budget, answer, c) = absurd c.bounds
 
 map_kept : (op : Op) (m n : MemberView) → IsMapCall op m n → KeepsSlots m.pass n.pass
-map_kept Insert m n (inl (key, value, budget, answer, c)) = c.spares.kept
-map_kept Insert m n (inr (key, value, wanted, budget, answer, c)) = c.spares.0
-map_kept Remove m n (inl (key, budget, answer, c)) = c.spares.takes_no_slot.kept
-map_kept Remove m n (inr (key, expected, budget, answer, c)) = c.spares.takes_no_slot.kept
+map_kept Insert m n (inl (key, value, budget, answer, c)) = c.bounds.kept
+map_kept Insert m n (inr (key, value, wanted, budget, answer, c)) = c.bounds.0
+map_kept Remove m n (inl (key, budget, answer, c)) = c.bounds.takes_no_slot.kept
+map_kept Remove m n (inr (key, expected, budget, answer, c)) = c.bounds.takes_no_slot.kept
 map_kept Has m n call = set_kept Has m n call
-map_kept Get m n (key, budget, answer, c) = c.spares.takes_no_slot.kept
+map_kept Get m n (key, budget, answer, c) = c.bounds.takes_no_slot.kept
 
 call_kept : (op : Op) (m n : MemberView) → IsCall op m n → KeepsSlots m.pass n.pass
 call_kept op m n (inl call) = set_kept op m n call

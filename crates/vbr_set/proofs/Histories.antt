@@ -16,9 +16,9 @@ use Rattle.vbr_slots.specs.Views.{PassView, TableView, Trace, Did}
 use Rattle.vbr_slots.proofs.Lemmas.{did_quiet, did_run}
 use Rattle.vbr_at_table.specs.Replacing.{MadeTwo}
 use Rattle.vbr_at_table.specs.Soundness.{HasSafeRun}
-use Rattle.vbr_at_table.specs.Steps.{TookWithin}
+use Rattle.vbr_at_table.specs.WithinBudget.{TookWithin}
 use Rattle.vbr_at_table.specs.declared.refusal.Refusal.{Refusal}
-use Rattle.vbr_list.specs.Sparing.{CallsAs}
+use Rattle.vbr_list.specs.CallBounds.{CallsAs}
 use Rattle.vbr_list.proofs.Lemmas.{alone_all}
 use Rattle.vbr_set.specs.Answers.{Answers, AnswersAll, Follows}
 use Rattle.vbr_set.specs.Histories.{ReadsAreRight, calls_of}
@@ -97,9 +97,9 @@ each_answer (Ok reply) f x = f reply x
 each_answer (Err error) f x = tt
 
 -- a call by a pass of a set is one by that member, once it is known what its answer leaves
-pub called_by : {A : Type 0} {told : A → List Call} {SparesSo : Result A Refusal → Type 0} (Leave : List Call → Trace → Trace → Type 0) (set : TableView) (p q : PassView) (budget : ℕ) (answer : Result A Refusal) → PassLaw p → PassLaw q → ((calls : List Call) → Leave calls p.trace q.trace → AnswersAll calls p.trace q.trace)
-    → IsSame p.trace q.trace → IfErr answer (λ refusal. Quiet p.trace q.trace) → q.hand ≡ None → TookWithin p.trace q.trace budget → SparesSo answer → IfOk answer (λ reply. Leave (told reply) p.trace q.trace) → CalledBy Leave told SparesSo (as_member set p) (as_member set q) budget answer
-called_by {A} {told} Leave set p q budget answer before after all same quiet hand steps spares leave =
+pub called_by : {A : Type 0} {told : A → List Call} {BoundsSo : Result A Refusal → Type 0} (Leave : List Call → Trace → Trace → Type 0) (set : TableView) (p q : PassView) (budget : ℕ) (answer : Result A Refusal) → PassLaw p → PassLaw q → ((calls : List Call) → Leave calls p.trace q.trace → AnswersAll calls p.trace q.trace)
+    → IsSame p.trace q.trace → IfErr answer (λ refusal. Quiet p.trace q.trace) → q.hand ≡ None → TookWithin p.trace q.trace budget → BoundsSo answer → IfOk answer (λ reply. Leave (told reply) p.trace q.trace) → CalledBy Leave told BoundsSo (as_member set p) (as_member set q) budget answer
+called_by {A} {told} Leave set p q budget answer before after all same quiet hand steps bounds leave =
     record {
       set = refl;
       same = same;
@@ -109,12 +109,12 @@ called_by {A} {told} Leave set p q budget answer before after all same quiet han
       safe = record { is_run = after.is_run; safe = after.safe };
       hand = hand;
       steps = steps;
-      spares = spares;
+      bounds = bounds;
     }
 
 -- so it is of a call of a set
-pub called : {A : Type 0} {told : A → Call} {SparesSo : Result A Refusal → Type 0} (set : TableView) (p q : PassView) (budget : ℕ) (answer : Result A Refusal) → PassLaw p → PassLaw q → CallsAs told SparesSo p q budget answer → CalledBy AnswersAll (one told) SparesSo (as_member set p) (as_member set q) budget answer
-called set p q budget answer before after e = called_by AnswersAll set p q budget answer before after (λ calls a. a) e.same e.quiet e.hand e.steps e.spares (each_answer answer (λ reply made. answers before.start made) e.made)
+pub called : {A : Type 0} {told : A → Call} {BoundsSo : Result A Refusal → Type 0} (set : TableView) (p q : PassView) (budget : ℕ) (answer : Result A Refusal) → PassLaw p → PassLaw q → CallsAs told BoundsSo p q budget answer → CalledBy AnswersAll (one told) BoundsSo (as_member set p) (as_member set q) budget answer
+called set p q budget answer before after e = called_by AnswersAll set p q budget answer before after (λ calls a. a) e.same e.quiet e.hand e.steps e.bounds (each_answer answer (λ reply made. answers before.start made) e.made)
 
 -- a pass that met another has seen a safe run
 pub met_safe : {p q : Trace} {epoch : ℕ} → IsStart p.start → Did ReadEpoch p q epoch → HasSafeRun q

@@ -14,10 +14,10 @@ use Rattle.vbr_slots.specs.Views.{PassView, TableView, Trace}
 use Rattle.vbr_slots.proofs.Lemmas.{adds_on, adds_refl, alone_first, alone_then, loads_on, loads_refl, quiet_adds_none, quiet_on, quiet_refl, same_refl}
 use Rattle.vbr_at_table.specs.KeptSlots.{TakesNoSlot}
 use Rattle.vbr_at_table.specs.Moments.{WasEntry}
-use Rattle.vbr_at_table.specs.Steps.{TookWithin}
+use Rattle.vbr_at_table.specs.WithinBudget.{TookWithin}
 use Rattle.vbr_at_table.proofs.Lemmas.{none_on, none_refl}
 use Rattle.vbr_list.specs.Cursors.{HasGiven, HasGivenAll, HasStayedOrMoved, IsAtEnd, IsPastKey, IsToCome, SeesMore, StopsShort, costs_over, first_cursor}
-use Rattle.vbr_list.specs.Budgets.{listed_in}
+use Rattle.vbr_list.specs.Budgets.{nodes_listed_in}
 use Rattle.vbr_list.specs.Next.{enough_to_seek}
 use Rattle.vbr_list.specs.declared.cursor.Cursor.{Cursor}
 use Rattle.vbr_at_table.specs.declared.refusal.Refusal.{Refusal}
@@ -121,9 +121,9 @@ module _ {m n : MemberView} (o : MemberView) {c d : Cursor} {entries : List (ℕ
       (subst P (sym keys) (given_on x.goes.sees sees x.given gives.0.0))
       (λ values. were_and m.pass.trace o.pass.trace entries (key, value) (were_more m.pass.trace entries (x.values values) sees) (entry_since x.goes.sees (gives.1 (ap (λ (s : Start). s.shape.values) x.goes.sees.same.start ∙ values))))
       (took_on _ x.took y.iterates.steps (
-          let e = call_more budget (length entries + x.refused) in
-          let f : budget * (length (entries ++ (key, value) ∷ []) + x.refused) ≡ budget * (length entries + x.refused + 1) = let more : length (entries ++ (key, value) ∷ []) + x.refused ≡ length entries + x.refused + 1 = omega (arith, count) in ap (λ k. budget * k) more in
-          omega (arith, e, f)))
+      let e = call_more budget (length entries + x.refused) in
+      let f : budget * (length (entries ++ (key, value) ∷ []) + x.refused) ≡ budget * (length entries + x.refused + 1) = let more : length (entries ++ (key, value) ∷ []) + x.refused ≡ length entries + x.refused + 1 = omega (arith, count) in ap (λ k. budget * k) more in
+      omega (arith, e, f)))
       (behind gives.0.0.was.0 gives.0.1) x.in_table
     where
       behind : IsToCome n.pass.trace.start c key → IsPastKey (bucket_of n.pass.trace.start.shape key) key d → x.refused ≤ d.bucket
@@ -142,9 +142,9 @@ module _ {m n : MemberView} (o : MemberView) {c d : Cursor} {entries : List (ℕ
       (subst P (append-nil (keys_of entries)) (given_on x.goes.sees sees x.given stops.passed))
       (λ values. were_more m.pass.trace entries (x.values values) sees)
       (took_on _ x.took y.iterates.steps (
-          let e = call_more budget (length entries + x.refused) in
-          let f : budget * (length entries + (x.refused + 1)) ≡ budget * (length entries + x.refused + 1) = let more : length entries + (x.refused + 1) ≡ length entries + x.refused + 1 = omega arith in ap (λ k. budget * k) more in
-          omega (arith, e, f)))
+      let e = call_more budget (length entries + x.refused) in
+      let f : budget * (length entries + (x.refused + 1)) ≡ budget * (length entries + x.refused + 1) = let more : length entries + (x.refused + 1) ≡ length entries + x.refused + 1 = omega arith in ap (λ k. budget * k) more in
+      omega (arith, e, f)))
       (let l = x.later in omega (arith, l, later))
       (let l = x.later in let b = stops.bucket in let e = ap (λ (s : Start). s.shape.buckets) x.goes.sees.same.start in omega (arith, l, later, b, e))
 
@@ -173,7 +173,7 @@ module _ {m n : MemberView} (o : MemberView) {c d : Cursor} {entries : List (ℕ
           let lacks = stops.short (alone_then x.quiet.same.who x.quiet.seen y.iterates.quiet.seen alone) in
           let still : c.bucket - c.bucket ≡ 0 = omega arith in
           let none : costs_over n.pass.trace c.bucket (c.bucket - c.bucket) ≡ 0 = ap (costs_over n.pass.trace c.bucket) still in
-          let few : listed_in n.pass.trace c.bucket ≤ listed_in m.pass.trace c.bucket = quiet_adds_none law.start law.is_run x.quiet first c.bucket c.bucket in
+          let few : nodes_listed_in n.pass.trace c.bucket ≤ nodes_listed_in m.pass.trace c.bucket = quiet_adds_none law.start law.is_run x.quiet first c.bucket c.bucket in
           omega (arith, lacks, none, few)
 
   -- to the end

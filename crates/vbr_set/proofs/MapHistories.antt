@@ -8,7 +8,7 @@ use Rattle.vbr_machine.specs.declared.history.Call.{Call}
 use Rattle.vbr_slots.specs.PassLaw.{PassLaw}
 use Rattle.vbr_slots.specs.Views.{PassView, TableView, Trace}
 use Rattle.vbr_at_table.specs.declared.refusal.Refusal.{Refusal}
-use Rattle.vbr_list.specs.Sparing.{CallsEntry}
+use Rattle.vbr_list.specs.CallBounds.{CallsEntry}
 use Rattle.vbr_list.specs.Storing.{CallsStore, Makes, stored_calls}
 use Rattle.vbr_list.specs.declared.wanted.Wanted.{Wanted}
 use Rattle.vbr_list.proofs.Lemmas.{alone_all}
@@ -30,10 +30,10 @@ map_answers maps calls p q law a = record {
 }
 
 -- a call by a pass of a map is one by that member
-pub called_entry : RunsAreMaps → {A : Type 0} {told : A → Call} {SparesSo : Result A Refusal → Type 0} (set : TableView) (p q : PassView) (budget : ℕ) (answer : Result A Refusal) → PassLaw p → PassLaw q → CallsEntry told SparesSo p q budget answer → CalledBy MapAnswersAll (one told) SparesSo (as_member set p) (as_member set q) budget answer
+pub called_entry : RunsAreMaps → {A : Type 0} {told : A → Call} {BoundsSo : Result A Refusal → Type 0} (set : TableView) (p q : PassView) (budget : ℕ) (answer : Result A Refusal) → PassLaw p → PassLaw q → CallsEntry told BoundsSo p q budget answer → CalledBy MapAnswersAll (one told) BoundsSo (as_member set p) (as_member set q) budget answer
 called_entry maps {told = told} set p q budget answer before after e =
     let c = e.calls in
-    called_by MapAnswersAll set p q budget answer before after (λ calls a. a.answers) c.same c.quiet c.hand c.steps c.spares (each_answer answer (λ reply made. map_answers maps (one told reply) p q before (answers before.start made)) c.made)
+    called_by MapAnswersAll set p q budget answer before after (λ calls a. a.answers) c.same c.quiet c.hand c.steps c.bounds (each_answer answer (λ reply made. map_answers maps (one told reply) p q before (answers before.start made)) c.made)
 
 -- one call, or two next to each other
 all_answers : (calls : List Call) {p q : Trace} → IsStart p.start → Makes calls p q → AnswersAll calls p q
@@ -45,4 +45,4 @@ all_answers (first ∷ second ∷ third ∷ calls) is made = absurd made
 -- so it is of a store
 pub called_store : RunsAreMaps → (set : TableView) (p q : PassView) (key value : ℕ) (wanted : Wanted) (budget : ℕ) (answer : Result (Option ℕ) Refusal) → PassLaw p → PassLaw q → CallsStore p q key value wanted budget answer → StoresEntry (as_member set p) (as_member set q) key value wanted budget answer
 called_store maps set p q key value wanted budget answer before after e =
-    called_by MapAnswersAll set p q budget answer before after (λ calls a. a.answers) e.same e.quiet e.hand e.steps (e.kept, e.spares) (each_answer answer (λ there made. (let calls = stored_calls p.trace.who key value wanted there in map_answers maps calls p q before (all_answers calls before.start made))) e.made)
+    called_by MapAnswersAll set p q budget answer before after (λ calls a. a.answers) e.same e.quiet e.hand e.steps (e.kept, e.bounds) (each_answer answer (λ there made. (let calls = stored_calls p.trace.who key value wanted there in map_answers maps calls p q before (all_answers calls before.start made))) e.made)

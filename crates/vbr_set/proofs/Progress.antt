@@ -31,20 +31,20 @@ most : (p q : PassView) (key : ℕ) → PassLaw p → Quiet p.trace q.trace → 
 most p q key law quiet = disturbed_most p.trace q.trace law.start law.is_run key quiet
 
 pub look_ups_progress : LookUpsMakeProgress
-look_ups_progress p q key budget refusal law c = fewer_to_look_up _ _ _ budget (most p q key law c.quiet) c.spares.disturbed_within
+look_ups_progress p q key budget refusal law c = fewer_to_look_up _ _ _ budget (most p q key law c.quiet) c.bounds.disturbed_within
 
 pub removes_progress : RemovesMakeProgress
-removes_progress p q key budget refusal law c = fewer_to_search _ _ _ budget (most p q key law c.quiet) c.spares.disturbed_within
+removes_progress p q key budget refusal law c = fewer_to_search _ _ _ budget (most p q key law c.quiet) c.bounds.disturbed_within
 
 pub inserts_progress : InsertsMakeProgress
-inserts_progress p q key budget refusal law c = lacks_to_insert _ _ _ budget (most p q key law c.quiet) _ refusal c.spares.disturbed_within
+inserts_progress p q key budget refusal law c = lacks_to_insert _ _ _ budget (most p q key law c.quiet) _ refusal c.bounds.disturbed_within
 
 pub maps_progress : MapsMakeProgress
 maps_progress =
     record {
-      get = λ p q key budget refusal law c. fewer_to_look_up _ _ _ budget (most p q key law c.calls.quiet) c.calls.spares.disturbed_within;
-      remove_entry = λ p q key budget refusal law c. fewer_to_search _ _ _ budget (most p q key law c.calls.quiet) c.calls.spares.disturbed_within;
-      remove_if = λ p q key expected budget refusal law c. fewer_to_search _ _ _ budget (most p q key law c.calls.quiet) c.calls.spares.disturbed_within;
-      insert_entry = λ p q key value budget refusal law c. lacks_to_insert _ _ _ budget (most p q key law c.calls.quiet) _ refusal c.calls.spares.disturbed_within;
-      store = λ p q key value wanted budget refusal law c. lacks_to_store _ _ _ budget (most p q key law c.quiet) _ refusal c.spares.disturbed_within;
+      get = λ p q key budget refusal law c. fewer_to_look_up _ _ _ budget (most p q key law c.calls.quiet) c.calls.bounds.disturbed_within;
+      remove_entry = λ p q key budget refusal law c. fewer_to_search _ _ _ budget (most p q key law c.calls.quiet) c.calls.bounds.disturbed_within;
+      remove_if = λ p q key expected budget refusal law c. fewer_to_search _ _ _ budget (most p q key law c.calls.quiet) c.calls.bounds.disturbed_within;
+      insert_entry = λ p q key value budget refusal law c. lacks_to_insert _ _ _ budget (most p q key law c.calls.quiet) _ refusal c.calls.bounds.disturbed_within;
+      store = λ p q key value wanted budget refusal law c. lacks_to_store _ _ _ budget (most p q key law c.quiet) _ refusal c.bounds.disturbed_within;
     }

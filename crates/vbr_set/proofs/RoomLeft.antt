@@ -15,7 +15,7 @@ use Rattle.vbr_machine.specs.declared.knowledge.SlotPlace.TheVariants.{Shared}
 use Rattle.vbr_machine.proofs.Lemmas.{IsRaise, NoneRaises, count_none, none_shared, stays_outside}
 use Rattle.vbr_slots.specs.Alone.{IsAlone, OnlyEventsOf}
 use Rattle.vbr_slots.specs.Views.{PassView, Trace, knows}
-use Rattle.vbr_at_table.specs.Counts.{flags_raised, is_raise}
+use Rattle.vbr_at_table.specs.StepKinds.{flags_raised, is_raise}
 use Rattle.vbr_at_table.specs.KeptSlots.{HasSlot}
 use Rattle.vbr_at_table.specs.SharedPool.{WasOutside}
 use Rattle.vbr_set.specs.Room.{HasAllSlots}

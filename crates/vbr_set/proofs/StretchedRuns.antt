@@ -21,7 +21,7 @@ use Rattle.vbr_slots.specs.Tokens.{SeenView}
 use Rattle.vbr_slots.specs.Views.{Did, PassView, TableView, Trace, event_of}
 use Rattle.vbr_slots.proofs.Lemmas.{same_refl}
 use Rattle.vbr_at_table.specs.Advances.{AdvancesWhereNeeded}
-use Rattle.vbr_at_table.specs.Counts.{advances, is_advance}
+use Rattle.vbr_at_table.specs.StepKinds.{advances, is_advance}
 use Rattle.vbr_at_table.proofs.Lemmas.{did_none}
 use Rattle.vbr_list.specs.Cursors.{SeesMore}
 use Rattle.vbr_list.specs.Disturbed.{disturbed}
@@ -119,19 +119,19 @@ stretches_disturb = disturbed_by
 pub stretches_progress : StretchesMakeProgress
 stretches_progress =
     record {
-      look_up = λ p q inserts key budget refusal law stretch c. fewer_to_look_up _ _ _ budget (disturbed_by p q inserts key law stretch) c.spares.disturbed_within;
-      remove = λ p q inserts key budget refusal law stretch c. fewer_to_search _ _ _ budget (disturbed_by p q inserts key law stretch) c.spares.disturbed_within;
-      insert = λ p q inserts key budget refusal law stretch c. lacks_to_insert _ _ _ budget (disturbed_by p q inserts key law stretch) _ refusal c.spares.disturbed_within;
+      look_up = λ p q inserts key budget refusal law stretch c. fewer_to_look_up _ _ _ budget (disturbed_by p q inserts key law stretch) c.bounds.disturbed_within;
+      remove = λ p q inserts key budget refusal law stretch c. fewer_to_search _ _ _ budget (disturbed_by p q inserts key law stretch) c.bounds.disturbed_within;
+      insert = λ p q inserts key budget refusal law stretch c. lacks_to_insert _ _ _ budget (disturbed_by p q inserts key law stretch) _ refusal c.bounds.disturbed_within;
     }
 
 pub map_stretches_progress : MapStretchesMakeProgress
 map_stretches_progress =
     record {
-      get = λ p q inserts key budget refusal law stretch c. fewer_to_look_up _ _ _ budget (disturbed_by p q inserts key law stretch) c.calls.spares.disturbed_within;
-      remove_entry = λ p q inserts key budget refusal law stretch c. fewer_to_search _ _ _ budget (disturbed_by p q inserts key law stretch) c.calls.spares.disturbed_within;
-      remove_if = λ p q inserts key expected budget refusal law stretch c. fewer_to_search _ _ _ budget (disturbed_by p q inserts key law stretch) c.calls.spares.disturbed_within;
-      insert_entry = λ p q inserts key value budget refusal law stretch c. lacks_to_insert _ _ _ budget (disturbed_by p q inserts key law stretch) _ refusal c.calls.spares.disturbed_within;
-      store = λ p q inserts key value wanted budget refusal law stretch c. lacks_to_store _ _ _ budget (disturbed_by p q inserts key law stretch) _ refusal c.spares.disturbed_within;
+      get = λ p q inserts key budget refusal law stretch c. fewer_to_look_up _ _ _ budget (disturbed_by p q inserts key law stretch) c.calls.bounds.disturbed_within;
+      remove_entry = λ p q inserts key budget refusal law stretch c. fewer_to_search _ _ _ budget (disturbed_by p q inserts key law stretch) c.calls.bounds.disturbed_within;
+      remove_if = λ p q inserts key expected budget refusal law stretch c. fewer_to_search _ _ _ budget (disturbed_by p q inserts key law stretch) c.calls.bounds.disturbed_within;
+      insert_entry = λ p q inserts key value budget refusal law stretch c. lacks_to_insert _ _ _ budget (disturbed_by p q inserts key law stretch) _ refusal c.calls.bounds.disturbed_within;
+      store = λ p q inserts key value wanted budget refusal law stretch c. lacks_to_store _ _ _ budget (disturbed_by p q inserts key law stretch) _ refusal c.bounds.disturbed_within;
     }
 
 -- ---- the calls
@@ -148,8 +148,8 @@ record GoesOn (p q : Trace) : Type 0 where
   begins : Begins p.seen q.seen
   is_run : IsRun q.start q.passes q.seen
 
-module _ {A : Type 0} (Leave : List Call → Trace → Trace → Type 0) (goes : (calls : List Call) (p q : Trace) → Leave calls p q → GoesOn p q) (told : A → List Call) (SparesSo : Result A Refusal → Type 0) where
-  sees_called : (m n : MemberView) (budget : ℕ) (answer : Result A Refusal) → PassLaw m.pass → CalledBy Leave told SparesSo m n budget answer → SeesMore m.pass.trace n.pass.trace
+module _ {A : Type 0} (Leave : List Call → Trace → Trace → Type 0) (goes : (calls : List Call) (p q : Trace) → Leave calls p q → GoesOn p q) (told : A → List Call) (BoundsSo : Result A Refusal → Type 0) where
+  sees_called : (m n : MemberView) (budget : ℕ) (answer : Result A Refusal) → PassLaw m.pass → CalledBy Leave told BoundsSo m n budget answer → SeesMore m.pass.trace n.pass.trace
   sees_called m n budget (Ok reply) law c = let on = goes (told reply) m.pass.trace n.pass.trace c.answers in record { same = c.same; begins = on.begins; is_run = on.is_run }
   sees_called m n budget (Err refusal) law c = record { same = c.same; begins = c.quiet.seen; is_run = c.quiet.is_run law.is_run }
 
@@ -160,18 +160,18 @@ map_goes : (calls : List Call) (p q : Trace) → MapAnswersAll calls p q → Goe
 map_goes calls p q a = set_goes calls p q a.answers
 
 came_set : (op : Op) (m n : MemberView) → PassLaw m.pass → IsSetCall op m n → CameBy (inserts_begun op) m.pass n.pass
-came_set Insert m n law (key, budget, answer, c) = record { sees = sees_called AnswersAll set_goes _ _ m n budget answer law c; advances = one_for_an_insert m.pass n.pass c.spares.advances }
-came_set Remove m n law (key, budget, answer, c) = record { sees = sees_called AnswersAll set_goes _ _ m n budget answer law c; advances = none_else m.pass n.pass c.spares.takes_no_slot.count }
-came_set Has m n law (key, budget, answer, c) = record { sees = sees_called AnswersAll set_goes _ _ m n budget answer law c; advances = none_else m.pass n.pass c.spares.takes_no_slot.count }
-came_set Get m n law (key, budget, answer, c) = absurd c.spares
+came_set Insert m n law (key, budget, answer, c) = record { sees = sees_called AnswersAll set_goes _ _ m n budget answer law c; advances = one_for_an_insert m.pass n.pass c.bounds.advances }
+came_set Remove m n law (key, budget, answer, c) = record { sees = sees_called AnswersAll set_goes _ _ m n budget answer law c; advances = none_else m.pass n.pass c.bounds.takes_no_slot.count }
+came_set Has m n law (key, budget, answer, c) = record { sees = sees_called AnswersAll set_goes _ _ m n budget answer law c; advances = none_else m.pass n.pass c.bounds.takes_no_slot.count }
+came_set Get m n law (key, budget, answer, c) = absurd c.bounds
 
 came_map : (op : Op) (m n : MemberView) → PassLaw m.pass → IsMapCall op m n → CameBy (inserts_begun op) m.pass n.pass
-came_map Insert m n law (inl (key, value, budget, answer, c)) = record { sees = sees_called MapAnswersAll map_goes _ _ m n budget answer law c; advances = one_for_an_insert m.pass n.pass c.spares.advances }
-came_map Insert m n law (inr (key, value, wanted, budget, answer, c)) = record { sees = sees_called MapAnswersAll map_goes _ _ m n budget answer law c; advances = one_for_an_insert m.pass n.pass c.spares.1.advances }
-came_map Remove m n law (inl (key, budget, answer, c)) = record { sees = sees_called MapAnswersAll map_goes _ _ m n budget answer law c; advances = none_else m.pass n.pass c.spares.takes_no_slot.count }
-came_map Remove m n law (inr (key, expected, budget, answer, c)) = record { sees = sees_called MapAnswersAll map_goes _ _ m n budget answer law c; advances = none_else m.pass n.pass c.spares.takes_no_slot.count }
+came_map Insert m n law (inl (key, value, budget, answer, c)) = record { sees = sees_called MapAnswersAll map_goes _ _ m n budget answer law c; advances = one_for_an_insert m.pass n.pass c.bounds.advances }
+came_map Insert m n law (inr (key, value, wanted, budget, answer, c)) = record { sees = sees_called MapAnswersAll map_goes _ _ m n budget answer law c; advances = one_for_an_insert m.pass n.pass c.bounds.1.advances }
+came_map Remove m n law (inl (key, budget, answer, c)) = record { sees = sees_called MapAnswersAll map_goes _ _ m n budget answer law c; advances = none_else m.pass n.pass c.bounds.takes_no_slot.count }
+came_map Remove m n law (inr (key, expected, budget, answer, c)) = record { sees = sees_called MapAnswersAll map_goes _ _ m n budget answer law c; advances = none_else m.pass n.pass c.bounds.takes_no_slot.count }
 came_map Has m n law call = came_set Has m n law call
-came_map Get m n law (key, budget, answer, c) = record { sees = sees_called MapAnswersAll map_goes _ _ m n budget answer law c; advances = none_else m.pass n.pass c.spares.takes_no_slot.count }
+came_map Get m n law (key, budget, answer, c) = record { sees = sees_called MapAnswersAll map_goes _ _ m n budget answer law c; advances = none_else m.pass n.pass c.bounds.takes_no_slot.count }
 
 came_called : (op : Op) (m n : MemberView) → PassLaw m.pass → IsCall op m n → CameBy (inserts_begun op) m.pass n.pass
 came_called op m n law (inl call) = came_set op m n law call

@@ -13,7 +13,7 @@ use Rattle.vbr_slots.specs.Calls.{IsSame}
 use Rattle.vbr_slots.specs.PassLaw.{PassLaw}
 use Rattle.vbr_slots.specs.Views.{PassView}
 use Rattle.vbr_slots.specs.declared.pass.TheConstants.{POOL}
-use Rattle.vbr_at_table.specs.Counts.{flags_raised}
+use Rattle.vbr_at_table.specs.StepKinds.{flags_raised}
 use Rattle.vbr_at_table.specs.KeptSlots.{KeepsSlots, SharesWhereFull}
 use Rattle.vbr_at_table.specs.Refusals.{HasNoSlot}
 use Rattle.vbr_list.specs.Refusals.{FoundNoSlot}
@@ -44,9 +44,9 @@ found_none : {p q : PassView} {key : ℕ} → FoundNoSlot p q key → HasNoSlot 
 found_none x = record { empty = x.empty; still = x.still; outside = x.outside }
 
 told_none : (m n : MemberView) (key budget : ℕ) → InsertRefused m n key budget NoSlot → ToldNone m n
-told_none m n key budget (inl c) = record { same = c.same; hand = c.hand; none = found_none c.spares.refused; shared = c.spares.shared; kept = c.spares.kept }
-told_none m n key budget (inr (inl (value, c))) = record { same = c.same; hand = c.hand; none = found_none c.spares.refused; shared = c.spares.shared; kept = c.spares.kept }
-told_none m n key budget (inr (inr (value, wanted, c))) = record { same = c.same; hand = c.hand; none = c.spares.1.refused.none; shared = c.spares.1.shared; kept = c.spares.0 }
+told_none m n key budget (inl c) = record { same = c.same; hand = c.hand; none = found_none c.bounds.refused; shared = c.bounds.shared; kept = c.bounds.kept }
+told_none m n key budget (inr (inl (value, c))) = record { same = c.same; hand = c.hand; none = found_none c.bounds.refused; shared = c.bounds.shared; kept = c.bounds.kept }
+told_none m n key budget (inr (inr (value, wanted, c))) = record { same = c.same; hand = c.hand; none = c.bounds.1.refused.none; shared = c.bounds.1.shared; kept = c.bounds.0 }
 
 module _ (m n : MemberView) (key budget : ℕ) (law : PassLaw n.pass) (all : HasAllSlots m.pass) (refused : InsertRefused m n key budget NoSlot) (alone : IsAlone m.pass.trace n.pass.trace) where
   abbrev p : PassView

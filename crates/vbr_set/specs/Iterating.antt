@@ -6,7 +6,7 @@ use Rattle.vbr_slots.specs.Calls.{AddsNone, OnlyLoads, Quiet}
 use Rattle.vbr_at_table.specs.KeptSlots.{TakesNoSlot}
 use Rattle.vbr_at_table.specs.Moments.{WasEntry}
 use Rattle.vbr_at_table.specs.Soundness.{HasSafeRun}
-use Rattle.vbr_at_table.specs.Steps.{TookWithin}
+use Rattle.vbr_at_table.specs.WithinBudget.{TookWithin}
 use Rattle.vbr_list.specs.Cursors.{HasGiven, HasGivenAll, IteratesEntries, IteratesKeys, IteratesWhere, SeesMore, StopsShort}
 use Rattle.vbr_list.specs.Next.{enough_to_seek}
 use Rattle.vbr_list.specs.declared.cursor.Cursor.{Cursor}

@@ -23,7 +23,7 @@ use Rattle.vbr_at_table.specs.Reserving.{TakesFlags}
 use Rattle.vbr_list.specs.Budgets.{LacksSteps, listed_for}
 use Rattle.vbr_list.specs.Disturbed.{enough_among, enough_to_insert_among, enough_to_search_among, enough_to_store_among, most_disturbed, steps_for_slot, steps_to_prepare}
 use Rattle.vbr_list.specs.Expecting.{CallsRemoveIf}
-use Rattle.vbr_list.specs.Sparing.{Calls, CallsGet, CallsInsert, CallsRemove}
+use Rattle.vbr_list.specs.CallBounds.{Calls, CallsGet, CallsInsert, CallsRemove}
 use Rattle.vbr_list.specs.Storing.{CallsStore}
 use Rattle.vbr_list.specs.declared.wanted.Wanted.{Wanted}
 use Rattle.vbr_at_table.specs.declared.refusal.Refusal.{Refusal}
@@ -108,7 +108,7 @@ abbrev pub OneUnstampedAtEachMoment : Type 0
 OneUnstampedAtEachMoment = (p : Trace) (moment : List Event) → UnlinkedInTurn p → Begins moment p.seen → number_at p.start moment (Unstamped p.who) ≤ 1
 
 -- a pass that has all its slots was told that there is no slot for an insert or a store, and no other pass made a step meanwhile
-pub record FoundNoSlot (m n : MemberView) (key budget : ℕ) : Type 0 where
+pub record RefusedAlone (m n : MemberView) (key budget : ℕ) : Type 0 where
   pub law : PassLaw n.pass
   pub has_all : HasAllSlots m.pass
   pub refused : InsertRefused m n key budget NoSlot
@@ -116,11 +116,11 @@ pub record FoundNoSlot (m n : MemberView) (key budget : ℕ) : Type 0 where
 
 -- an insert or a store that is alone finds no slot only where all slots are taken up
 abbrev pub NoSlotAlone : Type 0
-NoSlotAlone = (m n : MemberView) (key budget : ℕ) → FoundNoSlot m n key budget → AreTakenUp n.pass.trace
+NoSlotAlone = (m n : MemberView) (key budget : ℕ) → RefusedAlone m n key budget → AreTakenUp n.pass.trace
 
 -- besides, all slots but 64 for each other pass have a key of the set or a marked node, where each other pass stands between two calls
 abbrev pub SlotsThatSuffice : Type 0
 SlotsThatSuffice =
-    (m n : MemberView) (key budget : ℕ) (keys : List ℕ) → FoundNoSlot m n key budget → OthersAreBetweenCalls n.pass.trace
+    (m n : MemberView) (key budget : ℕ) (keys : List ℕ) → RefusedAlone m n key budget → OthersAreBetweenCalls n.pass.trace
     → AreKeysOf keys (set_after (opening_keys n.pass.trace.start) (calls_of n.pass.trace.start n.pass.trace.seen))
     → n.pass.trace.start.shape.slots ≤ length keys + marked_after n.pass.trace.start n.pass.trace.seen + POOL * (n.pass.trace.passes - 1)

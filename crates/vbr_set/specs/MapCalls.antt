@@ -10,9 +10,9 @@ use Rattle.vbr_slots.specs.Calls.{made_by}
 use Rattle.vbr_slots.specs.Views.{Trace}
 use Rattle.vbr_at_table.specs.KeptSlots.{KeepsSlots}
 use Rattle.vbr_list.specs.Expecting.{removal_call}
-use Rattle.vbr_list.specs.Sparing.{SparesInsert, SparesLookUp}
-use Rattle.vbr_list.specs.Storing.{SparesStore, stored_calls}
-use Rattle.vbr_list.specs.Leaving.{SparesRemove}
+use Rattle.vbr_list.specs.CallBounds.{BoundsOfInsert, BoundsOfLookUp}
+use Rattle.vbr_list.specs.Storing.{BoundsOfStore, stored_calls}
+use Rattle.vbr_list.specs.Leaving.{BoundsOfRemove}
 use Rattle.vbr_list.specs.Told.{given_call, stored_call}
 use Rattle.vbr_list.specs.Wanted.{wants}
 use Rattle.vbr_list.specs.declared.wanted.Wanted.{Wanted}
@@ -34,23 +34,23 @@ pub record MapAnswersAll (calls : List Call) (p q : Trace) : Type 0 where
 
 -- so it is of an insert of an entry, which stores its value where it is answered yes
 abbrev pub InsertsEntry : MemberView → MemberView → ℕ → ℕ → ℕ → Result Bool Refusal → Type 0
-InsertsEntry m n key value budget answer = CalledBy MapAnswersAll (one (stored_call m.pass.trace.who key value)) (SparesInsert m.pass n.pass key budget) m n budget answer
+InsertsEntry m n key value budget answer = CalledBy MapAnswersAll (one (stored_call m.pass.trace.who key value)) (BoundsOfInsert m.pass n.pass key budget) m n budget answer
 
 -- of a remove, which gives the value
 abbrev pub RemovesEntry : MemberView → MemberView → ℕ → ℕ → Result (Option ℕ) Refusal → Type 0
-RemovesEntry m n key budget answer = CalledBy MapAnswersAll (one (given_call m.pass.trace.who Remove key)) (SparesRemove is_some m.pass n.pass key budget) m n budget answer
+RemovesEntry m n key budget answer = CalledBy MapAnswersAll (one (given_call m.pass.trace.who Remove key)) (BoundsOfRemove is_some m.pass n.pass key budget) m n budget answer
 
 -- of a get, which gives the value
 abbrev pub GetsEntry : MemberView → MemberView → ℕ → ℕ → Result (Option ℕ) Refusal → Type 0
-GetsEntry m n key budget answer = CalledBy MapAnswersAll (one (given_call m.pass.trace.who Get key)) (SparesLookUp (given_call m.pass.trace.who Get key) 2 m.pass n.pass key budget) m n budget answer
+GetsEntry m n key budget answer = CalledBy MapAnswersAll (one (given_call m.pass.trace.who Get key)) (BoundsOfLookUp (given_call m.pass.trace.who Get key) 2 m.pass n.pass key budget) m n budget answer
 
 -- of a remove of a key with the value that is expected: a remove that is answered with it, or a get of what was there
 abbrev pub RemovesIf : MemberView → MemberView → ℕ → ℕ → ℕ → Result (Option ℕ) Refusal → Type 0
-RemovesIf m n key expected budget answer = CalledBy MapAnswersAll (one (removal_call m.pass.trace.who key (Some expected))) (SparesRemove (wants (Value expected)) m.pass n.pass key budget) m n budget answer
+RemovesIf m n key expected budget answer = CalledBy MapAnswersAll (one (removal_call m.pass.trace.who key (Some expected))) (BoundsOfRemove (wants (Value expected)) m.pass n.pass key budget) m n budget answer
 
 -- and of a store, which may make two calls: where what was there is as it is wanted, the key is removed with its value, if it has one, and inserted with the new one, next to each other; else it is a get of what was there
 abbrev pub StoresEntry : MemberView → MemberView → ℕ → ℕ → Wanted → ℕ → Result (Option ℕ) Refusal → Type 0
-StoresEntry m n key value wanted budget answer = CalledBy MapAnswersAll (stored_calls m.pass.trace.who key value wanted) (λ so. KeepsSlots m.pass n.pass × SparesStore wanted m.pass n.pass key budget so) m n budget answer
+StoresEntry m n key value wanted budget answer = CalledBy MapAnswersAll (stored_calls m.pass.trace.who key value wanted) (λ so. KeepsSlots m.pass n.pass × BoundsOfStore wanted m.pass n.pass key budget so) m n budget answer
 
 -- ---- stores by their names
 

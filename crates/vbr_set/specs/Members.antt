@@ -6,9 +6,9 @@ use Rattle.vbr_machine.specs.declared.history.Call.{Call}
 use Rattle.vbr_machine.specs.declared.history.Op.{Op}
 use Rattle.vbr_slots.specs.Calls.{IsSame, Quiet}
 use Rattle.vbr_slots.specs.Views.{PassView, TableView, Trace, new_passes}
-use Rattle.vbr_at_table.specs.Steps.{TookWithin}
+use Rattle.vbr_at_table.specs.WithinBudget.{TookWithin}
 use Rattle.vbr_at_table.specs.Soundness.{HasSafeRun}
-use Rattle.vbr_list.specs.Sparing.{Spares}
+use Rattle.vbr_list.specs.CallBounds.{BoundsOfCall}
 use Rattle.vbr_at_table.specs.declared.refusal.Refusal.{Refusal}
 use Rattle.vbr_set.specs.Answers.{AnswerAlone, AnswersAll}
 
@@ -39,7 +39,7 @@ one told reply = told reply ∷ []
 -- what a call leaves of its member, which is the same pass of the same set or map
 -- Where the call was answered, what the answer tells leaves what answers leave, and alone it has the replies of a plain set. Where it was refused, it made no call.
 -- In each case what its pass has then seen is a safe run. It has no slot in hand, and made no more steps than its budget.
-pub record CalledBy {A : Type 0} (Leave : List Call → Trace → Trace → Type 0) (told : A → List Call) (SparesSo : Result A Refusal → Type 0) (m n : MemberView) (budget : ℕ) (answer : Result A Refusal) : Type 0 where
+pub record CalledBy {A : Type 0} (Leave : List Call → Trace → Trace → Type 0) (told : A → List Call) (BoundsSo : Result A Refusal → Type 0) (m n : MemberView) (budget : ℕ) (answer : Result A Refusal) : Type 0 where
   pub set : n.set ≡ m.set
   pub same : IsSame m.pass.trace n.pass.trace
   pub answers : IfOk answer (λ reply. Leave (told reply) m.pass.trace n.pass.trace)
@@ -48,8 +48,8 @@ pub record CalledBy {A : Type 0} (Leave : List Call → Trace → Trace → Type
   pub safe : HasSafeRun n.pass.trace
   pub hand : n.pass.hand ≡ None
   pub steps : TookWithin m.pass.trace n.pass.trace budget
-  pub spares : SparesSo answer
+  pub bounds : BoundsSo answer
 
 -- so it is of a call of a set: its answer tells one call, which stands in one legal history of what its pass has then seen, once, behind its calls before
 abbrev pub Called : Op → MemberView → MemberView → ℕ → ℕ → Result Bool Refusal → Type 0
-Called op m n key budget answer = CalledBy AnswersAll (one (set_call m.pass.trace.who op key)) (Spares op m.pass n.pass key budget) m n budget answer
+Called op m n key budget answer = CalledBy AnswersAll (one (set_call m.pass.trace.who op key)) (BoundsOfCall op m.pass n.pass key budget) m n budget answer

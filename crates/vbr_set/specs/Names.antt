@@ -23,7 +23,7 @@ pub use Rattle.vbr_at_table.specs.Advances.{AdvancesWhereNeeded}
 pub use Rattle.vbr_at_table.specs.KeptSlots.{HasUnpublished, KeepsSlots, TakesNoSlot, SharesWhereFull}
 pub use Rattle.vbr_at_table.specs.Budgets.{most_to_take}
 pub use Rattle.vbr_at_table.specs.Refusals.{LeavesRoom}
-pub use Rattle.vbr_at_table.specs.Steps.{TookWithin}
+pub use Rattle.vbr_at_table.specs.WithinBudget.{TookWithin}
 pub use Rattle.vbr_at_table.specs.Soundness.{HasSafeRun}
 pub use Rattle.vbr_list.specs.Budgets.{IsAnsweredOrSpent, LacksSteps, enough_past, enough_to_insert, enough_to_look_up, enough_to_search, enough_to_unlink, enough_with_a_slot, find_costs, insert_costs, listed_for, look_up_costs, remove_costs}
 pub use Rattle.vbr_list.specs.Leaving.{Leaves}

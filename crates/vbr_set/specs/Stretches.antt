@@ -11,7 +11,7 @@ use Rattle.vbr_machine.specs.declared.history.Op.TheVariants.{Has, Insert, Remov
 use Rattle.vbr_slots.specs.PassLaw.{PassLaw}
 use Rattle.vbr_slots.specs.Tokens.{SeenView}
 use Rattle.vbr_slots.specs.Views.{Did, KeepsPool, PassView, TableView, Trace}
-use Rattle.vbr_at_table.specs.Counts.{advances}
+use Rattle.vbr_at_table.specs.StepKinds.{advances}
 use Rattle.vbr_at_table.specs.GivingSlotsBack.{GivesSlotsBack}
 use Rattle.vbr_at_table.specs.KeptSlots.{TakesNoSlot}
 use Rattle.vbr_at_table.specs.Reserving.{TakesFlags}
@@ -19,7 +19,7 @@ use Rattle.vbr_list.specs.Budgets.{LacksSteps, listed_for}
 use Rattle.vbr_list.specs.Cursors.{SeesMore}
 use Rattle.vbr_list.specs.Disturbed.{disturbed, enough_among, enough_to_insert_among, enough_to_search_among, enough_to_store_among, steps_for_slot, steps_to_prepare}
 use Rattle.vbr_list.specs.Expecting.{CallsRemoveIf}
-use Rattle.vbr_list.specs.Sparing.{Calls, CallsGet, CallsInsert, CallsRemove}
+use Rattle.vbr_list.specs.CallBounds.{Calls, CallsGet, CallsInsert, CallsRemove}
 use Rattle.vbr_list.specs.Storing.{CallsStore}
 use Rattle.vbr_list.specs.declared.wanted.Wanted.{Wanted}
 use Rattle.vbr_at_table.specs.declared.refusal.Refusal.{Refusal}

@@ -9,7 +9,7 @@ ghost use Rattle.vbr_machine.specs.Start.{Start, IsStart};
 ghost use Rattle.vbr_machine.specs.declared.event.Event.{Event};
 ghost use Rattle.vbr_machine.specs.declared.history.Call.{Call};
 ghost use Rattle.vbr_slots.specs.Closing.{AllOf};
-ghost use Rattle.vbr_slots.specs.Openings.{Opens};
+ghost use Rattle.vbr_slots.specs.Openings.{OpensAs};
 ghost use Rattle.vbr_slots.specs.Rule.{with_opened};
 ghost use Rattle.vbr_slots.specs.Views.{PassView, TableView};
 ghost use Rattle.vbr_slots.specs.declared.opening.TheConstants.{MAX_MANY_PASSES};
@@ -51,7 +51,7 @@ pub trait Kind: Nodes + Sized {
         requires ascending { IsStrictlyIncreasing (kind.keys items.now) }
         requires few { length items.now ≤ shape.slots }
         ensures opened { IfOk result (λ r.
-            Opens (kind.start shape items.now) passes r.0 r.1.items) }
+            OpensAs (kind.start shape items.now) passes r.0 r.1.items) }
         ensures refused { IsErrOf result OpenManyError.Passes
             ↔ ((passes ≡ 0) ⊎ (MAX_MANY_PASSES < passes)) };
 

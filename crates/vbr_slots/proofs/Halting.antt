@@ -7,7 +7,7 @@ use Rattle.vbr_slots.specs.declared.runner.Runner.TheInside.{Inside as RunnerIns
 use Rattle.vbr_slots.specs.declared.snapshot.Halted.{Halted}
 use Rattle.vbr_slots.specs.Closing.{AllOf}
 use Rattle.vbr_slots.specs.Rule.{head_of, opened_of, tail_of, witness}
-use Rattle.vbr_slots.specs.RunnerView.{IsSoundRunner, trace_of}
+use Rattle.vbr_slots.specs.RunnerView.{IsSoundRunner, trace_of_runner}
 use Rattle.vbr_slots.specs.Snapshots.{AreHalted, EachLow, IsHalting, IsJoined, IsKeptOf, stepper_with, witnesses_of}
 use Rattle.vbr_slots.specs.StepperView.{IsWell}
 use Rattle.vbr_slots.specs.Views.{IsOf, PassView, TableView, Trace, counted_steps, steps_of}
@@ -107,7 +107,7 @@ module _ {t : TableView} {all left : List PassView} {joined : Seat (Unit {0}) (L
   joined_is : joined.me ≡ (witness (opened_of next.pass.trace.start) next.pass.trace.who next.pass.trace.seen ∷ witnesses_of next.others, [])
   joined_is = h.me ∙ ap (λ (ps : List PassView). (witnesses_of ps, [])) next.taken_is
 
-  again : IsSoundRunner q × (trace_of q ≡ next.pass.trace)
+  again : IsSoundRunner q × (trace_of_runner q ≡ next.pass.trace)
   again =
       let keeps = next.keeps in
       same_again keeps.runner next.pass.trace keeps.sound keeps.trace q (left_alone joined.me q.seat.me _ (witnesses_of next.others) joined_is me)
@@ -117,10 +117,10 @@ module _ {t : TableView} {all left : List PassView} {joined : Seat (Unit {0}) (L
   pub sound_again : IsSoundRunner q
   sound_again = again.0
 
-  pub well_again : IsWell (stepper_with (trace_of q) kept)
+  pub well_again : IsWell (stepper_with (trace_of_runner q) kept)
   well_again = subst (λ (w : Trace). IsWell (stepper_with w kept)) (sym again.1) next.keeps.well
 
-  pub exact_again : kept.steps ≡ counted_steps (steps_of (trace_of q))
+  pub exact_again : kept.steps ≡ counted_steps (steps_of (trace_of_runner q))
   exact_again = next.keeps.steps ∙ ap (λ (w : Trace). counted_steps (steps_of w)) (sym again.1)
 
   -- there is room for it
@@ -128,7 +128,7 @@ module _ {t : TableView} {all left : List PassView} {joined : Seat (Unit {0}) (L
   one_less = let whole = ap (λ (ps : List PassView). length ps) parts_now in let parts = length-append left (next.pass ∷ next.others) in omega arith
 
   -- and then it is one of those that are as they were
-  pub one_again : {left' : List PassView} {others : Seat (Unit {0}) (List Witness)} → left' ≡ left ++ record { trace = trace_of q; pool = kept.pool.items; hand = kept.hand } ∷ [] → others.table_id ≡ joined.table_id → others.me ≡ (tail_of joined.me.0, []) → IsHalting t all left' others rest
+  pub one_again : {left' : List PassView} {others : Seat (Unit {0}) (List Witness)} → left' ≡ left ++ record { trace = trace_of_runner q; pool = kept.pool.items; hand = kept.hand } ∷ [] → others.table_id ≡ joined.table_id → others.me ≡ (tail_of joined.me.0, []) → IsHalting t all left' others rest
   one_again {left'} {others} pushed others_table others_me = record {
     taken = next.others;
     parts =

@@ -4,7 +4,7 @@ mod Sightings
 mod Keeps
 mod Leaving
 mod Moving
-mod LookUps
+mod LinkIndices
 mod Learning
 mod Steps
 mod Tried

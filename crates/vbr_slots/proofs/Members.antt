@@ -12,7 +12,8 @@ use Rattle.vbr_machine.specs.declared.event.Event.{Event}
 use Rattle.vbr_machine.proofs.Lemmas.{begins_for-snoc}
 use Rattle.vbr_slots.specs.declared.rule.Opened.{Opened}
 use Rattle.vbr_slots.specs.declared.rule.Witness.{Witness}
-use Rattle.vbr_slots.specs.Rule.{EachBegins, witness, witnesses, nobody, one_if, times, times_in}
+use Rattle.vbr_slots.specs.Rule.{EachBegins, witness, witnesses, nobody, times, times_in}
+use Rattle.vbr_machine.specs.Disturbances.{one_if}
 
 pub each_begins_more : (run : List Event) (e : Event) (v : List Witness) → times e.pass v ≡ 0 → EachBegins run v → EachBegins (run ++ e ∷ []) v
 each_begins_more run e [] away b = tt

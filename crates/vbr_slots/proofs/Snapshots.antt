@@ -21,15 +21,16 @@ use Rattle.vbr_slots.specs.declared.rule.Opened.{Opened}
 use Rattle.vbr_slots.specs.declared.rule.Witness.{Witness}
 use Rattle.vbr_slots.specs.TableStart.{TableStart}
 use Rattle.vbr_slots.specs.declared.slots.Slots.TheInside.{Inside as SlotsInside}
-use Rattle.vbr_slots.specs.Rule.{Kept, head_of, tail_of, witness, witnesses, nobody, one_if, times, EachBegins, HasSeen, IsSeen, opened_of}
+use Rattle.vbr_slots.specs.Rule.{Kept, head_of, tail_of, witness, witnesses, nobody, times, EachBegins, HasSeen, IsSeen, opened_of}
 use Rattle.vbr_slots.specs.Closing.{AllOf, Ends}
 use Rattle.vbr_slots.specs.SlotsView.{table_of, IsBuilt}
-use Rattle.vbr_slots.specs.Snapshots.{AreReadBy, EachLow, IsLatest, IsWordAt, Reads, witnesses_of}
+use Rattle.vbr_slots.specs.Snapshots.{AreReadBy, EachLow, IsLatest, IsWordAt, ReadsWord, witnesses_of}
 use Rattle.vbr_slots.specs.Views.{IsOf, PassView, TableView}
 use Rattle.vbr_slots.proofs.Members.{one_in, two_in, times-members}
 use Rattle.vbr_slots.proofs.Closings.{each_seen, one_of, witnesses_of-snoc}
 use Rattle.vbr_slots.specs.Stepping.{opening_of}
 use Rattle.vbr_slots.proofs.Steps.{Sat}
+use Rattle.vbr_machine.specs.Disturbances.{one_if}
 
 abbrev V : Type 0
 V = List Witness
@@ -126,7 +127,7 @@ module _ (opening : TableStart) (s : Standing (Unit {0}) V) (h : Kept opening s)
           (λ not. absurd (no_other x.0 x.1 not x.2 x.3))
 
 -- a load of any word keeps the rule, and tells the word after what the seat's witnesses have seen
-pub surveys : (opening : TableStart) (slots id index : ℕ) (me : Me (Unit {0}) V) → opening.passes ≤ nobody → EachLow opening.passes me.0 → opening.passes ≤ length me.0 → Allows (Kept opening) slots id me index (λ n. n) (Reads opening index me)
+pub surveys : (opening : TableStart) (slots id index : ℕ) (me : Me (Unit {0}) V) → opening.passes ≤ nobody → EachLow opening.passes me.0 → opening.passes ≤ length me.0 → Allows (Kept opening) slots id me index (λ n. n) (ReadsWord opening index me)
 surveys opening slots id index me few low all s h _ at _ =
     let again : record { words = set s.words index (get_or s.words index 0); homes = s.homes; views = set s.views id me.0 } ≡ s =
     λ i. record { words = set-get_or s.words index 0 i; homes = s.homes; views = set_again s.views id me.0 at i } in (
@@ -196,13 +197,13 @@ module _ {N : Type 0} {values : Bool} (t : SlotsInside N) (table : TableView) (b
 
   -- what a load asks of the seat
   pub asks_to_read : (z : TableId) → z ≡ table.table → (id : ℕ) (me : Sat) → EachLow table.passes me.0 → table.passes ≤ length me.0 → (index : ℕ) → index < t.table.shared.table_id.words → (opening : TableStart) → opening ≡ opening_of table
-      → (z ≡ t.table.shared.table_id) × (index < t.table.shared.table_id.words) × Allows (Kept t.table.shared.key) t.table.shared.table_id.slots id me index (λ n. n) (Reads opening index me)
+      → (z ≡ t.table.shared.table_id) × (index < t.table.shared.table_id.words) × Allows (Kept t.table.shared.key) t.table.shared.table_id.slots id me index (λ n. n) (ReadsWord opening index me)
   asks_to_read z z_is id me low all index inside opening named =
       let key : opening_of table ≡ t.table.shared.key = sym (ap opening_of t_is) ∙ sym built.key in
       let few : table.passes ≤ nobody = subst (λ (n : ℕ). n ≤ nobody) (ap (λ (q : TableView). q.passes) t_is) built.few in (
         z_is ∙ sym (ap (λ (q : TableView). q.table) t_is),
         inside,
-        subst (λ (x : TableStart × TableStart). Allows (Kept x.0) t.table.shared.table_id.slots id me index (λ n. n) (Reads x.1 index me)) (λ i. (key i, sym named i)) (surveys (opening_of table) t.table.shared.table_id.slots id index me few low all),
+        subst (λ (x : TableStart × TableStart). Allows (Kept x.0) t.table.shared.table_id.slots id me index (λ n. n) (ReadsWord x.1 index me)) (λ i. (key i, sym named i)) (surveys (opening_of table) t.table.shared.table_id.slots id index me few low all),
       )
 
 -- ---- one more pass

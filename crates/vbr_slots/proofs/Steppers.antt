@@ -17,7 +17,7 @@ use Rattle.vbr_machine.specs.declared.knowledge.Holding.{Holding}
 use Rattle.vbr_machine.specs.declared.knowledge.Holding.TheVariants.{Unlinked, InHand}
 use Rattle.vbr_machine.proofs.Lemmas.{put_here, put_other}
 use Rattle.vbr_slots.specs.declared.stepper.Stepper.TheInside.{Inside}
-use Rattle.vbr_slots.specs.LookUps.{look_up}
+use Rattle.vbr_slots.specs.LookUpStep.{look_up}
 use Rattle.vbr_slots.specs.Pools.{OwnPool, HandFits}
 use Rattle.vbr_slots.specs.StepperView.{IsWell}
 use Rattle.vbr_slots.specs.Tried.{last_tried, tried_by}

@@ -22,9 +22,9 @@ use Rattle.vbr_slots.specs.declared.runner.Runner.TheInside.{Inside as RunnerIns
 use Rattle.vbr_slots.specs.declared.slots.Slots.TheInside.{Inside as SlotsInside}
 use Rattle.vbr_slots.specs.Rule.{with_opened, Kept, Told, Caught, Shows, witness, nobody, times, first_opened, first_seen, head_of, tail_of, EachBegins, opened_of}
 use Rattle.vbr_slots.specs.Views.{Trace, TableView, IsOf, Did, knows, event_of, epoch_after, steps_in}
-use Rattle.vbr_slots.specs.Stepping.{Names, opening_of}
+use Rattle.vbr_slots.specs.Stepping.{NamesStep, opening_of}
 use Rattle.vbr_slots.specs.Tokens.{Since}
-use Rattle.vbr_slots.specs.RunnerView.{start_of, trace_of, seen_of, IsSoundRunner}
+use Rattle.vbr_slots.specs.RunnerView.{start_of, trace_of_runner, seen_of, IsSoundRunner}
 use Rattle.vbr_slots.specs.SlotsView.{start_in, table_of, IsBuilt}
 use Rattle.vbr_slots.proofs.Calls.{steps_next, steps_left}
 use Rattle.vbr_slots.proofs.Keeps.{plays_as, catches_as}
@@ -35,10 +35,10 @@ abbrev pub Sat : Type 0
 Sat = Me (Unit {0}) (List Witness)
 
 -- the seat of a runner
-pub known : (p : RunnerInside) (w : Trace) → IsSoundRunner p → trace_of p ≡ w → p.seat.me ≡ (witness (opened_of w.start) w.who w.seen ∷ [], [])
+pub known : (p : RunnerInside) (w : Trace) → IsSoundRunner p → trace_of_runner p ≡ w → p.seat.me ≡ (witness (opened_of w.start) w.who w.seen ∷ [], [])
 known p w sound is = sound.alone ∙ ap (λ (v : Trace). (witness (opened_of v.start) v.who v.seen ∷ [], [])) is
 
-pub low_of : (p : RunnerInside) (w : Trace) → IsSoundRunner p → trace_of p ≡ w → w.who < w.passes
+pub low_of : (p : RunnerInside) (w : Trace) → IsSoundRunner p → trace_of_runner p ≡ w → w.who < w.passes
 low_of p w sound is = subst (λ (v : Trace). v.who < v.passes) is sound.low
 
 pub seen_in : (me : Sat) (v : Witness) (others : List Witness) → me ≡ (v ∷ others, []) → first_seen me.0 ≡ v.seen
@@ -46,7 +46,7 @@ seen_in me v others is = ap (λ (m : Sat). first_seen m.0) is
 
 -- what a step on the word asks
 pub asks : {N : Type 0} {values : Bool} (t : SlotsInside N) (table : TableView) → IsBuilt values t → table_of t ≡ table → (w : Trace) → w.who < w.passes → IsOf w table → (z : TableId) → z ≡ w.table → (id : ℕ) (me : Sat) (others : List Witness)
-    → me ≡ (witness (opened_of w.start) w.who w.seen ∷ others, []) → (step : Step) (e : Event) (opening : TableStart) → Names e opening w table step → (place : Place) (word : ℕ) (f g : ℕ → ℕ) → word ≡ index_of t.opening.shape place → place ≡ place_of_step step
+    → me ≡ (witness (opened_of w.start) w.who w.seen ∷ others, []) → (step : Step) (e : Event) (opening : TableStart) → NamesStep e opening w table step → (place : Place) (word : ℕ) (f g : ℕ → ℕ) → word ≡ index_of t.opening.shape place → place ≡ place_of_step step
     → ((n : ℕ) → f n ≡ word_made (access_of (knows w) step) n) → ((n : ℕ) → Shows step (g n) n) → Accepts table.start (knows w) step
     → (z ≡ t.table.shared.table_id) × (word < t.table.shared.table_id.words) × Allows (Kept t.table.shared.key) t.table.shared.table_id.slots id me word f (λ r. Told opening e me (g r))
 asks t table built t_is w low own z z_is id me others is step e opening named place word f g at_place place_is does same ok =
@@ -70,7 +70,7 @@ asks t table built t_is w low own z z_is id me others is step e opening named pl
 
 -- what it asks of a runner that is alone in its seat
 pub asks_alone : {N : Type 0} {values : Bool} {t : SlotsInside N} {table : TableView} {p : RunnerInside} {w : Trace} {step : Step} {e : Event} {opening : TableStart}
-    → IsBuilt values t → table_of t ≡ table → IsSoundRunner p → trace_of p ≡ w → IsOf w table → Names e opening w table step → (id : ℕ) (place : Place) (word : ℕ) (f g : ℕ → ℕ) → word ≡ index_of t.opening.shape place → place ≡ place_of_step step
+    → IsBuilt values t → table_of t ≡ table → IsSoundRunner p → trace_of_runner p ≡ w → IsOf w table → NamesStep e opening w table step → (id : ℕ) (place : Place) (word : ℕ) (f g : ℕ → ℕ) → word ≡ index_of t.opening.shape place → place ≡ place_of_step step
     → ((n : ℕ) → f n ≡ word_made (access_of (knows w) step) n) → ((n : ℕ) → Shows step (g n) n) → Accepts table.start (knows w) step
     → (p.seat.table_id ≡ t.table.shared.table_id) × (word < t.table.shared.table_id.words) × Allows (Kept t.table.shared.key) t.table.shared.table_id.slots id p.seat.me word f (λ r. Told opening e p.seat.me (g r))
 asks_alone {N} {values} {t} {table} {p} {w} {step} {e} {opening} built t_is sound is own named id place word f g at_place place_is does same ok =
@@ -88,7 +88,7 @@ pub record Done (w : Trace) (step : Step) (r : ℕ) (others : List Witness) (n :
   pub know : know_after w.start run w.who ≡ learn step r (stamp_shown (world_after w.start (w.seen ++ rest)) step) (knows w)
   pub mates : EachBegins run others
 
-pub done : (w : Trace) (table : TableView) → IsOf w table → (me n : Sat) (others : List Witness) → me ≡ (witness (opened_of w.start) w.who w.seen ∷ others, []) → (step : Step) (e : Event) (opening : TableStart) → Names e opening w table step
+pub done : (w : Trace) (table : TableView) → IsOf w table → (me n : Sat) (others : List Witness) → me ≡ (witness (opened_of w.start) w.who w.seen ∷ others, []) → (step : Step) (e : Event) (opening : TableStart) → NamesStep e opening w table step
     → (r : ℕ) → Told opening e me r n → Done w step r others n
 done w table own me n others is step e opening named r told =
     let d : Event = event_of w.who step in
@@ -107,13 +107,13 @@ done w table own me n others is step e opening named r told =
     }
 
 -- a runner that has kept its opening and what its seat says that the table opened with has the same start
-same_start : (p : RunnerInside) (w : Trace) → trace_of p ≡ w → (opening : Opening) → opening ≡ p.opening → (me : Sat) (v : Witness) (others : List Witness) → me ≡ (v ∷ others, []) → v.opened ≡ opened_of w.start → with_opened opening.shape (first_opened me.0) ≡ w.start
+same_start : (p : RunnerInside) (w : Trace) → trace_of_runner p ≡ w → (opening : Opening) → opening ≡ p.opening → (me : Sat) (v : Witness) (others : List Witness) → me ≡ (v ∷ others, []) → v.opened ≡ opened_of w.start → with_opened opening.shape (first_opened me.0) ≡ w.start
 same_start p w p_is opening opening_is me v others is opened =
     (λ i. with_opened (opening_is i).shape ((ap (λ (m : Sat). first_opened m.0) is ∙ opened) i))
     ∙ (λ i. with_opened (ap (λ (v : Trace). v.start.shape) p_is i) (opened_of w.start))
 
 -- a runner that has a seat of its own, in which its pass has seen this run, and that kept its number and its opening
-module _ (p : RunnerInside) (w : Trace) (p_is : trace_of p ≡ w) (run : List Event) (q : RunnerInside) (is : q.seat.me ≡ (witness (opened_of w.start) w.who run ∷ [], [])) (who : q.who ≡ p.who) (opening : q.opening ≡ p.opening) where
+module _ (p : RunnerInside) (w : Trace) (p_is : trace_of_runner p ≡ w) (run : List Event) (q : RunnerInside) (is : q.seat.me ≡ (witness (opened_of w.start) w.who run ∷ [], [])) (who : q.who ≡ p.who) (opening : q.opening ≡ p.opening) where
   seen_now : seen_of q ≡ run
   seen_now = seen_in q.seat.me _ [] is
 
@@ -127,7 +127,7 @@ module _ (p : RunnerInside) (w : Trace) (p_is : trace_of p ≡ w) (run : List Ev
   passes_is = ap (λ (o : Opening). o.passes) opening ∙ ap (λ (v : Trace). v.passes) p_is
 
   -- what contracts see of it
-  trace_is : q.seat.table_id ≡ w.table → trace_of q ≡ record w { seen = run }
+  trace_is : q.seat.table_id ≡ w.table → trace_of_runner q ≡ record w { seen = run }
   trace_is table i = record { table = table i; start = start_is i; passes = passes_is i; who = who_is i; seen = seen_now i }
 
   sound_in : IsSoundRunner p → IsRun w.start w.passes run → q.epoch ≡ (know_after w.start run w.who).epoch → IsSoundRunner q
@@ -140,14 +140,14 @@ module _ (p : RunnerInside) (w : Trace) (p_is : trace_of p ≡ w) (run : List Ev
   }
 
 -- the runner after the step
-module _ (p : RunnerInside) (w : Trace) (sound : IsSoundRunner p) (p_is : trace_of p ≡ w) (step : Step) (r : ℕ) (others : List Witness) (n : Sat) (end : Done w step r others n) (q : RunnerInside) (is : q.seat.me ≡ (witness (opened_of w.start) w.who end.run ∷ [], []))
+module _ (p : RunnerInside) (w : Trace) (sound : IsSoundRunner p) (p_is : trace_of_runner p ≡ w) (step : Step) (r : ℕ) (others : List Witness) (n : Sat) (end : Done w step r others n) (q : RunnerInside) (is : q.seat.me ≡ (witness (opened_of w.start) w.who end.run ∷ [], []))
     (fields : (q.who ≡ p.who) × (q.opening ≡ p.opening) × (q.epoch ≡ epoch_after step r p.epoch)) where
   pub stays_sound : IsSoundRunner q
   stays_sound =
       sound_in p w p_is end.run q is fields.0 fields.1 sound end.is_run
       (fields.2 ∙ ap (epoch_after step r) (sound.epoch ∙ ap (λ (v : Trace). (knows v).epoch) p_is) ∙ sym (epoch_learned step r _ (knows w)) ∙ sym (ap (λ (k : Know). k.epoch) end.know))
 
-  pub did : q.seat.table_id ≡ p.seat.table_id → Did step w (trace_of q) r
+  pub did : q.seat.table_id ≡ p.seat.table_id → Did step w (trace_of_runner q) r
   did table = subst (λ (t : Trace). Did step w t r) (sym (trace_is p w p_is end.run q is fields.0 fields.1 (table ∙ ap (λ (v : Trace). v.table) p_is))) (record {
     rest = end.rest;
     none = end.none;
@@ -162,9 +162,9 @@ module _ (p : RunnerInside) (w : Trace) (sound : IsSoundRunner p) (p_is : trace_
 -- a runner that made a step alone in its seat
 pub record Stepped (w : Trace) (step : Step) (r : ℕ) (q : RunnerInside) : Type 0 where
   pub sound : IsSoundRunner q
-  pub did : Did step w (trace_of q) r
+  pub did : Did step w (trace_of_runner q) r
 
-pub stepped : {p : RunnerInside} {w : Trace} {table : TableView} {step : Step} {e : Event} {opening : TableStart} {r : ℕ} → IsSoundRunner p → trace_of p ≡ w → IsOf w table → Names e opening w table step
+pub stepped : {p : RunnerInside} {w : Trace} {table : TableView} {step : Step} {e : Event} {opening : TableStart} {r : ℕ} → IsSoundRunner p → trace_of_runner p ≡ w → IsOf w table → NamesStep e opening w table step
     → (q : RunnerInside) → Told opening e p.seat.me r q.seat.me → q.seat.table_id ≡ p.seat.table_id → (q.who ≡ p.who) × (q.opening ≡ p.opening) × (q.epoch ≡ epoch_after step r p.epoch) → Stepped w step r q
 stepped {p} {w} {table} {step} {e} {opening} {r} sound is own named q told home fields =
     let end = done w table own p.seat.me q.seat.me [] (known p w sound is) step e opening named r told in
@@ -182,8 +182,8 @@ pub right_rest : (m m' : Sat) (v : Witness) (vs : List Witness) → m ≡ (v ∷
 right_rest m m' v vs is right = right ∙ ap (λ (x : Sat). (tail_of x.0, [])) is
 
 -- a runner that has its seat back is what it was
-pub same_again : (p : RunnerInside) (w : Trace) (sound : IsSoundRunner p) (p_is : trace_of p ≡ w) (q : RunnerInside) (is : q.seat.me ≡ (witness (opened_of w.start) w.who w.seen ∷ [], [])) → (q.who ≡ p.who) × (q.opening ≡ p.opening) × (q.epoch ≡ p.epoch)
-    → q.seat.table_id ≡ w.table → IsSoundRunner q × (trace_of q ≡ w)
+pub same_again : (p : RunnerInside) (w : Trace) (sound : IsSoundRunner p) (p_is : trace_of_runner p ≡ w) (q : RunnerInside) (is : q.seat.me ≡ (witness (opened_of w.start) w.who w.seen ∷ [], [])) → (q.who ≡ p.who) × (q.opening ≡ p.opening) × (q.epoch ≡ p.epoch)
+    → q.seat.table_id ≡ w.table → IsSoundRunner q × (trace_of_runner q ≡ w)
 same_again p w sound p_is q is fields table = (
   sound_in p w p_is w.seen q is fields.0 fields.1 sound (subst (λ (v : Trace). IsRun v.start v.passes v.seen) p_is sound.is_run) (fields.2 ∙ sound.epoch ∙ ap (λ (v : Trace). (knows v).epoch) p_is),
   trace_is p w p_is w.seen q is fields.0 fields.1 table,
@@ -204,7 +204,7 @@ beside u vs pm given pm' is_p from into = into ∙ (λ i. ((is_p i).0 ++ (from i
 
 -- what catching up asks
 pub asks_to_catch : {N : Type 0} {values : Bool} (t : SlotsInside N) (table : TableView) → IsBuilt values t → table_of t ≡ table → (w : Trace) → w.who < w.passes → IsOf w table → (z : TableId) → z ≡ w.table → (id : ℕ) (me : Sat) (others : List Witness) → me ≡ (witness (opened_of w.start) w.who w.seen ∷ others, [])
-    → ((number : ℕ) → number ≢ nobody → times number others ≡ 0) → (e : Event) (opening : TableStart) → Names e opening w table ReadEpoch
+    → ((number : ℕ) → number ≢ nobody → times number others ≡ 0) → (e : Event) (opening : TableStart) → NamesStep e opening w table ReadEpoch
     → (z ≡ t.table.shared.table_id) × (0 < t.table.shared.table_id.words) × Allows (Kept t.table.shared.key) t.table.shared.table_id.slots id me 0 (λ n. n) (λ _. Caught opening e.pass me)
 asks_to_catch t table built t_is w low own z z_is id me others is spent e opening named =
     let o : TableStart = record { start = w.start; passes = w.passes } in
@@ -230,7 +230,7 @@ pub record CaughtUp (w : Trace) (others : List Witness) (n : Sat) : Type 0 where
   pub is_run : IsRun w.start w.passes run
   pub mates : EachBegins run others
 
-pub caught_up : (w : Trace) (table : TableView) → IsOf w table → (me n : Sat) (others : List Witness) → me ≡ (witness (opened_of w.start) w.who w.seen ∷ others, []) → (e : Event) (opening : TableStart) → Names e opening w table ReadEpoch
+pub caught_up : (w : Trace) (table : TableView) → IsOf w table → (me n : Sat) (others : List Witness) → me ≡ (witness (opened_of w.start) w.who w.seen ∷ others, []) → (e : Event) (opening : TableStart) → NamesStep e opening w table ReadEpoch
     → Caught opening e.pass me n → CaughtUp w others n
 caught_up w table own me n others is e opening named caught =
     let d : Event = event_of w.who ReadEpoch in
@@ -247,7 +247,7 @@ caught_up w table own me n others is e opening named caught =
     }
 
 -- the runner that caught up
-module _ (p : RunnerInside) (w : Trace) (sound : IsSoundRunner p) (p_is : trace_of p ≡ w) (others : List Witness) (n : Sat) (end : CaughtUp w others n) (q : RunnerInside) (is : q.seat.me ≡ (witness (opened_of w.start) w.who end.run ∷ [], []))
+module _ (p : RunnerInside) (w : Trace) (sound : IsSoundRunner p) (p_is : trace_of_runner p ≡ w) (others : List Witness) (n : Sat) (end : CaughtUp w others n) (q : RunnerInside) (is : q.seat.me ≡ (witness (opened_of w.start) w.who end.run ∷ [], []))
     (fields : (q.who ≡ p.who) × (q.opening ≡ p.opening) × (q.epoch ≡ p.epoch)) where
   know_then : know_after w.start end.run w.who ≡ knows w
   know_then = ap (λ (run : List Event). know_after w.start run w.who) end.run_is ∙ others_leave_know w.start w.seen end.rest w.who end.none
@@ -255,7 +255,7 @@ module _ (p : RunnerInside) (w : Trace) (sound : IsSoundRunner p) (p_is : trace_
   pub caught_sound : IsSoundRunner q
   caught_sound = sound_in p w p_is end.run q is fields.0 fields.1 sound end.is_run (fields.2 ∙ sound.epoch ∙ ap (λ (v : Trace). (knows v).epoch) p_is ∙ sym (ap (λ (k : Know). k.epoch) know_then))
 
-  pub since : q.seat.table_id ≡ p.seat.table_id → Since w (trace_of q)
+  pub since : q.seat.table_id ≡ p.seat.table_id → Since w (trace_of_runner q)
   since table = subst (Since w) (sym (trace_is p w p_is end.run q is fields.0 fields.1 (table ∙ ap (λ (v : Trace). v.table) p_is))) (record {
     rest = end.rest;
     none = end.none;

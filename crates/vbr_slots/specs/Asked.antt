@@ -6,7 +6,7 @@ use Rattle.vbr_machine.specs.Learning.{link_written}
 use Rattle.vbr_machine.specs.declared.event.Step.{Step}
 use Rattle.vbr_slots.specs.Views.{TableView, Trace, knows}
 
--- the reads that the core asks for are checked, and the step's numbers are in range
+-- the reads that the machine asks for are checked, and the step's numbers are in range
 pub record IsChecked (t : TableView) (p : Trace) (step : Step) : Type 0 where
   pub held : HasChecked t.start (knows p) step
   pub in_range : IsInRange t.start (knows p) step

@@ -20,7 +20,7 @@ pub mod Expected
 pub mod OwnSlots
 pub mod Reads
 pub mod Stepping
-pub mod LookUps
+pub mod LookUpStep
 pub mod Alone
 pub mod Messages
 pub mod PassLaw

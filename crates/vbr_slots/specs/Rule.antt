@@ -1,5 +1,5 @@
--- The rule of the table: it is the state of a run of the core, and what each pass has seen begins this run and has all its own events; what a token tells begins this run too.
-use Rattle.std.specs.Prelude.{◌≡◌, ◌≢◌, ◌⊎◌, ℕ, zero, suc, ◌+◌, ◌==◌, List, [], ◌∷◌, ◌++◌, Bool, true, false, None}
+-- The rule of the table: it is the state of a run of the machine, and what each pass has seen begins this run and has all its own events; what a token tells begins this run too.
+use Rattle.std.specs.Prelude.{◌≡◌, ◌≢◌, ◌⊎◌, ℕ, zero, suc, ◌+◌, ◌==◌, List, [], ◌∷◌, ◌++◌, false, None}
 use mathlib.Core.Option.{some}
 use lib.ListN.{get_elem?}
 use Rattle.atomic_table.specs.Table.{State as Standing, Me}
@@ -17,6 +17,7 @@ use Rattle.vbr_slots.specs.declared.rule.Witness.{Witness}
 use Rattle.vbr_slots.specs.TableStart.{TableStart}
 use Rattle.vbr_slots.specs.declared.opening.TheConstants.{MAX_MANY_PASSES}
 use Rattle.vbr_slots.specs.Words.{AreWordsOf}
+use Rattle.vbr_machine.specs.Disturbances.{one_if}
 
 -- ---- what a table opened with
 
@@ -84,11 +85,6 @@ HasSeen run (m ∷ ms) = ((m.who ≢ nobody) × (m.seen ≡ run)) ⊎ HasSeen ru
 -- a witness of some seat, and none of a token, has seen all of the run
 abbrev pub IsSeen : List Event → List (List Witness) → Type 0
 IsSeen run views = (j : ℕ) × (v : List Witness) × (get_elem? views j ≡ some v) × HasSeen run v
-
--- a test, counted
-abbrev pub one_if : Bool → ℕ
-one_if true = 1
-one_if false = 0
 
 -- how many witnesses of a seat have this number
 abbrev pub times : ℕ → List Witness → ℕ

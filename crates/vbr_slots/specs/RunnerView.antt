@@ -16,8 +16,8 @@ abbrev pub start_of : Inside → Start
 start_of p = with_opened p.opening.shape (first_opened p.seat.me.0)
 
 -- what contracts see
-abbrev pub trace_of : Inside → Trace
-trace_of p = record { table = p.seat.table_id; start = start_of p; passes = p.opening.passes; who = p.who; seen = seen_of p }
+abbrev pub trace_of_runner : Inside → Trace
+trace_of_runner p = record { table = p.seat.table_id; start = start_of p; passes = p.opening.passes; who = p.who; seen = seen_of p }
 
 -- its seat has this pass alone, and no slot of the table; what it has seen is a run; and the epoch that it keeps is the one that it knows
 pub record IsSoundRunner (p : Inside) : Type 0 where

@@ -30,6 +30,6 @@ pub record IsRunning (opening : TableStart) (s : Standing (Unit {0}) (List Witne
   pub seen : (run ≡ []) ⊎ IsSeen run s.views
   pub once : (who : ℕ) → who ≢ nobody → times_in who s.views ≤ 1
 
--- whatever meets the rule of the table is the state of a safe run of the core
+-- whatever meets the rule of the table is the state of a safe run of the machine
 abbrev pub TheTableIsARun : Type 0
 TheTableIsARun = (opening : TableStart) (s : Standing (Unit {0}) (List Witness)) → IsStart opening.start → Kept opening s → IsRunning opening s

@@ -10,7 +10,7 @@ use Rattle.vbr_machine.specs.declared.event.Event.{Event}
 use Rattle.vbr_slots.specs.TableStart.{TableStart}
 use Rattle.vbr_slots.specs.declared.rule.Witness.{Witness}
 use Rattle.vbr_slots.specs.Rule.{EachBegins, HasSeen, opened_of, witness}
-use Rattle.vbr_slots.specs.RunnerView.{IsSoundRunner, trace_of}
+use Rattle.vbr_slots.specs.RunnerView.{IsSoundRunner, trace_of_runner}
 use Rattle.vbr_slots.specs.StepperView.{IsWell}
 use Rattle.vbr_slots.specs.Views.{PassView, TableView, Trace, counted_steps, steps_of}
 use Rattle.vbr_slots.specs.declared.runner.Runner.TheInside.{Inside as RunnerInside}
@@ -42,7 +42,7 @@ stepper_with trace kept = record { runner = trace; pool = kept.pool; hand = kept
 pub record IsKeptOf (p : PassView) (kept : Halted) : Type 0 where
   pub runner : RunnerInside
   pub sound : IsSoundRunner runner
-  pub trace : trace_of runner ≡ p.trace
+  pub trace : trace_of_runner runner ≡ p.trace
   pub same : (kept.who ≡ runner.who) × (kept.opening ≡ runner.opening) × (kept.epoch ≡ runner.epoch)
   pub pool : kept.pool.items ≡ p.pool
   pub hand : kept.hand ≡ p.hand
@@ -74,7 +74,7 @@ pub record IsWordAt (opening : TableStart) (ms : List Witness) (index r : ℕ) :
   pub found : (place : Place) → IsIn opening.start.shape place → index_of opening.start.shape place ≡ index → r ≡ word_at opening.start (world_after opening.start run) place
 
 -- what a load tells a seat that has the witnesses of all passes: the word after what these have seen, and nothing of the seat changes
-pub record Reads (opening : TableStart) (index : ℕ) (m : Me (Unit {0}) (List Witness)) (r : ℕ) (n : Me (Unit {0}) (List Witness)) : Type 0 where
+pub record ReadsWord (opening : TableStart) (index : ℕ) (m : Me (Unit {0}) (List Witness)) (r : ℕ) (n : Me (Unit {0}) (List Witness)) : Type 0 where
   pub same : n ≡ m
   pub word : IsWordAt opening m.0 index r
 

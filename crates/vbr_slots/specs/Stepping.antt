@@ -10,6 +10,6 @@ abbrev pub opening_of : TableView → TableStart
 opening_of t = record { start = t.start; passes = t.passes }
 
 -- the event is this step of the pass, and the opening that of the table
-pub record Names (event : Event) (opening : TableStart) (p : Trace) (t : TableView) (step : Step) : Type 0 where
+pub record NamesStep (event : Event) (opening : TableStart) (p : Trace) (t : TableView) (step : Step) : Type 0 where
   pub event_is : event ≡ event_of p.who step
   pub opening_is : opening ≡ opening_of t

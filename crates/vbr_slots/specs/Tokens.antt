@@ -10,7 +10,7 @@ pub record SeenView : Type 0 where
   pub table : TableId
   pub seen : List Event
 
--- the pass made no step; it has seen what others did since, which the core accepted as a run, and knows what it knew
+-- the pass made no step; it has seen what others did since, which the machine accepted as a run, and knows what it knew
 pub record Since (p q : Trace) : Type 0 where
   pub rest : List Event
   pub none : NoneOf p.who rest

@@ -48,7 +48,7 @@ new_passes t who (suc n) = new_pass t who ∷ new_passes t (suc who) n
 abbrev pub IsOf : Trace → TableView → Type 0
 IsOf p t = (p.table ≡ t.table) × (p.start ≡ t.start) × (p.passes ≡ t.passes)
 
--- what the core has the pass know after all that it has seen
+-- what the machine has the pass know after all that it has seen
 abbrev pub knows : Trace → Know
 knows p = know_after p.start p.seen p.who
 
@@ -77,7 +77,7 @@ steps_of p = steps_in p.who p.seen
 abbrev pub counted_steps : ℕ → ℕ
 counted_steps steps = min steps (2 ^ 64 - 1)
 
--- the pass made the step: after all that it had seen and what others did since, which the core accepted as a run; it was shown r; and it knows what the core has it learn from that
+-- the pass made the step: after all that it had seen and what others did since, which the machine accepted as a run; it was shown r; and it knows what the machine has it learn from that
 pub record Did (step : Step) (p q : Trace) (r : ℕ) : Type 0 where
   pub rest : List Event
   pub none : NoneOf p.who rest

@@ -4,7 +4,7 @@ ghost use Rattle.vbr_machine.specs.Acceptance.{Accepts, IsAtIn, IsOpIn};
 ghost use Rattle.vbr_machine.specs.declared.event.Step.TheVariants.{ConfirmPresent, ConfirmAbsent};
 ghost use Rattle.vbr_slots.specs.Asked.{IsChecked};
 ghost use Rattle.vbr_slots.specs.Expected.{Finds, FindsOther};
-ghost use Rattle.vbr_slots.specs.LookUps.{look_up};
+ghost use Rattle.vbr_slots.specs.LookUpStep.{look_up};
 ghost use Rattle.vbr_slots.specs.Views.{IsOf, knows};
 
 use crate::pass::{Pass, steps_after};
@@ -43,21 +43,22 @@ impl<N: Nodes> Slots<N> {
         pass: &mut Pass,
         op: Op,
         key: u64,
-        at: At,
+        holder: At,
         expected: u64,
     ) -> Result<(), u64>
         requires own { IsOf pass.old.trace self.now }
-        requires at { IsAtIn self.now.start at }
+        requires holder { IsAtIn self.now.start holder }
         requires asked { IsOpIn self.now.start op }
-        requires checked { IsChecked self.now pass.old.trace (ConfirmAbsent op key at expected) }
+        requires checked { IsChecked self.now pass.old.trace
+            (ConfirmAbsent op key holder expected) }
         ensures found { OnOk result
-            (Finds (ConfirmAbsent op key at expected) pass.old pass.new expected) }
+            (Finds (ConfirmAbsent op key holder expected) pass.old pass.new expected) }
         ensures other { IfErr result
-            (FindsOther (ConfirmAbsent op key at expected) pass.old pass.new expected) }
+            (FindsOther (ConfirmAbsent op key holder expected) pass.old pass.new expected) }
     {
         pass.steps = steps_after(pass.steps, 1);
         self.at(&mut pass.stepper)
-            .confirm_absent(op, key, at, expected)
+            .confirm_absent(op, key, holder, expected)
     }
 
     /// As [`crate::AtTable::confirm_look_up`], counted.
@@ -67,19 +68,19 @@ impl<N: Nodes> Slots<N> {
         pass: &mut Pass,
         present: bool,
         key: u64,
-        at: At,
+        holder: At,
         expected: u64,
     ) -> Result<(), u64>
         requires own { IsOf pass.old.trace self.now }
         requires accepted { Accepts self.now.start (knows pass.old.trace)
-            (look_up present key at expected) }
+            (look_up present key holder expected) }
         ensures found { OnOk result
-            (Finds (look_up present key at expected) pass.old pass.new expected) }
+            (Finds (look_up present key holder expected) pass.old pass.new expected) }
         ensures other { IfErr result
-            (FindsOther (look_up present key at expected) pass.old pass.new expected) }
+            (FindsOther (look_up present key holder expected) pass.old pass.new expected) }
     {
         pass.steps = steps_after(pass.steps, 1);
         self.at(&mut pass.stepper)
-            .confirm_look_up(present, key, at, expected)
+            .confirm_look_up(present, key, holder, expected)
     }
 }

@@ -2,7 +2,7 @@
 ghost use Rattle.vbr_slots.specs.Running.{TheTableIsARun};
 
 /// A law: whatever meets the rule of the table, as the table does before and after every atomic
-/// step, is the state of a safe run of the core.
+/// step, is the state of a safe run of the machine.
 pub fn the_table_is_a_run()
     ensures { TheTableIsARun }
 {}

@@ -1,5 +1,5 @@
 //! The running table: the words of a set, shared by threads, under one rule. The table is the state
-//! of a run of the core, and what each pass has seen is a beginning of that run that has all its own
+//! of a run of the machine, and what each pass has seen is a beginning of that run that has all its own
 //! events.
 //!
 //! [`Slots`] is the table. A [`Pass`] is the right to make steps under one number, in one thread at

@@ -12,15 +12,15 @@ use vbr_words::{At, Nodes};
 impl<N: Nodes> Slots<N> {
     /// As [`crate::AtTable::load_link`], counted.
     #[inline]
-    pub fn load_link(&self, pass: &mut Pass, at: At) -> u64
+    pub fn load_link(&self, pass: &mut Pass, holder: At) -> u64
         requires own { IsOf pass.old.trace self.now }
-        requires at { IsAtIn self.now.start at }
-        requires held { IsTrue (holds_at (knows pass.old.trace).checked at) }
-        ensures step { Did (LoadLink at) pass.old.trace pass.new.trace result }
+        requires holder { IsAtIn self.now.start holder }
+        requires held { IsTrue (holds_at (knows pass.old.trace).checked holder) }
+        ensures step { Did (LoadLink holder) pass.old.trace pass.new.trace result }
         ensures pool { KeepsPool pass.old pass.new }
     {
         pass.steps = steps_after(pass.steps, 1);
-        self.at(&mut pass.stepper).load_link(at)
+        self.at(&mut pass.stepper).load_link(holder)
     }
 
     /// As [`crate::AtTable::load_birth`], counted.

@@ -3,7 +3,7 @@ ghost use Rattle.std.specs.Prelude.{true, false, ◌≡◌, ◌<◌, ◌≤◌, 
 ghost use Rattle.std.specs.List.Sorted.{IsStrictlyIncreasing};
 ghost use Rattle.vbr_machine.specs.Maps.{keys_listed, map_start};
 ghost use Rattle.vbr_machine.specs.Start.{ArePaired, set_start, start_with};
-ghost use Rattle.vbr_slots.specs.Openings.{Opens};
+ghost use Rattle.vbr_slots.specs.Openings.{OpensAs};
 ghost use Rattle.vbr_slots.specs.Tried.{first_tried};
 ghost use Rattle.vbr_slots.specs.declared.opening.TheConstants.{MAX_MANY_PASSES};
 
@@ -101,21 +101,21 @@ impl From<AllocError> for OpenManyError {
 }
 
 impl Slots {
-    /// Opens the table of a set in the state of a fresh world of the core, with so many passes, from 1
+    /// Opens the table of a set in the state of a fresh world of the machine, with so many passes, from 1
     /// to 64. They stand in the order of their numbers, which begin with 0. It is [`Slots::open_with`]
     /// without a key.
     ///
     /// The refusals are tested in the order of [`OpenError`], and nothing is kept then.
     pub fn open(alloc: Global, shape: Shape, passes: u32) -> Result<(Slots, Vec<Pass>), OpenError>
         ensures opened { IfOk result (λ r.
-            Opens (set_start shape []) passes r.0 r.1.items) }
+            OpensAs (set_start shape []) passes r.0 r.1.items) }
         ensures refused { IsErrOf result OpenError.Passes ↔ ((passes ≡ 0) ⊎ (64 < passes)) }
     {
         let _slots = shape.slots();
         Slots::open_with(alloc, shape, passes, &[])
     }
 
-    /// Opens the table of a set with these keys, in the state of a world of the core that opens with
+    /// Opens the table of a set with these keys, in the state of a world of the machine that opens with
     /// them: key number i, from 0, stands in slot i, linked in the list of its bucket, and the other
     /// slots are in the shared pool. The passes are those of [`Slots::open`].
     ///
@@ -132,7 +132,7 @@ impl Slots {
         requires ascending { IsStrictlyIncreasing keys.now }
         requires few { length keys.now ≤ shape.slots }
         ensures opened { IfOk result (λ r.
-            Opens (set_start shape keys.now) passes r.0 r.1.items) }
+            OpensAs (set_start shape keys.now) passes r.0 r.1.items) }
         ensures refused { IsErrOf result OpenError.Passes ↔ ((passes ≡ 0) ⊎ (64 < passes)) }
     {
         if passes == 0 || passes > MAX_PASSES {
@@ -159,7 +159,7 @@ impl Slots {
         requires ascending { IsStrictlyIncreasing keys.now }
         requires few { length keys.now ≤ shape.slots }
         ensures opened { IfOk result (λ r.
-            Opens (set_start shape keys.now) passes r.0 r.1.items) }
+            OpensAs (set_start shape keys.now) passes r.0 r.1.items) }
         ensures refused { IsErrOf result OpenManyError.Passes
             ↔ ((passes ≡ 0) ⊎ (MAX_MANY_PASSES < passes)) }
     {
@@ -173,7 +173,7 @@ impl Slots {
 
 impl Slots<Entries> {
     /// Opens the table of a map with these entries, keys with their values, in the state of a world of
-    /// the core that opens with them: each value stands in the slot of its key, and the rest is as
+    /// the machine that opens with them: each value stands in the slot of its key, and the rest is as
     /// [`Slots::open_with`] has it.
     ///
     /// It takes time in proportion to the numbers of words and of entries, and two copies of the entries
@@ -189,7 +189,7 @@ impl Slots<Entries> {
         requires ascending { IsStrictlyIncreasing (keys_listed entries.now) }
         requires few { length entries.now ≤ shape.slots }
         ensures opened { IfOk result (λ r.
-            Opens (map_start shape entries.now) passes r.0 r.1.items) }
+            OpensAs (map_start shape entries.now) passes r.0 r.1.items) }
         ensures refused { IsErrOf result OpenError.Passes ↔ ((passes ≡ 0) ⊎ (64 < passes)) }
     {
         if passes == 0 || passes > MAX_PASSES {
@@ -215,7 +215,7 @@ impl Slots<Entries> {
         requires ascending { IsStrictlyIncreasing (keys_listed entries.now) }
         requires few { length entries.now ≤ shape.slots }
         ensures opened { IfOk result (λ r.
-            Opens (map_start shape entries.now) passes r.0 r.1.items) }
+            OpensAs (map_start shape entries.now) passes r.0 r.1.items) }
         ensures refused { IsErrOf result OpenManyError.Passes
             ↔ ((passes ≡ 0) ⊎ (MAX_MANY_PASSES < passes)) }
     {
@@ -262,7 +262,7 @@ impl<N: Nodes> Slots<N> {
         requires kind { opening.shape.values ≡ N.VALUES }
         requires paired { ArePaired opening.shape keys.now values.now }
         ensures opened { IfOk result (λ r.
-            Opens (start_with opening.shape keys.now values.now) opening.passes r.0 r.1.items) }
+            OpensAs (start_with opening.shape keys.now values.now) opening.passes r.0 r.1.items) }
         ensures refused { IsErrOf result OpenManyError.Passes
             ↔ ((opening.passes ≡ 0) ⊎ (MAX_MANY_PASSES < opening.passes)) }
     {

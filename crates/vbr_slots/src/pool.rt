@@ -82,26 +82,26 @@ impl Pool {
 
     // Takes out the slot at a place. The first leaves at once, and no slot moves.
     #[inline]
-    pub(crate) fn remove(&mut self, at: usize)
-        requires { at < length self.old.items }
-        ensures items { self.new.items ≡ remove self.old.items at }
+    pub(crate) fn remove(&mut self, index: usize)
+        requires { index < length self.old.items }
+        ensures items { self.new.items ≡ remove self.old.items index }
     {
         let _len = self.cells.len();
-        if at == 0 {
+        if index == 0 {
             self.first += 1;
         } else {
-            self.remove_moved(at);
+            self.remove_moved(index);
         }
     }
 
     // As `remove`, where others stand before it: those behind it move.
     #[inline(never)]
-    fn remove_moved(&mut self, at: usize)
-        requires { at < length self.old.items }
-        ensures items { self.new.items ≡ remove self.old.items at }
+    fn remove_moved(&mut self, index: usize)
+        requires { index < length self.old.items }
+        ensures items { self.new.items ≡ remove self.old.items index }
     {
         let _len = self.cells.len();
-        self.cells.remove(self.first + at);
+        self.cells.remove(self.first + index);
     }
 }
 

@@ -76,7 +76,7 @@ pub struct Witness {
     pub seen: LinkedList<Event>,
 }
 
-/// The rule: the table is the state of a run of the core.
+/// The rule: the table is the state of a run of the machine.
 pub struct RunRule;
 
 impl TableRule<(), LinkedList<Witness>, OpeningWithEntries> for RunRule {
@@ -135,9 +135,9 @@ pub struct Surveys<E> {
 }
 
 impl<E: Naming> Play<(), LinkedList<Witness>> for Surveys<E> {
-    ghost use Rattle.vbr_slots.specs.Snapshots.{Reads};
+    ghost use Rattle.vbr_slots.specs.Snapshots.{ReadsWord};
 
-    ghost then = { λ step m r n. Reads E.opening step.word m r n };
+    ghost then = { λ step m r n. ReadsWord E.opening step.word m r n };
 }
 
 /// A new seat, which has no witness.

@@ -23,9 +23,9 @@ impl Model for Runner {
 
     ghost Value = { Trace };
 
-    ghost use Rattle.vbr_slots.specs.RunnerView.{trace_of, IsSoundRunner};
+    ghost use Rattle.vbr_slots.specs.RunnerView.{trace_of_runner, IsSoundRunner};
 
-    ghost view = { trace_of };
+    ghost view = { trace_of_runner };
 
     ghost invariant = { IsSoundRunner };
 }

@@ -49,8 +49,8 @@ impl Stepper {
         ensures pool { self.new.pool ≡ without slot self.old.pool }
         ensures hand { self.new.hand ≡ self.old.hand }
     {
-        if let Some(at) = position_in(self.pool.as_slice(), slot) {
-            self.pool.remove(at);
+        if let Some(index) = position_in(self.pool.as_slice(), slot) {
+            self.pool.remove(index);
         }
     }
 

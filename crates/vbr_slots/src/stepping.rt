@@ -10,9 +10,9 @@ ghost use Rattle.vbr_machine.specs.Machine.{Load, Store, Exchange, FetchOr, Fetc
 ghost use Rattle.vbr_machine.specs.Runs.{Begins, BeginsFor};
 ghost use Rattle.vbr_machine.specs.declared.event.Step.TheVariants.{ReadEpoch};
 ghost use Rattle.vbr_words.specs.Places as places;
-ghost use Rattle.vbr_slots.specs.LookUps.{link_from};
+ghost use Rattle.vbr_slots.specs.LookUpStep.{link_from};
 ghost use Rattle.vbr_slots.specs.Reads.{Reads};
-ghost use Rattle.vbr_slots.specs.Stepping.{Names};
+ghost use Rattle.vbr_slots.specs.Stepping.{NamesStep};
 ghost use Rattle.vbr_slots.specs.Tokens.{Since};
 ghost use Rattle.vbr_slots.specs.Views.{IsOf, Did, KeepsPool, knows, epoch_after};
 
@@ -27,10 +27,10 @@ use vbr_words::{At, Nodes, Place, Shape, place_index_in, words_of_node};
 
 // The place of a link word.
 #[inline]
-pub(crate) fn place_of_link(at: At) -> Place
-    ensures { result ≡ places.place_of at }
+pub(crate) fn place_of_link(holder: At) -> Place
+    ensures { result ≡ places.place_of holder }
 {
-    match at {
+    match holder {
         At::Head(bucket) => Place::Head(bucket),
         At::Slot(slot) => Place::LinkOf(slot),
     }
@@ -39,12 +39,12 @@ pub(crate) fn place_of_link(at: At) -> Place
 // The index of the link word at a place, where the words of slots begin at this one, and each slot has
 // so many. No branch is needed to find it.
 #[inline]
-fn link_from(slots: usize, words: usize, at: At) -> usize
+fn link_from(slots: usize, words: usize, holder: At) -> usize
     requires slots { slots < 2 ^ 33 }
     requires words { words ≤ 5 }
-    ensures { result ≡ link_from slots words at }
+    ensures { result ≡ link_from slots words holder }
 {
-    match at {
+    match holder {
         At::Head(bucket) => 2 + bucket as usize,
         At::Slot(slot) => slots + words * slot as usize,
     }
@@ -52,27 +52,27 @@ fn link_from(slots: usize, words: usize, at: At) -> usize
 
 // The index of the link word at a place in a shape with nodes of this kind.
 #[inline]
-fn link_index_in<N: Nodes>(shape: &Shape, at: At) -> usize
+fn link_index_in<N: Nodes>(shape: &Shape, holder: At) -> usize
     requires { shape.now.values ≡ N.VALUES }
-    ensures { result ≡ link_from (2 + shape.now.buckets) (places.node_words shape.now) at }
+    ensures { result ≡ link_from (2 + shape.now.buckets) (places.node_words shape.now) holder }
 {
     let words = words_of_node(N::VALUES);
     prove!(words <= 5);
-    link_from(2 + shape.buckets() as usize, words, at)
+    link_from(2 + shape.buckets() as usize, words, holder)
 }
 
 impl<N: Nodes> Slots<N> {
     // One load of a link word, which is the step.
     #[inline]
-    pub(crate) fn load_at_as<E: Naming>(&self, runner: &mut Runner, step: Step, at: At) -> u64
-        requires named { Names E.event E.opening runner.old self.now step }
+    pub(crate) fn load_at_as<E: Naming>(&self, runner: &mut Runner, step: Step, holder: At) -> u64
+        requires named { NamesStep E.event E.opening runner.old self.now step }
         requires own { IsOf runner.old self.now }
         requires accepted { Accepts self.now.start (knows runner.old) step }
-        requires place { places.place_of at ≡ place_of_step step }
+        requires place { places.place_of holder ≡ place_of_step step }
         requires access { access_of (knows runner.old) step ≡ Load }
         ensures { Did step runner.old runner.new result }
     {
-        let word = link_index_in::<N>(&self.opening.shape, at);
+        let word = link_index_in::<N>(&self.opening.shape, holder);
         let found = self.table.shared.load::<Does<E>>(&mut runner.seat, word);
         keep_epoch(&mut runner.epoch, step, found);
         found
@@ -81,7 +81,7 @@ impl<N: Nodes> Slots<N> {
     // One load, which is the step.
     #[inline]
     pub(crate) fn load_as<E: Naming>(&self, runner: &mut Runner, step: Step, place: Place) -> u64
-        requires named { Names E.event E.opening runner.old self.now step }
+        requires named { NamesStep E.event E.opening runner.old self.now step }
         requires own { IsOf runner.old self.now }
         requires accepted { Accepts self.now.start (knows runner.old) step }
         requires place { place ≡ place_of_step step }
@@ -111,7 +111,7 @@ impl<N: Nodes> Slots<N> {
     // before the loads that come first: so what the caller compares with that is compared once.
     #[inline]
     fn read_epoch_as<E: Naming>(&self, runner: &mut Runner, before: u64) -> u64
-        requires named { Names E.event E.opening runner.old self.now ReadEpoch }
+        requires named { NamesStep E.event E.opening runner.old self.now ReadEpoch }
         requires own { IsOf runner.old self.now }
         requires accepted { Accepts self.now.start (knows runner.old) ReadEpoch }
         requires before { before ≡ (knows runner.old).epoch }
@@ -149,7 +149,7 @@ impl<N: Nodes> Slots<N> {
     // One store of a word, which is the step.
     #[inline]
     fn store_as<E: Naming>(&self, runner: &mut Runner, step: Step, place: Place, new: u64)
-        requires named { Names E.event E.opening runner.old self.now step }
+        requires named { NamesStep E.event E.opening runner.old self.now step }
         requires own { IsOf runner.old self.now }
         requires accepted { Accepts self.now.start (knows runner.old) step }
         requires place { place ≡ place_of_step step }
@@ -184,7 +184,7 @@ impl<N: Nodes> Slots<N> {
         expected: u64,
         new: u64,
     ) -> u64
-        requires named { Names E.event E.opening runner.old self.now step }
+        requires named { NamesStep E.event E.opening runner.old self.now step }
         requires own { IsOf runner.old self.now }
         requires accepted { Accepts self.now.start (knows runner.old) step }
         requires place { place ≡ place_of_step step }
@@ -227,7 +227,7 @@ impl<N: Nodes> Slots<N> {
         place: Place,
         bits: u64,
     ) -> u64
-        requires named { Names E.event E.opening runner.old self.now step }
+        requires named { NamesStep E.event E.opening runner.old self.now step }
         requires own { IsOf runner.old self.now }
         requires accepted { Accepts self.now.start (knows runner.old) step }
         requires place { place ≡ place_of_step step }
@@ -252,7 +252,7 @@ impl<N: Nodes> Slots<N> {
         place: Place,
         bits: u64,
     ) -> u64
-        requires named { Names E.event E.opening runner.old self.now step }
+        requires named { NamesStep E.event E.opening runner.old self.now step }
         requires own { IsOf runner.old self.now }
         requires accepted { Accepts self.now.start (knows runner.old) step }
         requires place { place ≡ place_of_step step }
@@ -271,7 +271,7 @@ impl<N: Nodes> Slots<N> {
     // One load of the epoch, which is the step, while the other's seat is joined to the runner's.
     #[inline]
     pub(crate) fn meet_as<E: Naming>(&self, runner: &mut Runner, other: &mut Runner) -> u64
-        requires named { Names E.event E.opening runner.old self.now ReadEpoch }
+        requires named { NamesStep E.event E.opening runner.old self.now ReadEpoch }
         requires own { IsOf runner.old self.now }
         requires other { IsOf other.old self.now }
         ensures step { Did ReadEpoch runner.old runner.new result }
@@ -315,7 +315,7 @@ impl<N: Nodes> Slots<N> {
     // loads are of the word 0, and nothing is kept of them.
     #[inline]
     pub(crate) fn catch_up_as<E: Naming>(&self, runner: &mut Runner, token: Seen)
-        requires named { Names E.event E.opening runner.old self.now ReadEpoch }
+        requires named { NamesStep E.event E.opening runner.old self.now ReadEpoch }
         requires own { IsOf runner.old self.now }
         requires token { token.table ≡ self.now.table }
         ensures since { Since runner.old runner.new }

@@ -9,7 +9,7 @@ use Rattle.vbr_slots.specs.Views.{Trace, TableView, IsOf, knows}
 use Rattle.vbr_event_lists.specs.Worked.{AreWorked, IsNamedWord}
 
 -- a pass of the table with this number, which knows what it knows in the world
-pub record Follows (t : TableView) (who : ℕ) (p : Trace) (w : World) : Type 0 where
+pub record KnowsAsInWorld (t : TableView) (who : ℕ) (p : Trace) (w : World) : Type 0 where
   pub own : IsOf p t
   pub who_is : p.who ≡ who
   pub knows_it : knows p ≡ w.know who
@@ -17,8 +17,8 @@ pub record Follows (t : TableView) (who : ℕ) (p : Trace) (w : World) : Type 0 
 -- two passes know what they know in a world from which on the rows are worked
 pub record BothFollow (t : TableView) (a b : Trace) (rows : List (ℕ × Step × Effect)) (words : List ℕ) : Type 0 where
   pub world : World
-  pub first : Follows t 0 a world
-  pub second : Follows t 1 b world
+  pub first : KnowsAsInWorld t 0 a world
+  pub second : KnowsAsInWorld t 1 b world
   pub worked : AreWorked t.start world rows words
 
 -- the pass may make the step at the table, with this word

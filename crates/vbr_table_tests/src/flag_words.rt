@@ -7,10 +7,10 @@ use crate::running_table::{Opened, close_two, two_passes};
 use std::alloc::Global;
 use std::process::Abort;
 use std::test::Fail;
-use vbr_core::World;
 use vbr_pools::TakeRefusal;
 use vbr_slots::{Pass, Slots};
 use vbr_words::{Entries, Keys, Nodes, Place, Shape, place_index, word_count};
+use vbr_world::World;
 
 // A fresh world of this shape, which has seventy slots, has so many words; the last two have the flags, all up.
 fn expect_flags(rt: &impl Abort, alloc: Global, shape: Shape, words: usize) -> Result<(), Fail>

@@ -6,8 +6,8 @@ ghost use Rattle.vbr_slots.specs.Calls.{Took};
 ghost use Rattle.vbr_slots.specs.Views.{IsOf, knows};
 ghost use Rattle.vbr_at_table.specs.Exchanges.{GivesBack};
 ghost use Rattle.vbr_at_table.specs.Hands.{IsHandOf};
-ghost use Rattle.vbr_at_table.specs.Keeping.{Keeps, KeepsOwn};
-ghost use Rattle.vbr_at_table.specs.Replacing.{IsReplaceable, ReplacesEntry};
+ghost use Rattle.vbr_at_table.specs.KeptKnowledge.{Keeps, KeepsOwn};
+ghost use Rattle.vbr_at_table.specs.Replacing.{IsReplaceable, ReplacesHeld};
 ghost use Rattle.vbr_table_tests.specs.Buckets.{HasEntryLists};
 
 use crate::entries::Made;
@@ -79,7 +79,7 @@ fn replace_at(
     ensures took { Took (trace_of at.old) (trace_of at.new) result.1 }
     ensures keeps { Keeps (knows (trace_of at.old)) (knows (trace_of at.new)) }
     ensures replaced { IfOk result.0
-        (ReplacesEntry (pass_of at.old) (pass_of at.new) node.now 7 value) }
+        (ReplacesHeld (pass_of at.old) (pass_of at.new) node.now 7 value) }
     ensures lost { IfErr result.0 (GivesBack (pass_of at.old) (pass_of at.new) node.now hand) }
 {
     (replace(at, node, 0, 7, value, hand), 4)
@@ -98,7 +98,7 @@ fn replace_by(
     requires hand { IsHandOf stepper.old hand }
     ensures took { Took stepper.old.trace stepper.new.trace result.1 }
     ensures keeps { Keeps (knows stepper.old.trace) (knows stepper.new.trace) }
-    ensures replaced { IfOk result.0 (ReplacesEntry stepper.old stepper.new node.now 7 value) }
+    ensures replaced { IfOk result.0 (ReplacesHeld stepper.old stepper.new node.now 7 value) }
     ensures lost { IfErr result.0 (GivesBack stepper.old stepper.new node.now hand) }
 {
     replace_at(&mut AtTable { slots, stepper }, node, value, hand)
@@ -116,7 +116,7 @@ fn replace_entry(
     requires node { IsReplaceable pass.old.trace node.now 7 0 }
     requires hand { IsHandOf pass.old hand }
     ensures keeps { Keeps (knows pass.old.trace) (knows pass.new.trace) }
-    ensures replaced { IfOk result (ReplacesEntry pass.old pass.new node.now 7 value) }
+    ensures replaced { IfOk result (ReplacesHeld pass.old pass.new node.now 7 value) }
     ensures lost { IfErr result (GivesBack pass.old pass.new node.now hand) }
 {
     pass.during_with(
@@ -128,7 +128,7 @@ fn replace_entry(
             ensures took { Took stepper.old.trace stepper.new.trace result.1 }
             ensures keeps { Keeps (knows stepper.old.trace) (knows stepper.new.trace) }
             ensures replaced { IfOk result.0
-                (ReplacesEntry stepper.old stepper.new node.entry.now 7 value) }
+                (ReplacesHeld stepper.old stepper.new node.entry.now 7 value) }
             ensures lost { IfErr result.0 (GivesBack stepper.old stepper.new node.entry.now hand) }
         { replace_by(slots, stepper, node, value, hand) },
     )

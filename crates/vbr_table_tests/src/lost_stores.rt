@@ -4,7 +4,7 @@ ghost use Rattle.vbr_words.specs.declared.place.At.TheVariants.{Slot};
 ghost use Rattle.vbr_slots.specs.Views.{IsOf, knows};
 ghost use Rattle.vbr_at_table.specs.Exchanges.{IsUnmarked};
 ghost use Rattle.vbr_at_table.specs.Held.{IsHeld, Names};
-ghost use Rattle.vbr_at_table.specs.Keeping.{KeepsOwn};
+ghost use Rattle.vbr_at_table.specs.KeptKnowledge.{KeepsOwn};
 ghost use Rattle.vbr_at_table.specs.Replacing.{IsReplaceable};
 ghost use Rattle.vbr_table_tests.specs.Buckets.{HasEntryLists};
 

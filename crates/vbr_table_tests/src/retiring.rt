@@ -7,7 +7,7 @@ ghost use Rattle.vbr_slots.specs.Views.{IsOf, knows};
 ghost use Rattle.vbr_at_table.specs.Answering.{IsPresent};
 ghost use Rattle.vbr_at_table.specs.Exchanges.{IsUnmarked};
 ghost use Rattle.vbr_at_table.specs.Held.{IsHeld, Names};
-ghost use Rattle.vbr_at_table.specs.Keeping.{Keeps, KeepsOwn};
+ghost use Rattle.vbr_at_table.specs.KeptKnowledge.{Keeps, KeepsOwn};
 ghost use Rattle.vbr_at_table.specs.Values.{IsValued};
 
 use crate::running_table::{Opened, expect_pass, expect_words, two_passes};

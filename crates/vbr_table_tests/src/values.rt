@@ -1,4 +1,4 @@
-//! The core's world where nodes have values: the worked lists of events with values, refusals, and a
+//! The machine's world where nodes have values: the worked lists of events with values, refusals, and a
 //! world that opens with entries. The calls are those of a plain map.
 ghost use Rattle.std.specs.Prelude.{◌≡◌, true, false, IfOk};
 
@@ -9,13 +9,13 @@ use crate::world::{
 use std::alloc::{AllocError, Global};
 use std::process::Abort;
 use std::test::Fail;
-use vbr_core::{
-    Call, CoreRefusal, Effect, Event, Op, PlainMap, SlotPlace, Step, World, replay_with_entries,
-};
 use vbr_event_lists::{
     REBORN_SLOT, REPLACED_VALUE, Row, SAME_WORD, STORED_VALUE, TWO_HELPERS, with_values,
 };
 use vbr_words::{At, Place, Shape};
+use vbr_world::{
+    Call, CoreRefusal, Effect, Event, Op, PlainMap, SlotPlace, Step, World, replay_with_entries,
+};
 
 // A call that was answered yes and stored or gave a value.
 fn valued(who: u32, op: Op, key: u64, value: u64) -> Call {

@@ -1,15 +1,15 @@
-//! The core's world: worked lists of events, refusals, a fresh world, and one that opens with keys.
+//! The machine's world: worked lists of events, refusals, a fresh world, and one that opens with keys.
 ghost use Rattle.std.specs.Prelude.{◌≡◌, IfOk};
 
 use std::alloc::{AllocError, Global};
 use std::process::Abort;
 use std::test::Fail;
-use vbr_core::{
-    Call, CoreRefusal, Effect, Event, Op, SlotPlace, Step, World, WorldRefusal, replay,
-};
 use vbr_event_lists::{RAISED_IN_HAND, REBORN_SLOT, Row, SAME_WORD, TWO_HELPERS, with_values};
 use vbr_words::flags::flag_words;
 use vbr_words::{At, Place, Shape};
+use vbr_world::{
+    Call, CoreRefusal, Effect, Event, Op, SlotPlace, Step, World, WorldRefusal, replay,
+};
 
 // The word at a place of the world, which has this shape; none where the shape has no such place.
 pub(crate) fn word_at(world: &World, shape: Shape, place: Place) -> Option<u64>

@@ -20,7 +20,7 @@ use Rattle.vbr_transcript.specs.Runs.{EndsIn, Manner, MayBeAnswered, IsSetRun}
 use Rattle.vbr_script.specs.declared.script.Line.{Line}
 use Rattle.vbr_transcript.specs.declared.reply.Reply.{Reply}
 use Rattle.vbr_machine.proofs.Lemmas.{begins_run, calls_since}
-use Rattle.vbr_transcript.proofs.CoreCalls.{no_calls_beyond}
+use Rattle.vbr_transcript.proofs.MachineCalls.{no_calls_beyond}
 use Rattle.vbr_transcript.proofs.Filters.{filter_all, filter_none}
 use Rattle.vbr_transcript.proofs.Outcomes.{calls_by-answered, outcomes_by-own, all_outcomes, lines_by-ascend, outcomes_up_to-zip, lines_by-up_to, outcomes_by-up_to}
 

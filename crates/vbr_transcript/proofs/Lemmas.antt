@@ -1,7 +1,7 @@
 -- The lemmas of `vbr_transcript` that proofs of other crates cite, which import from here alone.
 
--- The epoch of a run of the core, how it grows.
-pub use Rattle.vbr_transcript.proofs.CoreCalls.{epoch_begins}
+-- The epoch of a run of the machine, how it grows.
+pub use Rattle.vbr_transcript.proofs.MachineCalls.{epoch_begins}
 -- Filters of lists: two in a row, one after a map, one that keeps all, and what two lists in step keep.
 pub use Rattle.vbr_transcript.proofs.Filters.{filter_all, filter_none, zip-append, zip_longer}
 -- What the workers have played on a set, put together in script order, are its outcomes.

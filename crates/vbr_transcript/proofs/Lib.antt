@@ -1,5 +1,5 @@
 mod KnownBytes
-mod CoreCalls
+mod MachineCalls
 mod Filters
 mod Outcomes
 mod Explaining

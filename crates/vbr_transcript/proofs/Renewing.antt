@@ -18,7 +18,7 @@ use Rattle.vbr_script.specs.declared.script.Kind.TheVariants.{Set, Map}
 use Rattle.vbr_transcript.specs.Contents.{Contents, Item, IsLegalFrom, AreContents, contents_after, opened_with, opening_contents}
 use Rattle.vbr_transcript.specs.Calls.{Outcome, answer_of, answered_calls, outcomes_up_to, outcomes_past}
 use Rattle.vbr_transcript.specs.Runs.{EndsIn, Explains, Manner, IsSetRun, AreOfSets, AreExplained}
-use Rattle.vbr_transcript.proofs.CoreCalls.{no_calls_beyond}
+use Rattle.vbr_transcript.proofs.MachineCalls.{no_calls_beyond}
 use Rattle.vbr_transcript.proofs.Filters.{filter_all, filter_none}
 
 -- ---- histories, end to end

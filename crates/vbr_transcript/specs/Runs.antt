@@ -1,4 +1,4 @@
--- A run of a script: a reply for each of its operations, and totals, that the calls of one run of the core for each of its sets explain.
+-- A run of a script: a reply for each of its operations, and totals, that the calls of one run of the machine for each of its sets explain.
 use Rattle.std.specs.Prelude.{◌≡◌, ℕ, ◌+◌, ◌-◌, Bool, true, false, ◌&&◌, List, [], ◌∷◌, ◌++◌, length, zip, All, count_by}
 use Rattle.vbr_machine.specs.Start.{Start}
 use Rattle.vbr_machine.specs.History.{calls_by}
@@ -61,10 +61,10 @@ same_op Get Get = true
 same_op a b = false
 
 -- whether a reply is yes
-abbrev pub is_yes : Reply → Bool
-is_yes Yes = true
-is_yes (Value value) = true
-is_yes _ = false
+abbrev pub is_yes_reply : Reply → Bool
+is_yes_reply Yes = true
+is_yes_reply (Value value) = true
+is_yes_reply _ = false
 
 -- whether a reply is a refusal
 abbrev pub is_refusal : Reply → Bool
@@ -75,7 +75,7 @@ is_refusal _ = true
 
 -- whether it is this operation that was answered, and with yes
 abbrev pub is_yes_to : Op → Outcome → Bool
-is_yes_to op outcome = is_yes outcome.1 && same_op op outcome.0.op
+is_yes_to op outcome = is_yes_reply outcome.1 && same_op op outcome.0.op
 
 -- whether an operation is a look-up
 abbrev pub is_look_up : Op → Bool
@@ -85,7 +85,7 @@ is_look_up _ = false
 
 -- whether it is a look-up that was answered, and with yes
 abbrev pub was_found : Outcome → Bool
-was_found outcome = is_yes outcome.1 && is_look_up outcome.0.op
+was_found outcome = is_yes_reply outcome.1 && is_look_up outcome.0.op
 
 -- whether an operation was refused
 abbrev pub was_refused : Outcome → Bool
@@ -104,7 +104,7 @@ pub record Counts (tally : Tally) (outcomes : List Outcome) : Type 0 where
 abbrev pub Manner : Type 1
 Manner = Start → ℕ → List Outcome → List Event → Type 0
 
--- these outcomes are those of one set or map: a safe run of the core, whose passes are the workers, has the calls that explain them, none is a reply that one at the run's epoch doesn't give to its operation, and the workers played in the manner that is claimed
+-- these outcomes are those of one set or map: a safe run of the machine, whose passes are the workers, has the calls that explain them, none is a reply that one at the run's epoch doesn't give to its operation, and the workers played in the manner that is claimed
 pub record IsSetRun (kind : Kind) (manner : Manner) (start : Start) (workers phases : ℕ) (outcomes : List Outcome) (run : List Event) : Type 0 where
   pub is_run : machine.IsRun start workers run
   pub safe : IsSafe start run

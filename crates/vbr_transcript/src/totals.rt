@@ -2,7 +2,7 @@
 ghost use Rattle.std.specs.Prelude.{◌≡◌, zip, count_by};
 ghost use Rattle.vbr_script.specs.declared.script.Kind.TheVariants.{Set, Map};
 ghost use Rattle.vbr_transcript.specs.Totals.{tally_in};
-ghost use Rattle.vbr_transcript.specs.Runs.{is_yes_to, was_found, was_refused, is_yes, is_look_up, is_refusal, Counts};
+ghost use Rattle.vbr_transcript.specs.Runs.{is_yes_to, was_found, was_refused, is_yes_reply, is_look_up, is_refusal, Counts};
 
 use crate::reply::Reply;
 use vbr_machine::Op;
@@ -110,7 +110,7 @@ fn yes_count(lines: &[Line], replies: &[Reply], op: Op) -> u64
     lines
         .iter()
         .zip(replies)
-        .filter(|(line, reply)| is_yes(**reply) && line.op == op)
+        .filter(|(line, reply)| is_yes_reply(**reply) && line.op == op)
         .count() as u64
 }
 
@@ -121,7 +121,7 @@ fn found_count(lines: &[Line], replies: &[Reply]) -> u64
     lines
         .iter()
         .zip(replies)
-        .filter(|(line, reply)| is_yes(**reply) && is_look_up(line.op))
+        .filter(|(line, reply)| is_yes_reply(**reply) && is_look_up(line.op))
         .count() as u64
 }
 
@@ -136,8 +136,8 @@ fn refused_count(lines: &[Line], replies: &[Reply]) -> u64
         .count() as u64
 }
 
-fn is_yes(reply: Reply) -> bool
-    ensures { result ≡ is_yes reply }
+fn is_yes_reply(reply: Reply) -> bool
+    ensures { result ≡ is_yes_reply reply }
 {
     matches!(reply, Reply::Yes | Reply::Value(_))
 }

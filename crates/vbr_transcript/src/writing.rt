@@ -16,10 +16,10 @@ fn write_text<W: Write>(writer: &mut W, text: &[u8]) -> Result<(), WriteFault>
     ensures fault { OnErr result
         (AppendsSome (W.contents writer.old) (W.contents writer.new) text.now) }
 {
-    let mut at = 0;
-    while at < text.len() {
-        match writer.write(&text[at..]) {
-            Ok(n) if n > 0 => at += n,
+    let mut from = 0;
+    while from < text.len() {
+        match writer.write(&text[from..]) {
+            Ok(n) if n > 0 => from += n,
             _ => return Err(WriteFault),
         }
     }

@@ -1,4 +1,4 @@
-//! Maps: the plain one, the world of the core, the running table, the map itself, and its script.
+//! Maps: the plain one, the world of the machine, the running table, the map itself, and its script.
 ghost use Rattle.std.specs.Prelude.{◌≡◌, ◌≤◌, IfSome};
 ghost use Rattle.vbr_slots.specs.Views.{new_passes};
 
@@ -7,12 +7,12 @@ use crate::refusals::set::{close, open_with, tell};
 use crate::refusals::table::{close as close_table, read};
 use crate::refusals::world::births;
 use std::alloc::Global;
-use vbr_core::{CoreRefusal, World, WorldRefusal, replay_with_entries};
 use vbr_machine::{Op, PlainMap};
 use vbr_script::{ScriptError, parse_map_script};
 use vbr_set::{MapReport, OpenError, Pass, Shape};
 use vbr_slots::Slots;
 use vbr_words::Entries;
+use vbr_world::{CoreRefusal, World, WorldRefusal, replay_with_entries};
 
 // What each opening has.
 pub const ENTRIES: [(u64, u64); 3] = [(2, 70), (5, 71), (9, 70)];
@@ -82,7 +82,7 @@ fn plain_map_keys(rt: HostRuntime) {
     is_right(&rt, lists(rt.alloc()));
 }
 
-// ---- the world of the core
+// ---- the world of the machine
 
 // Opens a world with three entries.
 fn world_opens(alloc: Global) -> Option<bool> {

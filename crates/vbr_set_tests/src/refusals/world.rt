@@ -1,9 +1,9 @@
-//! The world of the core.
+//! The world of the machine.
 use crate::refusals::round::is_right;
 use std::alloc::Global;
-use vbr_core::{CoreRefusal, Effect, Event, Step, World, WorldRefusal, replay};
 use vbr_event_lists::TWO_HELPERS;
 use vbr_words::{At, Shape};
+use vbr_world::{CoreRefusal, Effect, Event, Step, World, WorldRefusal, replay};
 
 // A world, and whether memory was refused.
 fn open(alloc: Global, shape: Shape) -> Option<(World, bool)> {

@@ -5,7 +5,7 @@ ghost use Rattle.vbr_machine.specs.declared.event.Step.TheVariants.{ConfirmPrese
 ghost use Rattle.vbr_slots.specs.Asked.{IsChecked};
 ghost use Rattle.vbr_slots.specs.AtTables.{IsSameTable, pass_of, trace_of};
 ghost use Rattle.vbr_slots.specs.Expected.{Finds, FindsOther};
-ghost use Rattle.vbr_slots.specs.LookUps.{look_up};
+ghost use Rattle.vbr_slots.specs.LookUpStep.{look_up};
 ghost use Rattle.vbr_slots.specs.Views.{knows};
 
 use crate::at_table::AtTable;
@@ -45,27 +45,27 @@ impl<N: Nodes> AtTable<'_, N> {
     /// names, or what marked nodes lead to from there, is absent. Else the word that was found comes
     /// back, and no call is answered.
     #[inline]
-    pub fn confirm_absent(&mut self, op: Op, key: u64, at: At, expected: u64) -> Result<(), u64>
-        requires at { IsAtIn self.old.slots.now.start at }
+    pub fn confirm_absent(&mut self, op: Op, key: u64, holder: At, expected: u64) -> Result<(), u64>
+        requires holder { IsAtIn self.old.slots.now.start holder }
         requires asked { IsOpIn self.old.slots.now.start op }
         requires checked { IsChecked self.old.slots.now (trace_of self.old)
-            (ConfirmAbsent op key at expected) }
+            (ConfirmAbsent op key holder expected) }
         ensures table { IsSameTable self.old self.new }
         ensures found { OnOk result
-            (Finds (ConfirmAbsent op key at expected)
+            (Finds (ConfirmAbsent op key holder expected)
             (pass_of self.old) (pass_of self.new) expected) }
         ensures other { IfErr result
-            (FindsOther (ConfirmAbsent op key at expected)
+            (FindsOther (ConfirmAbsent op key holder expected)
             (pass_of self.old) (pass_of self.new) expected) }
     {
         let (slots, stepper) = (self.slots, &mut *self.stepper);
         let step = Step::ConfirmAbsent {
             op,
             key,
-            at,
+            at: holder,
             expected,
         };
-        match slots.load(stepper, step, place_of_link(at)) {
+        match slots.load(stepper, step, place_of_link(holder)) {
             found if found == expected => Ok(()),
             found => Err(found),
         }
@@ -80,22 +80,22 @@ impl<N: Nodes> AtTable<'_, N> {
         &mut self,
         present: bool,
         key: u64,
-        at: At,
+        holder: At,
         expected: u64,
     ) -> Result<(), u64>
         requires accepted { Accepts self.old.slots.now.start (knows (trace_of self.old))
-            (look_up present key at expected) }
+            (look_up present key holder expected) }
         ensures table { IsSameTable self.old self.new }
         ensures found { OnOk result
-            (Finds (look_up present key at expected)
+            (Finds (look_up present key holder expected)
             (pass_of self.old) (pass_of self.new) expected) }
         ensures other { IfErr result
-            (FindsOther (look_up present key at expected)
+            (FindsOther (look_up present key holder expected)
             (pass_of self.old) (pass_of self.new) expected) }
     {
         let (slots, stepper) = (self.slots, &mut *self.stepper);
-        let step = step_of_look_up(present, key, at, expected);
-        match slots.load_at_as::<Brand>(&mut stepper.runner, step, at) {
+        let step = step_of_look_up(present, key, holder, expected);
+        match slots.load_at_as::<Brand>(&mut stepper.runner, step, holder) {
             found if found == expected => Ok(()),
             found => Err(found),
         }
@@ -104,16 +104,16 @@ impl<N: Nodes> AtTable<'_, N> {
 
 // The step that answers a look-up.
 #[inline]
-fn step_of_look_up(present: bool, key: u64, at: At, expected: u64) -> Step
-    ensures { result ≡ look_up present key at expected }
+fn step_of_look_up(present: bool, key: u64, holder: At, expected: u64) -> Step
+    ensures { result ≡ look_up present key holder expected }
 {
     let op = Op::Has;
-    match at {
+    match holder {
         At::Slot(slot) if present => Step::ConfirmPresent { op, slot, expected },
         _ => Step::ConfirmAbsent {
             op,
             key,
-            at,
+            at: holder,
             expected,
         },
     }

@@ -15,15 +15,19 @@ use vbr_words::{At, Nodes, Place};
 impl<N: Nodes> AtTable<'_, N> {
     /// Loads the link word of a head or of a held slot, in one step.
     #[inline]
-    pub fn load_link(&mut self, at: At) -> u64
-        requires at { IsAtIn self.old.slots.now.start at }
-        requires held { IsTrue (holds_at (knows (trace_of self.old)).checked at) }
+    pub fn load_link(&mut self, holder: At) -> u64
+        requires holder { IsAtIn self.old.slots.now.start holder }
+        requires held { IsTrue (holds_at (knows (trace_of self.old)).checked holder) }
         ensures table { IsSameTable self.old self.new }
-        ensures step { Did (LoadLink at) (trace_of self.old) (trace_of self.new) result }
+        ensures step { Did (LoadLink holder) (trace_of self.old) (trace_of self.new) result }
         ensures pool { KeepsPool (pass_of self.old) (pass_of self.new) }
     {
         let (slots, stepper) = (self.slots, &mut *self.stepper);
-        slots.load(stepper, Step::LoadLink { at }, place_of_link(at))
+        slots.load(
+            stepper,
+            Step::LoadLink { at: holder },
+            place_of_link(holder),
+        )
     }
 
     /// Loads the birth of a held slot, an epoch, in one step.

@@ -18,17 +18,22 @@ impl<N: Nodes> AtTable<'_, N> {
     /// the word and the epoch. Where that is the epoch that the pass read before, the read is
     /// checked; where it has moved, the pass knows of no reads any more.
     #[inline]
-    pub fn read_link(&mut self, at: At) -> (u64, u64)
-        requires at { IsAtIn self.old.slots.now.start at }
-        requires held { IsTrue (holds_at (knows (trace_of self.old)).checked at) }
+    pub fn read_link(&mut self, holder: At) -> (u64, u64)
+        requires holder { IsAtIn self.old.slots.now.start holder }
+        requires held { IsTrue (holds_at (knows (trace_of self.old)).checked holder) }
         ensures table { IsSameTable self.old self.new }
-        ensures reads { Reads (LoadLink at) (pass_of self.old) (pass_of self.new)
+        ensures reads { Reads (LoadLink holder) (pass_of self.old) (pass_of self.new)
             result.0 result.1 }
         ensures pool { KeepsPool (pass_of self.old) (pass_of self.new) }
     {
         let before = self.epoch();
         let (slots, stepper) = (self.slots, &mut *self.stepper);
-        slots.load_and_epoch(stepper, before, Step::LoadLink { at }, place_of_link(at))
+        slots.load_and_epoch(
+            stepper,
+            before,
+            Step::LoadLink { at: holder },
+            place_of_link(holder),
+        )
     }
 
     /// Loads the key of a held slot, and reads the epoch, in two steps: returns the key and

@@ -21,7 +21,7 @@ use Rattle.vbr_slots.specs.Expected.{Finds, FindsOther, Publishes, ReplacesNode}
 use Rattle.vbr_slots.specs.OwnSlots.{IsKnownStamp}
 use Rattle.vbr_slots.specs.Views.{Trace, PassView, TableView, Did, knows}
 use Rattle.vbr_event_lists.specs.Worked.{others_of, names_link, AreWorked}
-use Rattle.vbr_table_tests.specs.Following.{Follows, BothFollow, Learned}
+use Rattle.vbr_table_tests.specs.Following.{KnowsAsInWorld, BothFollow, Learned}
 use Rattle.vbr_table_tests.proofs.running_table.OwnedSlots.{free_may_bear}
 use Rattle.vbr_table_tests.proofs.running_table.Taking.{Reached}
 
@@ -142,7 +142,7 @@ not_zero : (n : ℕ) → suc n ≢ 0
 not_zero n e = omega arith
 
 -- the pass of the row knows what it learned
-follows_own : (t : TableView) (who : ℕ) (p q : Trace) (w : World) (row : ℕ × Step × Effect) (rows : List (ℕ × Step × Effect)) (words : List ℕ) → Follows t who p w → AreWorked t.start w (row ∷ rows) words → row.0 ≡ who → Learned row.1 p q row.2 → Follows t who q (after t.start w row.0 row.1)
+follows_own : (t : TableView) (who : ℕ) (p q : Trace) (w : World) (row : ℕ × Step × Effect) (rows : List (ℕ × Step × Effect)) (words : List ℕ) → KnowsAsInWorld t who p w → AreWorked t.start w (row ∷ rows) words → row.0 ≡ who → Learned row.1 p q row.2 → KnowsAsInWorld t who q (after t.start w row.0 row.1)
 follows_own t who p q w row rows words f worked is l = record {
   own = (l.same.0 ∙ f.own.0, l.same.1 ∙ f.own.1, l.same.2 ∙ f.own.2);
   who_is = l.same.3 ∙ f.who_is;
@@ -156,7 +156,7 @@ follows_own t who p q w row rows words f worked is l = record {
 }
 
 -- and the other what it knew
-follows_other : (t : TableView) (who : ℕ) (p : Trace) (w : World) (pass : ℕ) (step : Step) → Follows t who p w → who ≢ pass → Follows t who p (after t.start w pass step)
+follows_other : (t : TableView) (who : ℕ) (p : Trace) (w : World) (pass : ℕ) (step : Step) → KnowsAsInWorld t who p w → who ≢ pass → KnowsAsInWorld t who p (after t.start w pass step)
 follows_other t who p w pass step f ne = record { own = f.own; who_is = f.who_is; knows_it = f.knows_it ∙ sym (know_other t.start w who pass step ne) }
 
 stands_first : (t : TableView) (a b c : Trace) (row : ℕ × Step × Effect) (rows : List (ℕ × Step × Effect)) (words : List ℕ) → BothFollow t a b (row ∷ rows) words → row.0 ≡ 0 → Learned row.1 a c row.2 → BothFollow t c b rows (cond (names_link row.1) (others_of words) words)

@@ -9,8 +9,8 @@ use Rattle.vbr_slots.specs.Views.{IsOf, PassView, TableView, Trace}
 use Rattle.vbr_at_table.specs.Answering.{FindsAnother}
 use Rattle.vbr_at_table.specs.Exchanges.{GivesBack, StoresIn}
 use Rattle.vbr_at_table.specs.Hands.{HandView, IsHandOf}
-use Rattle.vbr_at_table.specs.Keeping.{KeepsOwn}
-use Rattle.vbr_at_table.specs.Replacing.{IsReplaceable, ReplacesEntry}
+use Rattle.vbr_at_table.specs.KeptKnowledge.{KeepsOwn}
+use Rattle.vbr_at_table.specs.Replacing.{IsReplaceable, ReplacesHeld}
 use Rattle.vbr_at_table.specs.Values.{AnswersEntry, steps_to_update, steps_to_value}
 use Rattle.vbr_at_table.specs.declared.held.Held.{Held}
 use Rattle.vbr_at_table.specs.declared.held.Marked.{Marked}
@@ -32,7 +32,7 @@ four {p} {q} has stores =
     subst T has stores.took
 
 -- a pass is its table's once it has replaced a node or has lost that
-pub own_replaced : (p q : PassView) {t : TableView} (hand : HandView) (value : ℕ) (node : Held) (r : Result Marked (HandView × Rollback)) → IfOk r (ReplacesEntry p q node 7 value) → IfErr r (GivesBack p q node hand) → IsReplaceable p.trace node 7 0 → IsOf p.trace t → IsOf q.trace t
+pub own_replaced : (p q : PassView) {t : TableView} (hand : HandView) (value : ℕ) (node : Held) (r : Result Marked (HandView × Rollback)) → IfOk r (ReplacesHeld p q node 7 value) → IfErr r (GivesBack p q node hand) → IsReplaceable p.trace node 7 0 → IsOf p.trace t → IsOf q.trace t
 own_replaced p q hand value node (Ok marked) replaced lost is own =
     let old = is.valued is.has_values in
     of_on (replaced.made old.0 old.1).same own

@@ -14,8 +14,8 @@ use Rattle.vbr_slots.specs.Views.{IsOf, TableView, Trace, knows}
 use Rattle.vbr_at_table.specs.Answering.{IsPresent}
 use Rattle.vbr_at_table.specs.Exchanges.{LosesExchange}
 use Rattle.vbr_at_table.specs.Held.{IsHeld}
-use Rattle.vbr_at_table.specs.Keeping.{Keeps}
-use Rattle.vbr_at_table.specs.Values.{IsValued, RemovesEntry, ValueAt}
+use Rattle.vbr_at_table.specs.KeptKnowledge.{Keeps}
+use Rattle.vbr_at_table.specs.Values.{IsValued, MarksEntry, ValueAt}
 use Rattle.vbr_at_table.specs.declared.held.Held.{Held}
 use Rattle.vbr_at_table.specs.declared.held.Marked.{Marked}
 use Rattle.vbr_at_table.specs.declared.rollback.Rollback.{Rollback}
@@ -52,7 +52,7 @@ pub present_kept : {know later : Know} (node : Held) → Keeps know later → Is
 present_kept node keeps is = record { held = held_kept node keeps is.held; key = (is.key.0, key_on node.at is.key.0 keeps is.key.1); unmarked = is.unmarked }
 
 -- a pass is its table's once it has marked the node, or has lost that
-pub own_marked : (p q : Trace) {t : TableView} (node : Held) (r : Result Marked Rollback) → IfOk r (RemovesEntry p q node) → IfErr r (LosesExchange p q node) → IsPresent (knows p) node → IsValued p node.at → IsOf p t → IsOf q t
+pub own_marked : (p q : Trace) {t : TableView} (node : Held) (r : Result Marked Rollback) → IfOk r (MarksEntry p q node) → IfErr r (LosesExchange p q node) → IsPresent (knows p) node → IsValued p node.at → IsOf p t → IsOf q t
 own_marked p q node (Ok marked) removed lost is valued own =
     let P : ℕ → Type 0 = λ value. ValueAt (knows p) node.at value in
     let value = of_some P p.start.shape.values valued in

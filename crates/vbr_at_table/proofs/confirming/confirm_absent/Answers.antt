@@ -5,8 +5,8 @@ use Rattle.vbr_at_table.proofs.Accepted.{accepted_checked, place_in, absent_acce
 use Rattle.vbr_at_table.proofs.AnsweringLoads.{absent_answered, absent_finds, absent_keeps}
 use Rattle.vbr_at_table.proofs.confirming.confirm_absent.Goals as goal
 
-pub confirm_absent-requires-clause-at : goal.confirm_absent-requires-clause-at
-confirm_absent-requires-clause-at g c =
+pub confirm_absent-requires-clause-holder : goal.confirm_absent-requires-clause-holder
+confirm_absent-requires-clause-holder g c =
     let P : Start → Type 0 = λ start. IsAtIn start c.args.pred.now.at in
     subst P c.args.at.now.own.1 (place_in c.args.at.now.stepper.now c.law.ensures c.args.pred.now c.requires.gap.held)
 

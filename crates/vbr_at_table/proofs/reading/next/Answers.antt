@@ -1,7 +1,7 @@
 use Rattle.std.proofs.Common.{ℕ, Option, sym, ap, ◌∙◌, subst}
 use Rattle.vbr_words.specs.declared.link.Link.{Link}
 use Rattle.vbr_at_table.specs.Reading.{ReadsIn}
-use Rattle.vbr_at_table.specs.CallSteps.{next_steps}
+use Rattle.vbr_at_table.specs.StepCosts.{next_steps}
 use Rattle.vbr_at_table.proofs.Accepted.{named_in, named_found}
 use Rattle.vbr_at_table.proofs.ReadCalls.{apart, node_in_three, node_rolls, node_told, reads_none}
 use Rattle.vbr_at_table.proofs.reading.next.Goals as goal

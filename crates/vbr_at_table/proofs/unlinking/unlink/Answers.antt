@@ -3,7 +3,7 @@ use Rattle.vbr_machine.specs.Start.{Start}
 use Rattle.vbr_words.specs.Words.{word_of}
 use Rattle.vbr_machine.specs.Acceptance.{IsAtIn}
 use Rattle.vbr_at_table.proofs.Accepted.{accepted_checked}
-use Rattle.vbr_at_table.proofs.Keeping.{held_kept, marked_kept}
+use Rattle.vbr_at_table.proofs.KeptKnowledge.{held_kept, marked_kept}
 use Rattle.vbr_at_table.proofs.Unlinks.{unlink_quiet, accepted, written, written_fits}
 use Rattle.vbr_slots.proofs.Lemmas.{quiet_on}
 use Rattle.vbr_at_table.proofs.ExchangeCalls.{none_unlinked, unlink_lost, unlink_told}

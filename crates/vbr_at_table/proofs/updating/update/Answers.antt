@@ -8,7 +8,7 @@ use Rattle.vbr_machine.specs.Learning.{value_in_hand}
 use Rattle.vbr_slots.specs.Views.{knows}
 use Rattle.vbr_at_table.proofs.Advancing.{did_none}
 use Rattle.vbr_at_table.specs.Held.{IsFilled}
-use Rattle.vbr_at_table.proofs.Keeping.{held_kept, birth_named_kept, behind_kept, before_kept}
+use Rattle.vbr_at_table.proofs.KeptKnowledge.{held_kept, birth_named_kept, behind_kept, before_kept}
 use Rattle.vbr_at_table.proofs.WrittenLinks.{fits, birth_in_hand_low, birth_at_low}
 use Rattle.vbr_at_table.proofs.WonExchanges.{publish_keeps, publish_lost_keeps}
 use Rattle.vbr_at_table.proofs.Accepted.{accepted_checked, place_in}

@@ -1,6 +1,6 @@
 use Rattle.vbr_list.proofs.Names.{ap, rules, ◌∙◌}
 use Rattle.vbr_list.proofs.Names.{Start}
-use Rattle.vbr_list.specs.Sparing.{CallsAs, SparesInsert}
+use Rattle.vbr_list.specs.CallBounds.{CallsAs, BoundsOfInsert}
 use Rattle.vbr_list.specs.Told.{stored_in}
 use Rattle.vbr_list.proofs.Told.{calls_as, stored_bare}
 use Rattle.vbr_list.proofs.inserting.insert.Goals as goal
@@ -9,5 +9,5 @@ pub returns : goal.returns
 returns c =
     let p = c.args.pass.now in
     let q = c.during.new.self in
-    let told : CallsAs (stored_in p.trace c.args.key 0) (SparesInsert p q c.args.key c.args.budget) p q c.args.budget c.during.result = search rules in
-    calls_as c.during.result told (stored_bare p.trace c.args.key 0 (ap (λ (d : Start). d.shape.values) c.requires.own.1 ∙ c.kind.ensures)) (λ spares. spares)
+    let told : CallsAs (stored_in p.trace c.args.key 0) (BoundsOfInsert p q c.args.key c.args.budget) p q c.args.budget c.during.result = search rules in
+    calls_as c.during.result told (stored_bare p.trace c.args.key 0 (ap (λ (d : Start). d.shape.values) c.requires.own.1 ∙ c.kind.ensures)) (λ bounds. bounds)

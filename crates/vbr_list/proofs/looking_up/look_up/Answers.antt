@@ -4,7 +4,7 @@ use Rattle.vbr_list.proofs.Going.{call_on, call_refl, goes_on, within_call, with
 use Rattle.vbr_list.proofs.Observing.{observed, observes_on}
 use Rattle.vbr_list.specs.Budgets.{listed_for, look_up_costs, steps_where}
 use Rattle.vbr_list.specs.Disturbed.{costs_among, disturbed}
-use Rattle.vbr_list.specs.LookingUp.{steps_to_answer}
+use Rattle.vbr_list.specs.LookUpPieces.{steps_to_answer}
 use Rattle.vbr_list.specs.Places.{sighted}
 use Rattle.vbr_list.specs.Told.{given_call, kept_call, look_up_op}
 use Rattle.vbr_list.proofs.Disturbing.{run_at, unchanged_at, undisturbed}
@@ -108,7 +108,7 @@ returns-in-Ok-clause-calls g c =
       quiet = tt;
       hand = search rules;
       steps = within_of c.settle_look_up.new.self.used c.args.budget (rw c.loop-sight.invariant.2 at (within_call call)) counts;
-      spares = record {
+      bounds = record {
         only_loads = loads_on before.only_loads c.settle_look_up.ensures.only_loads;
         adds = answer_on (λ who. kept_call p.trace.start (given_call who op c.args.key c.in-Ok.answer)) first.same before.adds_none (subst S first.same.start (rw key at c.in-Ok.ensures.answers.adds));
         adds_none = tt;

@@ -1,6 +1,6 @@
 use Rattle.vbr_list.proofs.Names.{◌≡◌, ◌+◌, ◌-◌}
 use Rattle.vbr_list.specs.Pieces.{IsSameCall, Peeks}
-use Rattle.vbr_list.specs.LookingUp.{steps_to_answer}
+use Rattle.vbr_list.specs.LookUpPieces.{steps_to_answer}
 use Rattle.vbr_list.proofs.Walking.{HasRepeated}
 use Rattle.vbr_list.proofs.looking_up.look_up.Given as goal
 

@@ -1,6 +1,6 @@
 use Rattle.vbr_list.proofs.Names.{◌≡◌, ℕ, ◌+◌, ◌*◌, ◌<◌, ◌≤◌, Result, Ok, Err, Option, Some, None, IfErr, IfOk, ap, ◌∙◌, subst, arith, mul-le}
 use Rattle.vbr_list.proofs.Names.{begins_refl, IsAlone, OutOfSteps, PassLaw, PassView, Refusal, took_all, TookWithin}
-use Rattle.vbr_list.specs.Budgets.{listed_in, steps_to_value_of}
+use Rattle.vbr_list.specs.Budgets.{nodes_listed_in, steps_to_value_of}
 use Rattle.vbr_list.specs.Disturbed.{disturbed_in, enough_among, seek_costs_among}
 use Rattle.vbr_list.specs.Next.{Seeks, enough_to_seek, seek_costs}
 use Rattle.vbr_list.specs.Refusals.{IsTired}
@@ -14,14 +14,14 @@ use Rattle.vbr_list.proofs.Walking.{searched_in}
 use Rattle.vbr_list.proofs.next.seek_by.Goals as goal
 
 module _ {p q : PassView} (law : PassLaw p) {bucket from since budget : ℕ} where
-  paid : {found : Option (Option NextNode)} (x : Sought p q bucket from 0 since budget found) {each now more : ℕ} → SearchesIn 5 each p.trace q.trace bucket 0 now more → now ≤ 5 * (listed_in p.trace bucket + disturbed_in p.trace q.trace bucket) + disturbed_in p.trace q.trace bucket * (5 * (listed_in p.trace bucket + disturbed_in p.trace q.trace bucket) + each) + more
+  paid : {found : Option (Option NextNode)} (x : Sought p q bucket from 0 since budget found) {each now more : ℕ} → SearchesIn 5 each p.trace q.trace bucket 0 now more → now ≤ 5 * (nodes_listed_in p.trace bucket + disturbed_in p.trace q.trace bucket) + disturbed_in p.trace q.trace bucket * (5 * (nodes_listed_in p.trace bucket + disturbed_in p.trace q.trace bucket) + each) + more
   paid x y =
       let quiet = x.peeks.tries.goes.quiet in
       let most = searched_in p.trace q.trace q.trace law.start (run_at p.trace q.trace quiet.same (quiet.is_run law.is_run)) bucket quiet (begins_refl q.trace.seen) y in
       omega (arith, most)
 
   -- what it told, or how it was refused, is all that its ends have apart
-  seeks : {A : Type 0} {Tells : A → Type 0} {found : Option (Option NextNode)} {answer : Result A Refusal} (x : Sought p q bucket from 0 since budget found) → IfOk answer Tells → IfErr answer (IsTired p q budget) → IfErr answer (λ refusal. budget < enough_among (listed_in p.trace bucket) (disturbed_in p.trace q.trace bucket)) → IfErr answer (λ refusal. IsAlone p.trace q.trace → budget < enough_to_seek p.trace bucket) → IfOk answer (λ told. TookWithin p.trace q.trace (seek_costs_among (listed_in p.trace bucket) (disturbed_in p.trace q.trace bucket) (steps_to_value_of p.trace.start))) → IfOk answer (λ told. IsAlone p.trace q.trace → TookWithin p.trace q.trace (seek_costs p.trace bucket)) → Seeks Tells p q bucket budget answer
+  seeks : {A : Type 0} {Tells : A → Type 0} {found : Option (Option NextNode)} {answer : Result A Refusal} (x : Sought p q bucket from 0 since budget found) → IfOk answer Tells → IfErr answer (IsTired p q budget) → IfErr answer (λ refusal. budget < enough_among (nodes_listed_in p.trace bucket) (disturbed_in p.trace q.trace bucket)) → IfErr answer (λ refusal. IsAlone p.trace q.trace → budget < enough_to_seek p.trace bucket) → IfOk answer (λ told. TookWithin p.trace q.trace (seek_costs_among (nodes_listed_in p.trace bucket) (disturbed_in p.trace q.trace bucket) (steps_to_value_of p.trace.start))) → IfOk answer (λ told. IsAlone p.trace q.trace → TookWithin p.trace q.trace (seek_costs p.trace bucket)) → Seeks Tells p q bucket budget answer
   seeks x told refused disturbed_within within disturbed_costs costs = record {
     told = told;
     quiet = x.peeks.tries.goes.quiet;
@@ -41,7 +41,7 @@ module _ {p q : PassView} (law : PassLaw p) {bucket from since budget : ℕ} whe
   seeks_told : {A : Type 0} {Tells : A → Type 0} (next : Option NextNode) (answer : A) (x : Sought p q bucket from 0 since budget (Some next)) → Tells answer → Seeks Tells p q bucket budget (Ok answer)
   seeks_told next answer x tells =
       let most = paid x x.next.searches in
-      let n = listed_in p.trace bucket in
+      let n = nodes_listed_in p.trace bucket in
       let reading = steps_to_value_of p.trace.start in
       let few : since ≤ seek_costs_among n (disturbed_in p.trace q.trace bucket) reading = omega (arith, most) in
       let counts = x.peeks.tries.goes.counts in
@@ -51,7 +51,7 @@ module _ {p q : PassView} (law : PassLaw p) {bucket from since budget : ℕ} whe
   seeks_short : {A : Type 0} {Tells : A → Type 0} → Sought p q bucket from 0 since budget None → Seeks Tells p q bucket budget (Err (OutOfSteps since))
   seeks_short x =
       let most = paid x x.tired.searches in
-      let n = listed_in p.trace bucket in
+      let n = nodes_listed_in p.trace bucket in
       let t = disturbed_in p.trace q.trace bucket in
       let few = few_to_value p.trace.start in
       let each = mul-le t (5 * (n + t) + steps_besides p.trace) t (5 * (n + t) + 11) (omega arith) (omega (arith, few)) in

@@ -1,7 +1,7 @@
 use Rattle.vbr_list.proofs.Names.{ap, rules, sym, ◌∙◌, Bool, Result, subst, is_some}
 use Rattle.vbr_list.proofs.Names.{Refusal, Remove, Start}
-use Rattle.vbr_list.specs.Leaving.{SparesRemove}
-use Rattle.vbr_list.specs.Sparing.{Calls, CallsAs}
+use Rattle.vbr_list.specs.Leaving.{BoundsOfRemove}
+use Rattle.vbr_list.specs.CallBounds.{Calls, CallsAs}
 use Rattle.vbr_list.specs.Told.{given_in}
 use Rattle.vbr_list.proofs.Told.{calls_yes, given_bare, remove_yes}
 use Rattle.vbr_list.proofs.removing.remove.Goals as goal
@@ -11,6 +11,6 @@ returns c =
     let p = c.args.pass.now in
     let q = c.during-answer.new.self in
     let answer = c.during-answer.result in
-    let told : CallsAs (given_in p.trace Remove c.args.key) (SparesRemove is_some p q c.args.key c.args.budget) p q c.args.budget answer = search rules in
+    let told : CallsAs (given_in p.trace Remove c.args.key) (BoundsOfRemove is_some p q c.args.key c.args.budget) p q c.args.budget answer = search rules in
     let P : Result Bool Refusal → Type 0 = Calls Remove p q c.args.key c.args.budget in
     subst P (sym c.is_yes.ensures) (calls_yes answer told (given_bare p.trace Remove c.args.key (ap (λ (d : Start). d.shape.values) c.requires.own.1 ∙ c.kind.ensures)) (remove_yes answer))

@@ -1,7 +1,7 @@
 use Rattle.vbr_list.proofs.Names.{ap, rules, ◌∙◌, is_some}
 use Rattle.vbr_list.proofs.Names.{Remove, Start}
-use Rattle.vbr_list.specs.Leaving.{SparesRemove}
-use Rattle.vbr_list.specs.Sparing.{CallsAs}
+use Rattle.vbr_list.specs.Leaving.{BoundsOfRemove}
+use Rattle.vbr_list.specs.CallBounds.{CallsAs}
 use Rattle.vbr_list.specs.Told.{given_in}
 use Rattle.vbr_list.proofs.Told.{calls_as, calls_entry, given_kept}
 use Rattle.vbr_list.proofs.removing.remove_entry.Goals as goal
@@ -10,5 +10,5 @@ pub returns : goal.returns
 returns c =
     let p = c.args.pass.now in
     let q = c.during.new.self in
-    let told : CallsAs (given_in p.trace Remove c.args.key) (SparesRemove is_some p q c.args.key c.args.budget) p q c.args.budget c.during.result = search rules in
-    calls_entry c.during.result c.law.ensures (calls_as c.during.result told (given_kept p.trace Remove c.args.key (ap (λ (d : Start). d.shape.values) c.requires.own.1 ∙ c.kind.ensures)) (λ spares. spares))
+    let told : CallsAs (given_in p.trace Remove c.args.key) (BoundsOfRemove is_some p q c.args.key c.args.budget) p q c.args.budget c.during.result = search rules in
+    calls_entry c.during.result c.law.ensures (calls_as c.during.result told (given_kept p.trace Remove c.args.key (ap (λ (d : Start). d.shape.values) c.requires.own.1 ∙ c.kind.ensures)) (λ bounds. bounds))

@@ -1,8 +1,8 @@
 use Rattle.vbr_list.proofs.Names.{ap, rules, ◌∙◌, Some}
 use Rattle.vbr_list.proofs.Names.{Start}
 use Rattle.vbr_list.specs.Expecting.{op_to_remove, removal_in, takes_out}
-use Rattle.vbr_list.specs.Leaving.{SparesRemove}
-use Rattle.vbr_list.specs.Sparing.{CallsAs}
+use Rattle.vbr_list.specs.Leaving.{BoundsOfRemove}
+use Rattle.vbr_list.specs.CallBounds.{CallsAs}
 use Rattle.vbr_list.proofs.Told.{calls_as, calls_entry, given_kept}
 use Rattle.vbr_list.proofs.removing.remove_if.Goals as goal
 
@@ -12,5 +12,5 @@ returns c =
     let q = c.during.new.self in
     let expected = Some c.args.expected in
     let has = ap (λ (d : Start). d.shape.values) c.requires.own.1 ∙ c.kind.ensures in
-    let told : CallsAs (removal_in p.trace c.args.key expected) (SparesRemove (takes_out expected) p q c.args.key c.args.budget) p q c.args.budget c.during.result = search rules in
-    calls_entry c.during.result c.law.ensures (calls_as c.during.result told (λ there. given_kept p.trace (op_to_remove expected there) c.args.key has there) (λ spares. spares))
+    let told : CallsAs (removal_in p.trace c.args.key expected) (BoundsOfRemove (takes_out expected) p q c.args.key c.args.budget) p q c.args.budget c.during.result = search rules in
+    calls_entry c.during.result c.law.ensures (calls_as c.during.result told (λ there. given_kept p.trace (op_to_remove expected there) c.args.key has there) (λ bounds. bounds))

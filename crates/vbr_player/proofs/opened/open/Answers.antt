@@ -3,11 +3,11 @@ use Rattle.vbr_words.specs.Dimensions.{Dimensions}
 use Rattle.vbr_machine.specs.Start.{Start}
 use Rattle.vbr_slots.specs.Views.{new_passes}
 use Rattle.vbr_player.proofs.Ends.{start_values}
-use Rattle.vbr_player.specs.Playing.{start_of}
+use Rattle.vbr_player.specs.Playing.{start_for}
 use Rattle.vbr_player.proofs.opened.open.Goals as goal
 
 pub returns-in-Ok-clause-start : goal.returns-in-Ok-clause-start
-returns-in-Ok-clause-start g c = c.in-Ok.ensures.table.0 ∙ g.met.N.Playable.opens c.shape.result ∙ ap (λ (shape : Dimensions). start_of g.N.Playable.script shape) c.shape.ensures
+returns-in-Ok-clause-start g c = c.in-Ok.ensures.table.0 ∙ g.met.N.Playable.opens c.shape.result ∙ ap (λ (shape : Dimensions). start_for g.N.Playable.script shape) c.shape.ensures
 
 pub returns-in-Ok-clause-fresh : goal.returns-in-Ok-clause-fresh
 returns-in-Ok-clause-fresh g c =

@@ -2,7 +2,7 @@ use Rattle.std.proofs.Common.{◌≡◌, List, [], ◌∷◌, ◌++◌, sym, ap,
 use Rattle.std.specs.List.{AllZip}
 use Rattle.std.specs.Vec.Iter.{into_iter_items}
 use Rattle.vbr_slots.specs.Views.{PassView}
-use Rattle.vbr_player.specs.Standing.{IsNew}
+use Rattle.vbr_player.specs.Standing.{IsNewWorker}
 use Rattle.vbr_player.specs.declared.worker.Worker.{Worker}
 use Rattle.vbr_player.proofs.NewWorkers.{new_is_of, new_stand}
 use Rattle.vbr_player.proofs.Starting.{none_left}
@@ -24,7 +24,7 @@ loop-pass-preserved g c =
     let i = c.loop-pass.invariant in
     let all : c.loop-pass.yielded ++ (c.in-Some.pass ∷ into_iter_items c.next.new.self) ≡ c.args.passes.items = ap (λ (ps : List PassView). c.loop-pass.yielded ++ ps) (sym {A = List PassView} c.in-Some.ensures.steps.0) ∙ i.all in
     record {
-      new = subst (λ (ws : List (Worker _)). AllZip (IsNew c.args.set.now c.args.lines.now) (c.loop-pass.yielded ++ c.in-Some.pass ∷ []) ws) (sym {A = List (Worker _)} c.in-Ok.ensures.items) (zip-snoc (IsNew c.args.set.now c.args.lines.now) c.loop-pass.yielded c.loop-pass.workers.items c.in-Some.pass c.in_ok-worker.worker i.new c.in_ok-worker.ensures);
+      new = subst (λ (ws : List (Worker _)). AllZip (IsNewWorker c.args.set.now c.args.lines.now) (c.loop-pass.yielded ++ c.in-Some.pass ∷ []) ws) (sym {A = List (Worker _)} c.in-Ok.ensures.items) (zip-snoc (IsNewWorker c.args.set.now c.args.lines.now) c.loop-pass.yielded c.loop-pass.workers.items c.in-Some.pass c.in_ok-worker.worker i.new c.in_ok-worker.ensures);
       all = append_assoc c.loop-pass.yielded (c.in-Some.pass ∷ []) (into_iter_items c.next.new.self) ∙ all;
     }
 
@@ -32,4 +32,4 @@ pub returns : goal.returns
 returns g c =
     let i = c.loop-pass.invariant in
     let whole = none_left c.loop-pass.yielded (into_iter_items c.loop-pass.pass-iterator) c.args.passes.items (sym c.loop-pass.pass-iterator.rest.ok.0 ∙ c.in-None.ensures.steps.0) i.all in
-    new_stand c.args.set.now c.args.lines.now c.args.passes.items c.args.set.now.passes c.loop-pass.workers.items c.requires (subst (λ (ps : List PassView). AllZip (IsNew c.args.set.now c.args.lines.now) ps c.loop-pass.workers.items) whole i.new)
+    new_stand c.args.set.now c.args.lines.now c.args.passes.items c.args.set.now.passes c.loop-pass.workers.items c.requires (subst (λ (ps : List PassView). AllZip (IsNewWorker c.args.set.now c.args.lines.now) ps c.loop-pass.workers.items) whole i.new)

@@ -3,7 +3,7 @@ use Rattle.std.specs.Prelude.{nat_le}
 use Rattle.std.specs.List.{prefix_len}
 use Rattle.vbr_script.specs.declared.script.Line.{Line}
 use Rattle.vbr_player.specs.Meeting.{PlayedAndMet}
-use Rattle.vbr_player.specs.Working.{HaveRoom}
+use Rattle.vbr_player.specs.Working.{HaveRoomForReplies}
 use Rattle.vbr_player.proofs.Finishing.{merges}
 use Rattle.vbr_player.proofs.NewWorkers.{stand_from}
 use Rattle.vbr_player.proofs.Phasing.{Cuts, cuts, rest_of, next_room, stand_behind, all_played}
@@ -15,7 +15,7 @@ play_phase-requires-clause-room g c κs within =
     let lines = c.args.span.part.lines.now in let i = c.loop-number.invariant in
     let count : c.count_up_to.result ≡ prefix_len (λ line. nat_le line.phase c.loop-number.number) (drop c.loop-number.first lines) = c.count_up_to.ensures.count ∙ ap (prefix_len (λ line. nat_le line.phase c.loop-number.number)) (rest_of lines c.loop-number.first) in
     let cut : Cuts lines c.loop-number.first c.count_up_to.result c.loop-number.number = cuts lines c.loop-number.first c.count_up_to.result c.loop-number.number count i.early i.later in
-    subst (HaveRoom c.loop-number.workers.items) (sym c.slice.ensures.lines) (next_room c.args.set.now c.args.span.part.budget lines c.loop-number.first c.count_up_to.result c.args.span.from c.loop-number.number _ c.loop-number.workers.items cut i.stand)
+    subst (HaveRoomForReplies c.loop-number.workers.items) (sym c.slice.ensures.lines) (next_room c.args.set.now c.args.span.part.budget lines c.loop-number.first c.count_up_to.result c.args.span.from c.loop-number.number _ c.loop-number.workers.items cut i.stand)
 
 pub loop-number-preserved : goal.loop-number-preserved
 loop-number-preserved g c =

@@ -12,17 +12,17 @@ use Rattle.vbr_script.specs.declared.script.Kind.{Kind}
 use Rattle.vbr_settings.specs.Options.{settings_among, asks_map_among, shape_fault, file_among, explained_among}
 use Rattle.vbr_settings.specs.Settings.{Settings}
 use Rattle.vbr_settings.specs.Given.{rows_in}
-use Rattle.vbr_run.specs.Program.{Gives, IsDone, IsFilePlayed, IsPlayed, IsUnopened, Opening, ProgramRun, kind_asked, opened_as}
+use Rattle.vbr_run.specs.Program.{MayOpenAs, IsDone, IsFilePlayed, IsPlayed, IsUnopened, Opening, ProgramRun, kind_asked, opened_as}
 use Rattle.vbr_run.proofs.program.do_asked.Goals as goal
 
 module _ {F : Type 0} (remaining : F → Option (List ℕ)) (opens : Text → Result F Error → Type 0) where
-  filed : (explained : Option Text) (shape : Option ShapeError) (file : Option Text) (kind asked : Kind) (settings own : Settings) (input : Option (List ℕ)) (run : ProgramRun) (name : Text) (opened : Result F Error) → explained ≡ None → shape ≡ None → file ≡ Some name → asked ≡ kind → own ≡ settings → opens name opened → IsFilePlayed asked own name (opened_as remaining opened) run → IsDone explained shape file kind settings input (Gives remaining opens) run
+  filed : (explained : Option Text) (shape : Option ShapeError) (file : Option Text) (kind asked : Kind) (settings own : Settings) (input : Option (List ℕ)) (run : ProgramRun) (name : Text) (opened : Result F Error) → explained ≡ None → shape ≡ None → file ≡ Some name → asked ≡ kind → own ≡ settings → opens name opened → IsFilePlayed asked own name (opened_as remaining opened) run → IsDone explained shape file kind settings input (MayOpenAs remaining opens) run
   filed explained shape file kind asked settings own input run name opened none shaped named alike same gives played = rw (none, shaped, named) (opened_as remaining opened, (opened, gives, refl), subst (λ (s : Settings). IsFilePlayed kind s name (opened_as remaining opened) run) same (subst (λ (k : Kind). IsFilePlayed k own name (opened_as remaining opened) run) alike played))
 
-  filed_ok : (explained : Option Text) (shape : Option ShapeError) (file : Option Text) (kind asked : Kind) (settings own : Settings) (input : Option (List ℕ)) (run : ProgramRun) (name : Text) (opened : Result F Error) (found : F) → explained ≡ None → shape ≡ None → file ≡ Some name → asked ≡ kind → own ≡ settings → opens name opened → opened ≡ Ok found → IsPlayed asked own (Some name) (remaining found) run → IsDone explained shape file kind settings input (Gives remaining opens) run
+  filed_ok : (explained : Option Text) (shape : Option ShapeError) (file : Option Text) (kind asked : Kind) (settings own : Settings) (input : Option (List ℕ)) (run : ProgramRun) (name : Text) (opened : Result F Error) (found : F) → explained ≡ None → shape ≡ None → file ≡ Some name → asked ≡ kind → own ≡ settings → opens name opened → opened ≡ Ok found → IsPlayed asked own (Some name) (remaining found) run → IsDone explained shape file kind settings input (MayOpenAs remaining opens) run
   filed_ok explained shape file kind asked settings own input run name opened found none shaped named alike same gives is played = filed explained shape file kind asked settings own input run name opened none shaped named alike same gives (subst (λ (o : Result F Error). IsFilePlayed asked own name (opened_as remaining o) run) (sym is) played)
 
-  filed_err : (explained : Option Text) (shape : Option ShapeError) (file : Option Text) (kind asked : Kind) (settings own : Settings) (input : Option (List ℕ)) (run : ProgramRun) (name : Text) (opened : Result F Error) (error : Error) (why : IoErrorKind) → explained ≡ None → shape ≡ None → file ≡ Some name → asked ≡ kind → own ≡ settings → opens name opened → opened ≡ Err error → why ≡ error_kind error → IsUnopened why name run → IsDone explained shape file kind settings input (Gives remaining opens) run
+  filed_err : (explained : Option Text) (shape : Option ShapeError) (file : Option Text) (kind asked : Kind) (settings own : Settings) (input : Option (List ℕ)) (run : ProgramRun) (name : Text) (opened : Result F Error) (error : Error) (why : IoErrorKind) → explained ≡ None → shape ≡ None → file ≡ Some name → asked ≡ kind → own ≡ settings → opens name opened → opened ≡ Err error → why ≡ error_kind error → IsUnopened why name run → IsDone explained shape file kind settings input (MayOpenAs remaining opens) run
   filed_err explained shape file kind asked settings own input run name opened error why none shaped named alike same gives is kinds told = filed explained shape file kind asked settings own input run name opened none shaped named alike same gives (subst (λ (o : Result F Error). IsFilePlayed asked own name (opened_as remaining o) run) (sym is) (subst (λ (k : IoErrorKind). IsUnopened k name run) kinds told))
 
 standard : (explained : Option Text) (shape : Option ShapeError) (file : Option Text) (kind asked : Kind) (settings own : Settings) (input : Option (List ℕ)) (opens : Opening) (run : ProgramRun) → explained ≡ None → shape ≡ None → file ≡ None → asked ≡ kind → own ≡ settings → IsPlayed asked own None input run → IsDone explained shape file kind settings input opens run

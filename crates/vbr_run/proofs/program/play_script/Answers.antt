@@ -8,10 +8,10 @@ use Rattle.vbr_settings.specs.Settings.{Settings}
 use Rattle.vbr_transcript.specs.Totals.{TotalsOf}
 use Rattle.vbr_transcript.specs.declared.error.RunError.{RunError}
 use Rattle.vbr_player.specs.Playing.{Plays}
-use Rattle.vbr_run.specs.Program.{IsPlayed, TellsRun}
+use Rattle.vbr_run.specs.Program.{IsPlayed, TellsOutcome}
 use Rattle.vbr_run.proofs.program.play_script.Goals as goal
 
-played : (kind own : Kind) (settings : Settings) (file : Option Text) (input before after old new : Option (List ℕ)) (status : ℕ) (answer : Result (TotalsOf own) RunError) → kind ≡ own → Plays own settings input before after answer → TellsRun file answer old new status → IsPlayed kind settings file input (record { output_before = before; output = after; errors_before = old; errors = new; status = status })
+played : (kind own : Kind) (settings : Settings) (file : Option Text) (input before after old new : Option (List ℕ)) (status : ℕ) (answer : Result (TotalsOf own) RunError) → kind ≡ own → Plays own settings input before after answer → TellsOutcome file answer old new status → IsPlayed kind settings file input (record { output_before = before; output = after; errors_before = old; errors = new; status = status })
 played kind own settings file input before after old new status answer is plays tells = subst (λ (k : Kind). IsPlayed k settings file input (record { output_before = before; output = after; errors_before = old; errors = new; status = status })) (sym is) (answer, plays, tells)
 
 pub returns-in-Set-clause-played : goal.returns-in-Set-clause-played

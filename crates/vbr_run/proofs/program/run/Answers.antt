@@ -8,7 +8,7 @@ use Rattle.vbr_settings.specs.Options.{AreOptions, faults, settings_among, asks_
 use Rattle.vbr_settings.specs.Settings.{Settings}
 use Rattle.vbr_settings.specs.Given.{IsReadOff, rows_in}
 use Rattle.vbr_settings.specs.declared.options.Options.{Options}
-use Rattle.vbr_run.specs.Program.{AnswersCommand, DoesAsked, IsDone, TellsFault, LacksMemory, Opening, ProgramRun, ShowsError, Tells, ReadsNoInput, kind_asked}
+use Rattle.vbr_run.specs.Program.{AnswersCommand, DoesAsked, IsDone, TellsFault, LacksMemory, Opening, ProgramRun, ShowsError, TellsOptions, ReadsNoInput, kind_asked}
 use Rattle.vbr_run.proofs.program.run.Goals as goal
 
 -- ---- what was asked for
@@ -36,7 +36,7 @@ is_refused arguments input opens kind run (inr among) passes shown = record {
   taken = λ taken. inr (shown.memory (passes taken));
   answered = inr (told shown.told);
 } where
-  told : Tells kind run ⊎ LacksMemory run → TellsFault arguments run ⊎ LacksMemory run
+  told : TellsOptions kind run ⊎ LacksMemory run → TellsFault arguments run ⊎ LacksMemory run
   told (inl tells) = inl (kind, among, tells)
   told (inr no_memory) = inr no_memory
 

@@ -7,7 +7,7 @@ use Rattle.vbr_words.specs.declared.place.At.TheVariants.{Head, Slot}
 use Rattle.vbr_machine.specs.Knowledge.{Know}
 use Rattle.vbr_machine.specs.Membership.{BirthNamed, KeyAt}
 use Rattle.vbr_slots.specs.Views.{knows}
-use Rattle.vbr_at_table.specs.Keeping.{Keeps}
+use Rattle.vbr_at_table.specs.KeptKnowledge.{Keeps}
 use Rattle.vbr_at_table.specs.Reading.{IsKeyRead}
 use Rattle.vbr_at_table.specs.Values.{IsValueRead}
 use Rattle.vbr_at_table.proofs.Lemmas.{held_kept}

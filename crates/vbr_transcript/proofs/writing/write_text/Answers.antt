@@ -7,11 +7,11 @@ use Rattle.vbr_transcript.proofs.writing.write_text.Goals as goal
 rest_of : (text : List ℕ) (at : ℕ) → take (length text - at) (drop at text) ≡ drop at text
 rest_of text at = grind (arith, common_steps)
 
-pub loop-at-preserved : goal.loop-at-preserved
-loop-at-preserved g c =
-    let bound = rw (rest_of c.args.text.now c.loop-at.at) at c.in-Ok.ensures.bound in
-    let taken = rw (rest_of c.args.text.now c.loop-at.at) at c.in-Ok.ensures.bytes in
+pub loop-from-preserved : goal.loop-from-preserved
+loop-from-preserved g c =
+    let bound = rw (rest_of c.args.text.now c.loop-from.from) at c.in-Ok.ensures.bound in
+    let taken = rw (rest_of c.args.text.now c.loop-from.from) at c.in-Ok.ensures.bytes in
     record {
-      in_range = omega (arith, bound, length-drop c.loop-at.at c.args.text.now);
-      written = Appends-take _ _ _ c.args.text.now c.loop-at.at c.in-Ok.n c.loop-at.invariant.written taken;
+      in_range = omega (arith, bound, length-drop c.loop-from.from c.args.text.now);
+      written = Appends-take _ _ _ c.args.text.now c.loop-from.from c.in-Ok.n c.loop-from.invariant.written taken;
     }

@@ -13,5 +13,5 @@ use Rattle.vbr_handles.specs.contracts.handle.SetOwner.{the_row, the_type}
 pub send : IsSend the_row
 send =
     let all : AllSend (fields the_type) = (search sendable, (heap.the_field_send, tt)) in
-    owning_send the_type all (λ d. owns_keyless set_row (member Keys.the_row kind.ghosts) d.alloc d.at d.member)
+    owning_send the_type all (λ d. owns_keyless set_row (member Keys.the_row kind.ghosts) d.alloc d.ptr d.member)
     (λ k. quiet (to the_type) (exits_of k (fields the_type)) ((struct_send (shape the_type) all).leaving k))

@@ -11,5 +11,5 @@ pub send : (M : RattleType) → IsSend M → IsSend (the_row M)
 send M s =
     let O = the_type M in
     let all : AllSend (fields O) = (search sendable, (handle.the_field_send, tt)) in
-    owning_send O all (λ d. owns_keyless M s d.alloc d.at d.member)
+    owning_send O all (λ d. owns_keyless M s d.alloc d.ptr d.member)
     (λ k. quiet (to O) (exits_of k (fields O)) ((struct_send (shape O) all).leaving k))

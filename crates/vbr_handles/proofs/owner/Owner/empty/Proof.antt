@@ -64,7 +64,7 @@ module _ (F : El) {M : Type 1} {𝓤 : Ura M} (𝓛 : Logic 𝓤) (𝓣 : Tables
   walk z =
       let Post = (walk_of 𝓛 (ended F) (stayed F) (spec F 𝓤)).post z in
       let a : Heap.the_row.Denot = z.0.3.0 in
-      let made : (OwnerRow F).Denot = record { at = null_ptr; alloc = a; member = None } in
+      let made : (OwnerRow F).Denot = record { ptr = null_ptr; alloc = a; member = None } in
       qed 𝓛 ((‵ ftrue ⊛ ‵ (fsep (Heap.the_row.own_val a z.0.4.0) ftrue)) ∷ raw (emp 𝓤) ∷ []) ∵ split ! $ drop ! $ fsplit ! $
       handle_tells (E F).al ! a z.0.4.0 (λ hv ea fa. keep ! (0 ∷ []) $
       let w = nothing_word hv in

@@ -82,13 +82,13 @@ is_empty_spec 𝓤 𝓛 𝓜 𝓡 wired X L z =
     split ! $ split ! $ move ! (2 ∷ []) $ fsplit ! $ fsplit3 ! $ keep ! (1 ∷ 2 ∷ 4 ∷ []) $
     enter ! 𝓣.C 𝓣.Λ fn (vptr rb ro ∷ []) Post $ alloc_all ! (λ l. pass_all ! refl ((tt, tt), tt) $
     opens ! tt Row rb ro (λ vs. move ! (1 ∷ []) $ owner_out F ! h vs
-    (λ hv em at_n ws fa. let w : Val = nothing_word hv in let made : Row.Denot = record { at = null_ptr; alloc = h.alloc; member = None } in
+    (λ hv em at_n ws fa. let w : Val = nothing_word hv in let made : Row.Denot = record { ptr = null_ptr; alloc = h.alloc; member = None } in
     rewrite ! 1 (λ (us : List Val). ‵ (cell_at full_share Row.mir us rb ro)) ws refl $
     sets ! (of_opd ! (load ! (through ! refl (fld ! refl (stop !))) (look_in ! 1 (sub ! 0 refl (whole !))))) refl (Ptr-Good null_ptr) $ sets ! (bin ! (get ! refl) (lit ! tt) tt) refl (tt, tt) $
     nothing ! $ fpack ! (null_ptr ≡ null_ptr) (λ _. ftrue) refl $
     nothing ! $ move ! (2 ∷ 0 ∷ []) $ fjoin ! $ feq_i ! (List Val) (vnull ∷ []) (ptr_val null_ptr ∷ []) refl $ fjoin ! $ feq_i ! (List Val) (w ∷ []) (w ∷ []) refl $ fjoin ! $
     fpack ! (Valss (RawPtr ∷ Heap.the_field.row ∷ [])) (within (shape (the_type (R F))) (to (the_type (R F)) made) (w ∷ [])) (vnull ∷ [], (hv ∷ [], tt)) $ fjoin ! $
-    use1 𝓛 (‵ (Row.own_val h (w ∷ []))) (subst (λ (s : Ptr × Option (el_x F)). ent 𝓤 (sem 𝓛 (Row.own_val made (w ∷ []))) (sem 𝓛 (Row.own_val (record { at = s.0; alloc = h.alloc; member = s.1 }) (w ∷ [])))) (λ i. (sym at_n i, sym em i)) (id⊢ 𝓤 _)) $
+    use1 𝓛 (‵ (Row.own_val h (w ∷ []))) (subst (λ (s : Ptr × Option (el_x F)). ent 𝓤 (sem 𝓛 (Row.own_val made (w ∷ []))) (sem 𝓛 (Row.own_val (record { ptr = s.0; alloc = h.alloc; member = s.1 }) (w ∷ [])))) (λ i. (sym at_n i, sym em i)) (id⊢ 𝓤 _)) $
     move ! (1 ∷ 0 ∷ []) $ closes ! tt Row h (w ∷ []) rb ro $
     feq_i ! (List Val) (vptr rb ro ∷ []) (vptr rb ro ∷ []) refl $ fjoin3 ! $ nothing ! $ move ! (1 ∷ 0 ∷ []) $ fjoin ! $ nothing ! $ move ! (2 ∷ 0 ∷ []) $ join ! $
     owned ! bool _ (bool_Makes 𝓛) true (vbool true ∷ []) refl $ use0 𝓛 (raw (fact 𝓤 (Told F h true h))) (fact_i 𝓤 (Told F h true h) (emp 𝓤) ((λ e. absurd (subst IsHigh e tt)), (λ _. em), refl)) $
@@ -97,7 +97,7 @@ is_empty_spec 𝓤 𝓛 𝓜 𝓡 wired X L z =
     rewrite ! 2 (λ (us : List Val). ‵ (cell_at full_share Row.mir us rb ro)) ws refl $
     sets ! (of_opd ! (load ! (through ! refl (fld ! refl (stop !))) (look_in ! 2 (sub ! 0 refl (whole !))))) refl (tt, tt) $ sets ! (bin ! (get ! refl) (lit ! tt) (tests_null (block_ptr b o) ts)) refl (tt, tt) $
     fsplit ! $ box_in (E F) ! v b o x refl refl $
-    use1 𝓛 (‵ (Row.own_val h (w ∷ []))) (subst (λ (s : Ptr × Option (el_x F)). ent 𝓤 (sem 𝓛 ((B (E F)).own_val v (w ∷ []))) (sem 𝓛 (Row.own_val (record { at = s.0; alloc = h.alloc; member = s.1 }) (w ∷ [])))) (λ i. (sym at_b i, sym em i)) (id⊢ 𝓤 _)) $
+    use1 𝓛 (‵ (Row.own_val h (w ∷ []))) (subst (λ (s : Ptr × Option (el_x F)). ent 𝓤 (sem 𝓛 ((B (E F)).own_val v (w ∷ []))) (sem 𝓛 (Row.own_val (record { ptr = s.0; alloc = h.alloc; member = s.1 }) (w ∷ [])))) (λ i. (sym at_b i, sym em i)) (id⊢ 𝓤 _)) $
     move ! (1 ∷ 0 ∷ []) $ closes ! tt Row h (w ∷ []) rb ro $
     feq_i ! (List Val) (vptr rb ro ∷ []) (vptr rb ro ∷ []) refl $ fjoin3 ! $ nothing ! $ move ! (1 ∷ 0 ∷ []) $ fjoin ! $ nothing ! $ move ! (2 ∷ 0 ∷ []) $ join ! $
     owned ! bool _ (bool_Makes 𝓛) false (vbool false ∷ []) refl $ use0 𝓛 (raw (fact 𝓤 (Told F h false h))) (fact_i 𝓤 (Told F h false h) (emp 𝓤) ((λ _. subst IsSome (sym em) refl), (λ e. absurd (subst IsLow e tt)), refl)) $

@@ -72,13 +72,13 @@ module _ (F : El) {M' : Type 1} {𝓤 : Ura M'} (𝓛 : Logic 𝓤) (rb ro : ℕ
   abbrev Rest : Fml
   Rest = fsep (fsep (token (E F).al h.alloc (bare (τ (E F))) (block_ptr b o)) (handle (E F) h.alloc hv)) (cell_at full_share (OwnerRow F).mir (word (E F) hv b o ∷ []) rb ro)
 
-  back : h.at ≡ block_ptr b o → (w : el_x F) → ent 𝓤 (sep 𝓤 (sem 𝓛 ((mem (R F)).own_at w b o)) (sem 𝓛 Rest)) (sem 𝓛 ((mem (OwnerRow F)).own_at (with_member h w) rb ro))
+  back : h.ptr ≡ block_ptr b o → (w : el_x F) → ent 𝓤 (sep 𝓤 (sem 𝓛 ((mem (R F)).own_at w b o)) (sem 𝓛 Rest)) (sem 𝓛 ((mem (OwnerRow F)).own_at (with_member h w) rb ro))
   unfolding part_of
   back at_b w =
       let v : D (E F) = record { ptr = block_ptr b o; alloc = h.alloc; value = w } in let vs = word (E F) hv b o ∷ [] in
       qed 𝓛 (‵ (part_at (R F) full_share w b o) ∷ ‵ Rest ∷ []) ∵ move ! (1 ∷ []) $ fsplit ! $ fsplit ! $ move ! (3 ∷ []) $
       box_in (E F) ! v b o w refl refl $
-      use1 𝓛 (‵ ((OwnerRow F).own_val (with_member h w) vs)) (subst (λ (p : Ptr). ent 𝓤 (sem 𝓛 ((B (E F)).own_val v vs)) (sem 𝓛 ((OwnerRow F).own_val (record { at = p; alloc = h.alloc; member = Some w }) vs))) (sym at_b) (id⊢ 𝓤 _)) $
+      use1 𝓛 (‵ ((OwnerRow F).own_val (with_member h w) vs)) (subst (λ (p : Ptr). ent 𝓤 (sem 𝓛 ((B (E F)).own_val v vs)) (sem 𝓛 ((OwnerRow F).own_val (record { ptr = p; alloc = h.alloc; member = Some w }) vs))) (sym at_b) (id⊢ 𝓤 _)) $
       move ! (1 ∷ 0 ∷ []) $ fjoin ! $
       fpack ! (List Val) (λ us. fsep (cell_at full_share (OwnerRow F).mir us rb ro) ((OwnerRow F).own_val (with_member h w) us)) vs $ done !
 

@@ -51,7 +51,7 @@ module _ (F : El) {M : Type 1} {𝓤 : Ura M} (𝓛 : Logic 𝓤) (𝓣 : Tables
   walk z =
       let Post = (walk_of 𝓛 (ended F) (stayed F) (spec F 𝓤)).post z in
       let v : D (E F) = record { ptr = z.0.3.0.ptr; alloc = z.0.3.0.alloc; value = z.0.3.0.value } in
-      let made : (OwnerRow F).Denot = record { at = v.ptr; alloc = v.alloc; member = Some v.value } in
+      let made : (OwnerRow F).Denot = record { ptr = v.ptr; alloc = v.alloc; member = Some v.value } in
       qed 𝓛 ((‵ ftrue ⊛ ‵ (fsep ((B (E F)).own_val v z.0.4.0) ftrue)) ∷ raw (emp 𝓤) ∷ []) ∵ split ! $ drop ! $ fsplit ! $
       box_out (E F) ! v z.0.4.0 (λ b o hv e ws fa. box_in (E F) ! v b o v.value e refl $ use1 𝓛 (‵ ((OwnerRow F).own_val made (word (E F) hv b o ∷ []))) (id⊢ 𝓤 _) $ move ! (1 ∷ 2 ∷ []) $ drop ! $ drop ! $
       let w = word (E F) hv b o in

@@ -1,5 +1,5 @@
 use Rattle.vbr_list.proofs.Names.{◌+◌, ◌≤◌, Bool, arith, sym, subst, IfOk, IfErr}
-use Rattle.vbr_list.specs.LookingUp.{IsSightFor, LookUpAnswers, LookUpRollsBack, steps_to_answer}
+use Rattle.vbr_list.specs.LookUpPieces.{IsSightFor, LookUpAnswers, LookUpRollsBack, steps_to_answer}
 use Rattle.vbr_list.specs.declared.looking.Sight.{Sight}
 use Rattle.vbr_list.proofs.call.PendingCall.settle_look_up.Goals as goal
 

@@ -5,7 +5,7 @@ use Rattle.vbr_list.specs.Pieces.{GoesOn, pass_in, trace_in}
 use Rattle.vbr_list.specs.Removing.{MarksAndSearches}
 use Rattle.vbr_list.specs.Settling.{AnswersIn, AnswersSoon, MaySettle, SearchesWith, SettlesIn, SettlesSoon}
 use Rattle.vbr_list.specs.Storing.{replaced, stored_calls}
-use Rattle.vbr_list.specs.Traversing.{Finds, LastWalk}
+use Rattle.vbr_list.specs.Traversing.{SearchFinds, LastWalk}
 use Rattle.vbr_list.specs.Walking.{WalksAgain}
 use Rattle.vbr_list.specs.declared.call.PendingCall.{PendingCall}
 use Rattle.vbr_list.specs.declared.found.Found.{Found}
@@ -25,7 +25,7 @@ searches_with {b = b} {c = c} {d = d} law so went walks =
     let P : ℕ → Type 0 = λ key. WalksAgain 9 (trace_in c) (trace_in d) key c.used d.used in
     searches_with_end (trace_in b) (trace_in c) (trace_in d) law.start (run_at (trace_in b) (trace_in d) quiet.same (quiet.is_run law.is_run)) b.key so.1.same so.1.seen went.goes.quiet.seen so.6 (subst P so.0.key walks)
 
-module _ {N : Type 0} {kind : Ghosts N} (b c d e : PendingCall N kind) {hand : HandView} (law : PassLaw (pass_in b)) (so : IsLinking 11 b c hand) (went : GoesOn c d) (found : Found) (finds : Finds c d found) (made : HasMade (trace_in d) (trace_in e)) where
+module _ {N : Type 0} {kind : Ghosts N} (b c d e : PendingCall N kind) {hand : HandView} (law : PassLaw (pass_in b)) (so : IsLinking 11 b c hand) (went : GoesOn c d) (found : Found) (finds : SearchFinds c d found) (made : HasMade (trace_in d) (trace_in e)) where
   -- it is answered soon then
   soon_then : (stored : Bool) → SettlesSoon PIECE stored d e → AnswersSoon stored b e
   soon_then stored soon =

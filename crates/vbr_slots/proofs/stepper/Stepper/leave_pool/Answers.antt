@@ -6,10 +6,10 @@ use Rattle.vbr_slots.proofs.Pools.{leaves}
 use Rattle.vbr_slots.proofs.stepper.Stepper.leave_pool.Goals as goal
 
 pub remove-requires : goal.remove-requires
-remove-requires c = (left c.args.slot c.in-Some.at c.self.inside.pool.items _ _ c.self.invariant.pool.apart c.as_slice.ensures.value c.position_in.ensures c.in-Some.is).0
+remove-requires c = (left c.args.slot c.in-Some.index c.self.inside.pool.items _ _ c.self.invariant.pool.apart c.as_slice.ensures.value c.position_in.ensures c.in-Some.is).0
 
 gone : (c : goal.After-remove) → c.remove.new.self.items ≡ without c.args.slot c.self.inside.pool.items
-gone c = c.remove.ensures.items ∙ (left c.args.slot c.in-Some.at c.self.inside.pool.items _ _ c.self.invariant.pool.apart c.as_slice.ensures.value c.position_in.ensures c.in-Some.is).1
+gone c = c.remove.ensures.items ∙ (left c.args.slot c.in-Some.index c.self.inside.pool.items _ _ c.self.invariant.pool.apart c.as_slice.ensures.value c.position_in.ensures c.in-Some.is).1
 
 pub invariant_of-self : goal.invariant_of-self
 invariant_of-self c =

@@ -1,7 +1,0 @@
-use Rattle.std.proofs.Common.{◌≡◌, drop}
-use Rattle.vbr_machine.specs.Knowledge.{value_in}
-use Rattle.vbr_core.proofs.world.reads.value_in.Given as goal
-
--- the reads behind this point answer what all of them do
-abbrev pub invariant-loop-read : goal.invariant-loop-read
-invariant-loop-read l = value_in (drop l.read-index l.reads) l.slot ≡ value_in l.reads l.slot

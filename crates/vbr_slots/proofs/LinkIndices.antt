@@ -1,0 +1,11 @@
+-- The index of a link word.
+use Rattle.std.proofs.Common.{◌≡◌, ◌+◌, refl}
+use Rattle.vbr_words.specs.Dimensions.{Dimensions}
+use Rattle.vbr_words.specs.Places.{index_of, place_of, node_words}
+use Rattle.vbr_words.specs.declared.place.At.{At}
+use Rattle.vbr_words.specs.declared.place.At.TheVariants.{Head, Slot}
+use Rattle.vbr_slots.specs.LookUpStep.{link_from}
+
+pub link_is : (shape : Dimensions) (at : At) → link_from (2 + shape.buckets) (node_words shape) at ≡ index_of shape (place_of at)
+link_is shape (Head b) = refl
+link_is shape (Slot s) = refl

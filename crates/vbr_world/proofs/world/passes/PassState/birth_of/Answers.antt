@@ -1,0 +1,11 @@
+use Rattle.std.proofs.Common.{◌≡◌, rules, unwrap_or}
+use Rattle.vbr_machine.specs.Knowledge.{birth_of}
+use Rattle.vbr_world.proofs.KeptPasses.{birth_of-fits}
+use Rattle.vbr_world.proofs.world.passes.PassState.birth_of.Goals as goal
+
+-- the births that are read have room in words
+pub returns-clause-fits : goal.returns-clause-fits
+returns-clause-fits c =
+    let reads = c.self.inside.checked.items in
+    let is : c.unwrap_or.result ≡ unwrap_or (birth_of reads c.args.next) 0 = search rules in
+    rw is (birth_of-fits reads c.args.next c.self.invariant.checked)

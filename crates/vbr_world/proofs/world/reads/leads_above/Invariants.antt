@@ -1,0 +1,10 @@
+use Rattle.std.proofs.Common.{◌≡◌, ℕ, ◌<◌}
+use Rattle.vbr_machine.specs.Acceptance.{IsBefore, after_turns}
+use Rattle.vbr_world.proofs.world.reads.leads_above.Given as goal
+
+-- the walk has come here in so many turns, and reached no slot before which the key stands, nor none
+abbrev pub invariant-loop : goal.invariant-loop
+invariant-loop l = record {
+  here : l.here ≡ after_turns l.reads l.counter l.fn.next;
+  none : (turns : ℕ) → turns < l.counter → ¬ (IsBefore l.reads l.key (after_turns l.reads turns l.fn.next));
+}
