@@ -1,98 +1,22 @@
-mod Histories
-mod AnsweredCalls
-mod PlainSets
-mod PlainMaps
-mod Puts
-mod Branches
-mod Slots
-mod SlotsAfter
-mod Lists
-mod ListedNodes
-mod ListsAfter
-mod InsertedLists
-mod UnlinkedLists
-mod ReplacedLists
-mod OpeningKeys
-mod SoundAfter
-mod ToldCalls
-mod Growth
-mod HeldReads
-mod Noted
-mod OwnSlots
-mod Shown
-mod Steps
-mod Searches
-mod EpochSteps
-mod OwnerSteps
-mod BirthSteps
-mod LoadSteps
-mod StandingLinks
-mod ConfirmSteps
-mod MarkSteps
-mod ValueReads
-mod MapHistories
-mod OpenedMaps
-mod ToldValues
-mod Exchanges
-mod PublishSteps
-mod PublishedNotes
-mod Publishing
-mod ReplaceSteps
-mod ReplacedNotes
-mod Replacing
-mod UnlinkSteps
-mod Unlinking
-mod EveryRun
-mod SlotFlags
-mod RunsGoOn
-mod WordsAfter
-mod LoadsLeave
-mod OwnedSlots
-mod HeldSlots
-mod RightReads
-mod RightExchanges
-mod PlacedSlots
-mod SafeRuns
-mod Whereabouts
-mod SlotsAddUp
-mod UnlinkedInTurn
-mod OutsidePool
-mod RunMoments
-mod FoundReads
-mod MarkedWalks
-mod OwnEntries
-mod KnownReads
-mod KnownAcceptance
-mod HeldBuckets
-mod AtLoads
-mod MarkedChains
-mod RunForms
-mod MarkedMoments
-mod MarkedNodes
-mod Removals
-mod ReplacedNodes
-mod ListedRuns
-mod ListedGrowth
-mod ListedLinks
-mod Calm
-mod Since
-mod MetNodes
-mod Visits
-mod LeftNodes
-mod OwnInserts
-mod Progress
-mod MovedEpochs
-mod GainedSlots
-mod GivingUp
-mod WorkedLists
-mod WorkedMaps
-mod WorkedReplacements
-mod WorkedChronicles
-mod WorkedRaises
-mod WorkedRefusals
-mod WorkedLookUps
-mod NamedKeys
-mod WorkedSafety
-mod WorkedWhereabouts
-mod OpenedWorlds
+-- Histories of sets and of maps, with no machine.
+mod histories
+-- Chronicles alone, without words, knowledge or passes: each lawful one is sound, and its calls are legal.
+mod chronicles
+-- The words of a world: what one step, and the opening, leave of them.
+mod words
+-- What a pass knows: what it has read, holds and owns, and where its checked links lead.
+mod reads
+-- The kinds of step: each accepted one adds what is lawful, and keeps the agreement of words, chronicle and knowledge.
+mod steps
+-- Runs: how they go on, and that every one is safe.
+mod runs
+-- Where each slot is along a run, and how many are where.
+mod whereabouts
+-- What runs say to the layers above: which keys were present at which moment, and which nodes have left.
+mod moments
+-- Progress: what disturbs a pass, how many nodes a walk can meet, and what pays for each disturbance.
+mod progress
+-- Worked runs, computed.
+mod worked
+-- The lemmas that other crates cite.
 pub mod Lemmas

@@ -1,4 +1,4 @@
-use Rattle.vbr_machine.proofs.RunsGoOn.{begins_run}
+use Rattle.vbr_machine.proofs.runs.RunsGoOn.{begins_run}
 use Rattle.vbr_machine.proofs.laws.a_beginning_is_a_run.Goals as goal
 
 pub returns : goal.returns

@@ -1,5 +1,5 @@
 use Rattle.vbr_machine.specs.Maps.{keys_in}
-use Rattle.vbr_machine.proofs.MapHistories.{set_to_map, map_to_set, just_keys}
+use Rattle.vbr_machine.proofs.histories.MapHistories.{set_to_map, map_to_set, just_keys}
 use Rattle.vbr_machine.proofs.laws.a_map_without_values_is_a_set.Goals as goal
 
 pub returns : goal.returns

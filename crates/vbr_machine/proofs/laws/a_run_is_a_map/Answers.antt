@@ -2,8 +2,8 @@ use Rattle.std.proofs.Common.{refl}
 use Rattle.vbr_machine.specs.Maps.{opening_entries}
 use Rattle.vbr_machine.specs.Opened.{opening_keys, opening_payloads}
 use Rattle.vbr_machine.specs.Runs.{world_after}
-use Rattle.vbr_machine.proofs.MapHistories.{map_legal}
-use Rattle.vbr_machine.proofs.SafeRuns.{every_run}
+use Rattle.vbr_machine.proofs.histories.MapHistories.{map_legal}
+use Rattle.vbr_machine.proofs.runs.SafeRuns.{every_run}
 use Rattle.vbr_machine.proofs.laws.a_run_is_a_map.Goals as goal
 
 pub returns : goal.returns

@@ -1,4 +1,4 @@
-use Rattle.vbr_machine.proofs.MarkedMoments.{absent_at_moments}
+use Rattle.vbr_machine.proofs.moments.MarkedMoments.{absent_at_moments}
 use Rattle.vbr_machine.proofs.laws.absent_at_a_moment.Goals as goal
 
 pub returns : goal.returns

@@ -1,4 +1,4 @@
-use Rattle.vbr_machine.proofs.RunForms.{absent_at_load}
+use Rattle.vbr_machine.proofs.moments.RunForms.{absent_at_load}
 use Rattle.vbr_machine.proofs.laws.absent_at_load.Goals as goal
 
 pub returns : goal.returns

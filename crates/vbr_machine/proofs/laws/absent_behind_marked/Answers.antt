@@ -1,4 +1,4 @@
-use Rattle.vbr_machine.proofs.RunForms.{absent_behind_marked}
+use Rattle.vbr_machine.proofs.moments.RunForms.{absent_behind_marked}
 use Rattle.vbr_machine.proofs.laws.absent_behind_marked.Goals as goal
 
 pub returns : goal.returns

@@ -1,4 +1,4 @@
-use Rattle.vbr_machine.proofs.NamedKeys.{between_accepted}
+use Rattle.vbr_machine.proofs.reads.NamedKeys.{between_accepted}
 use Rattle.vbr_machine.proofs.laws.between_is_accepted.Goals as goal
 
 pub returns : goal.returns

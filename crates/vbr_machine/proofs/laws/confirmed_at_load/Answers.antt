@@ -1,4 +1,4 @@
-use Rattle.vbr_machine.proofs.RunForms.{confirmed_present, confirmed_absent}
+use Rattle.vbr_machine.proofs.moments.RunForms.{confirmed_present, confirmed_absent}
 use Rattle.vbr_machine.proofs.laws.confirmed_at_load.Goals as goal
 
 pub returns : goal.returns

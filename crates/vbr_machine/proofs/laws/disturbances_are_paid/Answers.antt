@@ -1,4 +1,4 @@
-use Rattle.vbr_machine.proofs.Progress.{disturbances_paid}
+use Rattle.vbr_machine.proofs.progress.Progress.{disturbances_paid}
 use Rattle.vbr_machine.proofs.laws.disturbances_are_paid.Goals as goal
 
 pub returns : goal.returns

@@ -1,5 +1,5 @@
-use Rattle.vbr_machine.proofs.SafeRuns.{every_run}
-use Rattle.vbr_machine.proofs.Whereabouts.{somewhere}
+use Rattle.vbr_machine.proofs.runs.SafeRuns.{every_run}
+use Rattle.vbr_machine.proofs.whereabouts.Whereabouts.{somewhere}
 use Rattle.vbr_machine.proofs.laws.each_slot_is_somewhere.Goals as goal
 
 pub returns : goal.returns

@@ -1,4 +1,4 @@
-use Rattle.vbr_machine.proofs.RunMoments.{moment_safe}
+use Rattle.vbr_machine.proofs.runs.RunMoments.{moment_safe}
 use Rattle.vbr_machine.proofs.laws.every_moment_is_safe.Goals as goal
 
 pub returns : goal.returns

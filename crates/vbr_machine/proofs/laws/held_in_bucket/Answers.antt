@@ -1,4 +1,4 @@
-use Rattle.vbr_machine.proofs.RunForms.{held_in_bucket}
+use Rattle.vbr_machine.proofs.moments.RunForms.{held_in_bucket}
 use Rattle.vbr_machine.proofs.laws.held_in_bucket.Goals as goal
 
 pub returns : goal.returns

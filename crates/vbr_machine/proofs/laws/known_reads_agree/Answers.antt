@@ -1,4 +1,4 @@
-use Rattle.vbr_machine.proofs.RunForms.{known_accepts, accepts_known}
+use Rattle.vbr_machine.proofs.moments.RunForms.{known_accepts, accepts_known}
 use Rattle.vbr_machine.proofs.laws.known_reads_agree.Goals as goal
 
 pub returns : goal.returns

@@ -1,4 +1,4 @@
-use Rattle.vbr_machine.proofs.RunMoments.{late_on}
+use Rattle.vbr_machine.proofs.runs.RunMoments.{late_on}
 use Rattle.vbr_machine.proofs.laws.late_is_handed_on_in_runs.Goals as goal
 
 pub returns : goal.returns

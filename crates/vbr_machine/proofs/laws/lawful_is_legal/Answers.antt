@@ -1,6 +1,6 @@
 use Rattle.vbr_machine.specs.Incarnations.{at_opening}
-use Rattle.vbr_machine.proofs.SoundAfter.{sound_at_first}
-use Rattle.vbr_machine.proofs.ToldCalls.{tells_at_first, tells_after}
+use Rattle.vbr_machine.proofs.chronicles.SoundAfter.{sound_at_first}
+use Rattle.vbr_machine.proofs.chronicles.ToldCalls.{tells_at_first, tells_after}
 use Rattle.vbr_machine.proofs.laws.lawful_is_legal.Goals as goal
 
 pub returns : goal.returns

@@ -1,4 +1,4 @@
-use Rattle.vbr_machine.proofs.LoadsLeave.{loads_leave}
+use Rattle.vbr_machine.proofs.words.LoadsLeave.{loads_leave}
 use Rattle.vbr_machine.proofs.laws.loads_leave_the_words.Goals as goal
 
 pub returns : goal.returns

@@ -1,4 +1,4 @@
-use Rattle.vbr_machine.proofs.RunForms.{none_marked_here, none_marked_between, none_marked_skipped, skipped_unlisted}
+use Rattle.vbr_machine.proofs.moments.RunForms.{none_marked_here, none_marked_between, none_marked_skipped, skipped_unlisted}
 use Rattle.vbr_machine.proofs.laws.none_marked_at_load.Goals as goal
 
 pub returns : goal.returns

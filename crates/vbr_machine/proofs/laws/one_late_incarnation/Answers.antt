@@ -1,4 +1,4 @@
-use Rattle.vbr_machine.proofs.Slots.{one_late}
+use Rattle.vbr_machine.proofs.chronicles.Slots.{one_late}
 use Rattle.vbr_machine.proofs.laws.one_late_incarnation.Goals as goal
 
 pub returns : goal.returns

@@ -1,4 +1,4 @@
-use Rattle.vbr_machine.proofs.RunsGoOn.{others_leave_know, others_leave_event_accepted}
+use Rattle.vbr_machine.proofs.runs.RunsGoOn.{others_leave_know, others_leave_event_accepted}
 use Rattle.vbr_machine.proofs.laws.others_leave_it_accepted.Goals as goal
 
 pub returns : goal.returns

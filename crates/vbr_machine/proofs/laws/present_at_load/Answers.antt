@@ -1,4 +1,4 @@
-use Rattle.vbr_machine.proofs.RunForms.{present_at_load}
+use Rattle.vbr_machine.proofs.moments.RunForms.{present_at_load}
 use Rattle.vbr_machine.proofs.laws.present_at_load.Goals as goal
 
 pub returns : goal.returns

@@ -1,4 +1,4 @@
-use Rattle.vbr_machine.proofs.Removals.{marked_left}
+use Rattle.vbr_machine.proofs.moments.Removals.{marked_left}
 use Rattle.vbr_machine.proofs.laws.removed_has_left.Goals as goal
 
 pub returns : goal.returns

@@ -1,4 +1,4 @@
-use Rattle.vbr_machine.proofs.HeldReads.{same_pair, pair_last}
+use Rattle.vbr_machine.proofs.reads.HeldReads.{same_pair, pair_last}
 use Rattle.vbr_machine.proofs.laws.same_link_same_pair.Goals as goal
 
 pub returns : goal.returns

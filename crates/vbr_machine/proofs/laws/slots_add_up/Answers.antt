@@ -1,6 +1,6 @@
-use Rattle.vbr_machine.proofs.SafeRuns.{every_run}
-use Rattle.vbr_machine.proofs.SlotsAddUp.{add_up}
-use Rattle.vbr_machine.proofs.Whereabouts.{somewhere}
+use Rattle.vbr_machine.proofs.runs.SafeRuns.{every_run}
+use Rattle.vbr_machine.proofs.whereabouts.SlotsAddUp.{add_up}
+use Rattle.vbr_machine.proofs.whereabouts.Whereabouts.{somewhere}
 use Rattle.vbr_machine.proofs.laws.slots_add_up.Goals as goal
 
 pub returns : goal.returns

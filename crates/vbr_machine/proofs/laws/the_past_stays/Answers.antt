@@ -1,4 +1,4 @@
-use Rattle.vbr_machine.proofs.Growth.{grows_after}
+use Rattle.vbr_machine.proofs.chronicles.Growth.{grows_after}
 use Rattle.vbr_machine.proofs.laws.the_past_stays.Goals as goal
 
 pub returns : goal.returns

@@ -1,4 +1,4 @@
-use Rattle.vbr_machine.proofs.Progress.{unlinkings_follow}
+use Rattle.vbr_machine.proofs.progress.Progress.{unlinkings_follow}
 use Rattle.vbr_machine.proofs.laws.unlinkings_follow_removals.Goals as goal
 
 pub returns : goal.returns

@@ -1,4 +1,4 @@
-use Rattle.vbr_machine.proofs.Slots.{late_last}
+use Rattle.vbr_machine.proofs.chronicles.Slots.{late_last}
 use Rattle.vbr_machine.proofs.laws.unmoved_is_last.Goals as goal
 
 pub returns : goal.returns

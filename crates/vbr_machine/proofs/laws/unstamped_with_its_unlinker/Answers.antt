@@ -1,5 +1,5 @@
-use Rattle.vbr_machine.proofs.SafeRuns.{every_run}
-use Rattle.vbr_machine.proofs.Whereabouts.{unlinked_by, unlinked_there}
+use Rattle.vbr_machine.proofs.runs.SafeRuns.{every_run}
+use Rattle.vbr_machine.proofs.whereabouts.Whereabouts.{unlinked_by, unlinked_there}
 use Rattle.vbr_machine.proofs.laws.unstamped_with_its_unlinker.Goals as goal
 
 pub returns : goal.returns

@@ -1,6 +1,6 @@
 use Rattle.std.proofs.Common.{refl}
 use Rattle.vbr_words.specs.declared.place.At.TheVariants.{Slot}
-use Rattle.vbr_machine.proofs.RunForms.{value_at_load}
+use Rattle.vbr_machine.proofs.moments.RunForms.{value_at_load}
 use Rattle.vbr_machine.proofs.laws.value_at_load.Goals as goal
 
 pub returns : goal.returns

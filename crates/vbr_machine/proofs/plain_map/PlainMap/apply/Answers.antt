@@ -1,7 +1,7 @@
 -- The calls of the ordered map, in the words of `Maps`.
 use Rattle.std.proofs.Common.{rules, ◌∙◌}
-use Rattle.vbr_machine.proofs.AnsweredCalls.{on_err}
-use Rattle.vbr_machine.proofs.PlainMaps.{present_insert, absent_insert, after_insert, removed, after_remove, looked, got}
+use Rattle.vbr_machine.proofs.histories.AnsweredCalls.{on_err}
+use Rattle.vbr_machine.proofs.histories.PlainMaps.{present_insert, absent_insert, after_insert, removed, after_remove, looked, got}
 use Rattle.vbr_machine.proofs.plain_map.PlainMap.apply.Goals as goal
 
 pub returns-then-contains_key-clause-answers : goal.returns-then-contains_key-clause-answers

@@ -6,8 +6,8 @@ use Rattle.vbr_machine.specs.History.{request_of}
 use Rattle.vbr_machine.specs.Maps.{entries_in, MapLeads, StoreAsked}
 use Rattle.vbr_machine.specs.Plain.{MapRefuses, MapStops}
 use Rattle.vbr_machine.specs.declared.history.Call.{Call}
-use Rattle.vbr_machine.proofs.AnsweredCalls.{on_err, rest_after, still_asked, stored_more}
-use Rattle.vbr_machine.proofs.MapHistories.{MapLeads-push}
+use Rattle.vbr_machine.proofs.histories.AnsweredCalls.{on_err, rest_after, still_asked, stored_more}
+use Rattle.vbr_machine.proofs.histories.MapHistories.{MapLeads-push}
 use Rattle.vbr_machine.proofs.plain_map.PlainMap.apply_all.Goals as goal
 
 pub loop-call-preserved : goal.loop-call-preserved

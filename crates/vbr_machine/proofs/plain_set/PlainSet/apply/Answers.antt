@@ -1,7 +1,7 @@
 -- What an insert or a remove leaves at each key, from what the ordered set says of it.
 use Rattle.std.proofs.Common.{rules}
-use Rattle.vbr_machine.proofs.AnsweredCalls.{on_err}
-use Rattle.vbr_machine.proofs.PlainSets.{after_insert, after_remove}
+use Rattle.vbr_machine.proofs.histories.AnsweredCalls.{on_err}
+use Rattle.vbr_machine.proofs.histories.PlainSets.{after_insert, after_remove}
 use Rattle.vbr_machine.proofs.plain_set.PlainSet.apply.Goals as goal
 
 pub returns-in_err-insert-in-Insert-clause-refused : goal.returns-in_err-insert-in-Insert-clause-refused

@@ -6,8 +6,8 @@ use Rattle.vbr_machine.specs.Keys.{keys_of}
 use Rattle.vbr_machine.specs.History.{Leads, request_of}
 use Rattle.vbr_machine.specs.Plain.{SetRefuses, SetStops}
 use Rattle.vbr_machine.specs.declared.history.Call.{Call}
-use Rattle.vbr_machine.proofs.AnsweredCalls.{on_err, rest_after, still_asked}
-use Rattle.vbr_machine.proofs.Histories.{Leads-push}
+use Rattle.vbr_machine.proofs.histories.AnsweredCalls.{on_err, rest_after, still_asked}
+use Rattle.vbr_machine.proofs.histories.Histories.{Leads-push}
 use Rattle.vbr_machine.proofs.plain_set.PlainSet.apply_all.Goals as goal
 
 pub loop-call-preserved : goal.loop-call-preserved
