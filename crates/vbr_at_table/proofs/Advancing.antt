@@ -1,5 +1,7 @@
 -- The steps of a pass that would advance the epoch, through its other steps.
-use Rattle.std.proofs.Common.{◌≡◌, ◌≢◌, ℕ, ◌+◌, ◌≤◌, ◌==◌, ◌&&◌, Bool, true, false, cond, Option, Some, None, List, [], ◌∷◌, ◌++◌, length, length-append, refl, sym, ap, ◌∙◌, subst, append_assoc, append-nil, eq-eqb, inl, inr, ⊎_elim, arith}
+use Rattle.std.proofs.Common.{◌≡◌, ◌≢◌, ℕ, ◌+◌, ◌≤◌, ◌==◌, ◌&&◌, Bool, true, false, cond, Option, Some, None, List, []}
+use Rattle.std.proofs.Common.{◌∷◌, ◌++◌, length, length-append, refl, sym, ap, ◌∙◌, subst, append_assoc, append-nil}
+use Rattle.std.proofs.Common.{eq-eqb, inl, inr, ⊎_elim, arith}
 use Rattle.std.specs.Prelude.{◌⊎◌, Contains, count_by}
 use Rattle.std.proofs.lemmas.Bool.{cases_eq, ne_eqb}
 use Rattle.std.proofs.lemmas.List.Elements.{Contains-append_left, Contains-append_right}
@@ -14,7 +16,9 @@ use Rattle.vbr_machine.specs.Learning.{learn, reread, with_key, with_value, with
 use Rattle.vbr_machine.specs.Runs.{IsRun, NoneOf, know_after, Begins}
 use Rattle.vbr_machine.specs.declared.event.Event.{Event}
 use Rattle.vbr_machine.specs.declared.event.Step.{Step}
-use Rattle.vbr_machine.specs.declared.event.Step.TheVariants.{ReadEpoch, Advance, StoreStamp, Raise, TakeFlag, StoreBirth, StoreKey, StoreLink, Publish, Mark, Replace, Unlink, StoreValue}
+use Rattle.vbr_machine.specs.declared.event.Step.TheVariants.{ReadEpoch, Advance, StoreStamp, Raise, TakeFlag}
+use Rattle.vbr_machine.specs.declared.event.Step.TheVariants.{StoreBirth, StoreKey, StoreLink, Publish, Mark, Replace}
+use Rattle.vbr_machine.specs.declared.event.Step.TheVariants.{Unlink, StoreValue}
 use Rattle.vbr_machine.specs.declared.knowledge.Holding.{Holding}
 use Rattle.vbr_machine.specs.declared.knowledge.Unpublished.{Unpublished}
 use Rattle.vbr_machine.specs.declared.knowledge.Holding.TheVariants.{Free, Unlinked, InHand}
@@ -24,8 +28,10 @@ use Rattle.vbr_slots.specs.Pools.{hand_without}
 use Rattle.vbr_slots.specs.Views.{Trace, PassView, Did, KeepsPool, knows, event_of}
 use Rattle.vbr_slots.proofs.Lemmas.{did_moment, moment_after}
 use Rattle.vbr_at_table.specs.Advances.{AdvancesOnce, AdvancesWhereNeeded}
-use Rattle.vbr_at_table.specs.StepKinds.{is_advance, is_raise, is_try, is_unlink, advances_or_gives, made_of, advances, flags_raised, flags_tried}
-use Rattle.vbr_at_table.specs.KeptSlots.{GoesInTurn, HasSlot, CouldTake, HasFree, StampsUnlinked, KeepsSlots, PoolGrows, SharesWhereFull, TakesNoSlot, TriesNoFlag}
+use Rattle.vbr_at_table.specs.StepKinds.{is_advance, is_raise, is_try, is_unlink, advances_or_gives, made_of, advances}
+use Rattle.vbr_at_table.specs.StepKinds.{flags_raised, flags_tried}
+use Rattle.vbr_at_table.specs.KeptSlots.{GoesInTurn, HasSlot, CouldTake, HasFree, StampsUnlinked, KeepsSlots, PoolGrows}
+use Rattle.vbr_at_table.specs.KeptSlots.{SharesWhereFull, TakesNoSlot, TriesNoFlag}
 use Rattle.vbr_at_table.proofs.InTurn.{did_turn}
 use Rattle.vbr_machine.specs.Disturbances.{one_if}
 
@@ -55,7 +61,8 @@ module _ (is : Step → Bool) where
 
   none_of_others : (who : ℕ) (events : List Event) → NoneOf who events → made_in is who events ≡ 0
   none_of_others who [] none = refl
-  none_of_others who (x ∷ xs) none = both who (x ∷ []) xs ∙ (λ i. other_one who x none.0 i + none_of_others who xs none.1 i)
+  none_of_others who (x ∷ xs) none =
+      both who (x ∷ []) xs ∙ (λ i. other_one who x none.0 i + none_of_others who xs none.1 i)
 
   -- one step more
   pub did_made : {step : Step} {p q : Trace} {r : ℕ} → Did step p q r → made_of is q ≡ made_of is p + one_if (is step)
@@ -70,16 +77,20 @@ module _ (is : Step → Bool) where
   same_made : {step : Step} {p q : Trace} {r : ℕ} → Did step p q r → is step ≡ false → made_of is q ≡ made_of is p
   same_made {step} {p} d e = did_made d ∙ ap (λ (b : Bool). made_of is p + one_if b) e ∙ plus_none (made_of is p)
 
-pub did_advances : {step : Step} {p q : Trace} {r : ℕ} → Did step p q r → advances q ≡ advances p + one_if (is_advance step)
+pub did_advances : {step : Step} {p q : Trace} {r : ℕ} → Did step p q r →
+    advances q ≡ advances p + one_if (is_advance step)
 did_advances d = did_made is_advance d
 
-pub same_advances : {step : Step} {p q : Trace} {r : ℕ} → Did step p q r → is_advance step ≡ false → advances q ≡ advances p
+pub same_advances : {step : Step} {p q : Trace} {r : ℕ} → Did step p q r → is_advance step ≡ false →
+    advances q ≡ advances p
 same_advances d e = same_made is_advance d e
 
-pub same_flags : {step : Step} {p q : Trace} {r : ℕ} → Did step p q r → is_raise step ≡ false → flags_raised q ≡ flags_raised p
+pub same_flags : {step : Step} {p q : Trace} {r : ℕ} → Did step p q r → is_raise step ≡ false →
+    flags_raised q ≡ flags_raised p
 same_flags d e = same_made is_raise d e
 
-pub same_tries : {step : Step} {p q : Trace} {r : ℕ} → Did step p q r → is_try step ≡ false → flags_tried q ≡ flags_tried p
+pub same_tries : {step : Step} {p q : Trace} {r : ℕ} → Did step p q r → is_try step ≡ false →
+    flags_tried q ≡ flags_tried p
 same_tries d e = same_made is_try d e
 
 -- ---- parts of a call
@@ -95,15 +106,29 @@ pub keeps_refl : (p : PassView) → KeepsSlots p p
 keeps_refl p = record { free = λ s h. h.1 h.0; stamped = λ s u. u; turn = λ all turn. turn }
 
 pub slots_kept_on : (p q r : PassView) → KeepsSlots p q → KeepsSlots q r → KeepsSlots p r
-slots_kept_on p q r a b = record { free = free_on p q r a.free b.free; stamped = λ s u. a.stamped s (b.stamped s u); turn = λ all turn. b.turn (λ s u. all s (a.stamped s u)) (a.turn all turn) }
+slots_kept_on p q r a b =
+    record {
+      free = free_on p q r a.free b.free;
+      stamped = λ s u. a.stamped s (b.stamped s u);
+      turn = λ all turn. b.turn (λ s u. all s (a.stamped s u)) (a.turn all turn);
+    }
 
 -- what doesn't give the pass a slot that it may give birth in leaves it what it could take
-pub free_pool : (p q : PassView) → KeepsPool p q → ((s : ℕ) → MayBear ((knows q.trace).own s) → MayBear ((knows p.trace).own s)) → HasFree p q
-free_pool p q pool may s h = subst (λ (x : List ℕ × Option ℕ). Contains x.0 s ⊎ (x.1 ≡ Some s)) (λ i. (sym pool.0 i, sym pool.1 i)) (h.1 (may s h.0))
+pub free_pool : (p q : PassView) → KeepsPool p q →
+    ((s : ℕ) → MayBear ((knows q.trace).own s) → MayBear ((knows p.trace).own s)) → HasFree p q
+free_pool p q pool may s h =
+    subst (λ (x : List ℕ × Option ℕ). Contains x.0 s ⊎ (x.1 ≡ Some s)) (λ i. (sym pool.0 i, sym pool.1 i))
+    (h.1 (may s h.0))
 
 -- and so does what teaches nothing of slots
-pub keeps_known : (p q : PassView) → KeepsPool p q → GoesInTurn p.trace q.trace → ((s : ℕ) → (knows q.trace).own s ≡ (knows p.trace).own s) → KeepsSlots p q
-keeps_known p q pool turn same = record { free = free_pool p q pool (λ s m. subst MayBear (same s) m); stamped = λ s u. subst IsUnlinked (same s) u; turn = turn }
+pub keeps_known : (p q : PassView) → KeepsPool p q → GoesInTurn p.trace q.trace →
+    ((s : ℕ) → (knows q.trace).own s ≡ (knows p.trace).own s) → KeepsSlots p q
+keeps_known p q pool turn same =
+    record {
+      free = free_pool p q pool (λ s m. subst MayBear (same s) m);
+      stamped = λ s u. subst IsUnlinked (same s) u;
+      turn = turn;
+    }
 
 -- ---- the own pool, and the shared one
 
@@ -122,9 +147,11 @@ some_grown p q g some none = some (first p.pool g.0 (sym g.1 ∙ none))
     first (x ∷ xs) ys e = absurd (cc)
 
 pub longer : (p q : PassView) → PoolGrows p q → length p.pool ≤ length q.pool
-longer p q g = let e : length q.pool ≡ length p.pool + length g.0 = ap length g.1 ∙ length-append p.pool g.0 in omega arith
+longer p q g =
+    let e : length q.pool ≡ length p.pool + length g.0 = ap length g.1 ∙ length-append p.pool g.0 in omega arith
 
-pub shared_on : (p q r : PassView) (left : ℕ) → SharesWhereFull left p q → length q.pool ≤ length r.pool → SharesWhereFull left q r → SharesWhereFull left p r
+pub shared_on : (p q r : PassView) (left : ℕ) → SharesWhereFull left p q → length q.pool ≤ length r.pool →
+    SharesWhereFull left q r → SharesWhereFull left p r
 shared_on p q r left (inl a) low (inl b) = inl (b ∙ a)
 shared_on p q r left (inl a) low (inr full) = inr full
 shared_on p q r left (inr full) low b = inr (omega arith)
@@ -135,7 +162,8 @@ shares_more p q (inl same) = inl same
 shares_more p q (inr full) = inr (omega arith)
 
 -- where a slot was taken after it
-pub shared_taken : (p q r : PassView) → SharesWhereFull 1 p q → length q.pool ≤ length r.pool + 1 → SharesWhereFull 2 q r → SharesWhereFull 2 p r
+pub shared_taken : (p q r : PassView) → SharesWhereFull 1 p q → length q.pool ≤ length r.pool + 1 →
+    SharesWhereFull 2 q r → SharesWhereFull 2 p r
 shared_taken p q r (inl a) low (inl b) = inl (b ∙ a)
 shared_taken p q r (inl a) low (inr full) = inr full
 shared_taken p q r (inr full) low b = inr (omega arith)
@@ -154,15 +182,27 @@ none_on {p} {q} {r} a b = record {
   tries = b.tries ∙ a.tries;
 }
 
-pub none_kept : {p q : PassView} → advances q.trace ≡ advances p.trace → flags_raised q.trace ≡ flags_raised p.trace → TriesNoFlag p q → KeepsPool p q → KeepsSlots p q → TakesNoSlot p q
-none_kept {p} {q} same flags tries pool kept = record { count = same; kept = kept; grows = grows_same p q pool.0; shared = inl flags; tries = tries }
+pub none_kept : {p q : PassView} → advances q.trace ≡ advances p.trace → flags_raised q.trace ≡ flags_raised p.trace →
+    TriesNoFlag p q → KeepsPool p q → KeepsSlots p q → TakesNoSlot p q
+none_kept {p} {q} same flags tries pool kept =
+    record { count = same; kept = kept; grows = grows_same p q pool.0; shared = inl flags; tries = tries }
 
-pub none_known : {p q : PassView} → advances q.trace ≡ advances p.trace → flags_raised q.trace ≡ flags_raised p.trace → TriesNoFlag p q → KeepsPool p q → GoesInTurn p.trace q.trace → knows q.trace ≡ knows p.trace → TakesNoSlot p q
-none_known {p} {q} same flags tries pool turn known = none_kept same flags tries pool (keeps_known p q pool turn (λ s. ap (λ (k : Know). k.own s) known))
+pub none_known : {p q : PassView} → advances q.trace ≡ advances p.trace → flags_raised q.trace ≡ flags_raised p.trace →
+    TriesNoFlag p q → KeepsPool p q → GoesInTurn p.trace q.trace → knows q.trace ≡ knows p.trace → TakesNoSlot p q
+none_known {p} {q} same flags tries pool turn known =
+    none_kept same flags tries pool (keeps_known p q pool turn (λ s. ap (λ (k : Know). k.own s) known))
 
 -- a slot that is given back
-pub none_back : (p q : PassView) (slot : ℕ) → q.trace ≡ p.trace → q.pool ≡ p.pool ++ slot ∷ [] → KeepsSlots p q → TakesNoSlot p q
-none_back p q slot same pool kept = record { count = ap (λ (t : Trace). advances t) same; kept = kept; grows = (slot ∷ [], pool); shared = inl (ap (λ (t : Trace). flags_raised t) same); tries = ap (λ (t : Trace). flags_tried t) same }
+pub none_back : (p q : PassView) (slot : ℕ) → q.trace ≡ p.trace → q.pool ≡ p.pool ++ slot ∷ [] → KeepsSlots p q →
+    TakesNoSlot p q
+none_back p q slot same pool kept =
+    record {
+      count = ap (λ (t : Trace). advances t) same;
+      kept = kept;
+      grows = (slot ∷ [], pool);
+      shared = inl (ap (λ (t : Trace). flags_raised t) same);
+      tries = ap (λ (t : Trace). flags_tried t) same;
+    }
 
 no_advance : (step : Step) → advances_or_gives step ≡ false → is_advance step ≡ false
 no_advance (Advance from) e = e
@@ -180,18 +220,26 @@ no_try _ e = refl
 
 module _ (P : Option Holding → Type 0) where
   -- the slot at which a function was changed, or another one
-  before_put : (own : ℕ → Option Holding) (slot : ℕ) (holding : Option Holding) (s : ℕ) → (P holding → P (own slot)) → P (put own slot holding s) → P (own s)
-  before_put own slot holding s here x = ⊎_elim (λ (is : s ≡ slot). go is) (λ (other : s ≢ slot). subst P (put_other own slot holding s other) x) (cases_eq s slot)
+  before_put : (own : ℕ → Option Holding) (slot : ℕ) (holding : Option Holding) (s : ℕ) → (P holding → P (own slot)) →
+      P (put own slot holding s) → P (own s)
+  before_put own slot holding s here x =
+      ⊎_elim (λ (is : s ≡ slot). go is) (λ (other : s ≢ slot). subst P (put_other own slot holding s other) x)
+      (cases_eq s slot)
     where
       go : s ≡ slot → P (own s)
-      go is = subst (λ (t : ℕ). P (own t)) (sym is) (here (subst P (ap (put own slot holding) is ∙ put_here own slot holding) x))
+      go is = subst (λ (t : ℕ). P (own t)) (sym is)
+          (here (subst P (ap (put own slot holding) is ∙ put_here own slot holding) x))
 
-  before_either : (b : Bool) (x y know : Know) (s : ℕ) → (P (x.own s) → P (know.own s)) → (P (y.own s) → P (know.own s)) → P ((cond b x y).own s) → P (know.own s)
+  before_either : (b : Bool) (x y know : Know) (s : ℕ) → (P (x.own s) → P (know.own s)) →
+      (P (y.own s) → P (know.own s)) → P ((cond b x y).own s) → P (know.own s)
   before_either true x y know s f g h = f h
   before_either false x y know s f g h = g h
 
--- of a predicate that asks whether a slot is in hand or unlinked, and of what is in hand, or of an unlinked slot, nothing more
-module _ (P : Option Holding → Type 0) (nothing : P None → ⊥) (in_hand : (a b : Unpublished) → P (Some (InHand a)) → P (Some (InHand b))) (unlinked : (a b : Bool) → P (Some (Unlinked a)) → P (Some (Unlinked b))) where
+-- of a predicate that asks whether a slot is in hand or unlinked, and of what is in hand, or of an unlinked slot,
+-- nothing more
+module _ (P : Option Holding → Type 0) (nothing : P None → ⊥)
+    (in_hand : (a b : Unpublished) → P (Some (InHand a)) → P (Some (InHand b)))
+    (unlinked : (a b : Bool) → P (Some (Unlinked a)) → P (Some (Unlinked b))) where
   before_reread : (holding : Option Holding) → P (reread holding) → P holding
   before_reread (Some (Unlinked seen)) x = unlinked true seen x
   before_reread holding x = x
@@ -209,55 +257,84 @@ module _ (P : Option Holding → Type 0) (nothing : P None → ⊥) (in_hand : (
   before_linked holding link x = x
 
   -- a step that gives the pass no slot
-  before_step : (step : Step) (found stamp : ℕ) (know : Know) (s : ℕ) → advances_or_gives step ≡ false → P ((learn step found stamp know).own s) → P (know.own s)
-  before_step ReadEpoch found stamp know s e x = before_either P (found == know.epoch) _ _ know s (before_reread (know.own s)) (before_reread (know.own s)) x
+  before_step : (step : Step) (found stamp : ℕ) (know : Know) (s : ℕ) → advances_or_gives step ≡ false →
+      P ((learn step found stamp know).own s) → P (know.own s)
+  before_step ReadEpoch found stamp know s e x =
+      before_either P (found == know.epoch) _ _ know s (before_reread (know.own s)) (before_reread (know.own s)) x
   before_step (StoreStamp t new) found stamp know s e x = absurd (cc)
   before_step (Raise t) found stamp know s e x = absurd (cc)
   before_step (TakeFlag t) found stamp know s e x = absurd (cc)
   before_step (StoreBirth t birth) found stamp know s e x = absurd (cc)
-  before_step (StoreKey t key) found stamp know s e x = before_put P know.own t (with_key (know.own t) key) s (before_keyed (know.own t) key) x
-  before_step (StoreValue t value) found stamp know s e x = before_put P know.own t (with_value (know.own t) value) s (before_valued (know.own t) value) x
+  before_step (StoreKey t key) found stamp know s e x =
+      before_put P know.own t (with_key (know.own t) key) s (before_keyed (know.own t) key) x
+  before_step (StoreValue t value) found stamp know s e x =
+      before_put P know.own t (with_value (know.own t) value) s (before_valued (know.own t) value) x
   before_step (StoreLink t next) found stamp know s e x = before_put P know.own t _ s (before_linked (know.own t) _) x
-  before_step (Publish pred expected t) found stamp know s e x = before_either P (found == expected) _ know know s (before_put P know.own t None s (λ n. absurd (nothing n))) (λ h. h) x
-  before_step (Mark t expected) found stamp know s e x = before_either P (found == expected) _ know know s (λ h. h) (λ h. h) x
-  before_step (Replace v expected t) found stamp know s e x = before_either P (found == expected) _ know know s (before_put P know.own t None s (λ n. absurd (nothing n))) (λ h. h) x
+  before_step (Publish pred expected t) found stamp know s e x =
+      before_either P (found == expected) _ know know s (before_put P know.own t None s (λ n. absurd (nothing n)))
+      (λ h. h) x
+  before_step (Mark t expected) found stamp know s e x =
+      before_either P (found == expected) _ know know s (λ h. h) (λ h. h) x
+  before_step (Replace v expected t) found stamp know s e x =
+      before_either P (found == expected) _ know know s (before_put P know.own t None s (λ n. absurd (nothing n)))
+      (λ h. h) x
   before_step (Unlink pred expected t) found stamp know s e x = absurd (cc)
   before_step _ found stamp know s e x = x
 
-may_before : (step : Step) (found stamp : ℕ) (know : Know) (s : ℕ) → advances_or_gives step ≡ false → MayBear ((learn step found stamp know).own s) → MayBear (know.own s)
+may_before : (step : Step) (found stamp : ℕ) (know : Know) (s : ℕ) → advances_or_gives step ≡ false →
+    MayBear ((learn step found stamp know).own s) → MayBear (know.own s)
 may_before = before_step MayBear (λ m. m) (λ a b m. m) (λ a b m. m)
 
-unlinked_before : (step : Step) (found stamp : ℕ) (know : Know) (s : ℕ) → is_unlink step ≡ false → IsUnlinked ((learn step found stamp know).own s) → IsUnlinked (know.own s)
+unlinked_before : (step : Step) (found stamp : ℕ) (know : Know) (s : ℕ) → is_unlink step ≡ false →
+    IsUnlinked ((learn step found stamp know).own s) → IsUnlinked (know.own s)
 unlinked_before (Advance from) found stamp know s e u = u
-unlinked_before (StoreStamp t new) found stamp know s e u = before_put IsUnlinked know.own t (Some (Free new)) s (λ x. absurd x) u
+unlinked_before (StoreStamp t new) found stamp know s e u =
+    before_put IsUnlinked know.own t (Some (Free new)) s (λ x. absurd x) u
 unlinked_before (Raise t) found stamp know s e u = before_put IsUnlinked know.own t None s (λ x. absurd x) u
-unlinked_before (TakeFlag t) found stamp know s e u = before_either IsUnlinked (has_flag found t) _ know know s (before_put IsUnlinked know.own t (Some (Free stamp)) s (λ x. absurd x)) (λ x. x) u
+unlinked_before (TakeFlag t) found stamp know s e u =
+    before_either IsUnlinked (has_flag found t) _ know know s
+    (before_put IsUnlinked know.own t (Some (Free stamp)) s (λ x. absurd x)) (λ x. x) u
 unlinked_before (StoreBirth t birth) found stamp know s e u = before_put IsUnlinked know.own t _ s (λ x. absurd x) u
 unlinked_before (Unlink pred expected t) found stamp know s e u = absurd (cc)
-unlinked_before step found stamp know s e u = before_step IsUnlinked (λ m. m) (λ a b m. m) (λ a b m. m) step found stamp know s refl u
+unlinked_before step found stamp know s e u =
+    before_step IsUnlinked (λ m. m) (λ a b m. m) (λ a b m. m) step found stamp know s refl u
 
 -- no other step leaves a slot to be stamped
 pub did_stamps : {step : Step} {p q : Trace} {r : ℕ} → Did step p q r → is_unlink step ≡ false → StampsUnlinked p q
-did_stamps {step} {p} {q} {r} d e s u = unlinked_before step r _ (knows p) s e (subst (λ (k : Know). IsUnlinked (k.own s)) d.know u)
+did_stamps {step} {p} {q} {r} d e s u =
+    unlinked_before step r _ (knows p) s e (subst (λ (k : Know). IsUnlinked (k.own s)) d.know u)
 
 no_unlink : (step : Step) → advances_or_gives step ≡ false → is_unlink step ≡ false
 no_unlink (Unlink pred expected s) e = e
 no_unlink _ e = refl
 
 -- one such step
-pub did_none : {step : Step} {p q : PassView} {r : ℕ} → Did step p.trace q.trace r → advances_or_gives step ≡ false → KeepsPool p q → TakesNoSlot p q
+pub did_none : {step : Step} {p q : PassView} {r : ℕ} → Did step p.trace q.trace r → advances_or_gives step ≡ false →
+    KeepsPool p q → TakesNoSlot p q
 did_none {step} {p} {q} {r} d e pool =
     none_kept (same_advances d (no_advance step e)) (same_flags d (no_raise step e)) (same_tries d (no_try step e)) pool
-    (record { free = free_pool p q pool (λ s m. may_before step r _ (knows p.trace) s e (subst (λ (k : Know). MayBear (k.own s)) d.know m)); stamped = did_stamps d (no_unlink step e); turn = did_turn d })
+    (record {
+      free =
+          free_pool p q pool
+          (λ s m. may_before step r _ (knows p.trace) s e (subst (λ (k : Know). MayBear (k.own s)) d.know m));
+      stamped = did_stamps d (no_unlink step e);
+      turn = did_turn d;
+    })
 
 -- a step that gives the pass a slot, which is then kept in its pool
-module _ {step : Step} {p q r : PassView} {slot n : ℕ} (d : Did step p.trace q.trace n) (still : is_advance step ≡ false) (dark : is_raise step ≡ false) (left : is_unlink step ≡ false) (others : (s : ℕ) → s ≢ slot → MayBear ((knows q.trace).own s) → MayBear ((knows p.trace).own s)) (stays : KeepsPool p q) (same : r.trace ≡ q.trace) (pool : r.pool ≡ q.pool ++ slot ∷ []) (hand : r.hand ≡ hand_without slot q.hand) where
+module _ {step : Step} {p q r : PassView} {slot n : ℕ} (d : Did step p.trace q.trace n)
+    (still : is_advance step ≡ false) (dark : is_raise step ≡ false) (left : is_unlink step ≡ false)
+    (others : (s : ℕ) → s ≢ slot → MayBear ((knows q.trace).own s) → MayBear ((knows p.trace).own s))
+    (stays : KeepsPool p q) (same : r.trace ≡ q.trace) (pool : r.pool ≡ q.pool ++ slot ∷ [])
+    (hand : r.hand ≡ hand_without slot q.hand) where
   now_pool : r.pool ≡ p.pool ++ slot ∷ []
   now_pool = pool ∙ ap (λ (l : List ℕ). l ++ slot ∷ []) stays.0
 
   stays_here : (s : ℕ) → s ≢ slot → HasSlot p s → HasSlot r s
-  stays_here s other (inl c) = inl (subst (λ (l : List ℕ). Contains l s) (sym now_pool) (Contains-append_left p.pool (slot ∷ []) s c))
-  stays_here s other (inr h) = inr (hand ∙ ap (hand_without slot) (stays.1 ∙ h) ∙ ap (λ (b : Bool). cond b None (Some s)) (ne_eqb s slot other))
+  stays_here s other (inl c) =
+      inl (subst (λ (l : List ℕ). Contains l s) (sym now_pool) (Contains-append_left p.pool (slot ∷ []) s c))
+  stays_here s other (inr h) =
+      inr (hand ∙ ap (hand_without slot) (stays.1 ∙ h) ∙ ap (λ (b : Bool). cond b None (Some s)) (ne_eqb s slot other))
 
   pub given_count : advances r.trace ≡ advances p.trace
   given_count = ap (λ (t : Trace). advances t) same ∙ same_advances d still
@@ -265,8 +342,12 @@ module _ {step : Step} {p q r : PassView} {slot n : ℕ} (d : Did step p.trace q
   pub given_kept : KeepsSlots p r
   given_kept = record {
     free = λ s h.
-        ⊎_elim (λ (is : s ≡ slot). inl (subst (λ (l : List ℕ). Contains l s) (sym now_pool) (Contains-append_right p.pool (slot ∷ []) s (0, omega arith, sym is))))
-        (λ (other : s ≢ slot). stays_here s other (h.1 (others s other (subst (λ (t : Trace). MayBear ((knows t).own s)) same h.0)))) (cases_eq s slot);
+        ⊎_elim (λ (is : s ≡ slot).
+        inl (subst (λ (l : List ℕ). Contains l s) (sym now_pool)
+        (Contains-append_right p.pool (slot ∷ []) s (0, omega arith, sym is))))
+        (λ (other : s ≢ slot).
+        stays_here s other (h.1 (others s other (subst (λ (t : Trace). MayBear ((knows t).own s)) same h.0))))
+        (cases_eq s slot);
     stamped = λ s u. did_stamps d left s (subst (λ (t : Trace). IsUnlinked ((knows t).own s)) same u);
     turn = subst (λ (t : Trace). GoesInTurn p.trace t) (sym same) (did_turn d);
   }
@@ -279,28 +360,46 @@ module _ {step : Step} {p q r : PassView} {slot n : ℕ} (d : Did step p.trace q
 
   -- where it took no flag
   pub none_given : is_try step ≡ false → TakesNoSlot p r
-  none_given other = record { count = given_count; kept = given_kept; grows = given_grows; shared = given_shared; tries = ap (λ (t : Trace). flags_tried t) same ∙ same_tries d other }
+  none_given other =
+      record {
+        count = given_count;
+        kept = given_kept;
+        grows = given_grows;
+        shared = given_shared;
+        tries = ap (λ (t : Trace). flags_tried t) same ∙ same_tries d other;
+      }
 
 -- steps before the one that would advance the epoch
-pub once_after : {p q r : PassView} → Quiet p.trace q.trace → advances q.trace ≡ advances p.trace → HasFree p q → AdvancesOnce q r → AdvancesOnce p r
+pub once_after : {p q r : PassView} → Quiet p.trace q.trace → advances q.trace ≡ advances p.trace → HasFree p q →
+    AdvancesOnce q r → AdvancesOnce p r
 once_after {p} {q} {r} a still free b =
-    let all = subst (λ (x : Start × ℕ). (s : ℕ) → CouldTake q (know_after x.0 b.moment x.1) s → b.epoch ≤ stamp_in ((know_after x.0 b.moment x.1).own s)) (λ i. (a.same.start i, a.same.who i)) b.stamps in
+    let all = subst
+    (λ (x : Start × ℕ).
+    (s : ℕ) → CouldTake q (know_after x.0 b.moment x.1) s → b.epoch ≤ stamp_in ((know_after x.0 b.moment x.1).own s))
+    (λ i. (a.same.start i, a.same.who i)) b.stamps in
     record {
       count = b.count ∙ ap (λ (n : ℕ). n + 1) still;
       moment = b.moment;
       is = moment_after a.seen b.is;
       epoch = b.epoch;
       last_read = (λ i. (know_after (sym a.same.start i) b.moment (sym a.same.who i)).epoch) ∙ b.last_read;
-      advance = subst (λ (who : ℕ). Begins (b.moment ++ event_of who (Advance b.epoch) ∷ []) r.trace.seen) a.same.who b.advance;
+      advance = subst (λ (who : ℕ). Begins (b.moment ++ event_of who (Advance b.epoch) ∷ []) r.trace.seen) a.same.who
+          b.advance;
       stamps = λ s h. all s (h.0, λ m. free s (m, h.1));
     }
 
 -- and after it
-pub once_before : {p q r : PassView} → AdvancesOnce p q → Begins q.trace.seen r.trace.seen → (IsRun q.trace.start q.trace.passes q.trace.seen → IsRun r.trace.start r.trace.passes r.trace.seen) → advances r.trace ≡ advances q.trace → AdvancesOnce p r
+pub once_before : {p q r : PassView} → AdvancesOnce p q → Begins q.trace.seen r.trace.seen →
+    (IsRun q.trace.start q.trace.passes q.trace.seen → IsRun r.trace.start r.trace.passes r.trace.seen) →
+    advances r.trace ≡ advances q.trace → AdvancesOnce p r
 once_before {p} {q} {r} a seen run same = record {
   count = same ∙ a.count;
   moment = a.moment;
-  is = record { from = a.is.from; to = begins_trans a.moment q.trace.seen r.trace.seen a.is.to seen; is_run = run a.is.is_run };
+  is = record {
+    from = a.is.from;
+    to = begins_trans a.moment q.trace.seen r.trace.seen a.is.to seen;
+    is_run = run a.is.is_run;
+  };
   epoch = a.epoch;
   last_read = a.last_read;
   advance = begins_trans _ q.trace.seen r.trace.seen a.advance seen;
@@ -308,7 +407,8 @@ once_before {p} {q} {r} a seen run same = record {
 }
 
 -- the one step itself
-pub once : {p q : PassView} {from r : ℕ} → Did (Advance from) p.trace q.trace r → (knows p.trace).epoch ≡ from → ((s : ℕ) → HasSlot p s → from ≤ stamp_in ((knows p.trace).own s)) → AdvancesOnce p q
+pub once : {p q : PassView} {from r : ℕ} → Did (Advance from) p.trace q.trace r → (knows p.trace).epoch ≡ from →
+    ((s : ℕ) → HasSlot p s → from ≤ stamp_in ((knows p.trace).own s)) → AdvancesOnce p q
 once {p} {q} {from} d last stamps =
     let left = others_leave_know p.trace.start p.trace.seen d.rest p.trace.who d.none in
     record {
@@ -318,17 +418,22 @@ once {p} {q} {from} d last stamps =
       epoch = from;
       last_read = ap (λ (k : Know). k.epoch) left ∙ last;
       advance = ([], d.seen ∙ sym (append-nil ((p.trace.seen ++ d.rest) ++ event_of p.trace.who (Advance from) ∷ [])));
-      stamps = subst (λ (k : Know). (s : ℕ) → CouldTake p k s → from ≤ stamp_in (k.own s)) (sym left) (λ s h. stamps s (h.1 h.0));
+      stamps = subst (λ (k : Know). (s : ℕ) → CouldTake p k s → from ≤ stamp_in (k.own s)) (sym left)
+          (λ s h. stamps s (h.1 h.0));
     }
 
 -- steps before and after a part that advances the epoch where it has to
-pub needed_since : {p q r : PassView} → Quiet p.trace q.trace → advances q.trace ≡ advances p.trace → HasFree p q → AdvancesWhereNeeded q r → AdvancesWhereNeeded p r
+pub needed_since : {p q r : PassView} → Quiet p.trace q.trace → advances q.trace ≡ advances p.trace → HasFree p q →
+    AdvancesWhereNeeded q r → AdvancesWhereNeeded p r
 needed_since a still free (inl more) = inl (more ∙ still)
 needed_since {p} {q} {r} a still free (inr o) = inr (once_after {p = p} {q = q} {r = r} a still free o)
 
-pub needed_after : {p q r : PassView} → Quiet p.trace q.trace → TakesNoSlot p q → AdvancesWhereNeeded q r → AdvancesWhereNeeded p r
+pub needed_after : {p q r : PassView} → Quiet p.trace q.trace → TakesNoSlot p q → AdvancesWhereNeeded q r →
+    AdvancesWhereNeeded p r
 needed_after {p} {q} {r} a none needed = needed_since {p = p} {q = q} {r = r} a none.count none.kept.free needed
 
-pub needed_before : {p q r : PassView} → AdvancesWhereNeeded p q → Begins q.trace.seen r.trace.seen → (IsRun q.trace.start q.trace.passes q.trace.seen → IsRun r.trace.start r.trace.passes r.trace.seen) → advances r.trace ≡ advances q.trace → AdvancesWhereNeeded p r
+pub needed_before : {p q r : PassView} → AdvancesWhereNeeded p q → Begins q.trace.seen r.trace.seen →
+    (IsRun q.trace.start q.trace.passes q.trace.seen → IsRun r.trace.start r.trace.passes r.trace.seen) →
+    advances r.trace ≡ advances q.trace → AdvancesWhereNeeded p r
 needed_before (inl none) seen run same = inl (same ∙ none)
 needed_before {p} {q} {r} (inr o) seen run same = inr (once_before {p = p} {q = q} {r = r} o seen run same)

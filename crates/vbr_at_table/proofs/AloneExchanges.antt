@@ -32,42 +32,60 @@ use Rattle.vbr_at_table.proofs.ReadSteps.{shape_on}
 -- ---- a won unlinking
 
 -- the link that was written stands there, whoever did what before
-module _ {p q : Trace} {expected s : ℕ} {pred : At} (is : IsStart p.start) (d : Did (Unlink pred expected s) p q expected) where
-  pub written_stands : (new : ℕ) → link_written (knows p) (Unlink pred expected s) ≡ link_of new → link_shown_at (nodes q) pred ≡ link_of new
+module _ {p q : Trace} {expected s : ℕ} {pred : At} (is : IsStart p.start)
+    (d : Did (Unlink pred expected s) p q expected) where
+  pub written_stands : (new : ℕ) → link_written (knows p) (Unlink pred expected s) ≡ link_of new →
+      link_shown_at (nodes q) pred ≡ link_of new
   written_stands new is_new =
       image pred (run_agrees q.start q.passes q.seen (shape_on d is) (did_run d))
       ∙ ap (λ (start : Start). machine.link_at (world_after start q.seen) pred) d.same.1 ∙ link_after d ∙ is_new
     where
-      image : (at : At) → Agrees q.start (world_after q.start q.seen) (incarnations_after q.start q.seen) (notes_after q.start q.seen) → link_shown_at (nodes q) at ≡ machine.link_at (world_after q.start q.seen) at
+      image : (at : At) →
+          Agrees q.start (world_after q.start q.seen) (incarnations_after q.start q.seen) (notes_after q.start q.seen) →
+          link_shown_at (nodes q) at ≡ machine.link_at (world_after q.start q.seen) at
       image (Head b) g = sym (g.image.head b)
       image (Slot t) g = sym (g.image.link t)
 
-module _ {p q : Trace} {expected s : ℕ} {pred : At} (is : IsStart p.start) (d : Did (Unlink pred expected s) p q expected) (alone : IsAlone p q) where
+module _ {p q : Trace} {expected s : ℕ} {pred : At} (is : IsStart p.start)
+    (d : Did (Unlink pred expected s) p q expected) (alone : IsAlone p q) where
   won_now : found p.start (world_after p.start p.seen) (Unlink pred expected s) ≡ expected
   won_now = sym (found_now d alone) ∙ won expected _ d.shows.answers
 
-  ahead_is : (bucket : ℕ) (at : At) → ahead q bucket at ≡ behind p.start (incarnations_after p.start (p.seen ++ event_of p.who (Unlink pred expected s) ∷ [])) bucket at
+  ahead_is : (bucket : ℕ) (at : At) →
+      ahead q bucket at
+      ≡ behind p.start (incarnations_after p.start (p.seen ++ event_of p.who (Unlink pred expected s) ∷ [])) bucket at
   ahead_is bucket at = (λ i. behind (d.same.1 i) (nodes_next d alone i) bucket at)
 
-pub unlinked_alone : {p q : Trace} {s : ℕ} (held : Held) (new : ℕ) → IsStart p.start → (d : Did (Unlink held.at held.word s) p q held.word) → IsAlone p q → Accepts p.start (knows p) (Unlink held.at held.word s) → Knows (knows p) (LinkAt held.at (link_of held.word)) → (link_of held.word).mark ≡ false → StandsNow p held → link_written (knows p) (Unlink held.at held.word s) ≡ link_of new →
+pub unlinked_alone : {p q : Trace} {s : ℕ} (held : Held) (new : ℕ) → IsStart p.start →
+    (d : Did (Unlink held.at held.word s) p q held.word) → IsAlone p q →
+    Accepts p.start (knows p) (Unlink held.at held.word s) → Knows (knows p) (LinkAt held.at (link_of held.word)) →
+    (link_of held.word).mark ≡ false → StandsNow p held →
+    link_written (knows p) (Unlink held.at held.word s) ≡ link_of new →
     UnlinksAlone p q held (record { at = held.at; birth = held.birth; word = new; epoch = held.epoch })
 unlinked_alone {p} {q} {s} held new is d alone accepts known unmarked stands is_new =
     let ok = run_was d alone in
     let w = won_now is d alone in
     record {
-      epoch = ap (λ (a : Incarnations). a.epoch) (nodes_next d alone ∙ unlink_makes p.start p.passes p.seen is ok p.who held.at held.word s w);
+      epoch = ap (λ (a : Incarnations). a.epoch)
+          (nodes_next d alone ∙ unlink_makes p.start p.passes p.seen is ok p.who held.at held.word s w);
       stands = written_stands is d new is_new;
-      fewer = λ bucket inside. unlink_takes_one p.start p.passes p.seen is ok p.who bucket held.at held.word s accepts w known unmarked stands inside ∙ ap suc (sym (ahead_is is d alone bucket held.at));
-      listed = λ bucket h inside. unlink_takes_listed p.start p.passes p.seen is ok p.who bucket held.at held.word s accepts w known unmarked stands inside h ∙ ap suc (sym (ahead_is is d alone bucket (Head h)));
+      fewer = λ bucket inside.
+          unlink_takes_one p.start p.passes p.seen is ok p.who bucket held.at held.word s accepts w known unmarked
+          stands inside ∙ ap suc (sym (ahead_is is d alone bucket held.at));
+      listed = λ bucket h inside.
+          unlink_takes_listed p.start p.passes p.seen is ok p.who bucket held.at held.word s accepts w known unmarked
+          stands inside h ∙ ap suc (sym (ahead_is is d alone bucket (Head h)));
     }
 
 -- an unlinking that came after what only read
-pub unlinks_after : (p q r : Trace) (pred place : Held) → q.start ≡ p.start → nodes q ≡ nodes p → Keeps (knows p) (knows q) → UnlinksAlone q r pred place → UnlinksAlone p r pred place
+pub unlinks_after : (p q r : Trace) (pred place : Held) → q.start ≡ p.start → nodes q ≡ nodes p →
+    Keeps (knows p) (knows q) → UnlinksAlone q r pred place → UnlinksAlone p r pred place
 unlinks_after p q r pred place start same keeps x =
     let l = same_leaves p q start same in
     record {
       epoch = x.epoch ∙ l.epoch;
       stands = x.stands;
       fewer = λ bucket inside. sym (l.count bucket pred.at) ∙ x.fewer bucket (held_in_kept pred.at bucket keeps inside);
-      listed = λ bucket h inside. sym (l.count bucket (Head h)) ∙ x.listed bucket h (held_in_kept pred.at bucket keeps inside);
+      listed = λ bucket h inside.
+          sym (l.count bucket (Head h)) ∙ x.listed bucket h (held_in_kept pred.at bucket keeps inside);
     }

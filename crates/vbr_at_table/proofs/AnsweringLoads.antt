@@ -25,7 +25,8 @@ use Rattle.vbr_at_table.specs.declared.held.Held.{Held}
 use Rattle.vbr_at_table.specs.declared.rollback.Rollback.TheVariants.{LostExchange}
 use Rattle.vbr_at_table.proofs.Advancing.{did_none}
 use Rattle.vbr_at_table.proofs.KeptKnowledge.{keeps_refl}
-use Rattle.vbr_at_table.proofs.MadeCalls.{absent_adds, absent_adds_none, absent_failed, absent_made, present_adds, present_adds_none, present_failed, present_made}
+use Rattle.vbr_at_table.proofs.MadeCalls.{absent_adds, absent_adds_none, absent_failed, absent_made, present_adds}
+use Rattle.vbr_at_table.proofs.MadeCalls.{present_adds_none, present_failed, present_made}
 use Rattle.vbr_at_table.proofs.Moments.{unanswered}
 
 known_keeps : {know later : Know} → later ≡ know → Keeps know later
@@ -33,7 +34,8 @@ known_keeps {know} {later} is = rw is (keeps_refl know)
 
 -- ---- what it leaves
 
-keeps_by_load : {step : Step} {p q : PassView} {r : ℕ} → Did step p.trace q.trace r → IsLoad step → advances_or_gives step ≡ false → KeepsPool p q → knows q.trace ≡ knows p.trace → KeepsByLoad p q
+keeps_by_load : {step : Step} {p q : PassView} {r : ℕ} → Did step p.trace q.trace r → IsLoad step →
+    advances_or_gives step ≡ false → KeepsPool p q → knows q.trace ≡ knows p.trace → KeepsByLoad p q
 keeps_by_load d load no_gift pool same = record {
   keeps = record {
     took = did_took d;
@@ -44,37 +46,63 @@ keeps_by_load d load no_gift pool same = record {
   only_loads = did_loads d load;
 }
 
-pub present_keeps : {op : Op} {s expected r : ℕ} {p q : PassView} → Did (ConfirmPresent op s expected) p.trace q.trace r → KeepsPool p q → KeepsByLoad p q
+pub present_keeps : {op : Op} {s expected r : ℕ} {p q : PassView} →
+    Did (ConfirmPresent op s expected) p.trace q.trace r → KeepsPool p q → KeepsByLoad p q
 present_keeps d pool = keeps_by_load d (λ know. refl) refl pool d.know
 
-pub absent_keeps : {op : Op} {key expected r : ℕ} {at : At} {p q : PassView} → Did (ConfirmAbsent op key at expected) p.trace q.trace r → KeepsPool p q → KeepsByLoad p q
+pub absent_keeps : {op : Op} {key expected r : ℕ} {at : At} {p q : PassView} →
+    Did (ConfirmAbsent op key at expected) p.trace q.trace r → KeepsPool p q → KeepsByLoad p q
 absent_keeps d pool = keeps_by_load d (λ know. refl) refl pool d.know
 
 -- ---- the call
 
-pub present_answered : {op : Op} {s expected : ℕ} {p q : Trace} → IsStart p.start → IsRun p.start p.passes p.seen → Did (ConfirmPresent op s expected) p q expected → (key value : ℕ) → Knows (knows p) (KeyOf s key) → (op ≡ Get → Knows (knows p) (ValueOf s value)) → IsAnswered p q (found_call p.who op key value)
-present_answered start run d key value k v = record { made = present_made start run d key value k v; adds = present_adds start run d key value k v }
+pub present_answered : {op : Op} {s expected : ℕ} {p q : Trace} → IsStart p.start → IsRun p.start p.passes p.seen →
+    Did (ConfirmPresent op s expected) p q expected → (key value : ℕ) → Knows (knows p) (KeyOf s key) →
+    (op ≡ Get → Knows (knows p) (ValueOf s value)) → IsAnswered p q (found_call p.who op key value)
+present_answered start run d key value k v =
+    record { made = present_made start run d key value k v; adds = present_adds start run d key value k v }
 
-pub absent_answered : {op : Op} {key expected : ℕ} {at : At} {p q : Trace} → Did (ConfirmAbsent op key at expected) p q expected → IsAnswered p q (set_call p.who op key false)
+pub absent_answered : {op : Op} {key expected : ℕ} {at : At} {p q : Trace} →
+    Did (ConfirmAbsent op key at expected) p q expected → IsAnswered p q (set_call p.who op key false)
 absent_answered d = record { made = absent_made d; adds = absent_adds d }
 
 -- ---- another link
 
 module _ {p q : Trace} {found : ℕ} (held : Held) (other : found ≢ held.word) where
-  pub present_finds : {op : Op} (s : ℕ) → held.at ≡ Slot s → Did (ConfirmPresent op s held.word) p q found → FindsAnother p q held (LostExchange found)
+  pub present_finds : {op : Op} (s : ℕ) → held.at ≡ Slot s → Did (ConfirmPresent op s held.word) p q found →
+      FindsAnother p q held (LostExchange found)
   present_finds {op} s at d =
       let F : At → Type 0 = λ at. WasFound p q at found in
       record {
         quiet = present_failed d other;
         adds_none = present_adds_none d other;
-        lost = (other, subst F (sym at) (record { moment = p.seen ++ d.rest; within = did_moment d; found = unanswered (present_reply op) held.word found _ other d.shows.answers }), known_keeps d.know);
+        lost = (
+          other,
+          subst F (sym at)
+              (record {
+                moment = p.seen ++ d.rest;
+                within = did_moment d;
+                found = unanswered (present_reply op) held.word found _ other d.shows.answers;
+              }),
+          known_keeps d.know,
+        );
       }
 
-  pub absent_finds : {op : Op} {key : ℕ} (at : At) → held.at ≡ at → Did (ConfirmAbsent op key at held.word) p q found → FindsAnother p q held (LostExchange found)
+  pub absent_finds : {op : Op} {key : ℕ} (at : At) → held.at ≡ at → Did (ConfirmAbsent op key at held.word) p q found →
+      FindsAnother p q held (LostExchange found)
   absent_finds {op} {key} at is d =
       let F : At → Type 0 = λ at. WasFound p q at found in
       record {
         quiet = absent_failed d other;
         adds_none = absent_adds_none d other;
-        lost = (other, subst F (sym is) (record { moment = p.seen ++ d.rest; within = did_moment d; found = unanswered false held.word found _ other d.shows.answers }), known_keeps d.know);
+        lost = (
+          other,
+          subst F (sym is)
+              (record {
+                moment = p.seen ++ d.rest;
+                within = did_moment d;
+                found = unanswered false held.word found _ other d.shows.answers;
+              }),
+          known_keeps d.know,
+        );
       }

@@ -1,6 +1,7 @@
 -- A slot of the own pool is chosen.
 -- The epoch is read, the pool is looked through, and the epoch is advanced if no slot is stamped below it.
-use Rattle.std.proofs.Common.{◌≡◌, ◌≢◌, ℕ, ◌+◌, ◌<◌, ◌≤◌, List, [], ◌∷◌, length, get_or, Option, Some, None, refl, sym, ap, ◌∙◌, subst, inl, inr, arith}
+use Rattle.std.proofs.Common.{◌≡◌, ◌≢◌, ℕ, ◌+◌, ◌<◌, ◌≤◌, List, [], ◌∷◌, length, get_or, Option, Some, None, refl, sym}
+use Rattle.std.proofs.Common.{ap, ◌∙◌, subst, inl, inr, arith}
 use Rattle.std.specs.Prelude.{Contains}
 use Rattle.std.proofs.lemmas.List.Elements.{All-contains, Contains-get_or}
 use Rattle.vbr_machine.specs.Start.{IsStart}
@@ -14,7 +15,8 @@ use Rattle.vbr_slots.specs.Views.{PassView, KeepsPool, Did, knows}
 use Rattle.vbr_slots.proofs.Lemmas.{did_quiet, quiet_on, quiet_refl}
 use Rattle.vbr_at_table.specs.Advances.{AdvancesOnce}
 use Rattle.vbr_at_table.specs.KeptSlots.{HasSlot, KeepsSlots, SharesWhereFull, TakesNoSlot}
-use Rattle.vbr_at_table.specs.Pieces.{Chooses, ChoosesNone, IsChosen, IsScanned, IsShortOrSpent, IsStampedBelow, Scans, ScansPart, Uses}
+use Rattle.vbr_at_table.specs.Pieces.{Chooses, ChoosesNone, IsChosen, IsScanned, IsShortOrSpent, IsStampedBelow, Scans}
+use Rattle.vbr_at_table.specs.Pieces.{ScansPart, Uses}
 use Rattle.vbr_at_table.specs.Refusals.{AllStamped}
 use Rattle.vbr_at_table.specs.WithinBudget.{CountsSteps}
 use Rattle.vbr_at_table.specs.Taking.{IsOldest}
@@ -22,7 +24,8 @@ use Rattle.vbr_at_table.specs.declared.budget.TheConstants.{PIECE}
 use Rattle.vbr_at_table.specs.declared.refusal.Refusal.{Refusal}
 use Rattle.vbr_at_table.specs.declared.refusal.Refusal.TheVariants.{OutOfSteps, EpochSpent}
 use Rattle.vbr_at_table.proofs.InTurn.{did_turn}
-use Rattle.vbr_at_table.proofs.Advancing.{same_advances, same_flags, same_tries, nobody, slots_kept_on, keeps_refl, keeps_known, shared_on, none_on, did_none, once, once_after, once_before}
+use Rattle.vbr_at_table.proofs.Advancing.{same_advances, same_flags, same_tries, nobody, slots_kept_on, keeps_refl}
+use Rattle.vbr_at_table.proofs.Advancing.{keeps_known, shared_on, none_on, did_none, once, once_after, once_before}
 use Rattle.vbr_at_table.proofs.Counting.{counts_none, counts_one, counts_on, uses_on, uses_more}
 use Rattle.vbr_at_table.proofs.Shown.{epoch_told}
 use Rattle.vbr_at_table.proofs.EpochReads.{stamps_reread, stamps_low, read_above}
@@ -33,28 +36,43 @@ some_slot [] some = absurd (some refl)
 some_slot (x ∷ xs) some = omega arith
 
 -- no slot is lost where the epoch is read and the pool is looked through
-none_read : {p q r : PassView} {e : ℕ} → Did ReadEpoch p.trace q.trace e → KeepsPool p q → TakesNoSlot q r → TakesNoSlot p r
+none_read : {p q r : PassView} {e : ℕ} → Did ReadEpoch p.trace q.trace e → KeepsPool p q → TakesNoSlot q r →
+    TakesNoSlot p r
 none_read read pool looked = none_on (did_none read refl pool) looked
 
 -- and where the epoch is advanced and read
-kept_raised : (p q r : PassView) {e n f : ℕ} → Did (Advance e) p.trace q.trace n → Did ReadEpoch q.trace r.trace f → KeepsPool p q → KeepsPool q r → KeepsSlots p r
-kept_raised p q r advance again keeps still = slots_kept_on p q r (keeps_known p q keeps (did_turn advance) (λ s. ap (λ (k : Know). k.own s) advance.know)) (let none : TakesNoSlot q r = did_none again refl still in none.kept)
+kept_raised : (p q r : PassView) {e n f : ℕ} → Did (Advance e) p.trace q.trace n → Did ReadEpoch q.trace r.trace f →
+    KeepsPool p q → KeepsPool q r → KeepsSlots p r
+kept_raised p q r advance again keeps still =
+    slots_kept_on p q r (keeps_known p q keeps (did_turn advance) (λ s. ap (λ (k : Know). k.own s) advance.know))
+    (let none : TakesNoSlot q r = did_none again refl still in none.kept)
 
-shared_raised : (p q r : PassView) {e n f : ℕ} → Did (Advance e) p.trace q.trace n → Did ReadEpoch q.trace r.trace f → SharesWhereFull 1 p r
+shared_raised : (p q r : PassView) {e n f : ℕ} → Did (Advance e) p.trace q.trace n → Did ReadEpoch q.trace r.trace f →
+    SharesWhereFull 1 p r
 shared_raised p q r advance again = inl (same_flags again refl ∙ same_flags advance refl)
 
 -- nothing was done yet
 pub chooses_refl : (p : PassView) → Chooses p p
-chooses_refl p = record { quiet = quiet_refl p.trace; pool = (refl, refl); kept = keeps_refl p; shared = inl refl; tries = refl; advances = inl refl }
+chooses_refl p =
+    record {
+      quiet = quiet_refl p.trace;
+      pool = (refl, refl);
+      kept = keeps_refl p;
+      shared = inl refl;
+      tries = refl;
+      advances = inl refl;
+    }
 
-pub short_first : (p : PassView) (budget used : ℕ) → used ≤ budget → budget < used + PIECE → ChoosesNone p p budget used (OutOfSteps used, used)
+pub short_first : (p : PassView) (budget used : ℕ) → used ≤ budget → budget < used + PIECE →
+    ChoosesNone p p budget used (OutOfSteps used, used)
 short_first p budget used within short = record {
   uses = record { counts = counts_none p.trace used; within = within; at_most = omega arith };
   why = (refl, short);
 }
 
 -- the epoch was read, and then the pool was looked through
-module _ (p q r : PassView) (e budget used : ℕ) (read : Did ReadEpoch p.trace q.trace e) (room : used + PIECE ≤ budget) (stayed : KeepsPool p q) (scans : Scans q r) where
+module _ (p q r : PassView) (e budget used : ℕ) (read : Did ReadEpoch p.trace q.trace e) (room : used + PIECE ≤ budget)
+    (stayed : KeepsPool p q) (scans : Scans q r) where
   long : length q.pool ≡ length p.pool
   long = ap length stayed.0
 
@@ -68,7 +86,15 @@ module _ (p q r : PassView) (e budget used : ℕ) (read : Did ReadEpoch p.trace 
   keeps_then = (scans.pool.0 ∙ stayed.0, scans.pool.1 ∙ stayed.1)
 
   pub chooses_then : Chooses p r
-  chooses_then = record { quiet = quiet_then; pool = keeps_then; kept = none_then.kept; shared = none_then.shared; tries = none_then.tries; advances = inl none_then.count }
+  chooses_then =
+      record {
+        quiet = quiet_then;
+        pool = keeps_then;
+        kept = none_then.kept;
+        shared = none_then.shared;
+        tries = none_then.tries;
+        advances = inl none_then.count;
+      }
 
   first : Uses p q budget used (used + 1) 1
   first = record { counts = counts_one used read; within = omega arith; at_most = omega arith }
@@ -76,12 +102,17 @@ module _ (p q r : PassView) (e budget used : ℕ) (read : Did ReadEpoch p.trace 
   last_read : (knows r.trace).epoch ≡ e
   last_read = ap (λ (k : Know). k.epoch) scans.known ∙ epoch_told read
 
-  uses_then : {since : ℕ} → Uses q r budget (used + 1) since (length q.pool) → Uses p r budget used since (length p.pool + 1)
+  uses_then : {since : ℕ} → Uses q r budget (used + 1) since (length q.pool) →
+      Uses p r budget used since (length p.pool + 1)
   uses_then uses = uses_more (length p.pool + 1) (let e = long in omega arith) (uses_on first uses)
 
   -- the budget had no room to look it through
   pub short_then : (told : Refusal × ℕ) → ScansPart q r budget (used + 1) told → ChoosesNone p r budget used told
-  short_then told part = record { uses = uses_then part.uses; why = subst (IsShortOrSpent r budget told.1) (sym part.why) (refl, part.short) }
+  short_then told part =
+      record {
+        uses = uses_then part.uses;
+        why = subst (IsShortOrSpent r budget told.1) (sym part.why) (refl, part.short);
+      }
 
   module _ (found : Option ℕ) (since : ℕ) (scanned : IsScanned q r e budget (used + 1) (found, since)) where
     uses : Uses p r budget used since (length p.pool + 1)
@@ -102,23 +133,37 @@ module _ (p q r : PassView) (e budget used : ℕ) (read : Did ReadEpoch p.trace 
       may slot has = (All-contains (IsPooled r.trace.start (knows r.trace)) r.pool slot law.own.pooled has).1
 
       high : (slot : ℕ) → Contains r.pool slot → e ≤ stamp_in ((knows r.trace).own slot)
-      high slot has = All-contains (λ (s : ℕ). e ≤ stamp_in ((knows r.trace).own s)) r.pool slot (subst (IsStampedBelow r e) none scanned.below) has
+      high slot has =
+          All-contains (λ (s : ℕ). e ≤ stamp_in ((knows r.trace).own s)) r.pool slot
+          (subst (IsStampedBelow r e) none scanned.below) has
 
       low : (slot : ℕ) → Contains r.pool slot → stamp_in ((knows r.trace).own slot) ≤ e
       low slot has =
-          subst (λ (k : Know). MayBear (k.own slot) → stamp_in (k.own slot) ≤ e) (sym scans.known) (stamps_low read (subst IsStart scans.quiet.same.start law.start) slot) (may slot has)
+          subst (λ (k : Know). MayBear (k.own slot) → stamp_in (k.own slot) ≤ e) (sym scans.known)
+          (stamps_low read (subst IsStart scans.quiet.same.start law.start) slot) (may slot has)
 
       stamped : AllStamped r e
-      stamped k d less = let has = Contains-get_or r.pool k d less in let h = high (get_or r.pool k d) has in let l = low (get_or r.pool k d) has in omega arith
+      stamped k d less =
+          let has = Contains-get_or r.pool k d less in
+          let h = high (get_or r.pool k d) has in
+          let l = low (get_or r.pool k d) has in
+          omega arith
 
       some_then : p.pool ≢ [] → r.pool ≢ []
       some_then some none = some (sym keeps_then.0 ∙ none)
 
-      pub spent_then : p.pool ≢ [] → e ≡ r.trace.start.shape.last_epoch → since + PIECE ≤ budget → ChoosesNone p r budget used (EpochSpent e, since)
-      spent_then some last left = record { uses = uses; why = (record { last = last; last_read = last_read; some = some_then some; stamped = stamped }, left) }
+      pub spent_then : p.pool ≢ [] → e ≡ r.trace.start.shape.last_epoch → since + PIECE ≤ budget →
+          ChoosesNone p r budget used (EpochSpent e, since)
+      spent_then some last left =
+          record {
+            uses = uses;
+            why = (record { last = last; last_read = last_read; some = some_then some; stamped = stamped }, left);
+          }
 
       -- and the epoch was advanced, and read again
-      module _ (s t : PassView) (n f : ℕ) (advance : Did (Advance e) r.trace s.trace n) (again : Did ReadEpoch s.trace t.trace f) (keeps : KeepsPool r s) (still : KeepsPool s t) (empty : p.hand ≡ None) where
+      module _ (s t : PassView) (n f : ℕ) (advance : Did (Advance e) r.trace s.trace n)
+          (again : Did ReadEpoch s.trace t.trace f) (keeps : KeepsPool r s) (still : KeepsPool s t)
+          (empty : p.hand ≡ None) where
         rises : e < f
         rises = read_above law.start advance again last_read
 
@@ -134,7 +179,9 @@ module _ (p q r : PassView) (e budget used : ℕ) (read : Did ReadEpoch p.trace 
         raised_once : AdvancesOnce p t
         raised_once =
             once_after {p = p} {q = r} {r = t} quiet_then none_then.count none_then.kept.free
-            (once_before {p = r} {q = s} {r = t} (once {p = r} {q = s} advance last_read (λ slot has. high slot (held slot has))) quiet_again.seen quiet_again.is_run (same_advances again refl))
+            (once_before {p = r} {q = s} {r = t}
+            (once {p = r} {q = s} advance last_read (λ slot has. high slot (held slot has))) quiet_again.seen
+            quiet_again.is_run (same_advances again refl))
           where
             held : (slot : ℕ) → HasSlot r slot → Contains r.pool slot
             held slot (inl c) = c
@@ -145,24 +192,41 @@ module _ (p q r : PassView) (e budget used : ℕ) (read : Did ReadEpoch p.trace 
           quiet = quiet_on quiet_then (quiet_on (did_quiet advance (λ know. refl)) quiet_again);
           pool = (still.0 ∙ keeps.0 ∙ keeps_then.0, still.1 ∙ keeps.1 ∙ keeps_then.1);
           kept = slots_kept_on p r t none_then.kept (kept_raised r s t advance again keeps still);
-          shared = shared_on p r t 1 none_then.shared (let e = ap length (still.0 ∙ keeps.0) in omega arith) (shared_raised r s t advance again);
+          shared = shared_on p r t 1 none_then.shared (let e = ap length (still.0 ∙ keeps.0) in omega arith)
+              (shared_raised r s t advance again);
           tries = same_tries again refl ∙ same_tries advance refl ∙ none_then.tries;
           advances = inr raised_once;
         }
 
-        pub raised_chosen : (pool : List ℕ) → pool ≡ t.pool → p.pool ≢ [] → since + PIECE ≤ budget → IsChosen p t budget used (get_or pool 0 0, since + 2)
+        pub raised_chosen : (pool : List ℕ) → pool ≡ t.pool → p.pool ≢ [] → since + PIECE ≤ budget →
+            IsChosen p t budget used (get_or pool 0 0, since + 2)
         raised_chosen pool shown some left =
             let there : pool ≡ r.pool = shown ∙ still.0 ∙ keeps.0 in
             let slot : ℕ = get_or pool 0 0 in
-            let has : Contains pool slot = Contains-get_or pool 0 0 (some_slot pool (λ none. some_then some (sym there ∙ none))) in
+            let has : Contains pool slot =
+            Contains-get_or pool 0 0 (some_slot pool (λ none. some_then some (sym there ∙ none))) in
             let l = low slot (subst (λ (l : List ℕ). Contains l slot) there has) in
             let x = stamps_since slot in
             let y = stamps_first slot in
             let told = epoch_told again in
             let up = rises in
             let m = uses.at_most in
-            let first_one : IsOldest (knows t.trace) t.pool slot (knows t.trace).epoch = subst (λ (l : List ℕ). IsOldest (knows t.trace) l slot (knows t.trace).epoch) shown (record { place = 0; low = some_slot pool (λ none. some_then some (sym there ∙ none)); is = refl; before = λ k less. absurd (omega arith) }) in
+            let first_one : IsOldest (knows t.trace) t.pool slot (knows t.trace).epoch =
+            subst (λ (l : List ℕ). IsOldest (knows t.trace) l slot (knows t.trace).epoch) shown
+            (record {
+              place = 0;
+              low = some_slot pool (λ none. some_then some (sym there ∙ none));
+              is = refl;
+              before = λ k less. absurd (omega arith);
+            }) in
             record {
-              uses = record { counts = counts_on uses.counts (subst (λ (k : ℕ). CountsSteps r.trace t.trace since k) (omega arith) (counts_on (counts_one since advance) (counts_one (since + 1) again))); within = omega arith; at_most = omega arith };
+              uses = record {
+                counts =
+                    counts_on uses.counts
+                    (subst (λ (k : ℕ). CountsSteps r.trace t.trace since k) (omega arith)
+                    (counts_on (counts_one since advance) (counts_one (since + 1) again)));
+                within = omega arith;
+                at_most = omega arith;
+              };
               below = (subst (λ (l : List ℕ). Contains l slot) shown has, omega arith, first_one);
             }

@@ -16,10 +16,21 @@ pub counts_one : {step : Step} {p q : Trace} {r : ℕ} (n : ℕ) → Did step p 
 counts_one n d = record { steps = 1; sum = omega arith; took = did_took d }
 
 pub counts_on : {p q r : Trace} {a b c : ℕ} → CountsSteps p q a b → CountsSteps q r b c → CountsSteps p r a c
-counts_on x y = record { steps = x.steps + y.steps; sum = (let e = x.sum in let f = y.sum in omega arith); took = took_on x.steps y.steps x.took y.took }
+counts_on x y =
+    record {
+      steps = x.steps + y.steps;
+      sum = (let e = x.sum in let f = y.sum in omega arith);
+      took = took_on x.steps y.steps x.took y.took;
+    }
 
-pub uses_on : {p q r : PassView} {budget a b c m n : ℕ} → Uses p q budget a b m → Uses q r budget b c n → Uses p r budget a c (m + n)
-uses_on x y = record { counts = counts_on x.counts y.counts; within = y.within; at_most = (let e = x.at_most in let f = y.at_most in omega arith) }
+pub uses_on : {p q r : PassView} {budget a b c m n : ℕ} → Uses p q budget a b m → Uses q r budget b c n →
+    Uses p r budget a c (m + n)
+uses_on x y =
+    record {
+      counts = counts_on x.counts y.counts;
+      within = y.within;
+      at_most = (let e = x.at_most in let f = y.at_most in omega arith);
+    }
 
 pub uses_more : {p q : PassView} {budget a b m : ℕ} (n : ℕ) → m ≤ n → Uses p q budget a b m → Uses p q budget a b n
 uses_more n le x = record { counts = x.counts; within = x.within; at_most = (let e = x.at_most in omega arith) }
@@ -30,7 +41,9 @@ took_all {p} {q} {used} x = subst (Took p q) (let e = x.sum in omega arith) x.to
 
 -- a budget that doesn't afford a piece has no room for it
 pub no_room : (used budget : ℕ) (b : Bool) → b ≡ false → (used + PIECE ≤ budget → b ≡ true) → budget < used + PIECE
-no_room used budget b e f = ⊎_elim (λ (short : budget < used + PIECE). short) (λ (fits : used + PIECE ≤ budget). absurd (differ (sym e ∙ f fits))) (cases_lt budget (used + PIECE))
+no_room used budget b e f =
+    ⊎_elim (λ (short : budget < used + PIECE). short)
+    (λ (fits : used + PIECE ≤ budget). absurd (differ (sym e ∙ f fits))) (cases_lt budget (used + PIECE))
   where
     differ : false ≡ true → ⊥
     differ e = absurd (cc)

@@ -1,6 +1,7 @@
 -- Along a run the epoch only rises, and no stamp is above it.
 -- Each epoch that a pass has read is at least 1 and no greater than the last.
-use Rattle.std.proofs.Common.{◌≡◌, ◌≢◌, ℕ, ◌≤◌, ◌==◌, true, false, List, [], ◌∷◌, ◌++◌, refl, sym, ap, ◌∙◌, subst, ⊎_elim, arith}
+use Rattle.std.proofs.Common.{◌≡◌, ◌≢◌, ℕ, ◌≤◌, ◌==◌, true, false, List, [], ◌∷◌, ◌++◌, refl, sym, ap, ◌∙◌, subst}
+use Rattle.std.proofs.Common.{⊎_elim, arith}
 use Rattle.std.proofs.lemmas.Bool.{cases_Bool, cases_eq}
 use Rattle.vbr_machine.specs.Start.{Start, IsStart}
 use Rattle.vbr_words.specs.Words.{word_of}
@@ -17,8 +18,12 @@ use Rattle.vbr_machine.specs.Put.{put}
 use Rattle.vbr_machine.specs.Runs.{world_from, AreAccepted, IsRun, world_after, know_after}
 use Rattle.vbr_machine.specs.declared.event.Event.{Event}
 use Rattle.vbr_machine.specs.declared.event.Step.{Step}
-use Rattle.vbr_machine.specs.declared.event.Step.TheVariants.{ReadEpoch, Advance, LoadStamp, StoreStamp, Raise, TakeFlag, StoreBirth, StoreKey, StoreLink, LoadLink, LoadBirth, LoadKey, Publish, Mark, Replace, Unlink, ConfirmPresent, ConfirmAbsent, StoreValue, LoadValue}
-use Rattle.vbr_machine.proofs.Lemmas.{by_both, is_run_after, is_run_before, is_run_first, know_other, know_own, put_here, put_other, run_agrees, stamp_known, step_agrees, world_after-append}
+use Rattle.vbr_machine.specs.declared.event.Step.TheVariants.{ReadEpoch, Advance, LoadStamp, StoreStamp, Raise}
+use Rattle.vbr_machine.specs.declared.event.Step.TheVariants.{TakeFlag, StoreBirth, StoreKey, StoreLink, LoadLink}
+use Rattle.vbr_machine.specs.declared.event.Step.TheVariants.{LoadBirth, LoadKey, Publish, Mark, Replace, Unlink}
+use Rattle.vbr_machine.specs.declared.event.Step.TheVariants.{ConfirmPresent, ConfirmAbsent, StoreValue, LoadValue}
+use Rattle.vbr_machine.proofs.Lemmas.{by_both, is_run_after, is_run_before, is_run_first, know_other, know_own}
+use Rattle.vbr_machine.proofs.Lemmas.{put_here, put_other, run_agrees, stamp_known, step_agrees, world_after-append}
 use Rattle.vbr_slots.specs.Views.{epoch_after}
 use Rattle.vbr_slots.proofs.Lemmas.{epoch_learned}
 
@@ -39,20 +44,28 @@ abbrev Later : World → World → Type 0
 Later w v = (w.epoch ≤ v.epoch) × ((s : ℕ) → v.stamp s ≤ v.epoch)
 
 same_epoch_and_stamps : (w v : World) → epoch_and_stamps v ≡ epoch_and_stamps w → IsTimely w → Later w v
-same_epoch_and_stamps w v e t = subst (λ (x : ℕ × (ℕ → ℕ)). (w.epoch ≤ x.0) × ((s : ℕ) → x.1 s ≤ x.0)) (sym e) (omega arith, t.stamps)
+same_epoch_and_stamps w v e t =
+    subst (λ (x : ℕ × (ℕ → ℕ)). (w.epoch ≤ x.0) × ((s : ℕ) → x.1 s ≤ x.0)) (sym e) (omega arith, t.stamps)
 
 -- one step advances the epoch by 1 or leaves it, and stamps with no greater one
-later : (start : Start) (w : World) (p : ℕ) (step : Step) → IsTimely w → (w.know p).epoch ≤ w.epoch → Accepts start (w.know p) step → Later w (after start w p step)
+later : (start : Start) (w : World) (p : ℕ) (step : Step) → IsTimely w → (w.know p).epoch ≤ w.epoch →
+    Accepts start (w.know p) step → Later w (after start w p step)
 later start w p ReadEpoch t low ok = same_epoch_and_stamps w (after start w p ReadEpoch) refl t
 later start w p (Advance from) t low ok =
-    ⊎_elim (λ (x : (w.epoch == from) ≡ true). rw x (omega arith, λ s. let y = t.stamps s in omega arith)) (λ (x : (w.epoch == from) ≡ false). rw x (omega arith, t.stamps)) (cases_Bool (w.epoch == from))
+    ⊎_elim (λ (x : (w.epoch == from) ≡ true). rw x (omega arith, λ s. let y = t.stamps s in omega arith))
+    (λ (x : (w.epoch == from) ≡ false). rw x (omega arith, t.stamps)) (cases_Bool (w.epoch == from))
 later start w p (LoadStamp s) t low ok = same_epoch_and_stamps w w refl t
 later start w p (StoreStamp s stamp) t low ok = (
   omega arith,
-  λ v. ⊎_elim (λ (x : v ≡ s). subst (λ (n : ℕ). n ≤ w.epoch) (sym (ap (put w.stamp s stamp) x ∙ put_here w.stamp s stamp)) (let e = ok.in_range.1 in omega arith)) (λ (x : v ≢ s). subst (λ (n : ℕ). n ≤ w.epoch) (sym (put_other w.stamp s stamp v x)) (t.stamps v)) (cases_eq v s),
+  λ v. ⊎_elim (λ (x : v ≡ s).
+      subst (λ (n : ℕ). n ≤ w.epoch) (sym (ap (put w.stamp s stamp) x ∙ put_here w.stamp s stamp))
+      (let e = ok.in_range.1 in omega arith))
+      (λ (x : v ≢ s). subst (λ (n : ℕ). n ≤ w.epoch) (sym (put_other w.stamp s stamp v x)) (t.stamps v)) (cases_eq v s),
 )
 later start w p (Raise s) t low ok = same_epoch_and_stamps w (after start w p (Raise s)) refl t
-later start w p (TakeFlag s) t low ok = same_epoch_and_stamps w (after start w p (TakeFlag s)) (by_both (has_flag (found start w (TakeFlag s)) s) epoch_and_stamps _ w (epoch_and_stamps w) refl refl) t
+later start w p (TakeFlag s) t low ok =
+    same_epoch_and_stamps w (after start w p (TakeFlag s))
+    (by_both (has_flag (found start w (TakeFlag s)) s) epoch_and_stamps _ w (epoch_and_stamps w) refl refl) t
 later start w p (StoreBirth s birth) t low ok = same_epoch_and_stamps w (after start w p (StoreBirth s birth)) refl t
 later start w p (StoreKey s key) t low ok = same_epoch_and_stamps w (after start w p (StoreKey s key)) refl t
 later start w p (StoreValue s value) t low ok = same_epoch_and_stamps w (after start w p (StoreValue s value)) refl t
@@ -61,17 +74,35 @@ later start w p (LoadLink at) t low ok = same_epoch_and_stamps w (after start w 
 later start w p (LoadBirth s) t low ok = same_epoch_and_stamps w (after start w p (LoadBirth s)) refl t
 later start w p (LoadKey s) t low ok = same_epoch_and_stamps w (after start w p (LoadKey s)) refl t
 later start w p (LoadValue s) t low ok = same_epoch_and_stamps w (after start w p (LoadValue s)) refl t
-later start w p (Publish (Head b) expected s) t low ok = same_epoch_and_stamps w (after start w p (Publish (Head b) expected s)) (by_both (word_of (w.head b) == expected) epoch_and_stamps _ w (epoch_and_stamps w) refl refl) t
-later start w p (Publish (Slot v) expected s) t low ok = same_epoch_and_stamps w (after start w p (Publish (Slot v) expected s)) (by_both (word_of (w.link v) == expected) epoch_and_stamps _ w (epoch_and_stamps w) refl refl) t
-later start w p (Mark s expected) t low ok = same_epoch_and_stamps w (after start w p (Mark s expected)) (by_both (word_of (w.link s) == expected) epoch_and_stamps _ w (epoch_and_stamps w) refl refl) t
-later start w p (Replace s expected v) t low ok = same_epoch_and_stamps w (after start w p (Replace s expected v)) (by_both (word_of (w.link s) == expected) epoch_and_stamps _ w (epoch_and_stamps w) refl refl) t
-later start w p (Unlink (Head b) expected s) t low ok = same_epoch_and_stamps w (after start w p (Unlink (Head b) expected s)) (by_both (word_of (w.head b) == expected) epoch_and_stamps _ w (epoch_and_stamps w) refl refl) t
-later start w p (Unlink (Slot v) expected s) t low ok = same_epoch_and_stamps w (after start w p (Unlink (Slot v) expected s)) (by_both (word_of (w.link v) == expected) epoch_and_stamps _ w (epoch_and_stamps w) refl refl) t
-later start w p (ConfirmPresent op s expected) t low ok = same_epoch_and_stamps w (after start w p (ConfirmPresent op s expected)) (by_both (word_of (w.link s) == expected) epoch_and_stamps _ w (epoch_and_stamps w) refl refl) t
-later start w p (ConfirmAbsent op key at expected) t low ok = same_epoch_and_stamps w (after start w p (ConfirmAbsent op key at expected)) (by_both (found start w (ConfirmAbsent op key at expected) == expected) epoch_and_stamps _ w (epoch_and_stamps w) refl refl) t
+later start w p (Publish (Head b) expected s) t low ok =
+    same_epoch_and_stamps w (after start w p (Publish (Head b) expected s))
+    (by_both (word_of (w.head b) == expected) epoch_and_stamps _ w (epoch_and_stamps w) refl refl) t
+later start w p (Publish (Slot v) expected s) t low ok =
+    same_epoch_and_stamps w (after start w p (Publish (Slot v) expected s))
+    (by_both (word_of (w.link v) == expected) epoch_and_stamps _ w (epoch_and_stamps w) refl refl) t
+later start w p (Mark s expected) t low ok =
+    same_epoch_and_stamps w (after start w p (Mark s expected))
+    (by_both (word_of (w.link s) == expected) epoch_and_stamps _ w (epoch_and_stamps w) refl refl) t
+later start w p (Replace s expected v) t low ok =
+    same_epoch_and_stamps w (after start w p (Replace s expected v))
+    (by_both (word_of (w.link s) == expected) epoch_and_stamps _ w (epoch_and_stamps w) refl refl) t
+later start w p (Unlink (Head b) expected s) t low ok =
+    same_epoch_and_stamps w (after start w p (Unlink (Head b) expected s))
+    (by_both (word_of (w.head b) == expected) epoch_and_stamps _ w (epoch_and_stamps w) refl refl) t
+later start w p (Unlink (Slot v) expected s) t low ok =
+    same_epoch_and_stamps w (after start w p (Unlink (Slot v) expected s))
+    (by_both (word_of (w.link v) == expected) epoch_and_stamps _ w (epoch_and_stamps w) refl refl) t
+later start w p (ConfirmPresent op s expected) t low ok =
+    same_epoch_and_stamps w (after start w p (ConfirmPresent op s expected))
+    (by_both (word_of (w.link s) == expected) epoch_and_stamps _ w (epoch_and_stamps w) refl refl) t
+later start w p (ConfirmAbsent op key at expected) t low ok =
+    same_epoch_and_stamps w (after start w p (ConfirmAbsent op key at expected))
+    (by_both (found start w (ConfirmAbsent op key at expected) == expected) epoch_and_stamps _ w (epoch_and_stamps w)
+    refl refl) t
 
 -- the epoch that is read in a timely world is at least 1
-some_read : (start : Start) (w : World) (step : Step) (e : ℕ) → IsTimely w → 1 ≤ e → 1 ≤ epoch_after step (found start w step) e
+some_read : (start : Start) (w : World) (step : Step) (e : ℕ) → IsTimely w → 1 ≤ e →
+    1 ≤ epoch_after step (found start w step) e
 some_read start w ReadEpoch e t some = t.some
 some_read start w (Advance from) e t some = some
 some_read start w (LoadStamp s) e t some = some
@@ -93,22 +124,32 @@ some_read start w (Unlink pred expected s) e t some = some
 some_read start w (ConfirmPresent op s expected) e t some = some
 some_read start w (ConfirmAbsent op key at expected) e t some = some
 
-read_after : (start : Start) (w : World) (p : ℕ) (step : Step) → IsTimely w → (q : ℕ) → 1 ≤ ((after start w p step).know q).epoch
+read_after : (start : Start) (w : World) (p : ℕ) (step : Step) → IsTimely w → (q : ℕ) →
+    1 ≤ ((after start w p step).know q).epoch
 read_after start w p step t q =
     ⊎_elim
-    (λ (x : q ≡ p). subst (λ (e : ℕ). 1 ≤ e) (sym (ap (λ (i : ℕ). ((after start w p step).know i).epoch) x ∙ ap (λ (k : Know). k.epoch) (know_own start w p step) ∙ epoch_learned step (found start w step) (stamp_shown w step) (w.know p))) (some_read start w step (w.know p).epoch t (t.read p)))
+    (λ (x : q ≡ p).
+    subst (λ (e : ℕ). 1 ≤ e)
+    (sym (ap (λ (i : ℕ). ((after start w p step).know i).epoch) x ∙ ap (λ (k : Know). k.epoch) (know_own start w p step)
+    ∙ epoch_learned step (found start w step) (stamp_shown w step) (w.know p)))
+    (some_read start w step (w.know p).epoch t (t.read p)))
     (λ (x : q ≢ p). subst (λ (k : Know). 1 ≤ k.epoch) (sym (know_other start w q p step x)) (t.read q)) (cases_eq q p)
 
-timely_after : (start : Start) (w : World) (p : ℕ) (step : Step) → IsTimely w → (w.know p).epoch ≤ w.epoch → Accepts start (w.know p) step → IsTimely (after start w p step)
-timely_after start w p step t low ok = let l = later start w p step t low ok in record { stamps = l.1; some = let s = t.some in let g = l.0 in omega arith; read = read_after start w p step t }
+timely_after : (start : Start) (w : World) (p : ℕ) (step : Step) → IsTimely w → (w.know p).epoch ≤ w.epoch →
+    Accepts start (w.know p) step → IsTimely (after start w p step)
+timely_after start w p step t low ok =
+    let l = later start w p step t low ok in
+    record { stamps = l.1; some = let s = t.some in let g = l.0 in omega arith; read = read_after start w p step t }
 
 -- ---- runs
 
-epoch_known : (start : Start) (w : World) (a : Incarnations) (notes : ℕ → Notes) → Agrees start w a notes → (p : ℕ) → (w.know p).epoch ≤ w.epoch
+epoch_known : (start : Start) (w : World) (a : Incarnations) (notes : ℕ → Notes) → Agrees start w a notes → (p : ℕ) →
+    (w.know p).epoch ≤ w.epoch
 epoch_known start w a notes g p = let e = (g.knows p).epoch in let i = g.image.epoch in omega arith
 
 -- events from a timely world leave it timely, and its epoch rises or stays
-timely_from : (start : Start) (passes : ℕ) (w : World) (a : Incarnations) (notes : ℕ → Notes) (events : List Event) → Agrees start w a notes → AreAccepted start passes w events → IsTimely w →
+timely_from : (start : Start) (passes : ℕ) (w : World) (a : Incarnations) (notes : ℕ → Notes) (events : List Event) →
+    Agrees start w a notes → AreAccepted start passes w events → IsTimely w →
     IsTimely (world_from start w events) × (w.epoch ≤ (world_from start w events).epoch)
 timely_from start passes w a notes [] g ok t = (t, omega arith)
 timely_from start passes w a notes (event ∷ events) g ok t =
@@ -126,29 +167,44 @@ timely_from start passes w a notes (event ∷ events) g ok t =
 timely_first : (start : Start) → IsTimely (opening start)
 timely_first start = record { stamps = λ s. omega arith; some = omega arith; read = λ p. omega arith }
 
-timely : (start : Start) (passes : ℕ) (run : List Event) → IsStart start → IsRun start passes run → IsTimely (world_after start run)
-timely start passes run is ok = (timely_from start passes (opening start) (at_opening start) (λ p. no_notes) run (run_agrees start passes [] is (is_run_first start passes)) ok (timely_first start)).0
+timely : (start : Start) (passes : ℕ) (run : List Event) → IsStart start → IsRun start passes run →
+    IsTimely (world_after start run)
+timely start passes run is ok =
+    (timely_from start passes (opening start) (at_opening start) (λ p. no_notes) run
+    (run_agrees start passes [] is (is_run_first start passes)) ok (timely_first start)).0
 
 -- the epoch only rises
-pub epoch_rises : (start : Start) (passes : ℕ) (xs ys : List Event) → IsStart start → IsRun start passes (xs ++ ys) → (world_after start xs).epoch ≤ (world_after start (xs ++ ys)).epoch
+pub epoch_rises : (start : Start) (passes : ℕ) (xs ys : List Event) → IsStart start → IsRun start passes (xs ++ ys) →
+    (world_after start xs).epoch ≤ (world_after start (xs ++ ys)).epoch
 epoch_rises start passes xs ys is ok =
     let before = is_run_before start passes xs ys ok in
-    let more = timely_from start passes (world_after start xs) (incarnations_after start xs) (notes_after start xs) ys (run_agrees start passes xs is before) (is_run_after start passes xs ys ok) (timely start passes xs is before) in
+    let more = timely_from start passes (world_after start xs) (incarnations_after start xs) (notes_after start xs) ys
+    (run_agrees start passes xs is before) (is_run_after start passes xs ys ok) (timely start passes xs is before) in
     subst (λ (w : World). (world_after start xs).epoch ≤ w.epoch) (sym (world_after-append start xs ys)) more.1
 
--- what a pass knows after a run, against the epoch: the one that it has read is at least 1, and not above the one that stands
-pub read_some : (start : Start) (passes : ℕ) (run : List Event) (who : ℕ) → IsStart start → IsRun start passes run → 1 ≤ (know_after start run who).epoch
+-- what a pass knows after a run, against the epoch: the one that it has read is at least 1, and not above the one
+-- that stands
+pub read_some : (start : Start) (passes : ℕ) (run : List Event) (who : ℕ) → IsStart start → IsRun start passes run →
+    1 ≤ (know_after start run who).epoch
 read_some start passes run who is ok = (timely start passes run is ok).read who
 
-pub read_before : (start : Start) (passes : ℕ) (run : List Event) (who : ℕ) → IsStart start → IsRun start passes run → (know_after start run who).epoch ≤ (world_after start run).epoch
-read_before start passes run who is ok = epoch_known start (world_after start run) (incarnations_after start run) (notes_after start run) (run_agrees start passes run is ok) who
+pub read_before : (start : Start) (passes : ℕ) (run : List Event) (who : ℕ) → IsStart start → IsRun start passes run →
+    (know_after start run who).epoch ≤ (world_after start run).epoch
+read_before start passes run who is ok =
+    epoch_known start (world_after start run) (incarnations_after start run) (notes_after start run)
+    (run_agrees start passes run is ok) who
 
-pub read_in_shape : (start : Start) (passes : ℕ) (run : List Event) (who : ℕ) → IsStart start → IsRun start passes run → (know_after start run who).epoch ≤ start.shape.last_epoch
-read_in_shape start passes run who is ok = let g = run_agrees start passes run is ok in let e = (g.knows who).epoch in let f = g.fits.epoch in omega arith
+pub read_in_shape : (start : Start) (passes : ℕ) (run : List Event) (who : ℕ) → IsStart start → IsRun start passes run →
+    (know_after start run who).epoch ≤ start.shape.last_epoch
+read_in_shape start passes run who is ok =
+    let g = run_agrees start passes run is ok in let e = (g.knows who).epoch in let f = g.fits.epoch in omega arith
 
 -- and no stamp that it knows is above that
-pub stamp_before : (start : Start) (passes : ℕ) (run : List Event) (who s : ℕ) → IsStart start → IsRun start passes run → MayBear ((know_after start run who).own s) → stamp_in ((know_after start run who).own s) ≤ (world_after start run).epoch
+pub stamp_before : (start : Start) (passes : ℕ) (run : List Event) (who s : ℕ) → IsStart start →
+    IsRun start passes run → MayBear ((know_after start run who).own s) →
+    stamp_in ((know_after start run who).own s) ≤ (world_after start run).epoch
 stamp_before start passes run who s is ok may =
     let t = (timely start passes run is ok).stamps s in
-    let e = stamp_known start (world_after start run) (incarnations_after start run) (notes_after start run) who s (run_agrees start passes run is ok) may in
+    let e = stamp_known start (world_after start run) (incarnations_after start run) (notes_after start run) who s
+    (run_agrees start passes run is ok) may in
     omega arith

@@ -47,23 +47,29 @@ use Rattle.vbr_at_table.specs.StepKinds.{ChangesNone}
 use Rattle.vbr_at_table.proofs.Unchanged.{unchanged_by_none, unchanged_on}
 use Rattle.vbr_at_table.proofs.NoneUnlinked.{lost_none, unlinks_on, won_unlinks}
 use Rattle.vbr_at_table.proofs.Unlinks.{accepted, new_read, read_after, written}
-use Rattle.vbr_at_table.proofs.WonExchanges.{mark_keeps, mark_known, publish_lost_keeps, unlink_keeps, unlink_lost_keeps}
+use Rattle.vbr_at_table.proofs.WonExchanges.{mark_keeps, mark_known, publish_lost_keeps, unlink_keeps}
+use Rattle.vbr_at_table.proofs.WonExchanges.{unlink_lost_keeps}
 
 -- ---- a mark
 
 -- the node is taken out
-mark_takes_out : {p q : Trace} {s expected : ℕ} → (d : Did (Mark s expected) p q expected) → IsStart p.start → IsTakenOut (nodes q) (knows q).epoch s
+mark_takes_out : {p q : Trace} {s expected : ℕ} → (d : Did (Mark s expected) p q expected) → IsStart p.start →
+    IsTakenOut (nodes q) (knows q).epoch s
 mark_takes_out {p} {q} {s} {expected} d start =
     let event = event_of p.who (Mark s expected) in
     let before = p.seen ++ d.rest in
     let P : List Event → Type 0 = IsRun p.start p.passes in
     let run = subst P d.seen d.is_run in
-    let out = mark_out p.start p.passes before start (is_run_before p.start p.passes before (event ∷ []) run) p.who s expected (is_run_last p.start p.passes before event run).1 (won expected _ d.shows.answers) in
-    let epoch : (know_after p.start before p.who).epoch ≡ (knows q).epoch = ap (λ (k : Know). k.epoch) (others_leave_know p.start p.seen d.rest p.who d.none) ∙ sym ((mark_keeps d).epoch) in
+    let out = mark_out p.start p.passes before start (is_run_before p.start p.passes before (event ∷ []) run) p.who s
+    expected (is_run_last p.start p.passes before event run).1 (won expected _ d.shows.answers) in
+    let epoch : (know_after p.start before p.who).epoch ≡ (knows q).epoch =
+    ap (λ (k : Know). k.epoch) (others_leave_know p.start p.seen d.rest p.who d.none) ∙ sym ((mark_keeps d).epoch) in
     let Q : Incarnations × ℕ → Type 0 = λ x. IsTakenOut x.0 x.1 s in
     subst Q (λ i. (incarnations_after (sym d.same.1 i) (sym d.seen i), epoch i)) out
 
-pub mark_told : {p q : Trace} {s word : ℕ} (node : Held) → IsStart p.start → IsRun p.start p.passes p.seen → IsHeld (knows p) node → node.at ≡ Slot s → Did (Mark s node.word) p q node.word → link_of word ≡ marked (link_of node.word)
+pub mark_told : {p q : Trace} {s word : ℕ} (node : Held) → IsStart p.start → IsRun p.start p.passes p.seen →
+    IsHeld (knows p) node → node.at ≡ Slot s → Did (Mark s node.word) p q node.word →
+    link_of word ≡ marked (link_of node.word)
     → MarksEntry p q node (record { slot = s; birth = node.birth; word = word; epoch = node.epoch })
 mark_told {p} {q} {s} {word} node start is_run held at d link =
     let B : At → Type 0 = λ at. BirthAt (knows q) at node.birth in
@@ -76,7 +82,11 @@ mark_told {p} {q} {s} {word} node start is_run held at d link =
           mark_made start is_run d key value (subst K at k) (λ has. subst V at (v has)));
       at = sym at;
       link = link;
-      held = record { held = record { epoch = h.epoch; link = subst L (sym link) (mark_known d); birth = subst B at h.birth }; mark = ap (λ (l : Link). l.mark) link };
+      held = record {
+        held =
+            record { epoch = h.epoch; link = subst L (sym link) (mark_known d); birth = subst B at h.birth };
+        mark = ap (λ (l : Link). l.mark) link;
+      };
       out = mark_takes_out d start;
       leaves = marked_leaves node start at d;
       alone = λ alone. marked_alone node start at d alone;
@@ -84,7 +94,9 @@ mark_told {p} {q} {s} {word} node start is_run held at d link =
 
 -- ---- a publication, after what filled the hand
 
-pub entry_told : (key value : ℕ) (p q r : PassView) → Quiet p.trace q.trace → Made (entry_call q.trace.start q.trace.who Insert key true value) q.trace r.trace → r.hand ≡ None → LinksEntry p r key value
+pub entry_told : (key value : ℕ) (p q r : PassView) → Quiet p.trace q.trace →
+    Made (entry_call q.trace.start q.trace.who Insert key true value) q.trace r.trace → r.hand ≡ None →
+    LinksEntry p r key value
 entry_told key value p q r fill made spent = record {
   made = (let P : ℕ → Start → Type 0 = λ who start. Made (entry_call start who Insert key true value) p.trace r.trace in
       let one : P q.trace.who q.trace.start = made_on fill made in
@@ -101,17 +113,26 @@ run_after {step} {p} {q} is d =
     let s = did_same d in
     subst Q s.passes (subst P s.start (did_run d))
 
-pub publish_lost : {p q r : Trace} {s found : ℕ} (pred : Held) → IsStart q.start → Quiet p q → ChangesNone p q → Keeps (knows p) (knows q) → Did (Publish pred.at pred.word s) q r found → found ≢ pred.word → LosesExchange p r pred (LostExchange found)
+pub publish_lost : {p q r : Trace} {s found : ℕ} (pred : Held) → IsStart q.start → Quiet p q → ChangesNone p q →
+    Keeps (knows p) (knows q) → Did (Publish pred.at pred.word s) q r found → found ≢ pred.word →
+    LosesExchange p r pred (LostExchange found)
 publish_lost pred start fill same keeps d other = record {
   quiet = quiet_on fill (publish_failed d other);
   lost = (other, found_after fill (publish_found d other), keeps_on keeps (publish_lost_keeps d other));
-  unchanged = unchanged_on same (unchanged_by_none start (run_after start d) (did_same d) (did_seen d) (publish_adds_none d other));
+  unchanged = unchanged_on same
+      (unchanged_by_none start (run_after start d) (did_same d) (did_seen d) (publish_adds_none d other));
 }
 
 -- ---- an unlinking, after the birth of what the marked link names
 
-module _ {p q r : PassView} {n : ℕ} (pred : Held) (gone : Marked) (named : Link) (birth : ℕ) (law : PassLaw q) (reads : ReadsIn p q n) (read : IsBirthRead p q gone.word birth) (unmarked : IsUnmarked (knows p.trace) pred) (is_marked : HoldsMarked (knows p.trace) gone) (names : Names pred gone.slot) (is_named : named ≡ link_of gone.word) where
-  pub unlink_told : (node : UnlinkedView) (new : ℕ) → node.slot ≡ gone.slot → link_of new ≡ link_to named.slot pred.birth birth → Did (Unlink pred.at pred.word gone.slot) q.trace r.trace pred.word → KeepsPool q r → IsUnlinked ((knows r.trace).own gone.slot) → UnlinksNode p r pred gone (node, record pred { word = new })
+module _ {p q r : PassView} {n : ℕ} (pred : Held) (gone : Marked) (named : Link) (birth : ℕ) (law : PassLaw q)
+    (reads : ReadsIn p q n) (read : IsBirthRead p q gone.word birth) (unmarked : IsUnmarked (knows p.trace) pred)
+    (is_marked : HoldsMarked (knows p.trace) gone) (names : Names pred gone.slot)
+    (is_named : named ≡ link_of gone.word) where
+  pub unlink_told : (node : UnlinkedView) (new : ℕ) → node.slot ≡ gone.slot →
+      link_of new ≡ link_to named.slot pred.birth birth →
+      Did (Unlink pred.at pred.word gone.slot) q.trace r.trace pred.word → KeepsPool q r →
+      IsUnlinked ((knows r.trace).own gone.slot) → UnlinksNode p r pred gone (node, record pred { word = new })
   unlink_told node new same link d pool owned =
       let held = held_kept pred read.keeps unmarked.held in
       let still_marked = marked_kept gone read.keeps is_marked in
@@ -121,18 +142,24 @@ module _ {p q r : PassView} {n : ℕ} (pred : Held) (gone : Marked) (named : Lin
         slot = same;
         owned = owned;
         at = refl;
-        read = read_after reads.quiet (new_read q law pred gone named birth held still_marked is_named read.birth new link d);
+        read = read_after reads.quiet
+            (new_read q law pred gone named birth held still_marked is_named read.birth new link d);
         still = ap (λ (l : Link). l.mark) link;
         next = ap (λ (l : Link). l.slot) link ∙ ap (λ (l : Link). l.slot) is_named;
-        stands = written_stands law.start d new (written q law pred gone named birth held still_marked is_named read.birth ∙ sym link);
-        alone = λ alone stands. unlinks_after p.trace q.trace r.trace pred _ reads.quiet.same.start (reads.looks (alone_first reads.quiet.seen (did_seen d) alone)) read.keeps
+        stands = written_stands law.start d new
+            (written q law pred gone named birth held still_marked is_named read.birth ∙ sym link);
+        alone = λ alone stands.
+            unlinks_after p.trace q.trace r.trace pred _ reads.quiet.same.start
+            (reads.looks (alone_first reads.quiet.seen (did_seen d) alone)) read.keeps
             (unlinked_alone pred new law.start d (alone_then reads.quiet.same.who reads.quiet.seen (did_seen d) alone)
             (accepted q law pred gone named birth held still_marked is_named read.birth unmarked.unmarked names)
-            held.link unmarked.unmarked (ap (λ a. link_shown_at a pred.at) (reads.looks (alone_first reads.quiet.seen (did_seen d) alone)) ∙ stands)
+            held.link unmarked.unmarked
+            (ap (λ a. link_shown_at a pred.at) (reads.looks (alone_first reads.quiet.seen (did_seen d) alone)) ∙ stands)
             (written q law pred gone named birth held still_marked is_named read.birth ∙ sym link));
       }
 
-  pub unlink_lost : {found : ℕ} → Did (Unlink pred.at pred.word gone.slot) q.trace r.trace found → found ≢ pred.word → KeepsPool q r → UnlinksNone p r pred (LostExchange found)
+  pub unlink_lost : {found : ℕ} → Did (Unlink pred.at pred.word gone.slot) q.trace r.trace found → found ≢ pred.word →
+      KeepsPool q r → UnlinksNone p r pred (LostExchange found)
   unlink_lost d other pool = record {
     takes_no_slot = none_on reads.takes_no_slot (lost_none d other pool);
     rolled = (other, found_after reads.quiet (unlink_found d other), keeps_on read.keeps (unlink_lost_keeps d other));
@@ -145,6 +172,13 @@ fresh_any q fresh (EpochMoved now) = fresh
 fresh_any q fresh (LostExchange found) = tt
 
 -- the birth wasn't read: nothing was unlinked
-pub none_unlinked : {A : Type 0} {p q : PassView} {n : ℕ} (pred : Held) (answer : Result A Rollback) → ReadsIn p q n → IfErr answer (IsMovedOrLost p.trace q.trace pred) → IsFresh q.trace → IfErr answer (UnlinksNone p q pred)
+pub none_unlinked : {A : Type 0} {p q : PassView} {n : ℕ} (pred : Held) (answer : Result A Rollback) → ReadsIn p q n →
+    IfErr answer (IsMovedOrLost p.trace q.trace pred) → IsFresh q.trace → IfErr answer (UnlinksNone p q pred)
 none_unlinked pred (Ok told) reads rolled new = tt
-none_unlinked {q = q} pred (Err r) reads rolled new = record { takes_no_slot = reads.takes_no_slot; rolled = rolled; fresh = fresh_any q.trace new r; adds_none = reads.adds_none }
+none_unlinked {q = q} pred (Err r) reads rolled new =
+    record {
+      takes_no_slot = reads.takes_no_slot;
+      rolled = rolled;
+      fresh = fresh_any q.trace new r;
+      adds_none = reads.adds_none;
+    }

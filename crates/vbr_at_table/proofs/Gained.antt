@@ -28,15 +28,20 @@ gained_since p q r s a =
     omega (arith, start, end, more)
 
 -- a pass that was alone lost none
-own_gains : (start : Start) (who : ℕ) (seen own : List Event) → OnlyEventsOf who own → gains start (seen ++ own) who ≡ gains start seen who
+own_gains : (start : Start) (who : ℕ) (seen own : List Event) → OnlyEventsOf who own →
+    gains start (seen ++ own) who ≡ gains start seen who
 own_gains start who seen [] each = ap (λ l. gains start l who) (append-nil seen)
 own_gains start who seen (event ∷ own) each =
-    let one : gains start (seen ++ event ∷ []) who ≡ gains start seen who = sym (ap (λ w. gains start (seen ++ event ∷ []) w) each.0) ∙ own_gains_uncounted start seen event ∙ ap (λ w. gains start seen w) each.0 in
-    ap (λ l. gains start l who) (sym (append_assoc seen (event ∷ []) own)) ∙ own_gains start who (seen ++ event ∷ []) own each.1 ∙ one
+    let one : gains start (seen ++ event ∷ []) who ≡ gains start seen who =
+    sym (ap (λ w. gains start (seen ++ event ∷ []) w) each.0) ∙ own_gains_uncounted start seen event
+    ∙ ap (λ w. gains start seen w) each.0 in
+    ap (λ l. gains start l who) (sym (append_assoc seen (event ∷ []) own))
+    ∙ own_gains start who (seen ++ event ∷ []) own each.1 ∙ one
 
 pub alone_gained : (p q : Trace) → IsAlone p q → gained p q ≡ 0
 alone_gained p q alone =
-    let same : gains p.start q.seen p.who ≡ gained_by_now p = ap (λ l. gains p.start l p.who) alone.seen ∙ own_gains p.start p.who p.seen alone.own alone.each in
+    let same : gains p.start q.seen p.who ≡ gained_by_now p =
+    ap (λ l. gains p.start l p.who) alone.seen ∙ own_gains p.start p.who p.seen alone.own alone.each in
     omega (arith, same)
 
 pub none_lost : (pool : List ℕ) (n : ℕ) → n ≡ 0 → probes_lost pool n ≡ 0

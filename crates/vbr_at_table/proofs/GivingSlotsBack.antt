@@ -1,5 +1,7 @@
 -- The own pool goes into the shared one, slot by slot.
-use Rattle.std.proofs.Common.{◌≡◌, ◌≢◌, ℕ, zero, suc, ◌+◌, ◌<◌, ◌==◌, Bool, true, false, not, cond, List, [], ◌∷◌, ◌++◌, length, get_or, Option, Some, None, refl, sym, ap, ◌∙◌, subst, append-nil, inl, inr, ⊎_elim, eq-eqb, arith}
+use Rattle.std.proofs.Common.{◌≡◌, ◌≢◌, ℕ, zero, suc, ◌+◌, ◌<◌, ◌==◌, Bool, true, false, not, cond, List, [], ◌∷◌, ◌++◌}
+use Rattle.std.proofs.Common.{length, get_or, Option, Some, None, refl, sym, ap, ◌∙◌, subst, append-nil, inl, inr}
+use Rattle.std.proofs.Common.{⊎_elim, eq-eqb, arith}
 use Rattle.std.specs.Prelude.{All, AllPairs, Contains, filter, ◌⊎◌}
 use Rattle.std.proofs.lemmas.Bool.{ne_eqb}
 use Rattle.std.proofs.lemmas.List.Elements.{All-head, All-tail, Contains-get_or}
@@ -18,7 +20,8 @@ use Rattle.vbr_slots.specs.Calls.{Quiet, Took}
 use Rattle.vbr_slots.specs.PassLaw.{PassLaw}
 use Rattle.vbr_slots.specs.Pools.{HandFits, hand_without, without}
 use Rattle.vbr_slots.specs.Views.{Did, PassView, Trace, event_of, knows}
-use Rattle.vbr_slots.proofs.Lemmas.{did_moment, did_quiet, did_took, moment_after, moment_before, quiet_on, quiet_refl, took_none, took_on}
+use Rattle.vbr_slots.proofs.Lemmas.{did_moment, did_quiet, did_took, moment_after, moment_before, quiet_on, quiet_refl}
+use Rattle.vbr_slots.proofs.Lemmas.{took_none, took_on}
 use Rattle.vbr_at_table.specs.StepKinds.{ChangesNone, advances, flags_raised, is_raise}
 use Rattle.vbr_at_table.specs.GivingSlotsBack.{GivesSlotsBack, WasRaised}
 use Rattle.vbr_at_table.specs.KeptSlots.{HasFree, HasSlot, KeepsSlots}
@@ -31,8 +34,11 @@ use Rattle.vbr_at_table.proofs.Unchanged.{raise_unchanged, unchanged_on}
 -- what passes a test is among what passes
 contains_kept : (f : ℕ → Bool) (xs : List ℕ) (s : ℕ) → f s ≡ true → Contains xs s → Contains (filter f xs) s
 contains_kept f [] s is_so (k, low, is) = absurd (omega (arith, low))
-contains_kept f (x ∷ xs) s is_so (zero, low, is) = subst (λ ys. Contains ys s) (sym (ap (λ b. cond b (x ∷ filter f xs) (filter f xs)) (ap f is ∙ is_so))) (0, omega arith, is)
-contains_kept f (x ∷ xs) s is_so (suc k, low, is) = shifted (contains_kept f xs s is_so (k, omega (arith, low), is)) (f x)
+contains_kept f (x ∷ xs) s is_so (zero, low, is) =
+    subst (λ ys. Contains ys s) (sym (ap (λ b. cond b (x ∷ filter f xs) (filter f xs)) (ap f is ∙ is_so)))
+    (0, omega arith, is)
+contains_kept f (x ∷ xs) s is_so (suc k, low, is) =
+    shifted (contains_kept f xs s is_so (k, omega (arith, low), is)) (f x)
   where
     shifted : Contains (filter f xs) s → (b : Bool) → Contains (cond b (x ∷ filter f xs) (filter f xs)) s
     shifted c true = (suc c.0, omega (arith, c.1), c.2)
@@ -41,11 +47,14 @@ contains_kept f (x ∷ xs) s is_so (suc k, low, is) = shifted (contains_kept f x
 -- where all pass, all are kept
 all_kept : (f : ℕ → Bool) (xs : List ℕ) → All (λ s. f s ≡ true) xs → xs ≡ filter f xs
 all_kept f [] all = refl
-all_kept f (x ∷ xs) all = ap (λ ys. x ∷ ys) (all_kept f xs (All-tail (λ s. f s ≡ true) x xs all)) ∙ sym (ap (λ b. cond b (x ∷ filter f xs) (filter f xs)) (All-head (λ s. f s ≡ true) x xs all))
+all_kept f (x ∷ xs) all = ap (λ ys. x ∷ ys) (all_kept f xs (All-tail (λ s. f s ≡ true) x xs all))
+    ∙ sym (ap (λ b. cond b (x ∷ filter f xs) (filter f xs)) (All-head (λ s. f s ≡ true) x xs all))
 
 -- a slot that isn't there doesn't leave
 absent : (slot : ℕ) (xs : List ℕ) → ¬ (Contains xs slot) → without slot xs ≡ xs
-absent slot xs out = sym (all_kept (λ s. not (s == slot)) xs (λ k d low. ap not (ne_eqb (get_or xs k d) slot (λ is. out (subst (Contains xs) is (Contains-get_or xs k d low))))))
+absent slot xs out =
+    sym (all_kept (λ s. not (s == slot)) xs
+    (λ k d low. ap not (ne_eqb (get_or xs k d) slot (λ is. out (subst (Contains xs) is (Contains-get_or xs k d low))))))
 
 head_apart : (x : ℕ) (xs : List ℕ) → AllPairs ◌≢◌ (x ∷ xs) → ¬ (Contains xs x)
 head_apart x xs apart c = apart 0 (suc c.0) x (omega arith) (omega (arith, c.1)) (sym c.2)
@@ -57,21 +66,27 @@ tail_apart x xs apart = λ i j d less low. apart (suc i) (suc j) d (omega (arith
 one_fewer : (slot : ℕ) (xs : List ℕ) → AllPairs ◌≢◌ xs → Contains xs slot → length (without slot xs) + 1 ≡ length xs
 one_fewer slot [] apart c = absurd (omega (arith, c.1))
 one_fewer slot (x ∷ xs) apart (zero, low, is) =
-    let gone : length (without slot (x ∷ xs)) ≡ length (without slot xs) = ap (λ b. length (cond (not b) (x ∷ without slot xs) (without slot xs))) (eq-eqb x slot is) in
-    let same : length (without slot xs) ≡ length xs = ap length (absent slot xs (subst (λ s. ¬ (Contains xs s)) is (head_apart x xs apart))) in
+    let gone : length (without slot (x ∷ xs)) ≡ length (without slot xs) =
+    ap (λ b. length (cond (not b) (x ∷ without slot xs) (without slot xs))) (eq-eqb x slot is) in
+    let same : length (without slot xs) ≡ length xs =
+    ap length (absent slot xs (subst (λ s. ¬ (Contains xs s)) is (head_apart x xs apart))) in
     omega (arith, gone, same)
 one_fewer slot (x ∷ xs) apart (suc k, low, is) =
     let there : Contains xs slot = (k, omega (arith, low), is) in
-    let kept : length (without slot (x ∷ xs)) ≡ length (x ∷ without slot xs) = ap (λ b. length (cond (not b) (x ∷ without slot xs) (without slot xs))) (ne_eqb x slot (λ same. head_apart x xs apart (subst (Contains xs) (sym same) there))) in
+    let kept : length (without slot (x ∷ xs)) ≡ length (x ∷ without slot xs) =
+    ap (λ b. length (cond (not b) (x ∷ without slot xs) (without slot xs)))
+    (ne_eqb x slot (λ same. head_apart x xs apart (subst (Contains xs) (sym same) there))) in
     let rest = one_fewer slot xs (tail_apart x xs apart) there in
     omega (arith, kept, rest)
 
 -- ---- the hand
 
 -- a slot of the own pool isn't in hand
-hand_stays : (start : Start) (know : Know) (slot : ℕ) (pool : List ℕ) (hand : Option ℕ) → HandFits start know pool hand → Contains pool slot → hand_without slot hand ≡ hand
+hand_stays : (start : Start) (know : Know) (slot : ℕ) (pool : List ℕ) (hand : Option ℕ) →
+    HandFits start know pool hand → Contains pool slot → hand_without slot hand ≡ hand
 hand_stays start know slot pool None fits there = refl
-hand_stays start know slot pool (Some s) fits there = ap (λ b. cond b None (Some s)) (ne_eqb s slot (λ same. fits.2 (subst (Contains pool) (sym same) there)))
+hand_stays start know slot pool (Some s) fits there =
+    ap (λ b. cond b None (Some s)) (ne_eqb s slot (λ same. fits.2 (subst (Contains pool) (sym same) there)))
 
 -- ---- so many slots were raised
 
@@ -109,21 +124,31 @@ raised_now {p} {q} {slot} d =
       moment = moment;
       is = did_moment d;
       raised = ([], d.seen ∙ sym (append-nil (moment ++ event ∷ [])));
-      shared = ap (λ (w : World). w.place slot) (world_after-snoc p.start moment event) ∙ put_here (world_after p.start moment).place slot Shared;
+      shared = ap (λ (w : World). w.place slot) (world_after-snoc p.start moment event)
+          ∙ put_here (world_after p.start moment).place slot Shared;
     }
 
 raised_before : {p q r : Trace} {slot : ℕ} → WasRaised p q slot → Quiet q r → WasRaised p r slot
-raised_before {p} {q} {r} a b = record { moment = a.moment; is = moment_before a.is b; raised = begins_trans _ q.seen r.seen a.raised b.seen; shared = a.shared }
+raised_before {p} {q} {r} a b =
+    record {
+      moment = a.moment;
+      is = moment_before a.is b;
+      raised = begins_trans _ q.seen r.seen a.raised b.seen;
+      shared = a.shared;
+    }
 
 raised_after : {p q r : Trace} {slot : ℕ} → Quiet p q → WasRaised q r slot → WasRaised p r slot
 raised_after {p} {q} {r} {slot} a b = record {
   moment = b.moment;
   is = moment_after a.seen b.is;
   raised = subst (λ (who : ℕ). Begins (b.moment ++ event_of who (Raise slot) ∷ []) r.seen) a.same.who b.raised;
-  shared = subst (λ (x : Start × ℕ). (world_after x.0 (b.moment ++ event_of x.1 (Raise slot) ∷ [])).place slot ≡ Shared) (λ i. (a.same.start i, a.same.who i)) b.shared;
+  shared = subst (λ (x : Start × ℕ). (world_after x.0 (b.moment ++ event_of x.1 (Raise slot) ∷ [])).place slot ≡ Shared)
+      (λ i. (a.same.start i, a.same.who i)) b.shared;
 }
 
-module _ {p q : PassView} {slot n : ℕ} (law : PassLaw p) (there : Contains p.pool slot) (d : Did (Raise slot) p.trace q.trace n) (pool : q.pool ≡ without slot p.pool) (hand_left : q.hand ≡ hand_without slot p.hand) where
+module _ {p q : PassView} {slot n : ℕ} (law : PassLaw p) (there : Contains p.pool slot)
+    (d : Did (Raise slot) p.trace q.trace n) (pool : q.pool ≡ without slot p.pool)
+    (hand_left : q.hand ≡ hand_without slot p.hand) where
   hand : q.hand ≡ p.hand
   hand = hand_left ∙ hand_stays p.trace.start (knows p.trace) slot p.pool p.hand law.own.in_hand there
 
@@ -132,7 +157,9 @@ module _ {p q : PassView} {slot n : ℕ} (law : PassLaw p) (there : Contains p.p
   other_own s other = ap (λ (k : Know). k.own s) d.know ∙ put_other (knows p.trace).own slot None s other
 
   there_still : (s : ℕ) → s ≢ slot → Contains p.pool s → Contains q.pool s
-  there_still s other c = subst (λ xs. Contains xs s) (sym pool) (contains_kept (λ x. not (x == slot)) p.pool s (ap not (ne_eqb s slot other)) c)
+  there_still s other c =
+      subst (λ xs. Contains xs s) (sym pool)
+      (contains_kept (λ x. not (x == slot)) p.pool s (ap not (ne_eqb s slot other)) c)
 
   has_still : (s : ℕ) → s ≢ slot → HasSlot p s → HasSlot q s
   has_still s other (inl c) = inl (there_still s other c)
@@ -140,7 +167,10 @@ module _ {p q : PassView} {slot n : ℕ} (law : PassLaw p) (there : Contains p.p
 
   free : HasFree p q
   free s could = dite (ℕ_discrete s slot)
-      (λ (same : s ≡ slot). absurd (subst MayBear (ap (λ (k : Know). k.own s) d.know ∙ ap (put (knows p.trace).own slot None) same ∙ put_here (knows p.trace).own slot None) could.0))
+      (λ (same : s ≡ slot).
+      absurd (subst MayBear
+      (ap (λ (k : Know). k.own s) d.know ∙ ap (put (knows p.trace).own slot None) same
+      ∙ put_here (knows p.trace).own slot None) could.0))
       (λ (other : s ≢ slot). has_still s other (could.1 (subst MayBear (other_own s other) could.0)))
 
   pub giving_one : Giving p q 1
@@ -148,7 +178,9 @@ module _ {p q : PassView} {slot n : ℕ} (law : PassLaw p) (there : Contains p.p
     took = did_took d;
     raises = did_made is_raise d;
     count = ap (λ (xs : List ℕ). length xs + 1) pool ∙ one_fewer slot p.pool law.own.apart there;
-    each = λ s has. dite (ℕ_discrete s slot) (λ same. inr (subst (WasRaised p.trace q.trace) (sym same) (raised_now d))) (λ other. inl (there_still s other has));
+    each = λ s has.
+        dite (ℕ_discrete s slot) (λ same. inr (subst (WasRaised p.trace q.trace) (sym same) (raised_now d)))
+        (λ other. inl (there_still s other has));
     hand = hand;
     quiet = did_quiet d (λ know. refl);
     kept = record { free = free; stamped = did_stamps d refl; turn = did_turn d };
@@ -162,7 +194,9 @@ giving_on {p} {q} {r} n m a b = record {
   took = took_on n m a.took b.took;
   raises = let x = a.raises in let y = b.raises in omega (arith, x, y);
   count = let x = a.count in let y = b.count in omega (arith, x, y);
-  each = λ s there. ⊎_elim (λ here. ⊎_elim (λ still. inl still) (λ later. inr (raised_after a.quiet later)) (b.each s here)) (λ earlier. inr (raised_before earlier b.quiet)) (a.each s there);
+  each = λ s there.
+      ⊎_elim (λ here. ⊎_elim (λ still. inl still) (λ later. inr (raised_after a.quiet later)) (b.each s here))
+      (λ earlier. inr (raised_before earlier b.quiet)) (a.each s there);
   hand = b.hand ∙ a.hand;
   quiet = quiet_on a.quiet b.quiet;
   kept = slots_kept_on p q r a.kept b.kept;
@@ -171,9 +205,11 @@ giving_on {p} {q} {r} n m a b = record {
 }
 
 -- while fewer were raised than the pool had, its oldest slot is there
-pub oldest_there : {p q : PassView} {raised : ℕ} {before now : List ℕ} (d : ℕ) → Giving p q raised → before ≡ p.pool → now ≡ q.pool → raised < length before → Contains q.pool (get_or now 0 d)
+pub oldest_there : {p q : PassView} {raised : ℕ} {before now : List ℕ} (d : ℕ) → Giving p q raised → before ≡ p.pool →
+    now ≡ q.pool → raised < length before → Contains q.pool (get_or now 0 d)
 oldest_there {p} {q} {raised} {before} {now} d a was is few =
-    let low : 0 < length now = (let c = a.count in let x = ap length was in let y = ap length is in omega (arith, c, x, y, few)) in
+    let low : 0 < length now =
+    (let c = a.count in let x = ap length was in let y = ap length is in omega (arith, c, x, y, few)) in
     subst (λ xs. Contains xs (get_or now 0 d)) is (Contains-get_or now 0 d low)
 
 empty : (xs : List ℕ) → length xs ≡ 0 → xs ≡ []
@@ -189,7 +225,9 @@ gives_each {p} {q} a all =
       raises = a.raises;
       count = all;
       emptied = none;
-      each = λ s has. ⊎_elim (λ (still : Contains q.pool s). absurd (not_in_none s (subst (λ xs. Contains xs s) none still))) (λ (raised : WasRaised p.trace q.trace s). raised) (a.each s has);
+      each = λ s has.
+          ⊎_elim (λ (still : Contains q.pool s). absurd (not_in_none s (subst (λ xs. Contains xs s) none still)))
+          (λ (raised : WasRaised p.trace q.trace s). raised) (a.each s has);
       hand = a.hand;
       quiet = a.quiet;
       kept = a.kept;

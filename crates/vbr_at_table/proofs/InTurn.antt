@@ -1,5 +1,6 @@
 -- A step keeps its pass unlinking in turn where each slot that it unlinked is stamped, or none is unlinked.
-use Rattle.std.proofs.Common.{◌≡◌, ◌≢◌, ℕ, false, List, [], ◌∷◌, ◌++◌, Option, Some, None, refl, sym, ap, ◌∙◌, subst, append-nil, inl, inr}
+use Rattle.std.proofs.Common.{◌≡◌, ◌≢◌, ℕ, false, List, [], ◌∷◌, ◌++◌, Option, Some, None, refl, sym, ap, ◌∙◌, subst}
+use Rattle.std.proofs.Common.{append-nil, inl, inr}
 use Rattle.std.specs.Prelude.{◌⊎◌}
 use Rattle.std.proofs.lemmas.Bool.{true≢false}
 use Rattle.vbr_machine.specs.Start.{Start}
@@ -52,18 +53,24 @@ abbrev unlinking : ℕ → At → ℕ → ℕ → Event
 unlinking who pred expected s = event_of who (Unlink pred expected s)
 
 -- what others do
-pub turn_others : (start : Start) (run rest : List Event) (who : ℕ) → NoneOf who rest → UnlinksInTurn start run who → UnlinksInTurn start (run ++ rest) who
-turn_others start run rest who none turn before later pred expected s h = go (in_either run rest before later (unlinking who pred expected s) h)
+pub turn_others : (start : Start) (run rest : List Event) (who : ℕ) → NoneOf who rest → UnlinksInTurn start run who →
+    UnlinksInTurn start (run ++ rest) who
+turn_others start run rest who none turn before later pred expected s h =
+    go (in_either run rest before later (unlinking who pred expected s) h)
   where
     go : IsIn run rest before later (unlinking who pred expected s) → number_at start before (Unstamped who) ≡ 0
     go (inl l) = turn before l.0 pred expected s l.1
     go (inr r) = absurd (none_at who r.0 later (unlinking who pred expected s) (subst (NoneOf who) r.2 none) refl)
 
 -- what the pass does
-turn_more : (start : Start) (run : List Event) (who : ℕ) (step : Step) → ((pred : At) (expected s : ℕ) → step ≡ Unlink pred expected s → number_at start run (Unstamped who) ≡ 0) → UnlinksInTurn start run who → UnlinksInTurn start (run ++ event_of who step ∷ []) who
-turn_more start run who step none turn before later pred expected s h = go (in_either run (event_of who step ∷ []) before later (unlinking who pred expected s) h)
+turn_more : (start : Start) (run : List Event) (who : ℕ) (step : Step) →
+    ((pred : At) (expected s : ℕ) → step ≡ Unlink pred expected s → number_at start run (Unstamped who) ≡ 0) →
+    UnlinksInTurn start run who → UnlinksInTurn start (run ++ event_of who step ∷ []) who
+turn_more start run who step none turn before later pred expected s h =
+    go (in_either run (event_of who step ∷ []) before later (unlinking who pred expected s) h)
   where
-    last : (m : List Event) → before ≡ run ++ m → event_of who step ∷ [] ≡ m ++ unlinking who pred expected s ∷ later → number_at start before (Unstamped who) ≡ 0
+    last : (m : List Event) → before ≡ run ++ m → event_of who step ∷ [] ≡ m ++ unlinking who pred expected s ∷ later →
+        number_at start before (Unstamped who) ≡ 0
     last [] at e =
         let is : event_of who step ≡ unlinking who pred expected s = first_same _ _ [] later e in
         let P : List Event → Type 0 = λ r. number_at start r (Unstamped who) ≡ 0 in
@@ -74,7 +81,8 @@ turn_more start run who step none turn before later pred expected s h = go (in_e
         empty [] e = absurd (cc)
         empty (y ∷ m) e = absurd (cc)
 
-    go : IsIn run (event_of who step ∷ []) before later (unlinking who pred expected s) → number_at start before (Unstamped who) ≡ 0
+    go : IsIn run (event_of who step ∷ []) before later (unlinking who pred expected s) →
+        number_at start before (Unstamped who) ≡ 0
     go (inl l) = turn before l.0 pred expected s l.1
     go (inr r) = last r.0 r.1 r.2
 
@@ -86,11 +94,16 @@ not_unstamped (Some (Free stamp)) n = refl
 not_unstamped (Some (Unlinked seen)) n = absurd (n tt)
 not_unstamped (Some (InHand known)) n = refl
 
-none_unstamped : (p : Trace) (rest : List Event) → NoneOf p.who rest → HasStampedAll p → number_at p.start (p.seen ++ rest) (Unstamped p.who) ≡ 0
-none_unstamped p rest none all = count_none (is_at p.start (p.seen ++ rest) (Unstamped p.who)) p.start.shape.slots (λ s low. ap (λ (k : Know). is_unstamped (k.own s)) (others_leave_know p.start p.seen rest p.who none) ∙ not_unstamped ((knows p).own s) (all s))
+none_unstamped : (p : Trace) (rest : List Event) → NoneOf p.who rest → HasStampedAll p →
+    number_at p.start (p.seen ++ rest) (Unstamped p.who) ≡ 0
+none_unstamped p rest none all =
+    count_none (is_at p.start (p.seen ++ rest) (Unstamped p.who)) p.start.shape.slots
+    (λ s low. ap (λ (k : Know). is_unstamped (k.own s)) (others_leave_know p.start p.seen rest p.who none)
+    ∙ not_unstamped ((knows p).own s) (all s))
 
 module _ {step : Step} {p q : Trace} {r : ℕ} (d : Did step p q r) where
-  seen_turn : UnlinksInTurn p.start ((p.seen ++ d.rest) ++ event_of p.who step ∷ []) p.who → UnlinksInTurn q.start q.seen q.who
+  seen_turn : UnlinksInTurn p.start ((p.seen ++ d.rest) ++ event_of p.who step ∷ []) p.who →
+      UnlinksInTurn q.start q.seen q.who
   seen_turn turn = subst P (λ i. (sym d.same.1 i, sym d.seen i, sym d.same.3 i)) turn
     where
       P : Start × List Event × ℕ → Type 0
@@ -98,8 +111,13 @@ module _ {step : Step} {p q : Trace} {r : ℕ} (d : Did step p q r) where
 
   -- each step, where the pass has stamped what it unlinked
   pub did_turn : GoesInTurn p q
-  did_turn all turn = seen_turn (turn_more p.start (p.seen ++ d.rest) p.who step (λ pred expected s e. none_unstamped p d.rest d.none all) (turn_others p.start p.seen d.rest p.who d.none turn))
+  did_turn all turn =
+      seen_turn (turn_more p.start (p.seen ++ d.rest) p.who step
+      (λ pred expected s e. none_unstamped p d.rest d.none all) (turn_others p.start p.seen d.rest p.who d.none turn))
 
   -- a step that unlinks none
   pub did_stay_turn : is_unlink step ≡ false → StaysInTurn p q
-  did_stay_turn other turn = seen_turn (turn_more p.start (p.seen ++ d.rest) p.who step (λ pred expected s e. absurd (true≢false (sym (ap is_unlink e) ∙ other))) (turn_others p.start p.seen d.rest p.who d.none turn))
+  did_stay_turn other turn =
+      seen_turn (turn_more p.start (p.seen ++ d.rest) p.who step
+      (λ pred expected s e. absurd (true≢false (sym (ap is_unlink e) ∙ other)))
+      (turn_others p.start p.seen d.rest p.who d.none turn))

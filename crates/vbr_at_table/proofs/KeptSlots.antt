@@ -15,16 +15,31 @@ use Rattle.vbr_at_table.proofs.InTurn.{did_turn}
 use Rattle.vbr_at_table.proofs.WonExchanges.{publish_learned}
 
 -- where the slot in hand goes out of it, the others stay
-pub spent_kept : (p q : PassView) (slot : ℕ) → ((s : ℕ) → (knows q.trace).own s ≡ put (knows p.trace).own slot None s) → p.hand ≡ Some slot → q.pool ≡ p.pool → HasFree p q
+pub spent_kept : (p q : PassView) (slot : ℕ) → ((s : ℕ) → (knows q.trace).own s ≡ put (knows p.trace).own slot None s) →
+    p.hand ≡ Some slot → q.pool ≡ p.pool → HasFree p q
 spent_kept p q slot own hand pool s h =
     let may : MayBear (put (knows p.trace).own slot None s) = subst MayBear (own s) h.0 in
-    ⊎_elim (λ (is : s ≡ slot). absurd (subst MayBear (ap (put (knows p.trace).own slot None) is ∙ put_here (knows p.trace).own slot None) may))
-    (λ (other : s ≢ slot). stays other (h.1 (subst MayBear (put_other (knows p.trace).own slot None s other) may))) (cases_eq s slot)
+    ⊎_elim (λ (is : s ≡ slot).
+    absurd (subst MayBear (ap (put (knows p.trace).own slot None) is ∙ put_here (knows p.trace).own slot None) may))
+    (λ (other : s ≢ slot). stays other (h.1 (subst MayBear (put_other (knows p.trace).own slot None s other) may)))
+    (cases_eq s slot)
   where
     stays : s ≢ slot → HasSlot p s → HasSlot q s
     stays other (inl c) = inl (subst (λ (l : List ℕ). Contains l s) (sym pool) c)
     stays other (inr e) = let same : s ≡ slot = cc in absurd (other same)
 
 -- so it is of the slot that is published
-pub publish_none : (p q : PassView) {pred : At} {expected slot : ℕ} → Did (Publish pred expected slot) p.trace q.trace expected → p.hand ≡ Some slot → q.pool ≡ p.pool → TakesNoSlot p q
-publish_none p q {slot = slot} d hand pool = record { count = same_advances d refl; kept = record { free = spent_kept p q slot (λ s. ap (λ (k : Know). k.own s) (publish_learned d)) hand pool; stamped = did_stamps d refl; turn = did_turn d }; grows = grows_same p q pool; shared = inl (same_flags d refl); tries = same_tries d refl }
+pub publish_none : (p q : PassView) {pred : At} {expected slot : ℕ} →
+    Did (Publish pred expected slot) p.trace q.trace expected → p.hand ≡ Some slot → q.pool ≡ p.pool → TakesNoSlot p q
+publish_none p q {slot = slot} d hand pool =
+    record {
+      count = same_advances d refl;
+      kept = record {
+        free = spent_kept p q slot (λ s. ap (λ (k : Know). k.own s) (publish_learned d)) hand pool;
+        stamped = did_stamps d refl;
+        turn = did_turn d;
+      };
+      grows = grows_same p q pool;
+      shared = inl (same_flags d refl);
+      tries = same_tries d refl;
+    }

@@ -5,8 +5,10 @@ pub use Rattle.vbr_at_table.proofs.Shown.{epoch_stood, epoch_told, missed_after}
 -- The steps of a call, one piece after another.
 pub use Rattle.vbr_at_table.proofs.Counting.{counts_none, counts_on, no_room, took_all}
 -- The steps of a pass that would advance the epoch, through its other steps.
-pub use Rattle.vbr_at_table.proofs.Advancing.{did_none, did_stamps, free_on, free_pool, grows_on, grows_same, slots_kept_on, longer, needed_after}
-pub use Rattle.vbr_at_table.proofs.Advancing.{needed_before, none_back, none_known, none_on, none_refl, same_advances, same_flags, shared_on}
+pub use Rattle.vbr_at_table.proofs.Advancing.{did_none, did_stamps, free_on, free_pool, grows_on, grows_same}
+pub use Rattle.vbr_at_table.proofs.Advancing.{slots_kept_on, longer, needed_after}
+pub use Rattle.vbr_at_table.proofs.Advancing.{needed_before, none_back, none_known, none_on, none_refl, same_advances}
+pub use Rattle.vbr_at_table.proofs.Advancing.{same_flags, shared_on}
 pub use Rattle.vbr_at_table.proofs.Advancing.{shared_taken, shares_more, some_grown}
 -- A pass unlinks in turn, from step to step.
 pub use Rattle.vbr_at_table.proofs.InTurn.{did_stay_turn, did_turn, turn_others}
@@ -17,7 +19,8 @@ pub use Rattle.vbr_at_table.proofs.PlacesInShape.{link_in}
 -- What was known stays known.
 pub use Rattle.vbr_at_table.proofs.KeptKnowledge.{behind_kept, held_in_kept, held_in_next, held_kept, keeps_on}
 -- What was so at the moment of a step.
-pub use Rattle.vbr_at_table.proofs.Moments.{stood_after, stood_before, was_absent, was_absent_on, was_entry, was_present}
+pub use Rattle.vbr_at_table.proofs.Moments.{stood_after, stood_before, was_absent, was_absent_on, was_entry}
+pub use Rattle.vbr_at_table.proofs.Moments.{was_present}
 -- An unlinking: won, it gives the pass the slot to stamp; lost, it leaves all as it was.
 pub use Rattle.vbr_at_table.proofs.NoneUnlinked.{unlinks_none}
 -- What calls that read tell, one after another.

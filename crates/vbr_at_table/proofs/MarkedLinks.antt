@@ -19,7 +19,8 @@ use Rattle.vbr_machine.specs.Notes.{Notes}
 use Rattle.vbr_machine.specs.Runs.{IsRun, world_after}
 use Rattle.vbr_machine.specs.declared.event.Step.{Step}
 use Rattle.vbr_machine.specs.declared.event.Step.TheVariants.{Mark, Replace}
-use Rattle.vbr_machine.proofs.Lemmas.{begins_trans, by_both, is_run_before, mark_leaves, others_leave_entries, own_unchanged, put_other, run_agrees, since, world_after-snoc}
+use Rattle.vbr_machine.proofs.Lemmas.{begins_trans, by_both, is_run_before, mark_leaves, others_leave_entries}
+use Rattle.vbr_machine.proofs.Lemmas.{own_unchanged, put_other, run_agrees, since, world_after-snoc}
 use Rattle.vbr_slots.specs.Alone.{IsAlone}
 use Rattle.vbr_slots.specs.Calls.{Quiet}
 use Rattle.vbr_slots.specs.Views.{Trace, Did, event_of}
@@ -37,30 +38,43 @@ module _ (start : Start) (w : World) (p s expected : ℕ) where
   epoch_left = by_both (found start w (Mark s expected) == expected) (λ v. v.epoch) _ w w.epoch refl refl
 
   link_left : (at : At) → at ≢ Slot s → link_at (after start w p (Mark s expected)) at ≡ link_at w at
-  link_left (Head b) other = by_both (found start w (Mark s expected) == expected) (λ v. v.head b) _ w (w.head b) refl refl
-  link_left (Slot t) other = by_both (found start w (Mark s expected) == expected) (λ v. v.link t) _ w (w.link t) (put_other w.link s (marked (link_of expected)) t (λ e. other (ap Slot e))) refl
+  link_left (Head b) other =
+      by_both (found start w (Mark s expected) == expected) (λ v. v.head b) _ w (w.head b) refl refl
+  link_left (Slot t) other =
+      by_both (found start w (Mark s expected) == expected) (λ v. v.link t) _ w (w.link t)
+      (put_other w.link s (marked (link_of expected)) t (λ e. other (ap Slot e))) refl
 
 -- ---- in what a pass that was alone has seen
 
-link_is : {start : Start} {w : World} {a : Incarnations} {notes : ℕ → Notes} → Agrees start w a notes → (at : At) → link_shown_at a at ≡ link_at w at
+link_is : {start : Start} {w : World} {a : Incarnations} {notes : ℕ → Notes} → Agrees start w a notes → (at : At) →
+    link_shown_at a at ≡ link_at w at
 link_is g (Head b) = sym (g.image.head b)
 link_is g (Slot t) = sym (g.image.link t)
 
-pub marked_alone : {p q : Trace} {s r : ℕ} (node : Held) → IsStart p.start → node.at ≡ Slot s → Did (Mark s node.word) p q r → IsAlone p q → MarksAlone p q node
+pub marked_alone : {p q : Trace} {s r : ℕ} (node : Held) → IsStart p.start → node.at ≡ Slot s →
+    Did (Mark s node.word) p q r → IsAlone p q → MarksAlone p q node
 marked_alone {p} {q} {s} node is at d alone =
     let before = run_agrees p.start p.passes p.seen is (run_was d alone) in
     let now = run_agrees q.start q.passes q.seen (shape_on d is) (did_run d) in
     let w = world_after p.start p.seen in
-    let next : world_after q.start q.seen ≡ after p.start w p.who (Mark s node.word) = (λ i. world_after (d.same.1 i) (seen_next d alone i)) ∙ world_after-snoc p.start p.seen (event_of p.who (Mark s node.word)) in
+    let next : world_after q.start q.seen ≡ after p.start w p.who (Mark s node.word) =
+    (λ i. world_after (d.same.1 i) (seen_next d alone i))
+    ∙ world_after-snoc p.start p.seen (event_of p.who (Mark s node.word)) in
     record {
-      epoch = sym now.image.epoch ∙ ap (λ (v : World). v.epoch) next ∙ epoch_left p.start w p.who s node.word ∙ before.image.epoch;
+      epoch = sym now.image.epoch ∙ ap (λ (v : World). v.epoch) next ∙ epoch_left p.start w p.who s node.word
+          ∙ before.image.epoch;
       others = λ place other.
-          link_is now place ∙ ap (λ (v : World). link_at v place) next ∙ link_left p.start w p.who s node.word place (λ e. other (e ∙ sym at)) ∙ sym (link_is before place);
-      listed = λ bucket h. (λ i. behind (d.same.1 i) (nodes_next d alone i) bucket (Head h)) ∙ mark_leaves p.start p.passes p.seen is (run_was d alone) p.who bucket h s node.word (accepted_now d alone);
+          link_is now place ∙ ap (λ (v : World). link_at v place) next
+          ∙ link_left p.start w p.who s node.word place (λ e. other (e ∙ sym at)) ∙ sym (link_is before place);
+      listed = λ bucket h.
+          (λ i. behind (d.same.1 i) (nodes_next d alone i) bucket (Head h))
+          ∙ mark_leaves p.start p.passes p.seen is (run_was d alone) p.who bucket h s node.word (accepted_now d alone);
     }
 
 -- whatever others did before, a step that leaves the links of all other places than a node's
-leaves_by : {p q : Trace} {r : ℕ} (step : Step) (node : Held) → IsStart p.start → ((w : World) (place : At) → place ≢ node.at → link_at (after p.start w p.who step) place ≡ link_at w place) → Did step p q r → LeavesOthers p q node
+leaves_by : {p q : Trace} {r : ℕ} (step : Step) (node : Held) → IsStart p.start →
+    ((w : World) (place : At) → place ≢ node.at → link_at (after p.start w p.who step) place ≡ link_at w place) →
+    Did step p q r → LeavesOthers p q node
 leaves_by {p} {q} step node is left d =
     let moment = p.seen ++ d.rest in
     let event = event_of p.who step in
@@ -69,32 +83,52 @@ leaves_by {p} {q} step node is left d =
     let before = run_agrees p.start p.passes moment is ok_moment in
     let now = run_agrees p.start p.passes q.seen is d.is_run in
     let w = world_after p.start moment in
-    let next : world_after p.start q.seen ≡ after p.start w p.who step = ap (world_after p.start) d.seen ∙ world_after-snoc p.start moment event in
+    let next : world_after p.start q.seen ≡ after p.start w p.who step =
+    ap (world_after p.start) d.seen ∙ world_after-snoc p.start moment event in
     record {
       moment = moment;
       from = (d.rest, refl);
       to = (event ∷ [], d.seen);
-      own = λ bucket. own_unchanged (since p.start p.passes p.seen moment is ok_moment (d.rest, refl)) p.who bucket (others_leave_entries p.start p.seen d.rest p.who d.none);
-      links = λ place other. link_is now place ∙ ap (λ (v : World). link_at v place) next ∙ left w place other ∙ sym (link_is before place);
+      own = λ bucket.
+          own_unchanged (since p.start p.passes p.seen moment is ok_moment (d.rest, refl)) p.who bucket
+          (others_leave_entries p.start p.seen d.rest p.who d.none);
+      links = λ place other.
+          link_is now place ∙ ap (λ (v : World). link_at v place) next ∙ left w place other
+          ∙ sym (link_is before place);
     }
 
-pub marked_leaves : {p q : Trace} {s r : ℕ} (node : Held) → IsStart p.start → node.at ≡ Slot s → Did (Mark s node.word) p q r → LeavesOthers p q node
-marked_leaves {p} {q} {s} node is at d = leaves_by (Mark s node.word) node is (λ w place other. link_left p.start w p.who s node.word place (λ e. other (e ∙ sym at))) d
+pub marked_leaves : {p q : Trace} {s r : ℕ} (node : Held) → IsStart p.start → node.at ≡ Slot s →
+    Did (Mark s node.word) p q r → LeavesOthers p q node
+marked_leaves {p} {q} {s} node is at d =
+    leaves_by (Mark s node.word) node is
+    (λ w place other. link_left p.start w p.who s node.word place (λ e. other (e ∙ sym at))) d
 
 -- a replacement does so
-replaced_link : (start : Start) (w : World) (p s expected t : ℕ) (at : At) → at ≢ Slot s → link_at (after start w p (Replace s expected t)) at ≡ link_at w at
-replaced_link start w p s expected t (Head b) other = by_both (found start w (Replace s expected t) == expected) (λ v. v.head b) _ w (w.head b) refl refl
-replaced_link start w p s expected t (Slot i) other = by_both (found start w (Replace s expected t) == expected) (λ v. v.link i) _ w (w.link i) (put_other w.link s (link_written (w.know p) (Replace s expected t)) i (λ e. other (ap Slot e))) refl
+replaced_link : (start : Start) (w : World) (p s expected t : ℕ) (at : At) → at ≢ Slot s →
+    link_at (after start w p (Replace s expected t)) at ≡ link_at w at
+replaced_link start w p s expected t (Head b) other =
+    by_both (found start w (Replace s expected t) == expected) (λ v. v.head b) _ w (w.head b) refl refl
+replaced_link start w p s expected t (Slot i) other =
+    by_both (found start w (Replace s expected t) == expected) (λ v. v.link i) _ w (w.link i)
+    (put_other w.link s (link_written (w.know p) (Replace s expected t)) i (λ e. other (ap Slot e))) refl
 
-pub replaced_leaves : {p q : Trace} {s t r : ℕ} (node : Held) → IsStart p.start → node.at ≡ Slot s → Did (Replace s node.word t) p q r → LeavesOthers p q node
-replaced_leaves {p} {q} {s} {t} node is at d = leaves_by (Replace s node.word t) node is (λ w place other. replaced_link p.start w p.who s node.word t place (λ e. other (e ∙ sym at))) d
+pub replaced_leaves : {p q : Trace} {s t r : ℕ} (node : Held) → IsStart p.start → node.at ≡ Slot s →
+    Did (Replace s node.word t) p q r → LeavesOthers p q node
+replaced_leaves {p} {q} {s} {t} node is at d =
+    leaves_by (Replace s node.word t) node is
+    (λ w place other. replaced_link p.start w p.who s node.word t place (λ e. other (e ∙ sym at))) d
 
 -- and so it is since what changed no list
-pub leaves_since : {p q r : Trace} (node : Held) → Quiet p q → ChangesNone p q → LeavesOthers q r node → LeavesOthers p r node
+pub leaves_since : {p q r : Trace} (node : Held) → Quiet p q → ChangesNone p q → LeavesOthers q r node →
+    LeavesOthers p r node
 leaves_since {p} {q} {r} node quiet none x = record {
   moment = x.moment;
   from = begins_trans p.seen q.seen x.moment quiet.seen x.from;
   to = x.to;
-  own = λ bucket. (sym (λ i. own_changes (quiet.same.start i) x.moment (quiet.same.who i) bucket) ∙ x.own bucket) ∙ none.same bucket;
-  links = λ place other. sym (λ i. link_shown_at (incarnations_after (quiet.same.start i) r.seen) place) ∙ x.links place other ∙ (λ i. link_shown_at (incarnations_after (quiet.same.start i) x.moment) place);
+  own = λ bucket.
+      (sym (λ i. own_changes (quiet.same.start i) x.moment (quiet.same.who i) bucket) ∙ x.own bucket)
+      ∙ none.same bucket;
+  links = λ place other.
+      sym (λ i. link_shown_at (incarnations_after (quiet.same.start i) r.seen) place) ∙ x.links place other
+      ∙ (λ i. link_shown_at (incarnations_after (quiet.same.start i) x.moment) place);
 }

@@ -29,11 +29,13 @@ none_told Get other value = absurd (other refl)
 pub not_valued : {values : Bool} {A : Type 0} → values ≡ false → values ≡ true → A
 not_valued bare has = absurd (cc)
 
-pub value_known : (values : Bool) (know : Know) (s : ℕ) → (values ≡ true → (value : ℕ) × Knows know (ValueOf s value)) → KnowsValue values know s
+pub value_known : (values : Bool) (know : Know) (s : ℕ) → (values ≡ true → (value : ℕ) × Knows know (ValueOf s value)) →
+    KnowsValue values know s
 value_known true know s valued = valued refl
 value_known false know s valued = tt
 
-pub value_known_for : (op : Op) (know : Know) (s : ℕ) → (op ≡ Get → (value : ℕ) × Knows know (ValueOf s value)) → KnowsValueFor op know s
+pub value_known_for : (op : Op) (know : Know) (s : ℕ) → (op ≡ Get → (value : ℕ) × Knows know (ValueOf s value)) →
+    KnowsValueFor op know s
 value_known_for Insert know s asked = tt
 value_known_for Remove know s asked = tt
 value_known_for Has know s asked = tt
@@ -46,10 +48,12 @@ op_asked start Has asked = tt
 op_asked start Get asked = asked refl
 
 -- a value that is known in hand, where nodes have values
-pub value_asked : (values : Bool) (known : Option ℕ) (value : ℕ) → (values ≡ true → known ≡ Some value) → HasValue values known
+pub value_asked : (values : Bool) (known : Option ℕ) (value : ℕ) → (values ≡ true → known ≡ Some value) →
+    HasValue values known
 value_asked true known value valued = let P : Option ℕ → Type 0 = HasValue true in subst P (sym (valued refl)) refl
 value_asked false known value valued = tt
 
-pub kept_same : (values : Bool) (known : Option ℕ) (value : ℕ) → (values ≡ true → known ≡ Some value) → cond values known None ≡ cond values (Some value) None
+pub kept_same : (values : Bool) (known : Option ℕ) (value : ℕ) → (values ≡ true → known ≡ Some value) →
+    cond values known None ≡ cond values (Some value) None
 kept_same true known value valued = valued refl
 kept_same false known value valued = refl

@@ -10,17 +10,24 @@ use Rattle.vbr_machine.proofs.Lemmas.{put_other}
 use Rattle.vbr_slots.specs.Views.{PassView, Did, KeepsPool, knows}
 use Rattle.vbr_at_table.specs.KeptSlots.{StaysInTurn, TakesNoSlot}
 use Rattle.vbr_at_table.proofs.InTurn.{did_turn}
-use Rattle.vbr_at_table.proofs.Advancing.{free_on, free_pool, grows_on, grows_same, longer, none_known, same_advances, same_flags, same_tries, shared_on}
+use Rattle.vbr_at_table.proofs.Advancing.{free_on, free_pool, grows_on, grows_same, longer, none_known, same_advances}
+use Rattle.vbr_at_table.proofs.Advancing.{same_flags, same_tries, shared_on}
 use Rattle.vbr_at_table.specs.KeptKnowledge.{KeepsUnlinked}
 use Rattle.vbr_at_table.proofs.WonExchanges.{unlink_learned, unlink_lost_same, unlink_owns}
 
-pub lost_none : {p q : PassView} {pred : At} {expected slot found : ℕ} → Did (Unlink pred expected slot) p.trace q.trace found → found ≢ expected → KeepsPool p q → TakesNoSlot p q
-lost_none {p} {q} d other pool = none_known (same_advances d refl) (same_flags d refl) (same_tries d refl) pool (did_turn d) (unlink_lost_same d other)
+pub lost_none : {p q : PassView} {pred : At} {expected slot found : ℕ} →
+    Did (Unlink pred expected slot) p.trace q.trace found → found ≢ expected → KeepsPool p q → TakesNoSlot p q
+lost_none {p} {q} d other pool =
+    none_known (same_advances d refl) (same_flags d refl) (same_tries d refl) pool (did_turn d)
+    (unlink_lost_same d other)
 
-pub won_unlinks : {p q : PassView} {pred : At} {expected slot : ℕ} → Did (Unlink pred expected slot) p.trace q.trace expected → KeepsPool p q → KeepsUnlinked slot p q
+pub won_unlinks : {p q : PassView} {pred : At} {expected slot : ℕ} →
+    Did (Unlink pred expected slot) p.trace q.trace expected → KeepsPool p q → KeepsUnlinked slot p q
 won_unlinks {p} {q} {pred} {expected} {slot} d pool = record {
   count = same_advances d refl;
-  free = free_pool p q pool (λ s m. ⊎_elim (λ (is : s ≡ slot). absurd (subst MayBear (ap (knows q.trace).own is ∙ unlink_owns d) m)) (λ (other : s ≢ slot). subst MayBear (stays s other) m) (cases_eq s slot));
+  free = free_pool p q pool
+      (λ s m. ⊎_elim (λ (is : s ≡ slot). absurd (subst MayBear (ap (knows q.trace).own is ∙ unlink_owns d) m))
+      (λ (other : s ≢ slot). subst MayBear (stays s other) m) (cases_eq s slot));
   others = λ s other u. subst IsUnlinked (stays s other) u;
   turn = did_turn d;
   grows = grows_same p q pool.0;
@@ -29,7 +36,8 @@ won_unlinks {p} {q} {pred} {expected} {slot} d pool = record {
 }
   where
     stays : (s : ℕ) → s ≢ slot → (knows q.trace).own s ≡ (knows p.trace).own s
-    stays s other = ap (λ (k : Know). k.own s) (unlink_learned d) ∙ put_other (knows p.trace).own slot (Some (Unlinked false)) s other
+    stays s other = ap (λ (k : Know). k.own s) (unlink_learned d)
+        ∙ put_other (knows p.trace).own slot (Some (Unlinked false)) s other
 
 -- what was done before the unlinking
 pub unlinks_on : {slot : ℕ} (p q r : PassView) → TakesNoSlot p q → KeepsUnlinked slot q r → KeepsUnlinked slot p r
@@ -44,12 +52,15 @@ unlinks_on p q r a b = record {
 }
 
 -- once the slot is stamped, none is lost
-pub unlinks_none : {slot : ℕ} (p q r : PassView) → KeepsUnlinked slot p q → TakesNoSlot q r → StaysInTurn q.trace r.trace → ¬ (IsUnlinked ((knows r.trace).own slot)) → TakesNoSlot p r
+pub unlinks_none : {slot : ℕ} (p q r : PassView) → KeepsUnlinked slot p q → TakesNoSlot q r →
+    StaysInTurn q.trace r.trace → ¬ (IsUnlinked ((knows r.trace).own slot)) → TakesNoSlot p r
 unlinks_none {slot} p q r a b turn stamped = record {
   count = b.count ∙ a.count;
   kept = record {
     free = free_on p q r a.free b.kept.free;
-    stamped = λ s u. ⊎_elim (λ (is : s ≡ slot). absurd (stamped (subst (λ (t : ℕ). IsUnlinked ((knows r.trace).own t)) is u))) (λ (other : s ≢ slot). a.others s other (b.kept.stamped s u)) (cases_eq s slot);
+    stamped = λ s u.
+        ⊎_elim (λ (is : s ≡ slot). absurd (stamped (subst (λ (t : ℕ). IsUnlinked ((knows r.trace).own t)) is u)))
+        (λ (other : s ≢ slot). a.others s other (b.kept.stamped s u)) (cases_eq s slot);
     turn = λ all before. turn (a.turn all before);
   };
   grows = grows_on p q r a.grows b.grows;

@@ -11,7 +11,8 @@ use Rattle.vbr_slots.specs.Views.{PassView, Trace}
 use Rattle.vbr_at_table.specs.Answering.{AnswersPresent, IsAnswered}
 use Rattle.vbr_at_table.specs.Exchanges.{InsertsNode, InsertsKey, StoresIn}
 use Rattle.vbr_at_table.specs.Hands.{HandView}
-use Rattle.vbr_at_table.specs.Values.{AnswersEntry, LinksEntry, entry_call, IsAsked, IsValued, MarksEntry, RemovesKey, steps_to_update, steps_to_value}
+use Rattle.vbr_at_table.specs.Values.{AnswersEntry, LinksEntry, entry_call, IsAsked, IsValued, MarksEntry, RemovesKey}
+use Rattle.vbr_at_table.specs.Values.{steps_to_update, steps_to_value}
 use Rattle.vbr_at_table.specs.declared.held.Held.{Held}
 use Rattle.vbr_at_table.specs.declared.held.Marked.{Marked}
 use Rattle.vbr_at_table.specs.declared.rollback.Rollback.{Rollback}
@@ -31,13 +32,19 @@ key_asked p op at other get = absurd (other get)
 -- ---- what they tell
 
 -- the call has no value
-key_call : (p : Trace) (op : Op) (key value : ℕ) → p.start.shape.values ≡ false → entry_call p.start p.who op key true value ≡ set_call p.who op key true
-key_call p op key value bare = ap (λ (v : Option ℕ). record { who = p.who; op = op; key = key; reply = true; value = v }) (none_kept p.start bare (Some value))
+key_call : (p : Trace) (op : Op) (key value : ℕ) → p.start.shape.values ≡ false →
+    entry_call p.start p.who op key true value ≡ set_call p.who op key true
+key_call p op key value bare =
+    ap (λ (v : Option ℕ). record { who = p.who; op = op; key = key; reply = true; value = v })
+    (none_kept p.start bare (Some value))
 
 -- a mark removes the key
-pub key_removed : (p q : Trace) (node : Held) (result : Result Marked Rollback) → p.start.shape.values ≡ false → IfOk result (MarksEntry p q node) → IfOk result (RemovesKey p q node)
+pub key_removed : (p q : Trace) (node : Held) (result : Result Marked Rollback) → p.start.shape.values ≡ false →
+    IfOk result (MarksEntry p q node) → IfOk result (RemovesKey p q node)
 key_removed p q node (Ok now) bare removed = record {
-  made = λ key k. subst (λ (call : Call). Made call p q) (key_call p Remove key 0 bare) (removed.made key 0 k (λ has. not_valued bare has));
+  made = λ key k.
+      subst (λ (call : Call). Made call p q) (key_call p Remove key 0 bare)
+      (removed.made key 0 k (λ has. not_valued bare has));
   at = removed.at;
   link = removed.link;
   held = removed.held;
@@ -48,15 +55,23 @@ key_removed p q node (Ok now) bare removed = record {
 key_removed p q node (Err rollback) bare removed = tt
 
 -- an update inserts the key
-pub key_inserted : (p q : PassView) (key value : ℕ) (result : Result (Unit {0}) (HandView × Rollback)) → p.trace.start.shape.values ≡ false → IfOk result (λ done. LinksEntry p q key value) → IfOk result (λ done. InsertsKey p q key)
-key_inserted p q key value (Ok done) bare inserted = subst (λ (call : Call). InsertsNode call p q) (key_call p.trace Insert key value bare) inserted
+pub key_inserted : (p q : PassView) (key value : ℕ) (result : Result (Unit {0}) (HandView × Rollback)) →
+    p.trace.start.shape.values ≡ false → IfOk result (λ done. LinksEntry p q key value) →
+    IfOk result (λ done. InsertsKey p q key)
+key_inserted p q key value (Ok done) bare inserted =
+    subst (λ (call : Call). InsertsNode call p q) (key_call p.trace Insert key value bare) inserted
 key_inserted p q key value (Err back) bare inserted = tt
 
 -- in three steps
-pub key_stored : (p q : PassView) → p.trace.start.shape.values ≡ false → StoresIn p q (steps_to_update p.trace.start) → StoresIn p q 3
-key_stored p q bare stores = let P : Bool → Type 0 = λ values. StoresIn p q (1 + steps_to_value values + 1 + 1) in subst P bare stores
+pub key_stored : (p q : PassView) → p.trace.start.shape.values ≡ false → StoresIn p q (steps_to_update p.trace.start) →
+    StoresIn p q 3
+key_stored p q bare stores =
+    let P : Bool → Type 0 = λ values. StoresIn p q (1 + steps_to_value values + 1 + 1) in subst P bare stores
 
 -- and an answer by the presence of the entry is one by the presence of the key, of an operation that is no get
-pub key_present : (p q : Trace) (op : Op) (node : Held) (result : Result (Unit {0}) Rollback) → op ≢ Get → OnOk result (AnswersEntry p q op node) → OnOk result (AnswersPresent p q op node)
-key_present p q op node (Ok done) other told = λ key k. subst (λ (call : Call). IsAnswered p q call) (of_set p.who op key other) (told.answers key 0 k (λ get. absurd (other get)))
+pub key_present : (p q : Trace) (op : Op) (node : Held) (result : Result (Unit {0}) Rollback) → op ≢ Get →
+    OnOk result (AnswersEntry p q op node) → OnOk result (AnswersPresent p q op node)
+key_present p q op node (Ok done) other told = λ key k.
+    subst (λ (call : Call). IsAnswered p q call) (of_set p.who op key other)
+    (told.answers key 0 k (λ get. absurd (other get)))
 key_present p q op node (Err rollback) other told = tt

@@ -1,5 +1,6 @@
 -- The places and slots that a pass knows of are in the shape, since loads and exchanges ask for that.
-use Rattle.std.proofs.Common.{◌≡◌, ◌≢◌, ℕ, ◌<◌, ◌≤◌, List, [], ◌∷◌, ◌++◌, sym, subst, inl, inr, arith, Option, Some, None}
+use Rattle.std.proofs.Common.{◌≡◌, ◌≢◌, ℕ, ◌<◌, ◌≤◌, List, [], ◌∷◌, ◌++◌, sym, subst, inl, inr, arith, Option, Some}
+use Rattle.std.proofs.Common.{None}
 use Rattle.std.specs.Prelude.{◌⊎◌, ◌==◌}
 use Rattle.std.specs.List.{AllByRecursion}
 use Rattle.std.proofs.lemmas.Bool.{cases_Bool, cases_eq, cases_lt}
@@ -11,7 +12,8 @@ use Rattle.vbr_words.specs.declared.link.Link.{Link}
 use Rattle.vbr_words.specs.declared.place.At.{At}
 use Rattle.vbr_machine.specs.Knowledge.{Know}
 use Rattle.vbr_machine.specs.Acceptance.{IsAtIn, Accepts}
-use Rattle.vbr_machine.specs.Learning.{read_epoch, with_pending, with_checked, reads_won, learn, birth_in_hand, value_in_hand, value_read}
+use Rattle.vbr_machine.specs.Learning.{read_epoch, with_pending, with_checked, reads_won, learn, birth_in_hand}
+use Rattle.vbr_machine.specs.Learning.{value_in_hand, value_read}
 use Rattle.vbr_machine.specs.Machine.{World, opening, found, stamp_shown, after}
 use Rattle.vbr_machine.specs.Membership.{Knows, IsHeldSlot}
 use Rattle.vbr_machine.specs.Runs.{AreAccepted, world_from, know_after, IsRun}
@@ -21,7 +23,10 @@ use Rattle.vbr_machine.specs.Sound.{Sound}
 use Rattle.vbr_machine.specs.Incarnations.{State, Incarnations, IsLate}
 use Rattle.vbr_machine.specs.declared.event.Event.{Event}
 use Rattle.vbr_machine.specs.declared.event.Step.{Step}
-use Rattle.vbr_machine.specs.declared.event.Step.TheVariants.{ReadEpoch, Advance, LoadStamp, StoreStamp, Raise, TakeFlag, StoreBirth, StoreKey, StoreValue, StoreLink, LoadLink, LoadBirth, LoadKey, LoadValue, Publish, Mark, Replace, Unlink, ConfirmPresent, ConfirmAbsent}
+use Rattle.vbr_machine.specs.declared.event.Step.TheVariants.{ReadEpoch, Advance, LoadStamp, StoreStamp, Raise}
+use Rattle.vbr_machine.specs.declared.event.Step.TheVariants.{TakeFlag, StoreBirth, StoreKey, StoreValue, StoreLink}
+use Rattle.vbr_machine.specs.declared.event.Step.TheVariants.{LoadLink, LoadBirth, LoadKey, LoadValue, Publish, Mark}
+use Rattle.vbr_machine.specs.declared.event.Step.TheVariants.{Replace, Unlink, ConfirmPresent, ConfirmAbsent}
 use Rattle.vbr_machine.specs.declared.knowledge.Holding.{Holding}
 use Rattle.vbr_machine.specs.declared.knowledge.Holding.TheVariants.{Free, Unlinked, InHand}
 use Rattle.vbr_machine.specs.declared.knowledge.Read.{Read}
@@ -40,29 +45,37 @@ record ReadsIn (start : Start) (know : Know) : Type 0 where
   checked : AllByRecursion (IsReadIn start) know.checked
   pending : AllByRecursion (IsReadIn start) know.pending
 
-all_append : (P : Read → Type 0) (xs ys : List Read) → AllByRecursion P xs → AllByRecursion P ys → AllByRecursion P (xs ++ ys)
+all_append : (P : Read → Type 0) (xs ys : List Read) → AllByRecursion P xs → AllByRecursion P ys →
+    AllByRecursion P (xs ++ ys)
 all_append P [] ys g h = h
 all_append P (x ∷ xs) ys g h = (g.0, all_append P xs ys g.1 h)
 
-checked_more : (start : Start) (know : Know) (reads : List Read) → ReadsIn start know → AllByRecursion (IsReadIn start) reads → ReadsIn start (with_checked know reads)
-checked_more start know reads r h = record { checked = all_append (IsReadIn start) know.checked reads r.checked h; pending = r.pending }
+checked_more : (start : Start) (know : Know) (reads : List Read) → ReadsIn start know →
+    AllByRecursion (IsReadIn start) reads → ReadsIn start (with_checked know reads)
+checked_more start know reads r h =
+    record { checked = all_append (IsReadIn start) know.checked reads r.checked h; pending = r.pending }
 
-pending_more : (start : Start) (know : Know) (read : Read) → ReadsIn start know → IsReadIn start read → ReadsIn start (with_pending know read)
-pending_more start know read r h = record { checked = r.checked; pending = all_append (IsReadIn start) know.pending (read ∷ []) r.pending (h, tt) }
+pending_more : (start : Start) (know : Know) (read : Read) → ReadsIn start know → IsReadIn start read →
+    ReadsIn start (with_pending know read)
+pending_more start know read r h =
+    record { checked = r.checked; pending = all_append (IsReadIn start) know.pending (read ∷ []) r.pending (h, tt) }
 
 epoch_read : (start : Start) (know : Know) (epoch : ℕ) → ReadsIn start know → ReadsIn start (read_epoch know epoch)
 epoch_read start know epoch r = elim (cases_Bool (epoch == know.epoch)) [
-  | inl k ↦ rw k (record { checked = all_append (IsReadIn start) know.checked know.pending r.checked r.pending; pending = tt })
+  | inl k ↦ rw k
+      (record { checked = all_append (IsReadIn start) know.checked know.pending r.checked r.pending; pending = tt })
   | inr k ↦ rw k (record { checked = tt; pending = tt })
 ]
 
 -- the value that a publication tells, if one was stored
-value_won : (start : Start) (s : ℕ) (value : Option ℕ) → s < start.shape.slots → AllByRecursion (IsReadIn start) (value_read s value)
+value_won : (start : Start) (s : ℕ) (value : Option ℕ) → s < start.shape.slots →
+    AllByRecursion (IsReadIn start) (value_read s value)
 value_won start s None low = tt
 value_won start s (Some value) low = (low, tt)
 
 -- what a pass learns by an accepted step leaves all of its reads in the shape
-reads_learned : (start : Start) (know : Know) (step : Step) (found stamp : ℕ) → ReadsIn start know → Accepts start know step → ReadsIn start (learn step found stamp know)
+reads_learned : (start : Start) (know : Know) (step : Step) (found stamp : ℕ) → ReadsIn start know →
+    Accepts start know step → ReadsIn start (learn step found stamp know)
 reads_learned start know ReadEpoch found stamp r ok = epoch_read start know found r
 reads_learned start know (Advance from) found stamp r ok = r
 reads_learned start know (LoadStamp s) found stamp r ok = r
@@ -76,12 +89,17 @@ reads_learned start know (StoreBirth s birth) found stamp r ok = record { checke
 reads_learned start know (StoreKey s key) found stamp r ok = record { checked = r.checked; pending = r.pending }
 reads_learned start know (StoreValue s value) found stamp r ok = record { checked = r.checked; pending = r.pending }
 reads_learned start know (StoreLink s next) found stamp r ok = record { checked = r.checked; pending = r.pending }
-reads_learned start know (LoadLink at) found stamp r ok = pending_more start know (LinkAt at (link_of found)) r ok.in_shape
+reads_learned start know (LoadLink at) found stamp r ok =
+    pending_more start know (LinkAt at (link_of found)) r ok.in_shape
 reads_learned start know (LoadBirth s) found stamp r ok = pending_more start know (BirthOf s found) r ok.in_shape
 reads_learned start know (LoadKey s) found stamp r ok = pending_more start know (KeyOf s found) r ok.in_shape
 reads_learned start know (LoadValue s) found stamp r ok = pending_more start know (ValueOf s found) r ok.in_shape.0
 reads_learned start know (Publish pred expected s) found stamp r ok = elim (cases_Bool (found == expected)) [
-  | inl k ↦ let more = checked_more start know (reads_won know (Publish pred expected s)) r (ok.in_shape.0, (ok.in_shape.1, (ok.in_shape.1, (ok.in_shape.1, value_won start s (value_in_hand (know.own s)) ok.in_shape.1)))) in rw k (record { checked = more.checked; pending = more.pending })
+  | inl k ↦ let more =
+      checked_more start know (reads_won know (Publish pred expected s)) r (
+        ok.in_shape.0,
+        (ok.in_shape.1, (ok.in_shape.1, (ok.in_shape.1, value_won start s (value_in_hand (know.own s)) ok.in_shape.1))),
+      ) in rw k (record { checked = more.checked; pending = more.pending })
   | inr k ↦ rw k r
 ]
 reads_learned start know (Mark s expected) found stamp r ok = elim (cases_Bool (found == expected)) [
@@ -89,29 +107,43 @@ reads_learned start know (Mark s expected) found stamp r ok = elim (cases_Bool (
   | inr k ↦ rw k r
 ]
 reads_learned start know (Replace s expected t) found stamp r ok = elim (cases_Bool (found == expected)) [
-  | inl k ↦ let more = checked_more start know (reads_won know (Replace s expected t)) r (ok.in_shape.0, (ok.in_shape.1, (ok.in_shape.1, (ok.in_shape.1, value_won start t (value_in_hand (know.own t)) ok.in_shape.1)))) in rw k (record { checked = more.checked; pending = more.pending })
+  | inl k ↦ let more =
+      checked_more start know (reads_won know (Replace s expected t)) r (
+        ok.in_shape.0,
+        (ok.in_shape.1, (ok.in_shape.1, (ok.in_shape.1, value_won start t (value_in_hand (know.own t)) ok.in_shape.1))),
+      ) in rw k (record { checked = more.checked; pending = more.pending })
   | inr k ↦ rw k r
 ]
 reads_learned start know (Unlink pred expected s) found stamp r ok = elim (cases_Bool (found == expected)) [
-  | inl k ↦ let more = checked_more start know (reads_won know (Unlink pred expected s)) r (ok.in_shape.0, tt) in rw k (record { checked = more.checked; pending = more.pending })
+  | inl k ↦ let more = checked_more start know (reads_won know (Unlink pred expected s)) r (ok.in_shape.0, tt) in
+      rw k (record { checked = more.checked; pending = more.pending })
   | inr k ↦ rw k r
 ]
 reads_learned start know (ConfirmPresent op s expected) found stamp r ok = r
 reads_learned start know (ConfirmAbsent op key at expected) found stamp r ok = r
 
-reads_on : (start : Start) (passes : ℕ) (w : World) (events : List Event) → ((p : ℕ) → ReadsIn start (w.know p)) → AreAccepted start passes w events → (p : ℕ) → ReadsIn start ((world_from start w events).know p)
+reads_on : (start : Start) (passes : ℕ) (w : World) (events : List Event) → ((p : ℕ) → ReadsIn start (w.know p)) →
+    AreAccepted start passes w events → (p : ℕ) → ReadsIn start ((world_from start w events).know p)
 reads_on start passes w [] r ok p = r p
-reads_on start passes w (event ∷ events) r ok p = reads_on start passes (after start w event.pass event.step) events next ok.1 p
+reads_on start passes w (event ∷ events) r ok p =
+    reads_on start passes (after start w event.pass event.step) events next ok.1 p
   where
     own : ReadsIn start ((after start w event.pass event.step).know event.pass)
-    own = let P : Know → Type 0 = ReadsIn start in subst P (sym (know_own start w event.pass event.step)) (reads_learned start (w.know event.pass) event.step (found start w event.step) (stamp_shown w event.step) (r event.pass) ok.0.1)
+    own =
+        let P : Know → Type 0 = ReadsIn start in
+        subst P (sym (know_own start w event.pass event.step))
+        (reads_learned start (w.know event.pass) event.step (found start w event.step) (stamp_shown w event.step)
+        (r event.pass) ok.0.1)
 
     next : (q : ℕ) → ReadsIn start ((after start w event.pass event.step).know q)
     next q = go (cases_eq q event.pass)
       where
         go : (q ≡ event.pass) ⊎ (q ≢ event.pass) → ReadsIn start ((after start w event.pass event.step).know q)
-        go (inl e) = let P : ℕ → Type 0 = λ i. ReadsIn start ((after start w event.pass event.step).know i) in subst P (sym e) own
-        go (inr ne) = let P : Know → Type 0 = ReadsIn start in subst P (sym (know_other start w q event.pass event.step ne)) (r q)
+        go (inl e) =
+            let P : ℕ → Type 0 = λ i. ReadsIn start ((after start w event.pass event.step).know i) in
+            subst P (sym e) own
+        go (inr ne) =
+            let P : Know → Type 0 = ReadsIn start in subst P (sym (know_other start w q event.pass event.step ne)) (r q)
 
 -- what is late was born
 late_born : {start : Start} {a : Incarnations} → Sound start a → (c e : ℕ) → IsLate (a.state c) e → c < a.count
@@ -121,11 +153,14 @@ late_born {start} {a} s c e late = go (cases_lt c a.count)
     go (inl h) = h
     go (inr h) = absurd (let P : State → Type 0 = λ st. IsLate st e in subst P (s.slots.unborn c h) late)
 
-module _ (start : Start) (passes : ℕ) (run : List Event) (is : IsStart start) (ok : IsRun start passes run) (p : ℕ) where
+module _ (start : Start) (passes : ℕ) (run : List Event) (is : IsStart start) (ok : IsRun start passes run)
+    (p : ℕ) where
   read_in : (read : Read) → Knows (know_after start run p) read → IsReadIn start read
   read_in read k =
       let P : Read → Type 0 = IsReadIn start in
-      All-contains P (know_after start run p).checked read (All-from_recursion P (know_after start run p).checked (reads_on start passes (opening start) run (λ p. record { checked = tt; pending = tt }) ok p).checked) k.among
+      All-contains P (know_after start run p).checked read
+      (All-from_recursion P (know_after start run p).checked
+      (reads_on start passes (opening start) run (λ p. record { checked = tt; pending = tt }) ok p).checked) k.among
 
   -- the place of a known link
   pub link_in : (at : At) (link : Link) → Knows (know_after start run p) (LinkAt at link) → IsAtIn start at
@@ -140,7 +175,11 @@ module _ (start : Start) (passes : ℕ) (run : List Event) (is : IsStart start) 
 
   -- the epoch that a pass knows is one of the shape, and so is each known birth, and the birth of what is in hand
   epoch_in : (know_after start run p).epoch ≤ start.shape.last_epoch
-  epoch_in = let g = run_agrees start passes run is ok in let low = (g.knows p).epoch in let high = g.fits.epoch in omega (arith, low, high)
+  epoch_in =
+      let g = run_agrees start passes run is ok in
+      let low = (g.knows p).epoch in
+      let high = g.fits.epoch in
+      omega (arith, low, high)
 
   pub birth_in : (s birth : ℕ) → Knows (know_after start run p) (BirthOf s birth) → birth ≤ start.shape.last_epoch
   birth_in s birth k =
@@ -151,8 +190,12 @@ module _ (start : Start) (passes : ℕ) (run : List Event) (is : IsStart start) 
   pub hand_in : (s : ℕ) → birth_in_hand ((know_after start run p).own s) ≤ start.shape.last_epoch
   hand_in s = go ((know_after start run p).own s) ((run_agrees start passes run is ok).owns p s)
     where
-      go : (holding : Option Holding) → OwnFits (incarnations_after start run) p (know_after start run p).epoch holding ((incarnations_after start run).place s) ((incarnations_after start run).last s) ((incarnations_after start run).stamp s) → birth_in_hand holding ≤ start.shape.last_epoch
+      go : (holding : Option Holding) →
+          OwnFits (incarnations_after start run) p (know_after start run p).epoch holding
+          ((incarnations_after start run).place s) ((incarnations_after start run).last s)
+          ((incarnations_after start run).stamp s) → birth_in_hand holding ≤ start.shape.last_epoch
       go None fits = omega arith
       go (Some (Free stamp)) fits = omega arith
       go (Some (Unlinked reread)) fits = omega arith
-      go (Some (InHand known)) fits = let low = fits.1.born in let same = fits.1.birth_is in let high = epoch_in in omega (arith, low, same, high)
+      go (Some (InHand known)) fits =
+          let low = fits.1.born in let same = fits.1.birth_is in let high = epoch_in in omega (arith, low, same, high)

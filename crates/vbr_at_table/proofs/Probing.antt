@@ -1,6 +1,7 @@
 -- Each lost probe, but the first of a flag word, shows that another pass has taken a slot meanwhile.
 -- For such a probe is of a flag that was seen set there.
-use Rattle.std.proofs.Common.{◌≡◌, ℕ, ◌+◌, ◌*◌, ◌<◌, ◌≤◌, Bool, true, false, cond, List, [], ◌∷◌, ◌++◌, refl, sym, ap, ◌∙◌, subst, ◌⊎◌, inl, inr, ⊎_elim, arith}
+use Rattle.std.proofs.Common.{◌≡◌, ℕ, ◌+◌, ◌*◌, ◌<◌, ◌≤◌, Bool, true, false, cond, List, [], ◌∷◌, ◌++◌, refl, sym, ap}
+use Rattle.std.proofs.Common.{◌∙◌, subst, ◌⊎◌, inl, inr, ⊎_elim, arith}
 use Rattle.vbr_machine.specs.Start.{Start, IsStart}
 use Rattle.vbr_words.specs.Flags.{word_of_flag, has_flag, IsNextFlag}
 use Rattle.vbr_words.specs.declared.place.Place.TheVariants as place
@@ -9,7 +10,8 @@ use Rattle.vbr_machine.specs.Machine.{World, word_at, found}
 use Rattle.vbr_machine.specs.Runs.{IsRun, world_after}
 use Rattle.vbr_machine.specs.declared.event.Event.{Event}
 use Rattle.vbr_machine.specs.declared.event.Step.TheVariants.{TakeFlag}
-use Rattle.vbr_machine.proofs.Lemmas.{flag_shared, gains_grow, is_run_before, own_gains_uncounted, slot_gained, unflagged, word_told, world_after-snoc}
+use Rattle.vbr_machine.proofs.Lemmas.{flag_shared, gains_grow, is_run_before, own_gains_uncounted, slot_gained}
+use Rattle.vbr_machine.proofs.Lemmas.{unflagged, word_told, world_after-snoc}
 use Rattle.vbr_slots.specs.Views.{Trace, Did, event_of}
 use Rattle.vbr_at_table.specs.Gained.{gained_by_now}
 use Rattle.vbr_at_table.proofs.Shown.{flag_shown, in_pool, out_of_pool}
@@ -18,11 +20,15 @@ use Rattle.vbr_at_table.proofs.Shown.{flag_shown, in_pool, out_of_pool}
 abbrev pub flags_seen : Trace → ℕ → ℕ
 flags_seen q s = found q.start (world_after q.start q.seen) (TakeFlag s)
 
--- so many probes were made since the word `from`, with so many words before slot 0 of this turn: no more than one for each word before that of the next slot, one for each slot that others have taken out of the shared pool, and one more where its flag was seen set in that word
+-- so many probes were made since the word `from`, with so many words before slot 0 of this turn: no more than one
+-- for each word before that of the next slot, one for each slot that others have taken out of the shared pool, and
+-- one more where its flag was seen set in that word
 abbrev pub Probed : Trace → ℕ → ℕ → ℕ → ℕ → Type 0
-Probed q from turn used next = (from + used ≤ turn + word_of_flag next + gained_by_now q) ⊎ ((from + used ≤ turn + word_of_flag next + gained_by_now q + 1) × (has_flag (flags_seen q next) next ≡ true))
+Probed q from turn used next = (from + used ≤ turn + word_of_flag next + gained_by_now q) ⊎
+    ((from + used ≤ turn + word_of_flag next + gained_by_now q + 1) × (has_flag (flags_seen q next) next ≡ true))
 
-module _ {q r : Trace} {slot n : ℕ} (is : IsStart q.start) (d : Did (TakeFlag slot) q r n) (low : slot < q.start.shape.slots) (lost : has_flag n slot ≡ false) where
+module _ {q r : Trace} {slot n : ℕ} (is : IsStart q.start) (d : Did (TakeFlag slot) q r n)
+    (low : slot < q.start.shape.slots) (lost : has_flag n slot ≡ false) where
   abbrev moment : List Event
   moment = q.seen ++ d.rest
 
@@ -42,7 +48,8 @@ module _ {q r : Trace} {slot n : ℕ} (is : IsStart q.start) (d : Did (TakeFlag 
       ap (λ (start : Start). world_after start r.seen) d.same.1
       ∙ ap (world_after q.start) d.seen
       ∙ world_after-snoc q.start moment (event_of q.who (TakeFlag slot))
-      ∙ else_kept (has_flag (found q.start (world_after q.start moment) (TakeFlag slot)) slot) _ (world_after q.start moment) unset
+      ∙ else_kept (has_flag (found q.start (world_after q.start moment) (TakeFlag slot)) slot) _
+      (world_after q.start moment) unset
 
   word_kept : (s : ℕ) → word_of_flag s ≡ word_of_flag slot → flags_seen r s ≡ n
   word_kept s e =
@@ -64,31 +71,50 @@ module _ {q r : Trace} {slot n : ℕ} (is : IsStart q.start) (d : Did (TakeFlag 
   -- a flag that was seen set, and is lost, was won by another
   won_by_other : has_flag (flags_seen q slot) slot ≡ true → gained_by_now q < gained_by_now r
   won_by_other set =
-      let ok : IsRun q.start q.passes (moment ++ event_of q.who (TakeFlag slot) ∷ []) = subst (IsRun q.start q.passes) d.seen d.is_run in
+      let ok : IsRun q.start q.passes (moment ++ event_of q.who (TakeFlag slot) ∷ []) =
+      subst (IsRun q.start q.passes) d.seen d.is_run in
       let was = in_pool _ (flag_shared q.start (world_after q.start q.seen) slot set) in
       let out = out_of_pool _ (unflagged q.start (world_after q.start moment) slot slot low refl unset) in
-      let more = slot_gained q.start q.passes q.seen d.rest q.who slot is (is_run_before q.start q.passes moment (event_of q.who (TakeFlag slot) ∷ []) ok) d.none was out in
+      let more = slot_gained q.start q.passes q.seen d.rest q.who slot is
+      (is_run_before q.start q.passes moment (event_of q.who (TakeFlag slot) ∷ []) ok) d.none was out in
       omega (arith, more, counted)
 
   -- so many probes were made before it at the most
-  pub probed_lost : (from turn used : ℕ) → Probed q from turn used slot → from + used ≤ turn + word_of_flag slot + gained_by_now r
-  probed_lost from turn used at = ⊎_elim (λ (first : from + used ≤ turn + word_of_flag slot + gained_by_now q). omega (arith, first, grown)) (λ (again : (from + used ≤ turn + word_of_flag slot + gained_by_now q + 1) × (has_flag (flags_seen q slot) slot ≡ true)). (let more = won_by_other again.1 in let most = again.0 in omega (arith, most, more))) at
+  pub probed_lost : (from turn used : ℕ) → Probed q from turn used slot →
+      from + used ≤ turn + word_of_flag slot + gained_by_now r
+  probed_lost from turn used at =
+      ⊎_elim (λ (first : from + used ≤ turn + word_of_flag slot + gained_by_now q). omega (arith, first, grown))
+      (λ (again : (from + used ≤ turn + word_of_flag slot + gained_by_now q + 1) ×
+      (has_flag (flags_seen q slot) slot ≡ true)).
+      (let more = won_by_other again.1 in let most = again.0 in omega (arith, most, more))) at
 
   -- after it, either the next one was seen set in the same word, or the next word comes
-  pub probed_next : (from turn used next : ℕ) → Probed q from turn used slot → IsNextFlag n slot next → Probed r from turn (used + 1) next
+  pub probed_next : (from turn used next : ℕ) → Probed q from turn used slot → IsNextFlag n slot next →
+      Probed r from turn (used + 1) next
   probed_next from turn used next at then = next_of then.place
     where
       before : from + used ≤ turn + word_of_flag slot + gained_by_now r
       before = probed_lost from turn used at
 
-      next_of : ((word_of_flag next ≡ word_of_flag slot) × (has_flag n next ≡ true)) ⊎ ((n ≡ 0) × (next ≡ 64 * (word_of_flag slot + 1))) → Probed r from turn (used + 1) next
-      next_of (inl here) = let same = here.0 in inr (omega (arith, before, same), subst (λ (w : ℕ). has_flag w next ≡ true) (sym (word_kept next here.0)) here.1)
+      next_of : ((word_of_flag next ≡ word_of_flag slot) × (has_flag n next ≡ true)) ⊎
+          ((n ≡ 0) × (next ≡ 64 * (word_of_flag slot + 1))) → Probed r from turn (used + 1) next
+      next_of (inl here) =
+          let same = here.0 in
+          inr (
+            omega (arith, before, same),
+            subst (λ (w : ℕ). has_flag w next ≡ true) (sym (word_kept next here.0)) here.1,
+          )
       next_of (inr past) = let e = past.1 in inl (omega (arith, before, e))
 
 -- before the first probe
 pub probed_first : (p : Trace) (start : ℕ) → Probed p (word_of_flag start + gained_by_now p) 0 0 start
 probed_first p start = inl (omega arith)
 
--- no more probes were made than one for each word up to that of the next slot, and one for each slot that others have taken
-pub probed_few : (q : Trace) (from turn used slot : ℕ) → Probed q from turn used slot → from + used ≤ turn + word_of_flag slot + gained_by_now q + 1
-probed_few q from turn used slot at = ⊎_elim (λ (first : from + used ≤ turn + word_of_flag slot + gained_by_now q). omega (arith, first)) (λ (again : (from + used ≤ turn + word_of_flag slot + gained_by_now q + 1) × (has_flag (flags_seen q slot) slot ≡ true)). again.0) at
+-- no more probes were made than one for each word up to that of the next slot, and one for each slot that others
+-- have taken
+pub probed_few : (q : Trace) (from turn used slot : ℕ) → Probed q from turn used slot →
+    from + used ≤ turn + word_of_flag slot + gained_by_now q + 1
+probed_few q from turn used slot at =
+    ⊎_elim (λ (first : from + used ≤ turn + word_of_flag slot + gained_by_now q). omega (arith, first))
+    (λ (again : (from + used ≤ turn + word_of_flag slot + gained_by_now q + 1) ×
+    (has_flag (flags_seen q slot) slot ≡ true)). again.0) at

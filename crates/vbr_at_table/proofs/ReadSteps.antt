@@ -37,7 +37,8 @@ pending_keeps know later read is = rw is (record { epoch = refl; reads = λ r k.
 pending_new : (know later : Know) (read : Read) → later ≡ with_pending know read → Contains later.pending read
 pending_new know later read is = rw is (Contains-append_right know.pending (read ∷ []) read (only read))
 
-pending_stays : (know later : Know) (read : Read) → later ≡ with_pending know read → (r : Read) → Contains know.pending r → Contains later.pending r
+pending_stays : (know later : Know) (read : Read) → later ≡ with_pending know read → (r : Read) →
+    Contains know.pending r → Contains later.pending r
 pending_stays know later read is r m = rw is (Contains-append_left know.pending (read ∷ []) r m)
 
 -- ---- a load
@@ -51,18 +52,47 @@ pub record Loads (step : Step) (found : ℕ) (read : Read) : Type 0 where
   pub teaches : (know : Know) (stamp : ℕ) → learn step found stamp know ≡ with_pending know read
 
 pub loads_link : (at : At) (word : ℕ) → Loads (LoadLink at) word (LinkAt at (link_of word))
-loads_link at word = record { is_load = λ know. refl; no_call = λ start who know. refl; no_entry = λ start who w a. refl; no_gift = refl; teaches = λ know stamp. refl }
+loads_link at word =
+    record {
+      is_load = λ know. refl;
+      no_call = λ start who know. refl;
+      no_entry = λ start who w a. refl;
+      no_gift = refl;
+      teaches = λ know stamp. refl;
+    }
 
 pub loads_birth : (s birth : ℕ) → Loads (LoadBirth s) birth (BirthOf s birth)
-loads_birth s birth = record { is_load = λ know. refl; no_call = λ start who know. refl; no_entry = λ start who w a. refl; no_gift = refl; teaches = λ know stamp. refl }
+loads_birth s birth =
+    record {
+      is_load = λ know. refl;
+      no_call = λ start who know. refl;
+      no_entry = λ start who w a. refl;
+      no_gift = refl;
+      teaches = λ know stamp. refl;
+    }
 
 pub loads_key : (s key : ℕ) → Loads (LoadKey s) key (KeyOf s key)
-loads_key s key = record { is_load = λ know. refl; no_call = λ start who know. refl; no_entry = λ start who w a. refl; no_gift = refl; teaches = λ know stamp. refl }
+loads_key s key =
+    record {
+      is_load = λ know. refl;
+      no_call = λ start who know. refl;
+      no_entry = λ start who w a. refl;
+      no_gift = refl;
+      teaches = λ know stamp. refl;
+    }
 
 pub loads_value : (s value : ℕ) → Loads (LoadValue s) value (ValueOf s value)
-loads_value s value = record { is_load = λ know. refl; no_call = λ start who know. refl; no_entry = λ start who w a. refl; no_gift = refl; teaches = λ know stamp. refl }
+loads_value s value =
+    record {
+      is_load = λ know. refl;
+      no_call = λ start who know. refl;
+      no_entry = λ start who w a. refl;
+      no_gift = refl;
+      teaches = λ know stamp. refl;
+    }
 
-module _ {step : Step} {found : ℕ} {read : Read} (loads : Loads step found read) {p q : Trace} (d : Did step p q found) where
+module _ {step : Step} {found : ℕ} {read : Read} (loads : Loads step found read) {p q : Trace}
+    (d : Did step p q found) where
   pub learned : knows q ≡ with_pending (knows p) read
   learned = d.know ∙ loads.teaches (knows p) _
 
@@ -77,16 +107,31 @@ module _ {step : Step} {found : ℕ} {read : Read} (loads : Loads step found rea
 
 -- ---- the epoch is read
 
-unmoved : (know : Know) (epoch : ℕ) → epoch ≡ know.epoch → read_epoch know epoch ≡ record { epoch = know.epoch; pending = []; checked = know.checked ++ know.pending; own = λ s. reread (know.own s) }
+unmoved : (know : Know) (epoch : ℕ) → epoch ≡ know.epoch →
+    read_epoch know epoch
+    ≡ record {
+      epoch = know.epoch;
+      pending = [];
+      checked = know.checked ++ know.pending;
+      own = λ s. reread (know.own s);
+    }
 unmoved know epoch same = let t : (epoch == know.epoch) ≡ true = eq-eqb epoch know.epoch same in rw t refl
 
-pub moved : (know : Know) (epoch : ℕ) → epoch ≢ know.epoch → read_epoch know epoch ≡ record { epoch = epoch; pending = []; checked = []; own = λ s. reread (know.own s) }
+pub moved : (know : Know) (epoch : ℕ) → epoch ≢ know.epoch →
+    read_epoch know epoch ≡ record { epoch = epoch; pending = []; checked = []; own = λ s. reread (know.own s) }
 moved know epoch other = let t : (epoch == know.epoch) ≡ false = ne_eqb epoch know.epoch other in rw t refl
 
 module _ {p q : Trace} {epoch : ℕ} (d : Did ReadEpoch p q epoch) where
   -- the same epoch as before checks what is pending
   pub unmoved_keeps : epoch ≡ (knows p).epoch → Keeps (knows p) (knows q)
-  unmoved_keeps same = rw (d.know ∙ unmoved (knows p) epoch same) (record { epoch = refl; reads = λ r k. record { among = Contains-append_left (knows p).checked (knows p).pending r k.among } })
+  unmoved_keeps same =
+      rw (d.know ∙ unmoved (knows p) epoch same)
+      (record {
+        epoch = refl;
+        reads = λ r k. record { among = Contains-append_left (knows p).checked (knows p).pending r k.among };
+      })
 
   pub unmoved_checks : epoch ≡ (knows p).epoch → (r : Read) → Contains (knows p).pending r → Knows (knows q) r
-  unmoved_checks same r m = rw (d.know ∙ unmoved (knows p) epoch same) (record { among = Contains-append_right (knows p).checked (knows p).pending r m })
+  unmoved_checks same r m =
+      rw (d.know ∙ unmoved (knows p) epoch same)
+      (record { among = Contains-append_right (knows p).checked (knows p).pending r m })

@@ -1,5 +1,6 @@
 -- A node that is replaced by the one in hand.
-use Rattle.std.proofs.Common.{◌≡◌, ◌≢◌, ℕ, ◌<◌, true, false, List, [], ◌∷◌, ◌++◌, Option, Some, None, refl, sym, ap, ◌∙◌, subst, cond, option_to_list, append_assoc, eq-eqb, inl, arith}
+use Rattle.std.proofs.Common.{◌≡◌, ◌≢◌, ℕ, ◌<◌, true, false, List, [], ◌∷◌, ◌++◌, Option, Some, None, refl, sym, ap}
+use Rattle.std.proofs.Common.{◌∙◌, subst, cond, option_to_list, append_assoc, eq-eqb, inl, arith}
 use Rattle.std.specs.Prelude.{unwrap_or}
 use Rattle.std.specs.List.{Contains}
 use Rattle.vbr_machine.specs.Start.{Start, IsStart}
@@ -17,7 +18,8 @@ use Rattle.vbr_machine.specs.Sound.{IsRemoved}
 use Rattle.vbr_machine.specs.declared.event.Event.{Event}
 use Rattle.vbr_machine.specs.Acceptance.{IsAtIn, IsInHand, Accepts}
 use Rattle.vbr_machine.specs.Knowledge.{Know}
-use Rattle.vbr_machine.specs.Learning.{call_ahead, call_of, key_in_hand, link_in_hand, link_written, birth_in_hand, reads_won, value_in_hand, value_read, with_checked, with_own}
+use Rattle.vbr_machine.specs.Learning.{call_ahead, call_of, key_in_hand, link_in_hand, link_written, birth_in_hand}
+use Rattle.vbr_machine.specs.Learning.{reads_won, value_in_hand, value_read, with_checked, with_own}
 use Rattle.vbr_machine.specs.Links.{link_to, marked}
 use Rattle.vbr_machine.specs.Machine.{found}
 use Rattle.vbr_machine.specs.Membership.{BirthAt, BirthNamed, KeyAt, Knows, MayReplaceKnown}
@@ -28,7 +30,9 @@ use Rattle.vbr_machine.specs.declared.history.Call.{Call}
 use Rattle.vbr_machine.specs.declared.history.Op.TheVariants.{Insert, Remove}
 use Rattle.vbr_machine.specs.declared.knowledge.Holding.{Holding}
 use Rattle.vbr_machine.specs.declared.knowledge.Read.TheVariants.{BirthOf, KeyOf, LinkAt, ValueOf}
-use Rattle.vbr_machine.proofs.Lemmas.{begins_trans, calls-snoc, calls_since, is_run_before, is_run_last, known_accepts, marked_call_is, others_leave_know, replaced_earlier, replaced_entry, replaced_out, written_is}
+use Rattle.vbr_machine.proofs.Lemmas.{begins_trans, calls-snoc, calls_since, is_run_before, is_run_last, known_accepts}
+use Rattle.vbr_machine.proofs.Lemmas.{marked_call_is, others_leave_know, replaced_earlier, replaced_entry, replaced_out}
+use Rattle.vbr_machine.proofs.Lemmas.{written_is}
 use Rattle.vbr_slots.specs.Calls.{Quiet, entries_of, made_by}
 use Rattle.vbr_slots.specs.PassLaw.{PassLaw}
 use Rattle.vbr_slots.specs.Views.{Did, PassView, Trace, event_of, knows}
@@ -58,11 +62,17 @@ use Rattle.vbr_at_table.proofs.WonExchanges.{lost_test, more_keeps, more_new, wo
 
 -- ---- the step is accepted
 
-module _ (p : PassView) (sound : PassLaw p) (node : Held) (s t key birth next : ℕ) (h : IsHeld (knows p.trace) node) (at : node.at ≡ Slot s) (f : IsFilled ((knows p.trace).own t) birth key (link_to (link_of node.word).slot birth next)) where
+module _ (p : PassView) (sound : PassLaw p) (node : Held) (s t key birth next : ℕ) (h : IsHeld (knows p.trace) node)
+    (at : node.at ≡ Slot s)
+    (f : IsFilled ((knows p.trace).own t) birth key (link_to (link_of node.word).slot birth next)) where
   in_hand : IsInHand ((knows p.trace).own t)
   in_hand = let P : Option Holding → Type 0 = IsInHand in subst P (sym f.holding_is) tt
 
-  pub replace_accepted : (value old : ℕ) → p.trace.start.shape.values ≡ true → value_in_hand ((knows p.trace).own t) ≡ Some value → (link_of node.word).mark ≡ false → t < p.trace.start.shape.slots → BirthNamed (knows p.trace) (link_of node.word).slot next → KeyAt (knows p.trace) node.at key → ValueAt (knows p.trace) node.at old → Accepts p.trace.start (knows p.trace) (Replace s node.word t)
+  pub replace_accepted : (value old : ℕ) → p.trace.start.shape.values ≡ true →
+      value_in_hand ((knows p.trace).own t) ≡ Some value → (link_of node.word).mark ≡ false →
+      t < p.trace.start.shape.slots → BirthNamed (knows p.trace) (link_of node.word).slot next →
+      KeyAt (knows p.trace) node.at key → ValueAt (knows p.trace) node.at old →
+      Accepts p.trace.start (knows p.trace) (Replace s node.word t)
   replace_accepted value old has valued unmarked low named k v =
       let P : Option Holding → Type 0 = MayReplaceKnown p.trace.start (knows p.trace) s (link_of node.word) in
       let I : At → Type 0 = IsAtIn p.trace.start in
@@ -70,7 +80,8 @@ module _ (p : PassView) (sound : PassLaw p) (node : Held) (s t key birth next : 
       let B : At → Type 0 = λ i. BirthAt (knows p.trace) i node.birth in
       let K : At → Type 0 = λ i. KeyAt (knows p.trace) i key in
       let V : At → Type 0 = λ i. ValueAt (knows p.trace) i old in
-      known_accepts p.trace.start p.trace.passes p.trace.seen sound.start sound.is_run p.trace.who (Replace s node.word t) (record {
+      known_accepts p.trace.start p.trace.passes p.trace.seen sound.start sound.is_run p.trace.who
+      (Replace s node.word t) (record {
         in_shape = (subst I at (place_in p sound node h), low, has);
         owned = in_hand;
         known = (subst L at h.link, (node.birth, subst B at h.birth), (old, subst V at v));
@@ -83,7 +94,8 @@ module _ (p : PassView) (sound : PassLaw p) (node : Held) (s t key birth next : 
             named = next;
             named_known = named;
             link_is = f.link_is ∙ ap (λ (b : ℕ). Some (link_to (link_of node.word).slot b next)) (sym f.birth_is);
-            valued = value_asked p.trace.start.shape.values f.known.value value (λ w. sym (ap value_in_hand f.holding_is) ∙ valued);
+            valued = value_asked p.trace.start.shape.values f.known.value value
+                (λ w. sym (ap value_in_hand f.holding_is) ∙ valued);
           }),
         );
         below_last = tt;
@@ -93,14 +105,18 @@ module _ (p : PassView) (sound : PassLaw p) (node : Held) (s t key birth next : 
   pub replace_writes : link_written (knows p.trace) (Replace s node.word t) ≡ marked (link_to (Some t) node.birth birth)
   replace_writes =
       let B : At → Type 0 = λ i. BirthAt (knows p.trace) i node.birth in
-      written_is p.trace.start p.trace.passes p.trace.seen sound.start sound.is_run p.trace.who (Replace s node.word t) (marked (link_to (Some t) node.birth (birth_in_hand ((knows p.trace).own t)))) (node.birth, subst B at h.birth, refl)
+      written_is p.trace.start p.trace.passes p.trace.seen sound.start sound.is_run p.trace.who (Replace s node.word t)
+      (marked (link_to (Some t) node.birth (birth_in_hand ((knows p.trace).own t))))
+      (node.birth, subst B at h.birth, refl)
       ∙ ap (λ (o : Option Holding). marked (link_to (Some t) node.birth (birth_in_hand o))) f.holding_is
       ∙ ap (λ (b : ℕ). marked (link_to (Some t) node.birth b)) f.birth_is
 
 -- ---- its calls
 
 -- a step that succeeds makes both
-both_made : {s expected t : ℕ} {p q : Trace} → Did (Replace s expected t) p q expected → (first second : Call) → call_ahead p.start p.who (knows p) (Replace s expected t) ≡ Some first → call_of p.start p.who (knows p) (Replace s expected t) ≡ Some second → MadeTwo first second p q
+both_made : {s expected t : ℕ} {p q : Trace} → Did (Replace s expected t) p q expected → (first second : Call) →
+    call_ahead p.start p.who (knows p) (Replace s expected t) ≡ Some first →
+    call_of p.start p.who (knows p) (Replace s expected t) ≡ Some second → MadeTwo first second p q
 both_made {s} {expected} {t} {p} {q} d first second a b =
     let w = world_after p.start (p.seen ++ d.rest) in
     let test = eq-eqb (found p.start w (Replace s expected t)) expected (won expected _ d.shows.answers) in
@@ -108,7 +124,8 @@ both_made {s} {expected} {t} {p} {q} d first second a b =
     let ahead = ap (λ (k : Know). call_ahead p.start p.who k (Replace s expected t)) same ∙ a in
     let then = ap (λ (k : Know). call_of p.start p.who k (Replace s expected t)) same ∙ b in
     let added : calls_added p.start w p.who (Replace s expected t) ≡ first ∷ second ∷ [] = (
-    (λ i. option_to_list (cond (test i) (call_ahead p.start p.who (w.know p.who) (Replace s expected t)) None) ++ option_to_list (cond (test i) (call_of p.start p.who (w.know p.who) (Replace s expected t)) None))
+    (λ i. option_to_list (cond (test i) (call_ahead p.start p.who (w.know p.who) (Replace s expected t)) None)
+    ++ option_to_list (cond (test i) (call_of p.start p.who (w.know p.who) (Replace s expected t)) None))
     ∙ (λ i. option_to_list (ahead i) ++ option_to_list (then i))) in
     let others = calls_since p.start p.seen (p.seen ++ d.rest) (d.rest, refl) in
     record {
@@ -125,13 +142,31 @@ both_made {s} {expected} {t} {p} {q} d first second a b =
       };
     }
 
-pub replace_made : {q : Trace} {s expected t birth key value old : ℕ} {link : Link} (p : Trace) → IsStart p.start → IsRun p.start p.passes p.seen → p.start.shape.values ≡ true → IsFilled ((knows p).own t) birth key link → value_in_hand ((knows p).own t) ≡ Some value → Knows (knows p) (KeyOf s key) → Knows (knows p) (ValueOf s old) → Did (Replace s expected t) p q expected
+pub replace_made : {q : Trace} {s expected t birth key value old : ℕ} {link : Link} (p : Trace) → IsStart p.start →
+    IsRun p.start p.passes p.seen → p.start.shape.values ≡ true → IsFilled ((knows p).own t) birth key link →
+    value_in_hand ((knows p).own t) ≡ Some value → Knows (knows p) (KeyOf s key) → Knows (knows p) (ValueOf s old) →
+    Did (Replace s expected t) p q expected
     → MadeTwo (entry_call p.start p.who Remove key true old) (entry_call p.start p.who Insert key true value) p q
 replace_made {q} {s} {expected} {t} {birth} {key} {value} {old} {link} p start run has f valued k v d =
     both_made d _ _ (marked_call_is p.start p.passes p.seen start run p.who s expected key old k (λ w. v))
-    (ap (λ (o : Option Holding). Some (record { who = p.who; op = Insert; key = key_in_hand o; reply = true; value = payload_kept p.start (value_in_hand o) })) f.holding_is
-    ∙ ap (λ (o : Option ℕ). Some (record { who = p.who; op = Insert; key = unwrap_or o 0; reply = true; value = payload_kept p.start f.known.value })) f.key_is
-    ∙ ap (λ (u : Option ℕ). Some (record { who = p.who; op = Insert; key = key; reply = true; value = u })) (kept_same p.start.shape.values f.known.value value (λ w. sym (ap value_in_hand f.holding_is) ∙ valued)))
+    (ap (λ (o : Option Holding).
+    Some (record {
+      who = p.who;
+      op = Insert;
+      key = key_in_hand o;
+      reply = true;
+      value = payload_kept p.start (value_in_hand o);
+    })) f.holding_is
+    ∙ ap (λ (o : Option ℕ).
+    Some (record {
+      who = p.who;
+      op = Insert;
+      key = unwrap_or o 0;
+      reply = true;
+      value = payload_kept p.start f.known.value;
+    })) f.key_is
+    ∙ ap (λ (u : Option ℕ). Some (record { who = p.who; op = Insert; key = key; reply = true; value = u }))
+    (kept_same p.start.shape.values f.known.value value (λ w. sym (ap value_in_hand f.holding_is) ∙ valued)))
 
 -- so it is where steps that make no call came before
 pub two_on : {first second : Call} {p q r : Trace} → Quiet p q → MadeTwo first second q r → MadeTwo first second p r
@@ -149,7 +184,8 @@ two_on {first} {second} {p} {q} {r} a b =
         calls = b.together.calls
             ∙ (λ i. ((world_after (a.same.start i) q.seen).calls ++ others) ++ first ∷ second ∷ b.together.later)
             ∙ ap (λ l. (l ++ others) ++ first ∷ second ∷ b.together.later) before.1
-            ∙ ap (λ l. l ++ first ∷ second ∷ b.together.later) (append_assoc (world_after p.start p.seen).calls before.0 others);
+            ∙ ap (λ l. l ++ first ∷ second ∷ b.together.later)
+            (append_assoc (world_after p.start p.seen).calls before.0 others);
       };
     }
 
@@ -183,39 +219,72 @@ module _ {p q : Trace} {s expected t : ℕ} (d : Did (Replace s expected t) p q 
   replace_learned = d.know ∙ won_test expected _ (knows p)
 
   pub replace_keeps : Keeps (knows p) (knows q)
-  replace_keeps = more_keeps (knows p) (knows q) _ (ap (λ (k : Know). k.epoch) replace_learned) (ap (λ (k : Know). k.checked) replace_learned)
+  replace_keeps =
+      more_keeps (knows p) (knows q) _ (ap (λ (k : Know). k.epoch) replace_learned)
+      (ap (λ (k : Know). k.checked) replace_learned)
 
   pub replace_known : Knows (knows q) (LinkAt (Slot s) (link_written (knows p) (Replace s expected t)))
-  replace_known = more_new (knows p) (knows q) (reads_won (knows p) (Replace s expected t)) (ap (λ (k : Know). k.checked) replace_learned) (LinkAt (Slot s) (link_written (knows p) (Replace s expected t))) (first_in _ (BirthOf t (birth_in_hand ((knows p).own t)) ∷ KeyOf t (key_in_hand ((knows p).own t)) ∷ LinkAt (Slot t) (link_in_hand ((knows p).own t)) ∷ value_read t (value_in_hand ((knows p).own t))))
+  replace_known =
+      more_new (knows p) (knows q) (reads_won (knows p) (Replace s expected t))
+      (ap (λ (k : Know). k.checked) replace_learned) (LinkAt (Slot s) (link_written (knows p) (Replace s expected t)))
+      (first_in _ (BirthOf t (birth_in_hand ((knows p).own t)) ∷ KeyOf t (key_in_hand ((knows p).own t))
+      ∷ LinkAt (Slot t) (link_in_hand ((knows p).own t)) ∷ value_read t (value_in_hand ((knows p).own t))))
 
 -- ---- the slots of the pass
 
 -- the slot that takes the place goes out of the hand, and the others stay
-pub replace_none : (p q : PassView) {s expected slot : ℕ} → Did (Replace s expected slot) p.trace q.trace expected → p.hand ≡ Some slot → q.pool ≡ p.pool → TakesNoSlot p q
-replace_none p q {slot = slot} d hand pool = record { count = same_advances d refl; kept = record { free = spent_kept p q slot (λ i. ap (λ (k : Know). k.own i) (replace_learned d)) hand pool; stamped = did_stamps d refl; turn = did_turn d }; grows = grows_same p q pool; shared = inl (same_flags d refl); tries = same_tries d refl }
+pub replace_none : (p q : PassView) {s expected slot : ℕ} → Did (Replace s expected slot) p.trace q.trace expected →
+    p.hand ≡ Some slot → q.pool ≡ p.pool → TakesNoSlot p q
+replace_none p q {slot = slot} d hand pool =
+    record {
+      count = same_advances d refl;
+      kept = record {
+        free = spent_kept p q slot (λ i. ap (λ (k : Know). k.own i) (replace_learned d)) hand pool;
+        stamped = did_stamps d refl;
+        turn = did_turn d;
+      };
+      grows = grows_same p q pool;
+      shared = inl (same_flags d refl);
+      tries = same_tries d refl;
+    }
 
 -- ---- a lost one
 
-pub replace_failed : {s expected t word : ℕ} {p q : Trace} → Did (Replace s expected t) p q word → word ≢ expected → Quiet p q
-replace_failed {s} {expected} {t} {word} d ne = failed d (other expected word _ ne (lost expected word _ ne d.shows.answers))
+pub replace_failed : {s expected t word : ℕ} {p q : Trace} → Did (Replace s expected t) p q word → word ≢ expected →
+    Quiet p q
+replace_failed {s} {expected} {t} {word} d ne =
+    failed d (other expected word _ ne (lost expected word _ ne d.shows.answers))
 
-pub replace_lost_keeps : {p q : Trace} {s expected t word : ℕ} → Did (Replace s expected t) p q word → word ≢ expected → Keeps (knows p) (knows q)
-replace_lost_keeps {p} {q} {s} {expected} {t} {word} d ne = rw (d.know ∙ lost_test word expected _ (knows p) ne) (keeps_refl (knows p))
+pub replace_lost_keeps : {p q : Trace} {s expected t word : ℕ} → Did (Replace s expected t) p q word → word ≢ expected →
+    Keeps (knows p) (knows q)
+replace_lost_keeps {p} {q} {s} {expected} {t} {word} d ne =
+    rw (d.know ∙ lost_test word expected _ (knows p) ne) (keeps_refl (knows p))
 
-replace_found : {s expected t word : ℕ} {p q : Trace} → Did (Replace s expected t) p q word → word ≢ expected → WasFound p q (Slot s) word
-replace_found {s} {expected} {t} {word} {p} d ne = record { moment = p.seen ++ d.rest; within = did_moment d; found = lost expected word _ ne d.shows.answers }
+replace_found : {s expected t word : ℕ} {p q : Trace} → Did (Replace s expected t) p q word → word ≢ expected →
+    WasFound p q (Slot s) word
+replace_found {s} {expected} {t} {word} {p} d ne =
+    record { moment = p.seen ++ d.rest; within = did_moment d; found = lost expected word _ ne d.shows.answers }
 
-pub replace_lost : {p q r : Trace} {s t word : ℕ} (node : Held) → node.at ≡ Slot s → IsStart q.start → Quiet p q → ChangesNone p q → Keeps (knows p) (knows q) → Did (Replace s node.word t) q r word → word ≢ node.word → LosesExchange p r node (LostExchange word)
+pub replace_lost : {p q r : Trace} {s t word : ℕ} (node : Held) → node.at ≡ Slot s → IsStart q.start → Quiet p q →
+    ChangesNone p q → Keeps (knows p) (knows q) → Did (Replace s node.word t) q r word → word ≢ node.word →
+    LosesExchange p r node (LostExchange word)
 replace_lost {q = q} {r = r} {word = word} node at start fill same keeps d ne = record {
   quiet = quiet_on fill (replace_failed d ne);
-  lost = (ne, found_after fill (let P : At → Type 0 = λ i. WasFound q r i word in subst P (sym at) (replace_found d ne)), keeps_on keeps (replace_lost_keeps d ne));
-  unchanged = unchanged_on same (unchanged_by_none start (run_after start d) (did_same d) (did_seen d) (replace_adds_none d ne));
+  lost = (
+    ne,
+    found_after fill
+        (let P : At → Type 0 = λ i. WasFound q r i word in subst P (sym at) (replace_found d ne)),
+    keeps_on keeps (replace_lost_keeps d ne),
+  );
+  unchanged = unchanged_on same
+      (unchanged_by_none start (run_after start d) (did_same d) (did_seen d) (replace_adds_none d ne));
 }
 
 -- ---- the node that is replaced
 
 -- it was replaced by the step, and is held at its slot
-pub replaced_at : {p q : Trace} {s expected t : ℕ} → IsStart p.start → (epoch : ℕ) → (knows p).epoch ≡ epoch → Did (Replace s expected t) p q expected → ReplacedAt p.start p.seen q.seen p.who epoch s
+pub replaced_at : {p q : Trace} {s expected t : ℕ} → IsStart p.start → (epoch : ℕ) → (knows p).epoch ≡ epoch →
+    Did (Replace s expected t) p q expected → ReplacedAt p.start p.seen q.seen p.who epoch s
 replaced_at {p} {q} {s} {expected} {t} is epoch same d =
     let before = p.seen ++ d.rest in
     let event = event_of p.who (Replace s expected t) in
@@ -224,15 +293,18 @@ replaced_at {p} {q} {s} {expected} {t} is epoch same d =
     let ok = is_run_before p.start p.passes before (event ∷ []) run in
     let found_it = won expected _ d.shows.answers in
     let a = incarnations_after p.start before in
-    let out = replaced_out p.start p.passes before is ok p.who s expected t found_it (is_run_last p.start p.passes before event run).1 in
-    let known : (know_after p.start before p.who).epoch ≡ epoch = ap (λ (k : Know). k.epoch) (others_leave_know p.start p.seen d.rest p.who d.none) ∙ same in
+    let out = replaced_out p.start p.passes before is ok p.who s expected t found_it
+    (is_run_last p.start p.passes before event run).1 in
+    let known : (know_after p.start before p.who).epoch ≡ epoch =
+    ap (λ (k : Know). k.epoch) (others_leave_know p.start p.seen d.rest p.who d.none) ∙ same in
     let H : Incarnations × ℕ → Type 0 = λ x. IsHeldIncarnation x.0 x.1 s (last_in a s) in
     let R : Incarnations → Type 0 = λ i. IsRemoved (i.state (last_in a s)) in
     record {
       node = last_in a s;
       replaced = record {
         since = just p.who (Replaces (last_in a s) (last_in a t));
-        adds = sym (λ i. own_entries (d.same.1 i) q.seen (d.same.3 i)) ∙ did_entries d ∙ ap (λ l. entries_of p ++ l) (replaced_entry p.start p.passes before is ok p.who s expected t found_it);
+        adds = sym (λ i. own_entries (d.same.1 i) q.seen (d.same.3 i)) ∙ did_entries d
+            ∙ ap (λ l. entries_of p ++ l) (replaced_entry p.start p.passes before is ok p.who s expected t found_it);
         by = last_in a t;
         among = (0, omega arith, refl);
       };
@@ -241,17 +313,29 @@ replaced_at {p} {q} {s} {expected} {t} is epoch same d =
     }
 
 -- so it was since what made no call
-pub replaced_since : {epoch s : ℕ} (p q r : Trace) → IsStart p.start → Quiet p q → ReplacedAt q.start q.seen r.seen q.who epoch s → ReplacedAt p.start p.seen r.seen p.who epoch s
+pub replaced_since : {epoch s : ℕ} (p q r : Trace) → IsStart p.start → Quiet p q →
+    ReplacedAt q.start q.seen r.seen q.who epoch s → ReplacedAt p.start p.seen r.seen p.who epoch s
 replaced_since {epoch} {s} p q r is quiet x =
     let P : Start → Type 0 = λ start. ReplacedAt start q.seen r.seen q.who epoch s in
     let Q : ℕ → Type 0 = λ who. ReplacedAt p.start q.seen r.seen who epoch s in
     let y = subst Q quiet.same.who (subst P quiet.same.start x) in
-    record { node = y.node; replaced = replaced_earlier p.start p.passes is p.seen q.seen r.seen p.who y.node quiet.seen y.replaced; held = y.held; removed = y.removed }
+    record {
+      node = y.node;
+      replaced = replaced_earlier p.start p.passes is p.seen q.seen r.seen p.who y.node quiet.seen y.replaced;
+      held = y.held;
+      removed = y.removed;
+    }
 
 -- ---- a won one, after what filled the hand
 
-module _ (p q r : PassView) (node : Held) (s t key birth next value word : ℕ) (start : IsStart p.trace.start) (law : PassLaw q) (fill : Quiet p.trace q.trace) (keeps : Keeps (knows p.trace) (knows q.trace)) (h : IsHeld (knows q.trace) node) (at : node.at ≡ Slot s) (f : IsFilled ((knows q.trace).own t) birth key (link_to (link_of node.word).slot birth next)) where
-  pub replace_told : ChangesNone p.trace q.trace → q.trace.start.shape.values ≡ true → value_in_hand ((knows q.trace).own t) ≡ Some value → KeyAt (knows p.trace) node.at key → link_of word ≡ marked (link_to (Some t) node.birth birth) → Did (Replace s node.word t) q.trace r.trace node.word → r.hand ≡ None
+module _ (p q r : PassView) (node : Held) (s t key birth next value word : ℕ) (start : IsStart p.trace.start)
+    (law : PassLaw q) (fill : Quiet p.trace q.trace) (keeps : Keeps (knows p.trace) (knows q.trace))
+    (h : IsHeld (knows q.trace) node) (at : node.at ≡ Slot s)
+    (f : IsFilled ((knows q.trace).own t) birth key (link_to (link_of node.word).slot birth next)) where
+  pub replace_told : ChangesNone p.trace q.trace → q.trace.start.shape.values ≡ true →
+      value_in_hand ((knows q.trace).own t) ≡ Some value → KeyAt (knows p.trace) node.at key →
+      link_of word ≡ marked (link_to (Some t) node.birth birth) →
+      Did (Replace s node.word t) q.trace r.trace node.word → r.hand ≡ None
       → ReplacesHeld p r node key value (record { slot = s; birth = node.birth; word = word; epoch = node.epoch })
   replace_told none has valued k link d spent =
       let K : At → Type 0 = λ i. KeyAt (knows p.trace) i key in
@@ -261,18 +345,28 @@ module _ (p q r : PassView) (node : Held) (s t key birth next value word : ℕ) 
       record {
         made = λ old v.
             let V : At → Type 0 = λ i. ValueAt (knows p.trace) i old in
-            let C : ℕ → Start → Type 0 = λ who start. MadeTwo (entry_call start who Remove key true old) (entry_call start who Insert key true value) p.trace r.trace in
-            let one : C q.trace.who q.trace.start = two_on fill (replace_made q.trace law.start law.is_run has f valued (keeps.reads (KeyOf s key) (subst K at k)) (keeps.reads (ValueOf s old) (subst V at v)) d) in
+            let C : ℕ → Start → Type 0 =
+            λ who start.
+            MadeTwo (entry_call start who Remove key true old) (entry_call start who Insert key true value) p.trace
+            r.trace in
+            let one : C q.trace.who q.trace.start =
+            two_on fill (replace_made q.trace law.start law.is_run has f valued
+            (keeps.reads (KeyOf s key) (subst K at k)) (keeps.reads (ValueOf s old) (subst V at v)) d) in
             let D : Start → Type 0 = C q.trace.who in
             let E : ℕ → Type 0 = λ who. C who p.trace.start in
             subst E fill.same.who (subst D fill.same.start one);
         at = sym at;
         held = record {
-          held = record { epoch = now.epoch; link = subst L (replace_writes q law node s t key birth next h at f ∙ sym link) (replace_known d); birth = subst B at now.birth };
+          held = record {
+            epoch = now.epoch;
+            link = subst L (replace_writes q law node s t key birth next h at f ∙ sym link) (replace_known d);
+            birth = subst B at now.birth;
+          };
           mark = ap (λ (l : Link). l.mark) link;
         };
         spent = spent;
-        old = replaced_since p.trace q.trace r.trace start fill (replaced_at law.start (knows r.trace).epoch (sym ((replace_keeps d).epoch)) d);
+        old = replaced_since p.trace q.trace r.trace start fill
+            (replaced_at law.start (knows r.trace).epoch (sym ((replace_keeps d).epoch)) d);
         leaves = leaves_since node fill none (replaced_leaves node law.start at d);
       }
 
@@ -282,6 +376,7 @@ pub key_on : {know later : Know} (i : At) (key : ℕ) → Keeps know later → K
 key_on (Head b) key keeps k = k
 key_on (Slot s) key keeps k = keeps.reads (KeyOf s key) k
 
-pub value_on : {know later : Know} (i : At) (value : ℕ) → Keeps know later → ValueAt know i value → ValueAt later i value
+pub value_on : {know later : Know} (i : At) (value : ℕ) → Keeps know later → ValueAt know i value →
+    ValueAt later i value
 value_on (Head b) value keeps v = v
 value_on (Slot s) value keeps v = keeps.reads (ValueOf s value) v

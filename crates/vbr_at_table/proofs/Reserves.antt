@@ -1,5 +1,7 @@
 -- Slots come out of the shared pool into the own one, probed in their order.
-use Rattle.std.proofs.Common.{◌≡◌, ◌≢◌, ℕ, ◌+◌, ◌-◌, ◌/◌, ◌<◌, ◌≤◌, Bool, true, false, cond, [], ◌∷◌, ◌++◌, length, length-append, Option, Some, None, refl, sym, ap, ◌∙◌, subst, append-nil, inl, inr, ⊎_elim, arith}
+use Rattle.std.proofs.Common.{◌≡◌, ◌≢◌, ℕ, ◌+◌, ◌-◌, ◌/◌, ◌<◌, ◌≤◌, Bool, true, false, cond, [], ◌∷◌, ◌++◌, length}
+use Rattle.std.proofs.Common.{length-append, Option, Some, None, refl, sym, ap, ◌∙◌, subst, append-nil, inl, inr}
+use Rattle.std.proofs.Common.{⊎_elim, arith}
 use Rattle.std.specs.Prelude.{Contains, ◌⊎◌}
 use Rattle.std.proofs.lemmas.Bool.{cases_lt, ne_eqb}
 use Rattle.std.proofs.lemmas.List.Elements.{Contains-append_left, Contains-push, Contains-push_cases}
@@ -19,12 +21,14 @@ use Rattle.vbr_machine.proofs.Lemmas.{begins_trans, flag_shared, flag_won, put_h
 use Rattle.vbr_slots.specs.Calls.{Quiet, Took}
 use Rattle.vbr_slots.specs.Pools.{HandFits, OwnPool, hand_without}
 use Rattle.vbr_slots.specs.Views.{Did, KeepsPool, PassView, Trace, event_of, knows}
-use Rattle.vbr_slots.proofs.Lemmas.{did_moment, did_quiet, did_took, moment_after, moment_before, quiet_on, quiet_refl, took_none, took_on}
+use Rattle.vbr_slots.proofs.Lemmas.{did_moment, did_quiet, did_took, moment_after, moment_before, quiet_on, quiet_refl}
+use Rattle.vbr_slots.proofs.Lemmas.{took_none, took_on}
 use Rattle.vbr_at_table.specs.StepKinds.{advances, flags_raised, flags_tried, is_try}
 use Rattle.vbr_at_table.specs.KeptSlots.{GoesInTurn, HasFree, HasSlot, PoolGrows, StampsUnlinked}
 use Rattle.vbr_at_table.specs.Reserving.{IsMissed, IsNextFrom, Reserves, ReservesFrom, TakesFlags, WasTaken, most_kept}
 use Rattle.vbr_at_table.specs.SharedPool.{WasOutside}
-use Rattle.vbr_at_table.proofs.Advancing.{did_made, did_stamps, grows_on, grows_same, keeps_known, keeps_refl, longer, same_advances, same_flags, slots_kept_on}
+use Rattle.vbr_at_table.proofs.Advancing.{did_made, did_stamps, grows_on, grows_same, keeps_known, keeps_refl, longer}
+use Rattle.vbr_at_table.proofs.Advancing.{same_advances, same_flags, slots_kept_on}
 use Rattle.vbr_at_table.proofs.InTurn.{did_turn}
 use Rattle.vbr_at_table.proofs.Shown.{flag_shown, in_pool, missed, missed_after, missed_before}
 
@@ -44,7 +48,13 @@ takes_none p = record {
 }
 
 taken_before : {p q r : Trace} {slot : ℕ} → WasTaken p q slot → Quiet q r → WasTaken p r slot
-taken_before {p} {q} {r} a b = record { moment = a.moment; is = moment_before a.is b; shared = a.shared; taken = begins_trans _ q.seen r.seen a.taken b.seen }
+taken_before {p} {q} {r} a b =
+    record {
+      moment = a.moment;
+      is = moment_before a.is b;
+      shared = a.shared;
+      taken = begins_trans _ q.seen r.seen a.taken b.seen;
+    }
 
 taken_after : {p q r : Trace} {slot : ℕ} → Quiet p q → WasTaken q r slot → WasTaken p r slot
 taken_after {p} {q} {r} {slot} a b = record {
@@ -59,7 +69,9 @@ takes_on {p} {q} {r} n m a b = record {
   took = took_on n m a.took b.took;
   tries = let x = a.tries in let y = b.tries in omega (arith, x, y);
   grows = grows_on p q r a.grows b.grows;
-  each = λ s there. ⊎_elim (λ earlier. ⊎_elim (λ first. inl first) (λ taken. inr (taken_before taken b.quiet)) (a.each s earlier)) (λ later. inr (taken_after a.quiet later)) (b.each s there);
+  each = λ s there.
+      ⊎_elim (λ earlier. ⊎_elim (λ first. inl first) (λ taken. inr (taken_before taken b.quiet)) (a.each s earlier))
+      (λ later. inr (taken_after a.quiet later)) (b.each s there);
   hand = b.hand ∙ a.hand;
   quiet = quiet_on a.quiet b.quiet;
   kept = slots_kept_on p q r a.kept b.kept;
@@ -68,7 +80,8 @@ takes_on {p} {q} {r} n m a b = record {
 }
 
 -- a flag was lost
-pub takes_lost : {p q : PassView} {slot n : ℕ} → Did (TakeFlag slot) p.trace q.trace n → has_flag n slot ≡ false → KeepsPool p q → TakesFlags p q 1
+pub takes_lost : {p q : PassView} {slot n : ℕ} → Did (TakeFlag slot) p.trace q.trace n → has_flag n slot ≡ false →
+    KeepsPool p q → TakesFlags p q 1
 takes_lost {p} {q} {slot} {n} d lost keeps =
     let lost_flag : (a b : Know) → cond (has_flag n slot) a b ≡ b = λ a b. ap (λ (t : Bool). cond t a b) lost in
     let know : knows q.trace ≡ knows p.trace = d.know ∙ lost_flag _ (knows p.trace) in
@@ -85,11 +98,15 @@ takes_lost {p} {q} {slot} {n} d lost keeps =
     }
 
 -- a slot whose flag was won isn't in hand
-pub hand_stays : {start : Start} (p : PassView) {q : PassView} {slot n : ℕ} → Did (TakeFlag slot) p.trace q.trace n → has_flag n slot ≡ true → OwnPool start (knows q.trace) q.pool q.hand → hand_without slot q.hand ≡ q.hand
+pub hand_stays : {start : Start} (p : PassView) {q : PassView} {slot n : ℕ} → Did (TakeFlag slot) p.trace q.trace n →
+    has_flag n slot ≡ true → OwnPool start (knows q.trace) q.pool q.hand → hand_without slot q.hand ≡ q.hand
 hand_stays {start} p {q} {slot} {n} d won own =
     let won_flag : (a b : Know) → cond (has_flag n slot) a b ≡ a = λ a b. ap (λ (t : Bool). cond t a b) won in
-    let now = ap (λ (k : Know). k.own slot) (d.know ∙ won_flag _ (knows p.trace)) ∙ put_here (knows p.trace).own slot _ in
-    other q.hand (λ is. neither ((knows q.trace).own slot) (subst IsFree (sym now) tt) (subst (HandFits start (knows q.trace) q.pool) is own.in_hand).1)
+    let now = ap (λ (k : Know). k.own slot) (d.know ∙ won_flag _ (knows p.trace))
+    ∙ put_here (knows p.trace).own slot _ in
+    other q.hand
+    (λ is. neither ((knows q.trace).own slot) (subst IsFree (sym now) tt)
+    (subst (HandFits start (knows q.trace) q.pool) is own.in_hand).1)
   where
     neither : (holding : Option Holding) → IsFree holding → IsInHand holding → ⊥
     neither None a b = a
@@ -102,7 +119,9 @@ hand_stays {start} p {q} {slot} {n} d won own =
     other (Some s) apart = ap (λ (b : Bool). cond b None (Some s)) (ne_eqb s slot (λ e. apart (ap Some e)))
 
 -- a flag was won, and the slot is kept
-module _ {p q r : PassView} {slot n : ℕ} (d : Did (TakeFlag slot) p.trace q.trace n) (won : has_flag n slot ≡ true) (keeps : KeepsPool p q) (same : r.trace ≡ q.trace) (pool : r.pool ≡ q.pool ++ slot ∷ []) (hand : r.hand ≡ q.hand) where
+module _ {p q r : PassView} {slot n : ℕ} (d : Did (TakeFlag slot) p.trace q.trace n) (won : has_flag n slot ≡ true)
+    (keeps : KeepsPool p q) (same : r.trace ≡ q.trace) (pool : r.pool ≡ q.pool ++ slot ∷ [])
+    (hand : r.hand ≡ q.hand) where
   pool_is : r.pool ≡ p.pool ++ slot ∷ []
   pool_is = pool ∙ ap (λ xs. xs ++ slot ∷ []) keeps.0
 
@@ -114,12 +133,16 @@ module _ {p q r : PassView} {slot n : ℕ} (d : Did (TakeFlag slot) p.trace q.tr
   won_know a b = ap (λ (t : Bool). cond t a b) won
 
   others_own : (s : ℕ) → s ≢ slot → (knows q.trace).own s ≡ (knows p.trace).own s
-  others_own s other = ap (λ (k : Know). k.own s) (d.know ∙ won_know _ (knows p.trace)) ∙ put_other (knows p.trace).own _ _ s other
+  others_own s other =
+      ap (λ (k : Know). k.own s) (d.know ∙ won_know _ (knows p.trace)) ∙ put_other (knows p.trace).own _ _ s other
 
   free : HasFree p r
   free s could = dite (ℕ_discrete s slot)
-      (λ (is : s ≡ slot). inl (subst (λ xs. Contains xs s) (sym pool_is) (subst (λ x. Contains (p.pool ++ slot ∷ []) x) (sym is) (Contains-push p.pool slot))))
-      (λ (other : s ≢ slot). has_kept s (could.1 (subst MayBear (ap (λ (t : Trace). (knows t).own s) same ∙ others_own s other) could.0)))
+      (λ (is : s ≡ slot).
+      inl (subst (λ xs. Contains xs s) (sym pool_is)
+      (subst (λ x. Contains (p.pool ++ slot ∷ []) x) (sym is) (Contains-push p.pool slot))))
+      (λ (other : s ≢ slot).
+      has_kept s (could.1 (subst MayBear (ap (λ (t : Trace). (knows t).own s) same ∙ others_own s other) could.0)))
 
   now_taken : WasTaken p.trace q.trace slot
   now_taken =
@@ -127,7 +150,10 @@ module _ {p q r : PassView} {slot n : ℕ} (d : Did (TakeFlag slot) p.trace q.tr
       record {
         moment = moment;
         is = did_moment d;
-        shared = in_pool _ (flag_shared p.trace.start (world_after p.trace.start moment) slot (flag_won slot n (found p.trace.start (world_after p.trace.start moment) (TakeFlag slot)) (flag_shown d) won));
+        shared = in_pool _
+            (flag_shared p.trace.start (world_after p.trace.start moment) slot
+            (flag_won slot n (found p.trace.start (world_after p.trace.start moment) (TakeFlag slot)) (flag_shown d)
+            won));
         taken = ([], d.seen ∙ sym (append-nil (moment ++ event_of p.trace.who (TakeFlag slot) ∷ [])));
       }
 
@@ -139,7 +165,11 @@ module _ {p q r : PassView} {slot n : ℕ} (d : Did (TakeFlag slot) p.trace q.tr
     took = at_trace (λ t. Took p.trace t 1) (did_took d);
     tries = at_trace (λ t. flags_tried t ≡ flags_tried p.trace + 1) (did_made is_try d);
     grows = (slot ∷ [], pool_is);
-    each = λ s there. ⊎_elim (λ before. inl before) (λ (is : slot ≡ s). inr (subst (WasTaken p.trace r.trace) is (at_trace (λ t. WasTaken p.trace t slot) now_taken))) (Contains-push_cases p.pool slot s (subst (λ xs. Contains xs s) pool_is there));
+    each = λ s there.
+        ⊎_elim (λ before. inl before)
+        (λ (is : slot ≡ s).
+        inr (subst (WasTaken p.trace r.trace) is (at_trace (λ t. WasTaken p.trace t slot) now_taken)))
+        (Contains-push_cases p.pool slot s (subst (λ xs. Contains xs s) pool_is there));
     hand = hand ∙ keeps.1;
     quiet = at_trace (Quiet p.trace) (did_quiet d (λ know. refl));
     kept = record {
@@ -164,13 +194,25 @@ pub record Reserving (p q : PassView) (from next to full probes used : ℕ) : Ty
   pub within : used ≤ to - from
 
 pub reserving_none : (p : PassView) (from to most probes : ℕ) → Reserving p p from from to most probes 0
-reserving_none p from to most probes = record { takes = takes_none p; most = inl refl; tries = omega arith; idle = λ full. refl; ahead = λ slot low above below. absurd (omega (arith, above, below)); few = omega arith; within = omega arith }
+reserving_none p from to most probes =
+    record {
+      takes = takes_none p;
+      most = inl refl;
+      tries = omega arith;
+      idle = λ full. refl;
+      ahead = λ slot low above below. absurd (omega (arith, above, below));
+      few = omega arith;
+      within = omega arith;
+    }
 
-pub missed_on : (p : PassView) {q r : PassView} {n : ℕ} {slot : ℕ} → IsMissed p q slot → TakesFlags q r n → IsMissed p r slot
-missed_on p {slot = slot} (inl there) b = inl (subst (λ xs. Contains xs slot) (sym b.grows.1) (Contains-append_left _ b.grows.0 slot there))
+pub missed_on : (p : PassView) {q r : PassView} {n : ℕ} {slot : ℕ} → IsMissed p q slot → TakesFlags q r n →
+    IsMissed p r slot
+missed_on p {slot = slot} (inl there) b =
+    inl (subst (λ xs. Contains xs slot) (sym b.grows.1) (Contains-append_left _ b.grows.0 slot there))
 missed_on p (inr out) b = inr (missed_before out b.quiet)
 
-pub missed_then : {p q : PassView} (r : PassView) {n slot : ℕ} → TakesFlags p q n → IsMissed q r slot → IsMissed p r slot
+pub missed_then : {p q : PassView} (r : PassView) {n slot : ℕ} → TakesFlags p q n → IsMissed q r slot →
+    IsMissed p r slot
 missed_then r a (inl there) = inl there
 missed_then r a (inr out) = inr (missed_after a.quiet out)
 
@@ -179,52 +221,68 @@ has_room : {p q : PassView} {n most : ℕ} → TakesFlags p q n → length q.poo
 has_room {p} {q} takes low full = let more = longer p q takes.grows in omega (arith, low, full, more)
 
 -- one that was taken
-pub reserving_won : {p q r : PassView} {from slot to most probes used : ℕ} → Reserving p q from slot to most probes used → slot < to → used < probes → TakesFlags q r 1 → r.pool ≡ q.pool ++ slot ∷ [] → length q.pool < most → Reserving p r from (slot + 1) to most probes (used + 1)
+pub reserving_won : {p q r : PassView} {from slot to most probes used : ℕ} →
+    Reserving p q from slot to most probes used → slot < to → used < probes → TakesFlags q r 1 →
+    r.pool ≡ q.pool ++ slot ∷ [] → length q.pool < most → Reserving p r from (slot + 1) to most probes (used + 1)
 reserving_won {p} {q} {r} {from} {slot} {to} {most} {probes} {used} at below_to room b pool low = record {
   takes = takes_on used 1 at.takes b;
-  most = inr (let e : length r.pool ≡ length q.pool + 1 = ap length pool ∙ length-append q.pool (slot ∷ []) in omega (arith, e, low));
+  most = inr (let e : length r.pool ≡ length q.pool + 1 = ap length pool ∙ length-append q.pool (slot ∷ []) in
+      omega (arith, e, low));
   tries = omega (arith, room);
   idle = λ full. absurd (has_room at.takes low full);
   ahead = λ s in_shape above below. dite (ℕ_discrete s slot)
-      (λ (is : s ≡ slot). inl (subst (λ xs. Contains xs s) (sym pool) (subst (λ x. Contains (q.pool ++ slot ∷ []) x) (sym is) (Contains-push q.pool slot))))
+      (λ (is : s ≡ slot).
+      inl (subst (λ xs. Contains xs s) (sym pool)
+      (subst (λ x. Contains (q.pool ++ slot ∷ []) x) (sym is) (Contains-push q.pool slot))))
       (λ (other : s ≢ slot). missed_on p (at.ahead s in_shape above (omega (arith, below, other))) b);
   few = let f = at.few in omega (arith, f);
   within = let f = at.few in omega (arith, f, below_to);
 }
 
 -- one that was outside, and those up to the next one
-pub reserving_lost : {p q r : PassView} {from slot next to most probes used n : ℕ} → Reserving p q from slot to most probes used → slot < to → used < probes → length q.pool < most → Did (TakeFlag slot) q.trace r.trace n → has_flag n slot ≡ false → KeepsPool q r → slot < next → ((s : ℕ) → s < q.trace.start.shape.slots → slot ≤ s → s < next → WasOutside q.trace r.trace s)
+pub reserving_lost : {p q r : PassView} {from slot next to most probes used n : ℕ} →
+    Reserving p q from slot to most probes used → slot < to → used < probes → length q.pool < most →
+    Did (TakeFlag slot) q.trace r.trace n → has_flag n slot ≡ false → KeepsPool q r → slot < next →
+    ((s : ℕ) → s < q.trace.start.shape.slots → slot ≤ s → s < next → WasOutside q.trace r.trace s)
     → Reserving p r from next to most probes (used + 1)
-reserving_lost {p} {q} {r} {from} {slot} {next} {to} {most} {probes} {used} at below_to room low d lost keeps on outside =
+reserving_lost {p} {q} {r} {from} {slot} {next} {to} {most} {probes} {used} at below_to room low d lost keeps on
+    outside =
     let b = takes_lost d lost keeps in
     record {
       takes = takes_on used 1 at.takes b;
-      most = ⊎_elim (λ same. inl (keeps.0 ∙ same)) (λ few. inr (subst (λ xs. length xs ≤ most) (sym keeps.0) few)) at.most;
+      most = ⊎_elim (λ same. inl (keeps.0 ∙ same)) (λ few. inr (subst (λ xs. length xs ≤ most) (sym keeps.0) few))
+          at.most;
       tries = omega (arith, room);
       idle = λ full. absurd (has_room at.takes low full);
       ahead = λ s in_shape above below. ⊎_elim
           (λ (earlier : s < slot). missed_on p (at.ahead s in_shape above earlier) b)
-          (λ (later : slot ≤ s). inr (missed_after at.takes.quiet (outside s (subst (λ (start : Start). s < start.shape.slots) (sym at.takes.quiet.same.start) in_shape) later below)))
+          (λ (later : slot ≤ s).
+          inr (missed_after at.takes.quiet
+          (outside s (subst (λ (start : Start). s < start.shape.slots) (sym at.takes.quiet.same.start) in_shape) later
+          below)))
           (cases_lt s slot);
       few = let f = at.few in omega (arith, f, on);
       within = let f = at.few in omega (arith, f, below_to);
     }
 
 -- the slots up to the next one whose flag is set in the word
-pub up_to_next : {p q : Trace} {slot next n : ℕ} → Did (TakeFlag slot) p q n → has_flag n slot ≡ false → IsNextFrom n slot next → (s : ℕ) → s < p.start.shape.slots → slot ≤ s → s < next → WasOutside p q s
+pub up_to_next : {p q : Trace} {slot next n : ℕ} → Did (TakeFlag slot) p q n → has_flag n slot ≡ false →
+    IsNextFrom n slot next → (s : ℕ) → s < p.start.shape.slots → slot ≤ s → s < next → WasOutside p q s
 up_to_next {p} {q} {slot} {next} {n} d lost then s low above below =
     let past = then.low in
     let same : s / 64 ≡ slot / 64 = omega (arith, past, above, below) in
     missed d lost s low same (then.none s above below)
 
 -- the slot alone
-pub up_to_it : {p q : Trace} {slot n : ℕ} → Did (TakeFlag slot) p q n → has_flag n slot ≡ false → (s : ℕ) → s < p.start.shape.slots → slot ≤ s → s < slot + 1 → WasOutside p q s
+pub up_to_it : {p q : Trace} {slot n : ℕ} → Did (TakeFlag slot) p q n → has_flag n slot ≡ false → (s : ℕ) →
+    s < p.start.shape.slots → slot ≤ s → s < slot + 1 → WasOutside p q s
 up_to_it {p} {q} {slot} {n} d lost s low above below =
     let same : s ≡ slot = omega (arith, above, below) in
     missed d lost s low (ap word_of_flag same) (ap (has_flag n) same ∙ lost)
 
 -- at the end
-pub reserves_from : {p q : PassView} {from next to most probes used : ℕ} → Reserving p q from next to most probes used → (most ≤ length q.pool) ⊎ (probes ≤ used) ⊎ (to ≤ next) → ReservesFrom p q from to most probes used
+pub reserves_from : {p q : PassView} {from next to most probes used : ℕ} → Reserving p q from next to most probes used →
+    (most ≤ length q.pool) ⊎ (probes ≤ used) ⊎ (to ≤ next) → ReservesFrom p q from to most probes used
 reserves_from {p} {q} {from} {next} {to} {most} at ends = record {
   takes = at.takes;
   most = at.most;
@@ -240,28 +298,38 @@ reserves_from {p} {q} {from} {next} {to} {most} at ends = record {
 -- ---- once round
 
 -- no more than so many were kept, in two ways
-pub most_on : (p q r : PassView) (full : ℕ) → (q.pool ≡ p.pool) ⊎ (length q.pool ≤ full) → (r.pool ≡ q.pool) ⊎ (length r.pool ≤ full) → (r.pool ≡ p.pool) ⊎ (length r.pool ≤ full)
+pub most_on : (p q r : PassView) (full : ℕ) → (q.pool ≡ p.pool) ⊎ (length q.pool ≤ full) →
+    (r.pool ≡ q.pool) ⊎ (length r.pool ≤ full) → (r.pool ≡ p.pool) ⊎ (length r.pool ≤ full)
 most_on p q r full before (inr few) = inr few
 most_on p q r full (inl same) (inl still) = inl (still ∙ same)
 most_on p q r full (inr few) (inl still) = inr (subst (λ xs. length xs ≤ full) (sym still) few)
 
 -- with a try for each slot, none is left out
-with_all : {p q : PassView} {from to full probes steps : ℕ} → ReservesFrom p q from to full probes steps → to ≤ probes → to ≤ p.trace.start.shape.slots → (full ≤ length q.pool) ⊎ ((slot : ℕ) → slot < to → from ≤ slot → IsMissed p q slot)
-with_all {p} {q} {from} {to} {full} {probes} {steps} a enough low = ⊎_elim inl (λ rest. inr (λ slot below above. a.each slot (omega (arith, below, low)) above (let over = reach rest in omega (arith, below, over)))) a.ends
+with_all : {p q : PassView} {from to full probes steps : ℕ} → ReservesFrom p q from to full probes steps → to ≤ probes →
+    to ≤ p.trace.start.shape.slots → (full ≤ length q.pool) ⊎ ((slot : ℕ) → slot < to → from ≤ slot → IsMissed p q slot)
+with_all {p} {q} {from} {to} {full} {probes} {steps} a enough low =
+    ⊎_elim inl (λ rest.
+    inr (λ slot below above.
+    a.each slot (omega (arith, below, low)) above (let over = reach rest in omega (arith, below, over)))) a.ends
   where
     reach : (probes ≤ steps) ⊎ (to ≤ a.next) → to ≤ a.next
     reach (inl all) = let f = a.few in omega (arith, all, enough, f)
     reach (inr over) = over
 
-by_names : {p q r : PassView} {start wanted taken first second : ℕ} → start ≤ p.trace.start.shape.slots → ReservesFrom p q start p.trace.start.shape.slots (most_kept wanted) p.trace.start.shape.slots first → ReservesFrom q r 0 start (most_kept wanted) p.trace.start.shape.slots second → length r.pool ≡ length p.pool + taken → Reserves p r wanted taken (first + second)
+by_names : {p q r : PassView} {start wanted taken first second : ℕ} → start ≤ p.trace.start.shape.slots →
+    ReservesFrom p q start p.trace.start.shape.slots (most_kept wanted) p.trace.start.shape.slots first →
+    ReservesFrom q r 0 start (most_kept wanted) p.trace.start.shape.slots second →
+    length r.pool ≡ length p.pool + taken → Reserves p r wanted taken (first + second)
 by_names {p} {q} {r} {start} {wanted} {taken} {first} {second} low a b count =
-    let there : start ≤ q.trace.start.shape.slots = subst (λ (s : Start). start ≤ s.shape.slots) (sym a.takes.quiet.same.start) low in
+    let there : start ≤ q.trace.start.shape.slots =
+    subst (λ (s : Start). start ≤ s.shape.slots) (sym a.takes.quiet.same.start) low in
     record {
       takes = takes_on first second a.takes b.takes;
       count = count;
       most = most_on p q r (most_kept wanted) a.most b.most;
       enough = ⊎_elim
-          (λ (full : most_kept wanted ≤ length q.pool). inl (let more = longer q r b.takes.grows in omega (arith, full, more)))
+          (λ (full : most_kept wanted ≤ length q.pool).
+          inl (let more = longer q r b.takes.grows in omega (arith, full, more)))
           (λ (above : (slot : ℕ) → slot < p.trace.start.shape.slots → start ≤ slot → IsMissed p q slot).
           ⊎_elim (λ full. inl full)
           (λ (below : (slot : ℕ) → slot < start → 0 ≤ slot → IsMissed q r slot).
@@ -273,10 +341,16 @@ by_names {p} {q} {r} {start} {wanted} {taken} {first} {second} low a b count =
           (with_all a (omega arith) (omega arith));
     }
 
-pub reserves_round : {p q r : PassView} {start to full wanted taken first second : ℕ} → to ≡ p.trace.start.shape.slots → full ≡ most_kept wanted → start ≤ to → ReservesFrom p q start to full to first → ReservesFrom q r 0 start full to second → length r.pool ≡ length p.pool + taken → Reserves p r wanted taken (first + second)
+pub reserves_round : {p q r : PassView} {start to full wanted taken first second : ℕ} → to ≡ p.trace.start.shape.slots →
+    full ≡ most_kept wanted → start ≤ to → ReservesFrom p q start to full to first →
+    ReservesFrom q r 0 start full to second → length r.pool ≡ length p.pool + taken →
+    Reserves p r wanted taken (first + second)
 reserves_round {p} {q} {r} {start} {to} {full} {wanted} {taken} {first} {second} end is low a b count =
-    by_names (subst (λ (x : ℕ). start ≤ x) end low) (subst (λ (x : ℕ × ℕ). ReservesFrom p q start x.0 x.1 x.0 first) (λ i. (end i, is i)) a) (subst (λ (x : ℕ × ℕ). ReservesFrom q r 0 start x.1 x.0 second) (λ i. (end i, is i)) b) count
+    by_names (subst (λ (x : ℕ). start ≤ x) end low)
+    (subst (λ (x : ℕ × ℕ). ReservesFrom p q start x.0 x.1 x.0 first) (λ i. (end i, is i)) a)
+    (subst (λ (x : ℕ × ℕ). ReservesFrom q r 0 start x.1 x.0 second) (λ i. (end i, is i)) b) count
 
 -- how many were taken
-pub grown_by : (p q : PassView) → PoolGrows p q → (taken : ℕ) → taken ≡ length q.pool - length p.pool → length q.pool ≡ length p.pool + taken
+pub grown_by : (p q : PassView) → PoolGrows p q → (taken : ℕ) → taken ≡ length q.pool - length p.pool →
+    length q.pool ≡ length p.pool + taken
 grown_by p q grows taken is = let more = longer p q grows in omega (arith, is, more)

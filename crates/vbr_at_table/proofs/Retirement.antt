@@ -1,5 +1,7 @@
 -- An unlinked slot that returns: it is stamped with an epoch that was read before.
-use Rattle.std.proofs.Common.{◌≡◌, ℕ, ◌-◌, ◌<◌, ◌≤◌, ◌==◌, Bool, true, false, cond, Option, Some, None, List, [], ◌∷◌, ◌++◌, length, arith, refl, sym, ap, ◌∙◌, append_assoc, append-nil, subst, inr, ⊎_elim, ◌≢◌}
+use Rattle.std.proofs.Common.{◌≡◌, ℕ, ◌-◌, ◌<◌, ◌≤◌, ◌==◌, Bool, true, false, cond, Option, Some, None, List, [], ◌∷◌}
+use Rattle.std.proofs.Common.{◌++◌, length, arith, refl, sym, ap, ◌∙◌, append_assoc, append-nil, subst, inr, ⊎_elim}
+use Rattle.std.proofs.Common.{◌≢◌}
 use Rattle.std.proofs.lemmas.Bool.{cases_eq, ne_eqb}
 use Rattle.std.proofs.lemmas.Bool.Decides.{nat_tests}
 use Rattle.vbr_machine.specs.Start.{Start, IsStart}
@@ -28,11 +30,13 @@ use Rattle.vbr_slots.proofs.Lemmas.{did_moment, did_quiet, did_took, moment_befo
 use Rattle.vbr_at_table.specs.KeptSlots.{TakesNoSlot}
 use Rattle.vbr_at_table.specs.Retiring.{Retires, StampsFreshly, is_kept, know_retired}
 use Rattle.vbr_at_table.proofs.InTurn.{did_stay_turn}
-use Rattle.vbr_at_table.proofs.Advancing.{same_advances, same_tries, did_stamps, free_pool, grows_same, none_on, did_none, none_given}
+use Rattle.vbr_at_table.proofs.Advancing.{same_advances, same_tries, did_stamps, free_pool, grows_same, none_on}
+use Rattle.vbr_at_table.proofs.Advancing.{did_none, none_given}
 use Rattle.vbr_at_table.proofs.AloneRetirement.{retired_leaves, retired_fresh, raised_leaves, raised_fresh}
 use Rattle.vbr_at_table.proofs.Shown.{epoch_told, epoch_stood}
 
-module _ {p q r : Trace} {slot e n : ℕ} (read : Did ReadEpoch p q e) (stamp : Did (StoreStamp slot (knows q).epoch) q r n) where
+module _ {p q r : Trace} {slot e n : ℕ} (read : Did ReadEpoch p q e)
+    (stamp : Did (StoreStamp slot (knows q).epoch) q r n) where
   retired_quiet : Quiet p r
   retired_quiet = quiet_on (did_quiet read (λ know. refl)) (did_quiet stamp (λ know. refl))
 
@@ -46,19 +50,31 @@ module _ {p q r : Trace} {slot e n : ℕ} (read : Did ReadEpoch p q e) (stamp : 
         is = moment_before (did_moment read) (did_quiet stamp (λ know. refl));
         was_epoch = epoch_stood read ∙ sym (epoch_told read) ∙ sym told;
         stamping = q.seen ++ stamp.rest;
-        later = (event_of p.who ReadEpoch ∷ stamp.rest, ap (λ (l : List Event). l ++ stamp.rest) read.seen ∙ append_assoc (p.seen ++ read.rest) (event_of p.who ReadEpoch ∷ []) stamp.rest);
-        stamped = ([], stamp.seen ∙ (λ i. (q.seen ++ stamp.rest) ++ mark (read.same.3 i) (sym told i) ∷ []) ∙ sym (append-nil ((q.seen ++ stamp.rest) ++ mark p.who (knows r).epoch ∷ [])));
+        later = (
+          event_of p.who ReadEpoch ∷ stamp.rest,
+          ap (λ (l : List Event). l ++ stamp.rest) read.seen
+              ∙ append_assoc (p.seen ++ read.rest) (event_of p.who ReadEpoch ∷ []) stamp.rest,
+        );
+        stamped = (
+          [],
+          stamp.seen ∙ (λ i. (q.seen ++ stamp.rest) ++ mark (read.same.3 i) (sym told i) ∷ [])
+              ∙ sym (append-nil ((q.seen ++ stamp.rest) ++ mark p.who (knows r).epoch ∷ [])),
+        );
       }
 
-module _ {p q r : Trace} {slot e n : ℕ} (read : Did ReadEpoch p q e) (stamp : Did (StoreStamp slot (knows q).epoch) q r n) where
+module _ {p q r : Trace} {slot e n : ℕ} (read : Did ReadEpoch p q e)
+    (stamp : Did (StoreStamp slot (knows q).epoch) q r n) where
   retired_unchanged : ChangesNone p r
-  retired_unchanged = unchanged_on (did_unchanged read (λ w a bucket. refl)) (did_unchanged stamp (λ w a bucket. none_counted (q.who == q.who)))
+  retired_unchanged =
+      unchanged_on (did_unchanged read (λ w a bucket. refl))
+      (did_unchanged stamp (λ w a bucket. none_counted (q.who == q.who)))
 
   raised_unchanged : {t : Trace} {m : ℕ} → Did (Raise slot) r t m → ChangesNone p t
   raised_unchanged raise = unchanged_on retired_unchanged (raise_unchanged raise)
 
 -- and more steps leave that
-stamped_before : {p q r : Trace} {slot epoch : ℕ} → StampsFreshly p q slot epoch → Quiet q r → StampsFreshly p r slot epoch
+stamped_before : {p q r : Trace} {slot epoch : ℕ} → StampsFreshly p q slot epoch → Quiet q r →
+    StampsFreshly p r slot epoch
 stamped_before {p} {q} {r} a b = record {
   reading = a.reading;
   is = moment_before a.is b;
@@ -70,22 +86,31 @@ stamped_before {p} {q} {r} a b = record {
 
 -- ---- what the pass could take
 
-module _ {p q r : PassView} {slot e n : ℕ} (read : Did ReadEpoch p.trace q.trace e) (stamp : Did (StoreStamp slot (knows q.trace).epoch) q.trace r.trace n) (stays : KeepsPool p q) (still : KeepsPool q r) where
+module _ {p q r : PassView} {slot e n : ℕ} (read : Did ReadEpoch p.trace q.trace e)
+    (stamp : Did (StoreStamp slot (knows q.trace).epoch) q.trace r.trace n) (stays : KeepsPool p q)
+    (still : KeepsPool q r) where
   others : (s : ℕ) → s ≢ slot → MayBear ((knows r.trace).own s) → MayBear ((knows q.trace).own s)
   others s other m = subst MayBear (ap (λ (k : Know). k.own s) stamp.know ∙ put_other (knows q.trace).own _ _ s other) m
 
   -- a slot that is kept is in the pool
-  kept_none : {t : PassView} → t.trace ≡ r.trace → t.pool ≡ r.pool ++ slot ∷ [] → t.hand ≡ hand_without slot r.hand → TakesNoSlot p t
-  kept_none same pool hand = none_on (did_none read refl stays) (none_given stamp refl refl refl others still same pool hand refl)
+  kept_none : {t : PassView} → t.trace ≡ r.trace → t.pool ≡ r.pool ++ slot ∷ [] → t.hand ≡ hand_without slot r.hand →
+      TakesNoSlot p t
+  kept_none same pool hand =
+      none_on (did_none read refl stays) (none_given stamp refl refl refl others still same pool hand refl)
 
   -- and one that isn't is no more the pass's own
-  raised_none : {t : PassView} {m : ℕ} → Did (Raise slot) r.trace t.trace m → t.pool ≡ p.pool → t.hand ≡ r.hand → POOL - 1 ≤ length p.pool → TakesNoSlot p t
+  raised_none : {t : PassView} {m : ℕ} → Did (Raise slot) r.trace t.trace m → t.pool ≡ p.pool → t.hand ≡ r.hand →
+      POOL - 1 ≤ length p.pool → TakesNoSlot p t
   raised_none {t} raise pool hand full =
       none_on {p = p} {q = q} {r = t} (did_none read refl stays) (record {
         count = same_advances raise refl ∙ same_advances stamp refl;
         kept = record {
           free = free_pool q t (pool ∙ sym stays.0, hand ∙ still.1)
-              (λ s m. ⊎_elim (λ (is : s ≡ slot). gone s is m) (λ (other : s ≢ slot). others s other (subst MayBear (ap (λ (k : Know). k.own s) raise.know ∙ put_other (knows r.trace).own _ _ s other) m)) (cases_eq s slot));
+              (λ s m. ⊎_elim (λ (is : s ≡ slot). gone s is m)
+              (λ (other : s ≢ slot).
+              others s other
+              (subst MayBear (ap (λ (k : Know). k.own s) raise.know ∙ put_other (knows r.trace).own _ _ s other) m))
+              (cases_eq s slot));
           stamped = λ s u. did_stamps stamp refl s (did_stamps raise refl s u);
           turn = λ all turn. did_stay_turn raise refl (did_stay_turn stamp refl turn);
         };
@@ -95,7 +120,10 @@ module _ {p q r : PassView} {slot e n : ℕ} (read : Did ReadEpoch p.trace q.tra
       })
     where
       gone : (s : ℕ) → s ≡ slot → MayBear ((knows t.trace).own s) → MayBear ((knows q.trace).own s)
-      gone s is m = absurd (subst MayBear (ap (λ (i : ℕ). (knows t.trace).own i) is ∙ ap (λ (k : Know). k.own slot) raise.know ∙ put_here (knows r.trace).own slot None) m)
+      gone s is m =
+          absurd (subst MayBear
+          (ap (λ (i : ℕ). (knows t.trace).own i) is ∙ ap (λ (k : Know). k.own slot) raise.know
+          ∙ put_here (knows r.trace).own slot None) m)
 
 -- ---- what the pass knows
 
@@ -107,27 +135,35 @@ put_twice {A} f n x y = λ i k. either (f k) (k == n) i
     either z true = refl
     either z false = refl
 
-module _ {p q r : Trace} {slot e n : ℕ} (read : Did ReadEpoch p q e) (stamp : Did (StoreStamp slot (knows q).epoch) q r n) where
+module _ {p q r : Trace} {slot e n : ℕ} (read : Did ReadEpoch p q e)
+    (stamp : Did (StoreStamp slot (knows q).epoch) q r n) where
   known_stamped : knows r ≡ know_retired (knows p) (knows r).epoch slot true
   known_stamped =
       let told : (knows r).epoch ≡ (knows q).epoch = epoch_told stamp in
-      let first : knows q ≡ read_epoch (knows p) (knows r).epoch = read.know ∙ ap (read_epoch (knows p)) (sym (epoch_told read) ∙ sym told) in
+      let first : knows q ≡ read_epoch (knows p) (knows r).epoch =
+      read.know ∙ ap (read_epoch (knows p)) (sym (epoch_told read) ∙ sym told) in
       stamp.know ∙ (λ i. with_own (first i) slot (Some (Free (sym told i))))
 
-  known_raised : {t : Trace} {m : ℕ} → Did (Raise slot) r t m → knows t ≡ know_retired (knows p) (knows t).epoch slot false
+  known_raised : {t : Trace} {m : ℕ} → Did (Raise slot) r t m →
+      knows t ≡ know_retired (knows p) (knows t).epoch slot false
   known_raised {t} raise =
       let told : (knows t).epoch ≡ (knows r).epoch = epoch_told raise in
-      let first : know_retired (knows p) (knows r).epoch slot true ≡ know_retired (knows p) (knows t).epoch slot true = ap (λ (epoch : ℕ). know_retired (knows p) epoch slot true) (sym told) in
-      raise.know ∙ ap (λ (k : Know). with_own k slot None) (known_stamped ∙ first) ∙ twice (read_epoch (knows p) (knows t).epoch) (Some (Free (knows t).epoch))
+      let first : know_retired (knows p) (knows r).epoch slot true ≡ know_retired (knows p) (knows t).epoch slot true =
+      ap (λ (epoch : ℕ). know_retired (knows p) epoch slot true) (sym told) in
+      raise.know ∙ ap (λ (k : Know). with_own k slot None) (known_stamped ∙ first)
+      ∙ twice (read_epoch (knows p) (knows t).epoch) (Some (Free (knows t).epoch))
     where
-      twice : (k : Know) (holding : Option Holding) → with_own (with_own k slot holding) slot None ≡ with_own k slot None
+      twice : (k : Know) (holding : Option Holding) →
+          with_own (with_own k slot holding) slot None ≡ with_own k slot None
       twice k holding = λ i. record k { own = put_twice k.own slot holding None i }
 
 -- ---- pools
 
 -- an unlinked slot isn't in hand
-unlinked_not_in_hand : {start : Start} {know : Know} {slot : ℕ} {pool : List ℕ} {hand : Option ℕ} → OwnPool start know pool hand → IsUnlinked (know.own slot) → hand ≢ Some slot
-unlinked_not_in_hand {start} {know} {slot} {pool} {hand} o unlinked is = neither (know.own slot) unlinked (subst (HandFits start know pool) is o.in_hand).1
+unlinked_not_in_hand : {start : Start} {know : Know} {slot : ℕ} {pool : List ℕ} {hand : Option ℕ} →
+    OwnPool start know pool hand → IsUnlinked (know.own slot) → hand ≢ Some slot
+unlinked_not_in_hand {start} {know} {slot} {pool} {hand} o unlinked is =
+    neither (know.own slot) unlinked (subst (HandFits start know pool) is o.in_hand).1
   where
     neither : (holding : Option Holding) → IsUnlinked holding → IsInHand holding → ⊥
     neither None a b = a
@@ -136,22 +172,31 @@ unlinked_not_in_hand {start} {know} {slot} {pool} {hand} o unlinked is = neither
     neither (Some (InHand known)) a b = a
 
 -- and it is one of the shape
-pub unlinked_in_shape : (start : Start) (passes : ℕ) (run : List Event) (who slot : ℕ) → IsStart start → IsRun start passes run → IsUnlinked ((know_after start run who).own slot) → slot < start.shape.slots
+pub unlinked_in_shape : (start : Start) (passes : ℕ) (run : List Event) (who slot : ℕ) → IsStart start →
+    IsRun start passes run → IsUnlinked ((know_after start run who).own slot) → slot < start.shape.slots
 unlinked_in_shape start passes run who slot is ok unlinked =
     let g = run_agrees start passes run is ok in
-    go (incarnations_after start run) ((know_after start run who).own slot) unlinked g.sound.slots (g.owns who slot) g.fits.slot
+    go (incarnations_after start run) ((know_after start run who).own slot) unlinked g.sound.slots (g.owns who slot)
+    g.fits.slot
   where
-    go : (a : Incarnations) (holding : Option Holding) → IsUnlinked holding → SlotsSound start a → OwnFits a who (know_after start run who).epoch holding (a.place slot) (a.last slot) (a.stamp slot) → ((c : ℕ) → c < a.count → a.slot c < start.shape.slots) → slot < start.shape.slots
+    go : (a : Incarnations) (holding : Option Holding) → IsUnlinked holding → SlotsSound start a →
+        OwnFits a who (know_after start run who).epoch holding (a.place slot) (a.last slot) (a.stamp slot) →
+        ((c : ℕ) → c < a.count → a.slot c < start.shape.slots) → slot < start.shape.slots
     go a None u sound fits low = absurd u
     go a (Some (Free stamp)) u sound fits low = absurd u
     go a (Some (InHand known)) u sound fits low = absurd u
-    go a (Some (Unlinked reread)) u sound fits low = let by = fits.1 in let born = sound.last_born slot by.node by.last_is in subst (λ (s : ℕ). s < start.shape.slots) born.1 (low by.node born.0)
+    go a (Some (Unlinked reread)) u sound fits low =
+        let by = fits.1 in
+        let born = sound.last_born slot by.node by.last_is in
+        subst (λ (s : ℕ). s < start.shape.slots) born.1 (low by.node born.0)
 
 -- so it is a slot of the table
-pub unlinked_in_table : {p : PassView} {t : TableView} {slot same : ℕ} → PassLaw p → IsOf p.trace t → IsUnlinked ((knows p.trace).own slot) → same ≡ slot → same < t.start.shape.slots
+pub unlinked_in_table : {p : PassView} {t : TableView} {slot same : ℕ} → PassLaw p → IsOf p.trace t →
+    IsUnlinked ((knows p.trace).own slot) → same ≡ slot → same < t.start.shape.slots
 unlinked_in_table {p} {t} {slot} law of unlinked e =
     subst (λ (s : ℕ). s < t.start.shape.slots) (sym e)
-    (subst (λ (start : Start). slot < start.shape.slots) of.1 (unlinked_in_shape p.trace.start p.trace.passes p.trace.seen p.trace.who slot law.start law.is_run unlinked))
+    (subst (λ (start : Start). slot < start.shape.slots) of.1
+    (unlinked_in_shape p.trace.start p.trace.passes p.trace.seen p.trace.who slot law.start law.is_run unlinked))
 
 -- whether it is kept
 kept_tells : (pool : List ℕ) → length pool < POOL - 1 → is_kept pool ≡ true
@@ -162,12 +207,16 @@ full_tells pool full = grind (arith, nat_tests)
 
 -- ---- what the call tells
 
-module _ {p q r : PassView} {slot gone e n : ℕ} (is : IsStart p.trace.start) (read : Did ReadEpoch p.trace q.trace e) (stamp : Did (StoreStamp slot (knows q.trace).epoch) q.trace r.trace n) (stays : KeepsPool p q) (still : KeepsPool q r) (same : slot ≡ gone) (own : OwnPool p.trace.start (knows p.trace) p.pool p.hand) (unlinked : IsUnlinked ((knows p.trace).own gone)) where
+module _ {p q r : PassView} {slot gone e n : ℕ} (is : IsStart p.trace.start) (read : Did ReadEpoch p.trace q.trace e)
+    (stamp : Did (StoreStamp slot (knows q.trace).epoch) q.trace r.trace n) (stays : KeepsPool p q)
+    (still : KeepsPool q r) (same : slot ≡ gone) (own : OwnPool p.trace.start (knows p.trace) p.pool p.hand)
+    (unlinked : IsUnlinked ((knows p.trace).own gone)) where
   took : Took p.trace r.trace 2
   took = took_on 1 1 (did_took read) (did_took stamp)
 
   -- the slot is kept
-  pub retires_kept : {t : PassView} → length p.pool < POOL - 1 → t.trace ≡ r.trace → t.pool ≡ r.pool ++ slot ∷ [] → t.hand ≡ hand_without slot r.hand → Retires p t gone 2
+  pub retires_kept : {t : PassView} → length p.pool < POOL - 1 → t.trace ≡ r.trace → t.pool ≡ r.pool ++ slot ∷ [] →
+      t.hand ≡ hand_without slot r.hand → Retires p t gone 2
   retires_kept {t} low seen pool hand =
       let kept = kept_tells p.pool low in
       at_end (record {
@@ -178,8 +227,11 @@ module _ {p q r : PassView} {slot gone e n : ℕ} (is : IsStart p.trace.start) (
         turn = λ turn. did_stay_turn stamp refl (did_stay_turn read refl turn);
         stamped = stamped read stamp;
         known = known_stamped read stamp ∙ ap (know_retired (knows p.trace) (knows r.trace).epoch slot) (sym kept);
-        pool = pool ∙ ap (λ (l : List ℕ). l ++ slot ∷ []) (still.0 ∙ stays.0) ∙ sym (ap (λ (b : Bool). cond b (p.pool ++ slot ∷ []) p.pool) kept);
-        hand = hand ∙ ap (hand_without slot) (still.1 ∙ stays.1) ∙ without_it p.hand (unlinked_not_in_hand own (subst (λ (s : ℕ). IsUnlinked ((knows p.trace).own s)) (sym same) unlinked));
+        pool = pool ∙ ap (λ (l : List ℕ). l ++ slot ∷ []) (still.0 ∙ stays.0)
+            ∙ sym (ap (λ (b : Bool). cond b (p.pool ++ slot ∷ []) p.pool) kept);
+        hand = hand ∙ ap (hand_without slot) (still.1 ∙ stays.1)
+            ∙ without_it p.hand
+            (unlinked_not_in_hand own (subst (λ (s : ℕ). IsUnlinked ((knows p.trace).own s)) (sym same) unlinked));
         unchanged = retired_unchanged read stamp;
         alone = λ alone. (retired_leaves is read stamp alone, retired_fresh is read stamp alone);
       })
@@ -192,14 +244,16 @@ module _ {p q r : PassView} {slot gone e n : ℕ} (is : IsStart p.trace.start) (
       without_it (Some s) other = ap (λ (b : Bool). cond b None (Some s)) (ne_eqb s slot (λ e. other (ap Some e)))
 
   -- or it isn't
-  pub retires_raised : {t : PassView} {m : ℕ} → POOL - 1 ≤ length p.pool → Did (Raise slot) r.trace t.trace m → KeepsPool r t → Retires p t gone 3
+  pub retires_raised : {t : PassView} {m : ℕ} → POOL - 1 ≤ length p.pool → Did (Raise slot) r.trace t.trace m →
+      KeepsPool r t → Retires p t gone 3
   retires_raised {t} full raise last = subst (λ (s : ℕ). Retires p t s 3) same (record {
     took = took_on 2 1 took (did_took raise);
     count = sym (ap (λ (b : Bool). cond b 2 3) left);
     quiet = quiet_all;
     takes_no_slot = raised_none read stamp stays still raise pool_stays last.1 full;
     turn = λ turn. did_stay_turn raise refl (did_stay_turn stamp refl (did_stay_turn read refl turn));
-    stamped = subst (λ (epoch : ℕ). StampsFreshly p.trace t.trace slot epoch) (sym (epoch_told raise)) (stamped_before (stamped read stamp) (did_quiet raise (λ know. refl)));
+    stamped = subst (λ (epoch : ℕ). StampsFreshly p.trace t.trace slot epoch) (sym (epoch_told raise))
+        (stamped_before (stamped read stamp) (did_quiet raise (λ know. refl)));
     known = known_raised read stamp raise ∙ ap (know_retired (knows p.trace) (knows t.trace).epoch slot) (sym left);
     pool = pool_stays ∙ sym (ap (λ (b : Bool). cond b (p.pool ++ slot ∷ []) p.pool) left);
     hand = last.1 ∙ still.1 ∙ stays.1;

@@ -1,5 +1,6 @@
 -- The own pool, looked through for a slot that is stamped below an epoch.
-use Rattle.std.proofs.Common.{◌≡◌, ℕ, ◌+◌, ◌<◌, ◌≤◌, List, length, get_or, Some, refl, sym, ap, ◌∙◌, subst, ⊎_elim, arith}
+use Rattle.std.proofs.Common.{◌≡◌, ℕ, ◌+◌, ◌<◌, ◌≤◌, List, length, get_or, Some, refl, sym, ap, ◌∙◌, subst, ⊎_elim}
+use Rattle.std.proofs.Common.{arith}
 use Rattle.std.specs.Prelude.{Contains, ◌⊎◌}
 use Rattle.std.proofs.lemmas.List.{get_or_default}
 use Rattle.std.proofs.lemmas.List.Elements.{All-contains, Contains-get_or}
@@ -41,8 +42,12 @@ module _ {p q : PassView} {epoch budget before looked used : ℕ} (at : Scanned 
     short = short;
   }
 
-module _ {p q r : PassView} {epoch budget before looked used n : ℕ} (at : Scanned p q epoch budget before looked used) (pool : List ℕ) (shown : pool ≡ q.pool) (own : OwnPool q.trace.start (knows q.trace) q.pool q.hand) (low : looked < length pool)
-    (room : used + PIECE ≤ budget) (d : Did (LoadStamp (get_or pool looked 0)) q.trace r.trace n) (known : MayBear ((knows q.trace).own (get_or pool looked 0)) → n ≡ stamp_in ((knows q.trace).own (get_or pool looked 0))) (stays : KeepsPool q r) where
+module _ {p q r : PassView} {epoch budget before looked used n : ℕ} (at : Scanned p q epoch budget before looked used)
+    (pool : List ℕ) (shown : pool ≡ q.pool) (own : OwnPool q.trace.start (knows q.trace) q.pool q.hand)
+    (low : looked < length pool)
+    (room : used + PIECE ≤ budget) (d : Did (LoadStamp (get_or pool looked 0)) q.trace r.trace n)
+    (known : MayBear ((knows q.trace).own (get_or pool looked 0)) →
+    n ≡ stamp_in ((knows q.trace).own (get_or pool looked 0))) (stays : KeepsPool q r) where
   abbrev slot : ℕ
   slot = get_or pool looked 0
 
@@ -51,7 +56,8 @@ module _ {p q r : PassView} {epoch budget before looked used n : ℕ} (at : Scan
 
   -- the stamp that was loaded is the one that the pass knew at the beginning
   loaded : n ≡ stamp_in ((knows p.trace).own slot)
-  loaded = known (All-contains (IsPooled q.trace.start (knows q.trace)) q.pool slot own.pooled there).1 ∙ ap (λ (k : Know). stamp_in (k.own slot)) at.known
+  loaded = known (All-contains (IsPooled q.trace.start (knows q.trace)) q.pool slot own.pooled there).1
+      ∙ ap (λ (k : Know). stamp_in (k.own slot)) at.known
 
   pub scans_found : Scans p r
   scans_found = record {
@@ -71,7 +77,9 @@ module _ {p q r : PassView} {epoch budget before looked used n : ℕ} (at : Scan
     sum = (let s = at.sum in omega arith);
     within = omega arith;
     above = λ k x less.
-        ⊎_elim (λ (is : k ≡ looked). subst (λ (s : ℕ). epoch ≤ stamp_in ((knows p.trace).own s)) (here k x is) (subst (λ (m : ℕ). epoch ≤ m) loaded above))
+        ⊎_elim (λ (is : k ≡ looked).
+        subst (λ (s : ℕ). epoch ≤ stamp_in ((knows p.trace).own s)) (here k x is)
+        (subst (λ (m : ℕ). epoch ≤ m) loaded above))
         (λ (other : k < looked). at.above k x other) (either k less);
   }
     where
@@ -91,10 +99,17 @@ module _ {p q r : PassView} {epoch budget before looked used n : ℕ} (at : Scan
 
   pub scan_found : n < epoch → IsScanned p r epoch budget before (Some slot, used + 1)
   scan_found below = record {
-    uses = record { counts = counts_on at.counts (counts_one used d); within = omega arith; at_most = (let s = at.sum in let l : looked < length p.pool = subst (λ (l : List ℕ). looked < length l) (shown ∙ at.pool.0) low in omega (arith, s, l)) };
+    uses = record {
+      counts = counts_on at.counts (counts_one used d);
+      within = omega arith;
+      at_most = (let s = at.sum in
+          let l : looked < length p.pool = subst (λ (l : List ℕ). looked < length l) (shown ∙ at.pool.0) low in
+          omega (arith, s, l));
+    };
     below = (
       subst (λ (l : List ℕ). Contains l slot) (sym stays.0) there,
       subst (λ (m : ℕ). m < epoch) (loaded ∙ sym (ap (λ (k : Know). stamp_in (k.own slot)) (d.know ∙ at.known))) below,
-      subst (λ (x : Know × List ℕ). IsOldest x.0 x.1 slot epoch) (λ i. (sym (d.know ∙ at.known) i, sym (stays.0 ∙ at.pool.0) i)) oldest,
+      subst (λ (x : Know × List ℕ). IsOldest x.0 x.1 slot epoch)
+          (λ i. (sym (d.know ∙ at.known) i, sym (stays.0 ∙ at.pool.0) i)) oldest,
     );
   }

@@ -9,7 +9,8 @@ use Rattle.vbr_at_table.specs.KeptSlots.{TakesNoSlot}
 use Rattle.vbr_at_table.proofs.Advancing.{none_on}
 use Rattle.vbr_at_table.proofs.KeptKnowledge.{keeps_on}
 
-pub stores_one : {p q : PassView} {step : Step} {r : ℕ} → Did step p.trace q.trace r → Keeps (knows p.trace) (knows q.trace) → q.pool ≡ p.pool → TakesNoSlot p q → StoresIn p q 1
+pub stores_one : {p q : PassView} {step : Step} {r : ℕ} → Did step p.trace q.trace r →
+    Keeps (knows p.trace) (knows q.trace) → q.pool ≡ p.pool → TakesNoSlot p q → StoresIn p q 1
 stores_one d keeps pool none = record { took = did_took d; keeps = keeps; pool = pool; takes_no_slot = none }
 
 pub stores_on : {p q r : PassView} (m n : ℕ) → StoresIn p q m → StoresIn q r n → StoresIn p r (m + n)
@@ -21,5 +22,7 @@ stores_on m n x y = record {
 }
 
 -- one more step, the last
-pub stores_last : {p q r : PassView} {m : ℕ} {step : Step} {found : ℕ} → StoresIn p q m → Did step q.trace r.trace found → Keeps (knows q.trace) (knows r.trace) → r.pool ≡ q.pool → TakesNoSlot q r → StoresIn p r (m + 1)
+pub stores_last : {p q r : PassView} {m : ℕ} {step : Step} {found : ℕ} → StoresIn p q m →
+    Did step q.trace r.trace found → Keeps (knows q.trace) (knows r.trace) → r.pool ≡ q.pool → TakesNoSlot q r →
+    StoresIn p r (m + 1)
 stores_last {m = m} x d keeps pool none = stores_on m 1 x (stores_one d keeps pool none)

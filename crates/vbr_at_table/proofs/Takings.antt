@@ -1,6 +1,7 @@
 -- A call that takes a slot, from its pieces.
 -- A flag is won, or the own pool has slots; a slot is chosen; and a node is born there.
-use Rattle.std.proofs.Common.{◌≡◌, ◌≢◌, ℕ, zero, suc, ◌+◌, ◌<◌, ◌≤◌, Bool, not, cond, List, [], ◌∷◌, length, Result, Ok, Err, refl, sym, ap, ◌∙◌, subst, inl, inr, ⊎_elim, eq-eqb, arith}
+use Rattle.std.proofs.Common.{◌≡◌, ◌≢◌, ℕ, zero, suc, ◌+◌, ◌<◌, ◌≤◌, Bool, not, cond, List, [], ◌∷◌, length, Result, Ok}
+use Rattle.std.proofs.Common.{Err, refl, sym, ap, ◌∙◌, subst, inl, inr, ⊎_elim, eq-eqb, arith}
 use Rattle.std.specs.Prelude.{◌⊎◌, Contains, IfOk, IfErr, None}
 use Rattle.vbr_slots.specs.declared.pass.TheConstants.{POOL}
 use Rattle.vbr_machine.specs.Runs.{Begins}
@@ -14,7 +15,8 @@ use Rattle.vbr_at_table.specs.Budgets.{NeedsMore, probes_lost, steps_to_take, st
 use Rattle.vbr_at_table.specs.Gained.{gained}
 use Rattle.vbr_at_table.specs.Hands.{HandView}
 use Rattle.vbr_at_table.specs.KeptSlots.{KeepsSlots, SharesWhereFull, TriesNoFlag, TriesWhereEmpty}
-use Rattle.vbr_at_table.specs.Pieces.{BearsNone, Chooses, ChoosesNone, HasSlots, IsBorn, IsChosen, IsShortOrSpent, LooksForSlot, Uses, WinsNone, told_steps}
+use Rattle.vbr_at_table.specs.Pieces.{BearsNone, Chooses, ChoosesNone, HasSlots, IsBorn, IsChosen, IsShortOrSpent}
+use Rattle.vbr_at_table.specs.Pieces.{LooksForSlot, Uses, WinsNone, told_steps}
 use Rattle.vbr_at_table.specs.Refusals.{LeavesPool, RefusesTake, TakeIsRefused, TellsSpent}
 use Rattle.vbr_at_table.specs.SharedPool.{CameByFlag}
 use Rattle.vbr_at_table.specs.Taking.{IsOldest, IsTaken, Takes}
@@ -28,20 +30,27 @@ use Rattle.vbr_at_table.proofs.Shown.{came_before}
 -- ---- no slot is won
 
 -- a refusal that says so whatever others do says so to a pass that was alone
-alone_enough : (p q : PassView) (budget : ℕ) (refusal : Refusal) → NeedsMore (steps_to_take_among p.trace.start p.pool (gained p.trace q.trace)) budget refusal → IsAlone p.trace q.trace → NeedsMore (steps_to_take p.trace.start p.pool) budget refusal
-alone_enough p q budget (OutOfSteps used) short alone = let none = none_lost p.pool (gained p.trace q.trace) (alone_gained p.trace q.trace alone) in omega (arith, short, none)
+alone_enough : (p q : PassView) (budget : ℕ) (refusal : Refusal) →
+    NeedsMore (steps_to_take_among p.trace.start p.pool (gained p.trace q.trace)) budget refusal →
+    IsAlone p.trace q.trace → NeedsMore (steps_to_take p.trace.start p.pool) budget refusal
+alone_enough p q budget (OutOfSteps used) short alone =
+    let none = none_lost p.pool (gained p.trace q.trace) (alone_gained p.trace q.trace alone) in
+    omega (arith, short, none)
 alone_enough p q budget NoSlot short alone = tt
 alone_enough p q budget (EpochSpent epoch) short alone = tt
 
 -- the steps to win a slot are fewer than those of a call that takes one
-win_enough : (p : PassView) (budget gains : ℕ) (refusal : Refusal) → p.pool ≡ [] → NeedsMore (steps_to_win p.trace.start + gains) budget refusal → NeedsMore (steps_to_take_among p.trace.start p.pool gains) budget refusal
+win_enough : (p : PassView) (budget gains : ℕ) (refusal : Refusal) → p.pool ≡ [] →
+    NeedsMore (steps_to_win p.trace.start + gains) budget refusal →
+    NeedsMore (steps_to_take_among p.trace.start p.pool gains) budget refusal
 win_enough p budget gains (OutOfSteps used) empty short =
     let P : List ℕ → Type 0 = λ pool. budget < steps_to_take_among p.trace.start pool gains + 7 in
     subst P (sym empty) (omega (arith, short))
 win_enough p budget gains NoSlot empty short = tt
 win_enough p budget gains (EpochSpent epoch) empty short = tt
 
-module _ (p q : PassView) (budget : ℕ) (told : Refusal × ℕ) (first : LooksForSlot p q) (none : WinsNone p q budget told) where
+module _ (p q : PassView) (budget : ℕ) (told : Refusal × ℕ) (first : LooksForSlot p q)
+    (none : WinsNone p q budget told) where
   pub unwon_takes : Takes p q budget
   unwon_takes = record {
     steps = record { steps = told.1; within = none.uses.within; took = took_all none.uses.counts };
@@ -71,7 +80,8 @@ module _ (p q : PassView) (budget : ℕ) (told : Refusal × ℕ) (first : LooksF
 
 -- ---- the own pool has slots
 
-module _ (p q r : PassView) (budget used : ℕ) (first : LooksForSlot p q) (begun : HasSlots p q budget used) (then : Chooses q r) where
+module _ (p q r : PassView) (budget used : ℕ) (first : LooksForSlot p q) (begun : HasSlots p q budget used)
+    (then : Chooses q r) where
   quiet_all : Quiet p.trace r.trace
   quiet_all = quiet_on first.quiet then.quiet
 
@@ -82,7 +92,8 @@ module _ (p q r : PassView) (budget used : ℕ) (first : LooksForSlot p q) (begu
   leaves : LeavesPool p r
   leaves =
       ⊎_elim (λ (x : (q.pool ≡ p.pool) × (p.pool ≢ []) × (used ≡ 0)). inl (then.pool.0 ∙ x.0))
-      (λ (x : (p.pool ≡ []) × (slot : ℕ) × (q.pool ≡ slot ∷ []) × CameByFlag p.trace q.trace slot). inr (x.0, x.1, then.pool.0 ∙ x.2, came_before x.3 then.quiet)) begun.won
+      (λ (x : (p.pool ≡ []) × (slot : ℕ) × (q.pool ≡ slot ∷ []) × CameByFlag p.trace q.trace slot).
+      inr (x.0, x.1, then.pool.0 ∙ x.2, came_before x.3 then.quiet)) begun.won
 
   advances_all : AdvancesWhereNeeded p r
   advances_all = needed_since {p = p} {q = q} {r = r} first.quiet first.count first.kept.free then.advances
@@ -95,7 +106,9 @@ module _ (p q r : PassView) (budget used : ℕ) (first : LooksForSlot p q) (begu
 
   -- what comes after tries no flag
   tries_on : (t : PassView) → TriesNoFlag q t → TriesWhereEmpty p t
-  tries_on t none = ⊎_elim (λ (same : TriesNoFlag p q). inl (none ∙ same)) (λ (where_empty : (p.pool ≡ []) × Unit {0}). inr where_empty) first.tries
+  tries_on t none =
+      ⊎_elim (λ (same : TriesNoFlag p q). inl (none ∙ same))
+      (λ (where_empty : (p.pool ≡ []) × Unit {0}). inr where_empty) first.tries
 
   grown : length p.pool ≤ length r.pool
   grown = let low = longer p q first.grows in let e = same_length in omega (arith, low, e)
@@ -114,31 +127,40 @@ module _ (p q r : PassView) (budget used : ℕ) (first : LooksForSlot p q) (begu
     advances = advances_all;
   }
 
-  -- the steps to win a slot, and those that are made at most for a slot of the own pool, are at most those of a call that takes a slot
+  -- the steps to win a slot, and those that are made at most for a slot of the own pool, are at most those of a
+  -- call that takes a slot
   few_own : p.pool ≢ [] → used + length q.pool ≤ POOL
   few_own some =
-      ⊎_elim (λ (x : (q.pool ≡ p.pool) × (p.pool ≢ []) × (used ≡ 0)). (let none = x.2 in let room = begun.room in omega (arith, none, room)))
-      (λ (x : (p.pool ≡ []) × (slot : ℕ) × (q.pool ≡ slot ∷ []) × CameByFlag p.trace q.trace slot). absurd (some x.0)) begun.won
+      ⊎_elim (λ (x : (q.pool ≡ p.pool) × (p.pool ≢ []) × (used ≡ 0)).
+      (let none = x.2 in let room = begun.room in omega (arith, none, room)))
+      (λ (x : (p.pool ≡ []) × (slot : ℕ) × (q.pool ≡ slot ∷ []) × CameByFlag p.trace q.trace slot). absurd (some x.0))
+      begun.won
 
   won_few : used + (length q.pool + 4) ≤ steps_to_take_among p.trace.start p.pool (gained p.trace q.trace)
   won_few =
       ⊎_elim (λ (x : (q.pool ≡ p.pool) × (p.pool ≢ []) × (used ≡ 0)). at_most p.pool x.1 (few_own x.1))
-      (λ (x : (p.pool ≡ []) × (slot : ℕ) × (q.pool ≡ slot ∷ []) × CameByFlag p.trace q.trace slot). shared x.0 (ap length x.2) (begun.few x.0)) begun.won
+      (λ (x : (p.pool ≡ []) × (slot : ℕ) × (q.pool ≡ slot ∷ []) × CameByFlag p.trace q.trace slot).
+      shared x.0 (ap length x.2) (begun.few x.0)) begun.won
     where
-      at_most : (pool : List ℕ) → pool ≢ [] → used + length q.pool ≤ POOL → used + (length q.pool + 4) ≤ steps_to_take_among p.trace.start pool (gained p.trace q.trace)
+      at_most : (pool : List ℕ) → pool ≢ [] → used + length q.pool ≤ POOL →
+          used + (length q.pool + 4) ≤ steps_to_take_among p.trace.start pool (gained p.trace q.trace)
       at_most [] some few = absurd (some refl)
       at_most (slot ∷ pool) some few = omega (arith, few)
 
-      shared : p.pool ≡ [] → length q.pool ≡ 1 → used ≤ steps_to_win p.trace.start + gained p.trace q.trace → used + (length q.pool + 4) ≤ steps_to_take_among p.trace.start p.pool (gained p.trace q.trace)
+      shared : p.pool ≡ [] → length q.pool ≡ 1 → used ≤ steps_to_win p.trace.start + gained p.trace q.trace →
+          used + (length q.pool + 4) ≤ steps_to_take_among p.trace.start p.pool (gained p.trace q.trace)
       shared empty one few =
-          let P : List ℕ → Type 0 = λ pool. used + (length q.pool + 4) ≤ steps_to_take_among p.trace.start pool (gained p.trace q.trace) in
+          let P : List ℕ → Type 0 =
+          λ pool. used + (length q.pool + 4) ≤ steps_to_take_among p.trace.start pool (gained p.trace q.trace) in
           subst P (sym empty) (omega (arith, one, few))
 
   -- and so it is of what was seen later
-  few_later : (t : PassView) → Begins q.trace.seen t.trace.seen → used + (length q.pool + 4) ≤ steps_to_take_among p.trace.start p.pool (gained p.trace t.trace)
+  few_later : (t : PassView) → Begins q.trace.seen t.trace.seen →
+      used + (length q.pool + 4) ≤ steps_to_take_among p.trace.start p.pool (gained p.trace t.trace)
   few_later t b =
       let few = won_few in
-      let more = more_lost p.pool (gained p.trace q.trace) (gained p.trace t.trace) (gained_on p.trace q.trace t.trace b) in
+      let more = more_lost p.pool (gained p.trace q.trace) (gained p.trace t.trace)
+      (gained_on p.trace q.trace t.trace b) in
       omega (arith, few, more)
 
   -- no slot was chosen
@@ -147,11 +169,14 @@ module _ (p q r : PassView) (budget used : ℕ) (first : LooksForSlot p q) (begu
     unchosen_took = took_all (all_uses none.uses).counts
 
     why_none : (refusal : Refusal) → IsShortOrSpent r budget told.1 refusal → TakeIsRefused p r budget refusal
-    why_none (OutOfSteps n) why = subst (λ (n : ℕ). TakeIsRefused p r budget (OutOfSteps n)) (sym why.0) (record { took = unchosen_took; within = none.uses.within; short = why.1 })
+    why_none (OutOfSteps n) why =
+        subst (λ (n : ℕ). TakeIsRefused p r budget (OutOfSteps n)) (sym why.0)
+        (record { took = unchosen_took; within = none.uses.within; short = why.1 })
     why_none NoSlot why = absurd why
     why_none (EpochSpent e) why = (why.0, record { steps = told.1; room = why.1; took = unchosen_took })
 
-    ready_none : (refusal : Refusal) → IsShortOrSpent r budget told.1 refusal → p.pool ≢ [] → 80 ≤ budget → TellsSpent refusal
+    ready_none : (refusal : Refusal) → IsShortOrSpent r budget told.1 refusal → p.pool ≢ [] → 80 ≤ budget →
+        TellsSpent refusal
     ready_none (OutOfSteps n) why some ample =
         let few = few_own some in
         let made = none.uses.at_most in
@@ -160,7 +185,8 @@ module _ (p q r : PassView) (budget used : ℕ) (first : LooksForSlot p q) (begu
     ready_none NoSlot why some ample = absurd why
     ready_none (EpochSpent e) why some ample = tt
 
-    among_none : (refusal : Refusal) → IsShortOrSpent r budget told.1 refusal → NeedsMore (steps_to_take_among p.trace.start p.pool (gained p.trace r.trace)) budget refusal
+    among_none : (refusal : Refusal) → IsShortOrSpent r budget told.1 refusal →
+        NeedsMore (steps_to_take_among p.trace.start p.pool (gained p.trace r.trace)) budget refusal
     among_none (OutOfSteps n) why =
         let most = few_later r then.quiet.seen in
         let made = none.uses.at_most in
@@ -189,17 +215,26 @@ module _ (p q r : PassView) (budget used : ℕ) (first : LooksForSlot p q) (begu
     gone s is = ap (λ (b : Bool). cond (not b) (s ∷ []) []) (eq-eqb s slot is)
 
     -- the slot that was chosen was in the pool, or came
-    from : (birth : ℕ) → Quiet r.trace t.trace → IsOldest (knows t.trace) r.pool slot birth → IsOldest (knows t.trace) p.pool slot birth ⊎ ((p.pool ≡ []) × CameByFlag p.trace t.trace slot)
+    from : (birth : ℕ) → Quiet r.trace t.trace → IsOldest (knows t.trace) r.pool slot birth →
+        IsOldest (knows t.trace) p.pool slot birth ⊎ ((p.pool ≡ []) × CameByFlag p.trace t.trace slot)
     from birth more oldest =
-        ⊎_elim (λ (x : (q.pool ≡ p.pool) × (p.pool ≢ []) × (used ≡ 0)). inl (subst (λ (l : List ℕ). IsOldest (knows t.trace) l slot birth) (then.pool.0 ∙ x.0) oldest))
+        ⊎_elim (λ (x : (q.pool ≡ p.pool) × (p.pool ≢ []) × (used ≡ 0)).
+        inl (subst (λ (l : List ℕ). IsOldest (knows t.trace) l slot birth) (then.pool.0 ∙ x.0) oldest))
         (λ (x : (p.pool ≡ []) × (s : ℕ) × (q.pool ≡ s ∷ []) × CameByFlag p.trace q.trace s).
-        inr (x.0, subst (CameByFlag p.trace t.trace) (one x.1 (subst (λ (l : List ℕ). Contains l slot) (then.pool.0 ∙ x.2) chosen.below.0)) (came_before x.3 (quiet_on then.quiet more)))) begun.won
+        inr (
+          x.0,
+          subst (CameByFlag p.trace t.trace)
+              (one x.1 (subst (λ (l : List ℕ). Contains l slot) (then.pool.0 ∙ x.2) chosen.below.0))
+              (came_before x.3 (quiet_on then.quiet more)),
+        )) begun.won
 
     rest : t.pool ≡ without slot r.pool → t.pool ≡ without slot p.pool
     rest is =
         ⊎_elim (λ (x : (q.pool ≡ p.pool) × (p.pool ≢ []) × (used ≡ 0)). is ∙ ap (without slot) (then.pool.0 ∙ x.0))
         (λ (x : (p.pool ≡ []) × (s : ℕ) × (q.pool ≡ s ∷ []) × CameByFlag p.trace q.trace s).
-        is ∙ ap (without slot) (then.pool.0 ∙ x.2) ∙ gone x.1 (one x.1 (subst (λ (l : List ℕ). Contains l slot) (then.pool.0 ∙ x.2) chosen.below.0)) ∙ sym (ap (without slot) x.0)) begun.won
+        is ∙ ap (without slot) (then.pool.0 ∙ x.2)
+        ∙ gone x.1 (one x.1 (subst (λ (l : List ℕ). Contains l slot) (then.pool.0 ∙ x.2) chosen.below.0))
+        ∙ sym (ap (without slot) x.0)) begun.won
 
     -- what was used before the birth
     chosen_few : Quiet r.trace t.trace → since + 1 ≤ steps_to_take_among p.trace.start p.pool (gained p.trace t.trace)
@@ -221,7 +256,8 @@ module _ (p q r : PassView) (budget used : ℕ) (first : LooksForSlot p q) (begu
         one = (let low = grown in let one = born.leaves.one in omega (arith, low, one));
         shared = shared_then shared_all;
         tries = tries_on t (born.leaves.tries ∙ then.tries);
-        advances = needed_before {p = p} {q = r} {r = t} advances_all born.leaves.quiet.seen born.leaves.quiet.is_run born.leaves.advances;
+        advances = needed_before {p = p} {q = r} {r = t} advances_all born.leaves.quiet.seen born.leaves.quiet.is_run
+            born.leaves.advances;
       }
         where
           shared_then : SharesWhereFull 1 p r → SharesWhereFull 2 p t
@@ -230,16 +266,30 @@ module _ (p q r : PassView) (budget used : ℕ) (first : LooksForSlot p q) (begu
 
       pub born_taken : IsTaken p t told.0
       born_taken = record {
-        from = subst (λ (s : ℕ). IsOldest (knows t.trace) p.pool s told.0.birth ⊎ ((p.pool ≡ []) × CameByFlag p.trace t.trace s)) (sym born.slot) (from told.0.birth born.leaves.quiet born.oldest);
+        from = subst
+            (λ (s : ℕ). IsOldest (knows t.trace) p.pool s told.0.birth ⊎ ((p.pool ≡ []) × CameByFlag p.trace t.trace s))
+            (sym born.slot) (from told.0.birth born.leaves.quiet born.oldest);
         births = record {
           in_hand = born.births.in_hand;
           birth = born.births.birth;
           above = born.births.above;
-          rest = subst (λ (s : ℕ). t.pool ≡ without s p.pool) (sym born.slot) (rest (subst (λ (s : ℕ). t.pool ≡ without s r.pool) born.slot born.births.rest));
+          rest = subst (λ (s : ℕ). t.pool ≡ without s p.pool) (sym born.slot)
+              (rest (subst (λ (s : ℕ). t.pool ≡ without s r.pool) born.slot born.births.rest));
           room = born.births.room;
         };
-        few = λ alone. record { steps = told.1; within = (let few = chosen_few born.leaves.quiet in let none = none_lost p.pool (gained p.trace t.trace) (alone_gained p.trace t.trace alone) in let is = born.sum in omega (arith, few, none, is)); took = born_took };
-        among = (let few = chosen_few born.leaves.quiet in let is = born.sum in let took = born_took.made in omega (arith, few, is, took));
+        few = λ alone.
+            record {
+              steps = told.1;
+              within = (let few = chosen_few born.leaves.quiet in
+                  let none = none_lost p.pool (gained p.trace t.trace) (alone_gained p.trace t.trace alone) in
+                  let is = born.sum in
+                  omega (arith, few, none, is));
+              took = born_took;
+            };
+        among = (let few = chosen_few born.leaves.quiet in
+            let is = born.sum in
+            let took = born_took.made in
+            omega (arith, few, is, took));
       }
 
     -- or it wasn't
@@ -258,15 +308,22 @@ module _ (p q r : PassView) (budget used : ℕ) (first : LooksForSlot p q) (begu
         why = record { took = unborn_took; within = none.short.uses.within; short = none.short.short };
         pool = at_end (LeavesPool p) leaves;
         hand = at_end (λ (x : PassView). x.hand ≡ None) (then.pool.1 ∙ begun.hand);
-        ready = λ some ample. (let few = few_own some in let made = chosen.uses.at_most in let used = none.short.uses.at_most in let short = none.short.short in absurd (omega (arith, few, made, used, short, ample)));
+        ready = λ some ample.
+            (let few = few_own some in
+            let made = chosen.uses.at_most in
+            let used = none.short.uses.at_most in
+            let short = none.short.short in
+            absurd (omega (arith, few, made, used, short, ample)));
         enough = alone_enough p t budget (OutOfSteps told.1) unborn_among;
         among = unborn_among;
       })
         where
           unborn_among : budget < steps_to_take_among p.trace.start p.pool (gained p.trace t.trace) + 7
           unborn_among =
-              let same : gained p.trace t.trace ≡ gained p.trace r.trace = ap (λ (x : PassView). gained p.trace x.trace) none.same in
-              let lost : probes_lost p.pool (gained p.trace t.trace) ≡ probes_lost p.pool (gained p.trace r.trace) = ap (probes_lost p.pool) same in
+              let same : gained p.trace t.trace ≡ gained p.trace r.trace =
+              ap (λ (x : PassView). gained p.trace x.trace) none.same in
+              let lost : probes_lost p.pool (gained p.trace t.trace) ≡ probes_lost p.pool (gained p.trace r.trace) =
+              ap (probes_lost p.pool) same in
               let most = few_later r then.quiet.seen in
               let made = chosen.uses.at_most in
               let used = none.short.uses.at_most in
@@ -274,31 +331,36 @@ module _ (p q r : PassView) (budget used : ℕ) (first : LooksForSlot p q) (begu
               omega (arith, lost, most, made, used, short)
 
     -- whatever came of it
-    module _ (result : Result (HandView × ℕ) (Refusal × ℕ)) (ok : IfOk result (IsBorn r t slot budget since)) (none : IfErr result (BearsNone r t budget since)) where
+    module _ (result : Result (HandView × ℕ) (Refusal × ℕ)) (ok : IfOk result (IsBorn r t slot budget since))
+        (none : IfErr result (BearsNone r t budget since)) where
       pub ends_took : Took p.trace t.trace (told_steps result)
       ends_took = go result ok none
         where
-          go : (x : Result (HandView × ℕ) (Refusal × ℕ)) → IfOk x (IsBorn r t slot budget since) → IfErr x (BearsNone r t budget since) → Took p.trace t.trace (told_steps x)
+          go : (x : Result (HandView × ℕ) (Refusal × ℕ)) → IfOk x (IsBorn r t slot budget since) →
+              IfErr x (BearsNone r t budget since) → Took p.trace t.trace (told_steps x)
           go (Ok told) born none = born_took told born
           go (Err told) born none = unborn_took told none
 
       pub ends_takes : Takes p t budget
       ends_takes = go result ok none
         where
-          go : (x : Result (HandView × ℕ) (Refusal × ℕ)) → IfOk x (IsBorn r t slot budget since) → IfErr x (BearsNone r t budget since) → Takes p t budget
+          go : (x : Result (HandView × ℕ) (Refusal × ℕ)) → IfOk x (IsBorn r t slot budget since) →
+              IfErr x (BearsNone r t budget since) → Takes p t budget
           go (Ok told) born none = born_takes told born
           go (Err told) born none = unborn_takes told none
 
       pub ends_taken : IfOk result (λ told. IsTaken p t told.0)
       ends_taken = go result ok
         where
-          go : (x : Result (HandView × ℕ) (Refusal × ℕ)) → IfOk x (IsBorn r t slot budget since) → IfOk x (λ told. IsTaken p t told.0)
+          go : (x : Result (HandView × ℕ) (Refusal × ℕ)) → IfOk x (IsBorn r t slot budget since) →
+              IfOk x (λ told. IsTaken p t told.0)
           go (Ok told) born = born_taken told born
           go (Err told) born = tt
 
       pub ends_refused : IfErr result (λ told. RefusesTake p t budget told.0)
       ends_refused = go result none
         where
-          go : (x : Result (HandView × ℕ) (Refusal × ℕ)) → IfErr x (BearsNone r t budget since) → IfErr x (λ told. RefusesTake p t budget told.0)
+          go : (x : Result (HandView × ℕ) (Refusal × ℕ)) → IfErr x (BearsNone r t budget since) →
+              IfErr x (λ told. RefusesTake p t budget told.0)
           go (Ok told) none = tt
           go (Err told) none = unborn_refused told none

@@ -1,5 +1,7 @@
--- A pool that is topped up: the way goes on from the slot that was tried last, up to the last slot and then from slot 0.
-use Rattle.std.proofs.Common.{◌≡◌, ℕ, ◌+◌, ◌-◌, ◌*◌, ◌/◌, ◌%◌, ◌^◌, ◌<◌, ◌≤◌, ◌==◌, length, sym, ap, ◌∙◌, subst, inl, inr, ⊎_elim, arith}
+-- A pool that is topped up: the way goes on from the slot that was tried last, up to the last slot and then from
+-- slot 0.
+use Rattle.std.proofs.Common.{◌≡◌, ℕ, ◌+◌, ◌-◌, ◌*◌, ◌/◌, ◌%◌, ◌^◌, ◌<◌, ◌≤◌, ◌==◌, length, sym, ap, ◌∙◌, subst, inl}
+use Rattle.std.proofs.Common.{inr, ⊎_elim, arith}
 use Rattle.std.specs.Prelude.{◌⊎◌}
 use Rattle.std.specs.Int.{bit_at}
 use Rattle.std.proofs.Math.Nat.{div-div-eq-div-mul}
@@ -17,10 +19,12 @@ use Rattle.vbr_at_table.proofs.Reserves.{missed_on, missed_then, most_on, takes_
 
 -- the bits of a word that is shifted are the higher ones of the word
 shifted : (n k i : ℕ) → bit_at (n / 2 ^ k) i ≡ bit_at n (k + i)
-shifted n k i = ap (λ (x : ℕ). x % 2) (div-div-eq-div-mul n (2 ^ k) (2 ^ i) ∙ ap (λ (x : ℕ). n / x) (sym (pow-add 2 k i)))
+shifted n k i =
+    ap (λ (x : ℕ). x % 2) (div-div-eq-div-mul n (2 ^ k) (2 ^ i) ∙ ap (λ (x : ℕ). n / x) (sym (pow-add 2 k i)))
 
 -- where the shifted word has its lowest flag is the next one
-pub next_from : (word slot behind next : ℕ) → IsNextFlag (word / 2 ^ (slot % 64)) 0 behind → next ≤ slot + behind → next ≤ (slot / 64 + 1) * 64 → IsNextFrom word slot next
+pub next_from : (word slot behind next : ℕ) → IsNextFlag (word / 2 ^ (slot % 64)) 0 behind → next ≤ slot + behind →
+    next ≤ (slot / 64 + 1) * 64 → IsNextFrom word slot next
 unfolding has_flag
 next_from word slot behind next lowest by_flag by_word = record {
   low = omega (arith, by_word);
@@ -28,46 +32,76 @@ next_from word slot behind next lowest by_flag by_word = record {
       let place : s % 64 ≡ slot % 64 + (s - slot) % 64 = omega (arith, above, below, by_word) in
       let under : s - slot < behind = omega (arith, above, below, by_flag) in
       let same : (s - slot) / 64 ≡ 0 / 64 = omega (arith, above, below, by_word) in
-      ap (λ (i : ℕ). bit_at word i == 1) place ∙ ap (λ (d : ℕ). d == 1) (sym (shifted word (slot % 64) ((s - slot) % 64))) ∙ lowest.before (s - slot) same under;
+      ap (λ (i : ℕ). bit_at word i == 1) place
+      ∙ ap (λ (d : ℕ). d == 1) (sym (shifted word (slot % 64) ((s - slot) % 64))) ∙ lowest.before (s - slot) same under;
 }
 
 -- ---- once round, or as far as the tries go
 
 -- so many slots were passed in so many tries
 abbrev Goes : PassView → PassView → ℕ → ℕ → ℕ → ℕ → Type 0
-Goes p r full probes tries passed = (tries ≤ passed) × ((slot : ℕ) → slot < p.trace.start.shape.slots → IsAmongNext p.trace passed slot → IsMissed p r slot) × ((full ≤ length r.pool) ⊎ (tries ≡ probes) ⊎ (p.trace.start.shape.slots ≤ passed))
+Goes p r full probes tries passed = (tries ≤ passed) ×
+    ((slot : ℕ) → slot < p.trace.start.shape.slots → IsAmongNext p.trace passed slot → IsMissed p r slot) ×
+    ((full ≤ length r.pool) ⊎ (tries ≡ probes) ⊎ (p.trace.start.shape.slots ≤ passed))
 
-module _ {p q r : PassView} {slots full probes first second : ℕ} (low : last_tried p.trace < slots) (a : ReservesFrom p q (last_tried p.trace + 1) slots (full) probes first) (b : ReservesFrom q r 0 (last_tried p.trace + 1) (full) (probes - first) second) (is : slots ≡ p.trace.start.shape.slots) where
+module _ {p q r : PassView} {slots full probes first second : ℕ} (low : last_tried p.trace < slots)
+    (a : ReservesFrom p q (last_tried p.trace + 1) slots (full) probes first)
+    (b : ReservesFrom q r 0 (last_tried p.trace + 1) (full) (probes - first) second)
+    (is : slots ≡ p.trace.start.shape.slots) where
   -- the tries went over to slot 0
   over : slots ≤ a.next → Goes p r (full) probes (first + second) (slots - (last_tried p.trace + 1) + b.next)
   over past =
       let tries = a.tries in let more = b.tries in let within = a.within in let few = b.few in (
         omega (arith, within, few),
         λ slot in_shape among. ⊎_elim
-            (λ (here : (last_tried p.trace < slot) × (slot ≤ last_tried p.trace + (slots - (last_tried p.trace + 1) + b.next))). missed_on p (a.each slot in_shape (let above = here.0 in omega (arith, above)) (omega (arith, in_shape, past, is))) b.takes)
-            (λ (round : slot + p.trace.start.shape.slots ≤ last_tried p.trace + (slots - (last_tried p.trace + 1) + b.next)). missed_then r a.takes (b.each slot (subst (λ (s : Start). slot < s.shape.slots) (sym a.takes.quiet.same.start) in_shape) (omega arith) (omega (arith, round, is, low))))
+            (λ (here : (last_tried p.trace < slot) ×
+            (slot ≤ last_tried p.trace + (slots - (last_tried p.trace + 1) + b.next))). missed_on p
+            (a.each slot in_shape (let above = here.0 in omega (arith, above)) (omega (arith, in_shape, past, is)))
+            b.takes)
+            (λ (round : slot + p.trace.start.shape.slots
+            ≤ last_tried p.trace + (slots - (last_tried p.trace + 1) + b.next)). missed_then r a.takes
+            (b.each slot (subst (λ (s : Start). slot < s.shape.slots) (sym a.takes.quiet.same.start) in_shape)
+            (omega arith) (omega (arith, round, is, low))))
             among,
-        ⊎_elim (λ full. inl full) (λ rest. inr (⊎_elim (λ (all : probes - first ≤ second). inl (omega (arith, all, tries, more))) (λ (round : last_tried p.trace + 1 ≤ b.next). inr (omega (arith, round, is, low))) rest)) b.ends,
+        ⊎_elim (λ full. inl full)
+            (λ rest. inr
+            (⊎_elim (λ (all : probes - first ≤ second). inl (omega (arith, all, tries, more)))
+            (λ (round : last_tried p.trace + 1 ≤ b.next). inr (omega (arith, round, is, low))) rest)) b.ends,
       )
 
   -- they ended before
   under : a.next < slots → Goes p r (full) probes (first + second) (a.next - (last_tried p.trace + 1))
   under short =
       let tries = a.tries in let more = b.tries in let few = a.few in
-      let none : second ≡ 0 = ⊎_elim (λ full. b.idle full) (λ rest. ⊎_elim (λ (all : probes ≤ first). omega (arith, all, more)) (λ (end : slots ≤ a.next). absurd (omega (arith, end, short))) rest) a.ends in (
+      let none : second ≡ 0 =
+      ⊎_elim (λ full. b.idle full)
+      (λ rest. ⊎_elim (λ (all : probes ≤ first). omega (arith, all, more))
+      (λ (end : slots ≤ a.next). absurd (omega (arith, end, short))) rest) a.ends in (
         omega (arith, few, none),
         λ slot in_shape among. ⊎_elim
-            (λ (here : (last_tried p.trace < slot) × (slot ≤ last_tried p.trace + (a.next - (last_tried p.trace + 1)))). (let above = here.0 in let below = here.1 in missed_on p (a.each slot in_shape (omega (arith, above)) (omega (arith, above, below, few))) b.takes))
-            (λ (round : slot + p.trace.start.shape.slots ≤ last_tried p.trace + (a.next - (last_tried p.trace + 1))). absurd (omega (arith, round, is, short, few)))
+            (λ (here : (last_tried p.trace < slot) × (slot ≤ last_tried p.trace + (a.next - (last_tried p.trace + 1)))).
+            (let above = here.0 in
+            let below = here.1 in
+            missed_on p (a.each slot in_shape (omega (arith, above)) (omega (arith, above, below, few))) b.takes))
+            (λ (round : slot + p.trace.start.shape.slots ≤ last_tried p.trace + (a.next - (last_tried p.trace + 1))).
+            absurd (omega (arith, round, is, short, few)))
             among,
-        ⊎_elim (λ (enough : full ≤ length q.pool). inl (let longer = longer q r b.takes.grows in omega (arith, enough, longer))) (λ rest. inr (⊎_elim (λ (all : probes ≤ first). inl (omega (arith, all, tries, none))) (λ (end : slots ≤ a.next). absurd (omega (arith, end, short))) rest)) a.ends,
+        ⊎_elim (λ (enough : full ≤ length q.pool).
+            inl (let longer = longer q r b.takes.grows in omega (arith, enough, longer)))
+            (λ rest. inr
+            (⊎_elim (λ (all : probes ≤ first). inl (omega (arith, all, tries, none)))
+            (λ (end : slots ≤ a.next). absurd (omega (arith, end, short))) rest)) a.ends,
       )
 
   goes : (passed : ℕ) × Goes p r (full) probes (first + second) passed
-  goes = ⊎_elim (λ short. (a.next - (last_tried p.trace + 1), under short)) (λ past. (slots - (last_tried p.trace + 1) + b.next, over past)) (cases_lt a.next slots)
+  goes = ⊎_elim (λ short. (a.next - (last_tried p.trace + 1), under short))
+      (λ past. (slots - (last_tried p.trace + 1) + b.next, over past)) (cases_lt a.next slots)
 
 -- a pool that was topped up in two ways
-pub tops_up : {p q r : PassView} {slots wanted probes taken first second : ℕ} → last_tried p.trace < slots → ReservesFrom p q (last_tried p.trace + 1) slots (most_kept wanted) probes first → ReservesFrom q r 0 (last_tried p.trace + 1) (most_kept wanted) (probes - first) second → slots ≡ p.trace.start.shape.slots → length r.pool ≡ length p.pool + taken
+pub tops_up : {p q r : PassView} {slots wanted probes taken first second : ℕ} → last_tried p.trace < slots →
+    ReservesFrom p q (last_tried p.trace + 1) slots (most_kept wanted) probes first →
+    ReservesFrom q r 0 (last_tried p.trace + 1) (most_kept wanted) (probes - first) second →
+    slots ≡ p.trace.start.shape.slots → length r.pool ≡ length p.pool + taken
     → TopsUp p r wanted probes taken (first + second)
 tops_up {p} {q} {r} {slots} {wanted} {probes} {taken} {first} {second} low a b is count =
     let went = goes low a b is in
@@ -76,7 +110,10 @@ tops_up {p} {q} {r} {slots} {wanted} {probes} {taken} {first} {second} low a b i
       count = count;
       most = most_on p q r (most_kept wanted) a.most b.most;
       tries = let tries = a.tries in let more = b.tries in omega (arith, tries, more);
-      idle = λ full. (let none = a.idle full in let then = b.idle (let longer = longer p q a.takes.grows in omega (arith, full, longer)) in omega (arith, none, then));
+      idle = λ full.
+          (let none = a.idle full in
+          let then = b.idle (let longer = longer p q a.takes.grows in omega (arith, full, longer)) in
+          omega (arith, none, then));
       passed = went.0;
       few = went.1.0;
       each = went.1.1;

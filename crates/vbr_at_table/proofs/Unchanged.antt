@@ -21,9 +21,13 @@ pub none_counted : (b : Bool) → one_if (b && false) + 0 ≡ 0
 none_counted true = refl
 none_counted false = refl
 
-pub did_unchanged : {step : Step} {p q : Trace} {r : ℕ} → Did step p q r → ((w : World) (a : Incarnations) (bucket : ℕ) → own_changes_in p.start p.who bucket a (happens p.start w a p.who step) ≡ 0) → ChangesNone p q
+pub did_unchanged : {step : Step} {p q : Trace} {r : ℕ} → Did step p q r →
+    ((w : World) (a : Incarnations) (bucket : ℕ) →
+    own_changes_in p.start p.who bucket a (happens p.start w a p.who step) ≡ 0) → ChangesNone p q
 did_unchanged {step} {p} {q} d none = record {
-  same = λ bucket. (λ i. own_changes (d.same.1 i) (d.seen i) (d.same.3 i) bucket) ∙ step_changes_none p.start p.seen d.rest p.who bucket step d.none (λ w a. none w a bucket);
+  same = λ bucket.
+      (λ i. own_changes (d.same.1 i) (d.seen i) (d.same.3 i) bucket)
+      ∙ step_changes_none p.start p.seen d.rest p.who bucket step d.none (λ w a. none w a bucket);
 }
 
 -- a raise changes none, whether its slot is free or in hand
@@ -34,7 +38,8 @@ raise_unchanged {slot} {p} d = did_unchanged d (λ w a bucket. raised a bucket (
     both true = refl
     both false = refl
 
-    raised : (a : Incarnations) (bucket : ℕ) (own : Option Holding) → own_changes_in p.start p.who bucket a (after_giving_up a p.who slot (Raises slot) own) ≡ 0
+    raised : (a : Incarnations) (bucket : ℕ) (own : Option Holding) →
+        own_changes_in p.start p.who bucket a (after_giving_up a p.who slot (Raises slot) own) ≡ 0
     raised a bucket None = none_counted (p.who == p.who)
     raised a bucket (Some (Free stamp)) = none_counted (p.who == p.who)
     raised a bucket (Some (Unlinked reread)) = none_counted (p.who == p.who)
@@ -44,7 +49,13 @@ pub unchanged_on : {p q r : Trace} → ChangesNone p q → ChangesNone q r → C
 unchanged_on x y = record { same = λ bucket. y.same bucket ∙ x.same bucket }
 
 -- what adds nothing to the chronicle
-pub unchanged_by_none : {p q : Trace} → IsStart p.start → IsRun p.start p.passes q.seen → IsSame p q → Begins p.seen q.seen → AddsNone p q → ChangesNone p q
+pub unchanged_by_none : {p q : Trace} → IsStart p.start → IsRun p.start p.passes q.seen → IsSame p q →
+    Begins p.seen q.seen → AddsNone p q → ChangesNone p q
 unchanged_by_none {p} {q} is ok s b x =
-    let own : own_entries p.start q.seen p.who ≡ own_entries p.start p.seen p.who = sym (λ i. own_entries (s.start i) q.seen (s.who i)) ∙ x.entries in
-    record { same = λ bucket. (λ i. own_changes (s.start i) q.seen (s.who i) bucket) ∙ own_unchanged (since p.start p.passes p.seen q.seen is ok b) p.who bucket own }
+    let own : own_entries p.start q.seen p.who ≡ own_entries p.start p.seen p.who =
+    sym (λ i. own_entries (s.start i) q.seen (s.who i)) ∙ x.entries in
+    record {
+      same = λ bucket.
+          (λ i. own_changes (s.start i) q.seen (s.who i) bucket)
+          ∙ own_unchanged (since p.start p.passes p.seen q.seen is ok b) p.who bucket own;
+    }

@@ -21,16 +21,22 @@ use Rattle.vbr_at_table.specs.Moments.{Stood}
 use Rattle.vbr_at_table.proofs.Moments.{won}
 
 -- a link that was written stands there
-link_put : (w : World) (at : At) (link : Link) (s p : ℕ) → link_at (record (with_link_at w at link) { place = put w.place s (Own p) }) at ≡ link
+link_put : (w : World) (at : At) (link : Link) (s p : ℕ) →
+    link_at (record (with_link_at w at link) { place = put w.place s (Own p) }) at ≡ link
 link_put w (Head b) link s p = put_here w.head b link
 link_put w (Slot t) link s p = put_here w.link t link
 
-test_won : (b : Bool) (at : At) (x y : World) (link : Link) → b ≡ true → link_at x at ≡ link → link_at (cond b x y) at ≡ link
+test_won : (b : Bool) (at : At) (x y : World) (link : Link) → b ≡ true → link_at x at ≡ link →
+    link_at (cond b x y) at ≡ link
 test_won b at x y link t e = ap (λ (b : Bool). link_at (cond b x y) at) t ∙ e
 
-unlinked : (start : Start) (w : World) (p : ℕ) (pred : At) (expected s : ℕ) → found start w (Unlink pred expected s) ≡ expected → link_at (after start w p (Unlink pred expected s)) pred ≡ link_written (w.know p) (Unlink pred expected s)
+unlinked : (start : Start) (w : World) (p : ℕ) (pred : At) (expected s : ℕ) →
+    found start w (Unlink pred expected s) ≡ expected →
+    link_at (after start w p (Unlink pred expected s)) pred ≡ link_written (w.know p) (Unlink pred expected s)
 unlinked start w p pred expected s is =
-    test_won (found start w (Unlink pred expected s) == expected) pred _ w _ (eq-eqb _ expected is) (link_put (with_learning start w p (Unlink pred expected s)) pred (link_written (w.know p) (Unlink pred expected s)) s p)
+    test_won (found start w (Unlink pred expected s) == expected) pred _ w _ (eq-eqb _ expected is)
+    (link_put (with_learning start w p (Unlink pred expected s)) pred (link_written (w.know p) (Unlink pred expected s))
+    s p)
 
 module _ {p q : Trace} {pred : At} {expected s : ℕ} (d : Did (Unlink pred expected s) p q expected) where
   -- it is the one that the machine writes by what the pass knew
@@ -39,12 +45,16 @@ module _ {p q : Trace} {pred : At} {expected s : ℕ} (d : Did (Unlink pred expe
       let w = world_after p.start (p.seen ++ d.rest) in
       let stood = won expected _ d.shows.answers in
       ap (λ l. link_at (world_after p.start l) pred) d.seen
-      ∙ ap (λ (v : World). link_at v pred) (world_after-snoc p.start (p.seen ++ d.rest) (event_of p.who (Unlink pred expected s)))
+      ∙ ap (λ (v : World). link_at v pred)
+      (world_after-snoc p.start (p.seen ++ d.rest) (event_of p.who (Unlink pred expected s)))
       ∙ unlinked p.start w p.who pred expected s stood
-      ∙ ap (λ (k : Know). link_written k (Unlink pred expected s)) (others_leave_know p.start p.seen d.rest p.who d.none)
+      ∙ ap (λ (k : Know). link_written k (Unlink pred expected s))
+      (others_leave_know p.start p.seen d.rest p.who d.none)
 
   -- so it stood there at the end
-  pub stood_at_end : (birth word epoch : ℕ) → link_written (knows p) (Unlink pred expected s) ≡ link_of word → IsHeldPlace (knows q) pred → (knows q).epoch ≡ epoch → Stood p q (record { at = pred; birth = birth; word = word; epoch = epoch })
+  pub stood_at_end : (birth word epoch : ℕ) → link_written (knows p) (Unlink pred expected s) ≡ link_of word →
+      IsHeldPlace (knows q) pred → (knows q).epoch ≡ epoch →
+      Stood p q (record { at = pred; birth = birth; word = word; epoch = epoch })
   stood_at_end birth word epoch is held same =
       let know : know_after p.start q.seen p.who ≡ knows q = λ i. know_after (sym d.same.1 i) q.seen (sym d.same.3 i) in
       record {

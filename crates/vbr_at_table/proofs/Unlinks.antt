@@ -26,26 +26,39 @@ use Rattle.vbr_at_table.proofs.WrittenLinks.{unlink_link, fits, birth_at_low, bi
 pub unlink_quiet : {p q : Trace} {pred : At} {expected s r : ℕ} → Did (Unlink pred expected s) p q r → Quiet p q
 unlink_quiet d = did_quiet d (λ know. refl)
 
-module _ (p : PassView) (sound : PassLaw p) (pred : Held) (marked : Marked) (link : Link) (birth : ℕ) (h : IsHeld (knows p.trace) pred) (m : HoldsMarked (knows p.trace) marked) (is : link ≡ link_of marked.word) (k : BirthNamed (knows p.trace) (link_of marked.word).slot birth) where
+module _ (p : PassView) (sound : PassLaw p) (pred : Held) (marked : Marked) (link : Link) (birth : ℕ)
+    (h : IsHeld (knows p.trace) pred) (m : HoldsMarked (knows p.trace) marked) (is : link ≡ link_of marked.word)
+    (k : BirthNamed (knows p.trace) (link_of marked.word).slot birth) where
   writes : IsUnlinkLink (knows p.trace) pred.at marked.slot (link_to link.slot pred.birth birth)
   writes = unlink_link pred marked link birth h m is k
 
-  pub accepted : (link_of pred.word).mark ≡ false → Names pred marked.slot → Accepts p.trace.start (knows p.trace) (Unlink pred.at pred.word marked.slot)
-  accepted unmarked names = unlink_accepted p sound pred marked.slot (link_to link.slot pred.birth birth) h unmarked names writes
+  pub accepted : (link_of pred.word).mark ≡ false → Names pred marked.slot →
+      Accepts p.trace.start (knows p.trace) (Unlink pred.at pred.word marked.slot)
+  accepted unmarked names =
+      unlink_accepted p sound pred marked.slot (link_to link.slot pred.birth birth) h unmarked names writes
 
   pub written : link_written (knows p.trace) (Unlink pred.at pred.word marked.slot) ≡ link_to link.slot pred.birth birth
   written = unlink_writes p sound pred marked.slot (link_to link.slot pred.birth birth) writes
 
   pub written_fits : IsLink link → IsLink (link_to link.slot pred.birth birth)
-  written_fits i = fits p sound link.slot pred.birth birth i.slot (birth_at_low p sound pred.at pred.birth h.birth) (birth_named_low p sound (link_of marked.word).slot birth k)
+  written_fits i =
+      fits p sound link.slot pred.birth birth i.slot (birth_at_low p sound pred.at pred.birth h.birth)
+      (birth_named_low p sound (link_of marked.word).slot birth k)
 
   -- the place with its new link was read
-  pub new_read : {q : Trace} (new : ℕ) → link_of new ≡ link_to link.slot pred.birth birth → Did (Unlink pred.at pred.word marked.slot) p.trace q pred.word → IsRead p.trace q (record { at = pred.at; birth = pred.birth; word = new; epoch = pred.epoch })
+  pub new_read : {q : Trace} (new : ℕ) → link_of new ≡ link_to link.slot pred.birth birth →
+      Did (Unlink pred.at pred.word marked.slot) p.trace q pred.word →
+      IsRead p.trace q (record { at = pred.at; birth = pred.birth; word = new; epoch = pred.epoch })
   new_read {q} new n d =
       let keeps = unlink_keeps d in
       record {
-        known = record { epoch = h.epoch ∙ sym keeps.epoch; link = unlink_known d (link_of new) (written ∙ sym n); birth = birth_kept pred.at pred.birth keeps h.birth };
-        stood = stood_at_end d pred.birth new pred.epoch (written ∙ sym n) (place_kept pred.at keeps (place_held p sound pred h)) (keeps.epoch ∙ sym h.epoch);
+        known = record {
+          epoch = h.epoch ∙ sym keeps.epoch;
+          link = unlink_known d (link_of new) (written ∙ sym n);
+          birth = birth_kept pred.at pred.birth keeps h.birth;
+        };
+        stood = stood_at_end d pred.birth new pred.epoch (written ∙ sym n)
+            (place_kept pred.at keeps (place_held p sound pred h)) (keeps.epoch ∙ sym h.epoch);
       }
 
 -- an unlinking that came after what is quiet

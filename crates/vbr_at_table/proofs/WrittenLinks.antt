@@ -21,21 +21,32 @@ module _ (p : PassView) (sound : PassLaw p) where
   -- known births are epochs of the shape
   pub birth_at_low : (at : At) (birth : ℕ) → BirthAt (knows p.trace) at birth → birth ≤ p.trace.start.shape.last_epoch
   birth_at_low (Head b) birth k = omega (arith, k)
-  birth_at_low (Slot s) birth k = birth_in p.trace.start p.trace.passes p.trace.seen sound.start sound.is_run p.trace.who s birth k
+  birth_at_low (Slot s) birth k =
+      birth_in p.trace.start p.trace.passes p.trace.seen sound.start sound.is_run p.trace.who s birth k
 
-  pub birth_named_low : (named : Option ℕ) (birth : ℕ) → BirthNamed (knows p.trace) named birth → birth ≤ p.trace.start.shape.last_epoch
+  pub birth_named_low : (named : Option ℕ) (birth : ℕ) → BirthNamed (knows p.trace) named birth →
+      birth ≤ p.trace.start.shape.last_epoch
   birth_named_low None birth k = omega (arith, k)
-  birth_named_low (Some s) birth k = birth_in p.trace.start p.trace.passes p.trace.seen sound.start sound.is_run p.trace.who s birth k
+  birth_named_low (Some s) birth k =
+      birth_in p.trace.start p.trace.passes p.trace.seen sound.start sound.is_run p.trace.who s birth k
 
-  pub birth_in_hand_low : (s birth : ℕ) → birth_in_hand ((knows p.trace).own s) ≡ birth → birth ≤ p.trace.start.shape.last_epoch
-  birth_in_hand_low s birth is = let low = hand_in p.trace.start p.trace.passes p.trace.seen sound.start sound.is_run p.trace.who s in omega (arith, low, is)
+  pub birth_in_hand_low : (s birth : ℕ) → birth_in_hand ((knows p.trace).own s) ≡ birth →
+      birth ≤ p.trace.start.shape.last_epoch
+  birth_in_hand_low s birth is =
+      let low = hand_in p.trace.start p.trace.passes p.trace.seen sound.start sound.is_run p.trace.who s in
+      omega (arith, low, is)
 
   -- a link of such births fits
-  pub fits : (slot : Option ℕ) (holder named : ℕ) → IfSome slot (λ s. s < MAX_SLOTS) → holder ≤ p.trace.start.shape.last_epoch → named ≤ p.trace.start.shape.last_epoch → IsLink (link_to slot holder named)
-  fits slot holder named low i j = record { slot = low; version = let high = sound.start.shape.last_epoch in omega (arith, high, i, j) }
+  pub fits : (slot : Option ℕ) (holder named : ℕ) → IfSome slot (λ s. s < MAX_SLOTS) →
+      holder ≤ p.trace.start.shape.last_epoch → named ≤ p.trace.start.shape.last_epoch →
+      IsLink (link_to slot holder named)
+  fits slot holder named low i j =
+      record { slot = low; version = let high = sound.start.shape.last_epoch in omega (arith, high, i, j) }
 
 -- the link that an unlinking writes
-pub unlink_link : {know : Know} (pred : Held) (marked : Marked) (link : Link) (birth : ℕ) → IsHeld know pred → HoldsMarked know marked → link ≡ link_of marked.word → BirthNamed know (link_of marked.word).slot birth → IsUnlinkLink know pred.at marked.slot (link_to link.slot pred.birth birth)
+pub unlink_link : {know : Know} (pred : Held) (marked : Marked) (link : Link) (birth : ℕ) → IsHeld know pred →
+    HoldsMarked know marked → link ≡ link_of marked.word → BirthNamed know (link_of marked.word).slot birth →
+    IsUnlinkLink know pred.at marked.slot (link_to link.slot pred.birth birth)
 unlink_link pred marked link birth h m is k = record {
   frozen = link_of marked.word;
   known = m.held.link;

@@ -16,7 +16,14 @@ unfolding bucket_of link_of word_of has_flag first_bits flag_word
 standing = search (rules, tests)
 
 -- the first rows of those that are worked are worked
-pub first_worked : (start : Start) (n : ℕ) (rows : List (ℕ × Step × Effect)) (w : World) (words : List ℕ) → AreWorked start w rows words → AreWorked start w (take n rows) words
+pub first_worked : (start : Start) (n : ℕ) (rows : List (ℕ × Step × Effect)) (w : World) (words : List ℕ) →
+    AreWorked start w rows words → AreWorked start w (take n rows) words
 first_worked start zero rows w words all = tt
 first_worked start (suc n) [] w words all = tt
-first_worked start (suc n) (row ∷ rows) w words all = (all.0, all.1, all.2, all.3, first_worked start n rows (after start w row.0 row.1) (if names_link row.1 then others_of words else words) all.4)
+first_worked start (suc n) (row ∷ rows) w words all = (
+  all.0,
+  all.1,
+  all.2,
+  all.3,
+  first_worked start n rows (after start w row.0 row.1) (if names_link row.1 then others_of words else words) all.4,
+)

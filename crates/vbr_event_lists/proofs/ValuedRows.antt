@@ -9,7 +9,8 @@ use Rattle.vbr_machine.specs.declared.event.Effect.{Effect}
 use Rattle.vbr_machine.specs.declared.event.Step.{Step}
 use Rattle.vbr_event_lists.specs.Worked.{AreWorked, three_slots, one_slot, many_epochs}
 use Rattle.vbr_event_lists.specs.Valued.{valued, with_values}
-use Rattle.vbr_event_lists.specs.declared.lists.TheConstants.{REBORN_SLOT, SAME_WORD, TWO_HELPERS, REBORN_SLOT_WORDS, SAME_WORD_WORDS, TWO_HELPERS_WORDS}
+use Rattle.vbr_event_lists.specs.declared.lists.TheConstants.{REBORN_SLOT, SAME_WORD, TWO_HELPERS, REBORN_SLOT_WORDS}
+use Rattle.vbr_event_lists.specs.declared.lists.TheConstants.{SAME_WORD_WORDS, TWO_HELPERS_WORDS}
 use Rattle.vbr_event_lists.specs.declared.raised.TheConstants.{RAISED_IN_HAND, RAISED_IN_HAND_WORDS}
 use Rattle.vbr_event_lists.specs.declared.replaced.TheConstants.{REPLACED_VALUE, REPLACED_VALUE_WORDS}
 use Rattle.vbr_event_lists.specs.declared.standing.TheConstants.{STANDING_WITH_VALUES, STANDING_WORDS}
@@ -20,39 +21,65 @@ use Rattle.vbr_event_lists.proofs.WorkedRows.{left_after, worked_in_two}
 abbrev pub InParts : Start → ℕ → ℕ → List (ℕ × Step × Effect) → World → List ℕ → Type 0
 InParts start zero n rows w words = AreWorked start w rows words
 InParts start (suc parts) n rows w words =
-    AreWorked start w (take n rows) words × InParts start parts n (drop n rows) (left_after start n rows w words).0 (left_after start n rows w words).1
+    AreWorked start w (take n rows) words ×
+    InParts start parts n (drop n rows) (left_after start n rows w words).0 (left_after start n rows w words).1
 
 -- rows that are worked in parts are worked
-worked_in_parts : (start : Start) (parts n : ℕ) (rows : List (ℕ × Step × Effect)) (w : World) (words : List ℕ) → InParts start parts n rows w words → AreWorked start w rows words
+worked_in_parts : (start : Start) (parts n : ℕ) (rows : List (ℕ × Step × Effect)) (w : World) (words : List ℕ) →
+    InParts start parts n rows w words → AreWorked start w rows words
 worked_in_parts start zero n rows w words all = all
 worked_in_parts start (suc parts) n rows w words all =
-    worked_in_two start n rows w words all.0 (worked_in_parts start parts n (drop n rows) (left_after start n rows w words).0 (left_after start n rows w words).1 all.1)
+    worked_in_two start n rows w words all.0
+    (worked_in_parts start parts n (drop n rows) (left_after start n rows w words).0 (left_after start n rows w words).1
+    all.1)
 
 pub stored_value : AreWorked (valued one_slot) (opening (valued one_slot)) STORED_VALUE STORED_VALUE_WORDS
 unfolding bucket_of link_of word_of has_flag first_bits flag_word
 stored_value = search (rules, tests)
 
 -- the lists that are made from others in parts, since the whole is too long for one search
-pub two_helpers_with_values : AreWorked (valued one_slot) (opening (valued one_slot)) (with_values TWO_HELPERS) TWO_HELPERS_WORDS
+pub two_helpers_with_values : AreWorked (valued one_slot) (opening (valued one_slot)) (with_values TWO_HELPERS)
+    TWO_HELPERS_WORDS
 unfolding bucket_of link_of word_of has_flag first_bits flag_word
-two_helpers_with_values = worked_in_parts (valued one_slot) 1 10 (with_values TWO_HELPERS) (opening (valued one_slot)) TWO_HELPERS_WORDS (search (rules, tests), search (rules, tests))
+two_helpers_with_values =
+    worked_in_parts (valued one_slot) 1 10 (with_values TWO_HELPERS) (opening (valued one_slot)) TWO_HELPERS_WORDS
+    (search (rules, tests), search (rules, tests))
 
-pub reborn_slot_with_values : AreWorked (valued three_slots) (opening (valued three_slots)) (with_values REBORN_SLOT) REBORN_SLOT_WORDS
+pub reborn_slot_with_values : AreWorked (valued three_slots) (opening (valued three_slots)) (with_values REBORN_SLOT)
+    REBORN_SLOT_WORDS
 unfolding bucket_of link_of word_of has_flag first_bits flag_word
-reborn_slot_with_values = worked_in_parts (valued three_slots) 4 10 (with_values REBORN_SLOT) (opening (valued three_slots)) REBORN_SLOT_WORDS (search (rules, tests), (search (rules, tests), (search (rules, tests), (search (rules, tests), search (rules, tests)))))
+reborn_slot_with_values =
+    worked_in_parts (valued three_slots) 4 10 (with_values REBORN_SLOT) (opening (valued three_slots))
+    REBORN_SLOT_WORDS (
+      search (rules, tests),
+      (search (rules, tests), (search (rules, tests), (search (rules, tests), search (rules, tests)))),
+    )
 
-pub same_word_with_values : AreWorked (valued three_slots) (opening (valued three_slots)) (with_values SAME_WORD) SAME_WORD_WORDS
+pub same_word_with_values : AreWorked (valued three_slots) (opening (valued three_slots)) (with_values SAME_WORD)
+    SAME_WORD_WORDS
 unfolding bucket_of link_of word_of has_flag first_bits flag_word
-same_word_with_values = worked_in_parts (valued three_slots) 3 10 (with_values SAME_WORD) (opening (valued three_slots)) SAME_WORD_WORDS (search (rules, tests), (search (rules, tests), (search (rules, tests), search (rules, tests))))
+same_word_with_values =
+    worked_in_parts (valued three_slots) 3 10 (with_values SAME_WORD) (opening (valued three_slots)) SAME_WORD_WORDS
+    (search (rules, tests), (search (rules, tests), (search (rules, tests), search (rules, tests))))
 
-pub raised_in_hand_with_values : AreWorked (valued one_slot) (opening (valued one_slot)) (with_values RAISED_IN_HAND) RAISED_IN_HAND_WORDS
+pub raised_in_hand_with_values : AreWorked (valued one_slot) (opening (valued one_slot)) (with_values RAISED_IN_HAND)
+    RAISED_IN_HAND_WORDS
 unfolding bucket_of link_of word_of has_flag first_bits flag_word
-raised_in_hand_with_values = worked_in_parts (valued one_slot) 1 10 (with_values RAISED_IN_HAND) (opening (valued one_slot)) RAISED_IN_HAND_WORDS (search (rules, tests), search (rules, tests))
+raised_in_hand_with_values =
+    worked_in_parts (valued one_slot) 1 10 (with_values RAISED_IN_HAND) (opening (valued one_slot)) RAISED_IN_HAND_WORDS
+    (search (rules, tests), search (rules, tests))
 
-pub standing_with_values : AreWorked (valued many_epochs) (opening (valued many_epochs)) STANDING_WITH_VALUES STANDING_WORDS
+pub standing_with_values : AreWorked (valued many_epochs) (opening (valued many_epochs)) STANDING_WITH_VALUES
+    STANDING_WORDS
 unfolding bucket_of link_of word_of has_flag first_bits flag_word
-standing_with_values = worked_in_parts (valued many_epochs) 3 10 STANDING_WITH_VALUES (opening (valued many_epochs)) STANDING_WORDS (search (rules, tests), (search (rules, tests), (search (rules, tests), search (rules, tests))))
+standing_with_values =
+    worked_in_parts (valued many_epochs) 3 10 STANDING_WITH_VALUES (opening (valued many_epochs)) STANDING_WORDS
+    (search (rules, tests), (search (rules, tests), (search (rules, tests), search (rules, tests))))
 
 pub replaced_value : AreWorked (valued many_epochs) (opening (valued many_epochs)) REPLACED_VALUE REPLACED_VALUE_WORDS
 unfolding bucket_of link_of word_of has_flag first_bits flag_word
-replaced_value = worked_in_parts (valued many_epochs) 4 10 REPLACED_VALUE (opening (valued many_epochs)) REPLACED_VALUE_WORDS (search (rules, tests), (search (rules, tests), (search (rules, tests), (search (rules, tests), search (rules, tests)))))
+replaced_value =
+    worked_in_parts (valued many_epochs) 4 10 REPLACED_VALUE (opening (valued many_epochs)) REPLACED_VALUE_WORDS (
+      search (rules, tests),
+      (search (rules, tests), (search (rules, tests), (search (rules, tests), search (rules, tests)))),
+    )

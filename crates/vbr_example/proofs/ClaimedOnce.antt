@@ -1,5 +1,6 @@
 -- In a legal history without removes a page is claimed at most once.
-use Rattle.std.proofs.Common.{◌≡◌, ℕ, ◌+◌, ◌≤◌, Bool, true, false, eqb, List, [], ◌∷◌, inl, inr, refl, ap, subst, ◌∙◌, arith}
+use Rattle.std.proofs.Common.{◌≡◌, ℕ, ◌+◌, ◌≤◌, Bool, true, false, eqb, List, [], ◌∷◌, inl, inr, refl, ap, subst, ◌∙◌}
+use Rattle.std.proofs.Common.{arith}
 use Rattle.std.specs.Prelude.{◌≢◌, not, if◌then◌else◌, Result, Ok, Err, IfOk}
 use Rattle.std.proofs.lemmas.Bool.{cases_Bool, eqb-true, true≢false}
 use Rattle.vbr_machine.specs.Keys.{Keys}
@@ -27,7 +28,9 @@ not_true false e = refl
 not_true true e = absurd (true≢false e)
 
 -- one call leaves room for the claims after it
-one_call : (keys : Keys) (page : ℕ) (op : Op) (key : ℕ) (reply : Bool) (rest : ℕ) → reply ≡ reply_of keys op key → op ≢ Remove → rest ≤ room (keys_after keys op key reply page) → claims_of page op key reply + rest ≤ room (keys page)
+one_call : (keys : Keys) (page : ℕ) (op : Op) (key : ℕ) (reply : Bool) (rest : ℕ) → reply ≡ reply_of keys op key →
+    op ≢ Remove → rest ≤ room (keys_after keys op key reply page) →
+    claims_of page op key reply + rest ≤ room (keys page)
 one_call keys page Has key true rest is other low = omega arith
 one_call keys page Has key false rest is other low = omega arith
 one_call keys page Get key true rest is other low = omega arith
@@ -45,17 +48,26 @@ one_call keys page Insert key true rest is other low =
     ]
 
 -- at most once
-at_most_once : (keys : Keys) (page : ℕ) (calls : List Call) → IsLegal keys calls → RemoveNone calls → claims_in page calls ≤ room (keys page)
+at_most_once : (keys : Keys) (page : ℕ) (calls : List Call) → IsLegal keys calls → RemoveNone calls →
+    claims_in page calls ≤ room (keys page)
 at_most_once keys page [] legal none = omega arith
 at_most_once keys page (call ∷ calls) legal none =
-    one_call keys page call.op call.key call.reply (claims_in page calls) legal.0 none.0 (at_most_once (keys_after keys call.op call.key call.reply) page calls legal.1 none.1)
+    one_call keys page call.op call.key call.reply (claims_in page calls) legal.0 none.0
+    (at_most_once (keys_after keys call.op call.key call.reply) page calls legal.1 none.1)
 
-claimed_once : (m n : MemberView) (page : ℕ) (result : Bool) → Answers (set_call m.pass.trace.who Insert page result) m.pass.trace n.pass.trace → IsClaimedOnce m n page result
+claimed_once : (m n : MemberView) (page : ℕ) (result : Bool) →
+    Answers (set_call m.pass.trace.who Insert page result) m.pass.trace n.pass.trace → IsClaimedOnce m n page result
 claimed_once m n page result answers = record {
   own = answers.once;
-  once = λ none. let keys = opening_keys n.pass.trace.start in let left = room_for_one (keys page) in let most = at_most_once keys page _ answers.legal none in omega (arith, left, most);
+  once = λ none.
+      let keys = opening_keys n.pass.trace.start in
+      let left = room_for_one (keys page) in
+      let most = at_most_once keys page _ answers.legal none in
+      omega (arith, left, most);
 }
 
-pub claimed : (m n : MemberView) (page : ℕ) (result : Result Bool Refusal) → IfOk result (λ reply. Answers (set_call m.pass.trace.who Insert page reply) m.pass.trace n.pass.trace) → IfOk result (IsClaimedOnce m n page)
+pub claimed : (m n : MemberView) (page : ℕ) (result : Result Bool Refusal) →
+    IfOk result (λ reply. Answers (set_call m.pass.trace.who Insert page reply) m.pass.trace n.pass.trace) →
+    IfOk result (IsClaimedOnce m n page)
 claimed m n page (Ok reply) answers = claimed_once m n page reply answers
 claimed m n page (Err refusal) answers = tt

@@ -17,8 +17,10 @@ pub record Sweeps (p q : Trace) (c : Cursor) (count : ℕ) : Type 0 where
 abbrev pub left_of : Cursor → ℕ
 left_of c = 2 ^ 96 - (c.bucket * 2 ^ 64 + c.from)
 
-pub nearer : (c d : Cursor) (bucket key : ℕ) → c.from < 2 ^ 64 → d.bucket < 2 ^ 32 → d.from < 2 ^ 64 → (c.bucket < bucket) ⊎ ((bucket ≡ c.bucket) × (c.from ≤ key)) → IsBehindKey bucket key d → left_of d < left_of c
+pub nearer : (c d : Cursor) (bucket key : ℕ) → c.from < 2 ^ 64 → d.bucket < 2 ^ 32 → d.from < 2 ^ 64 →
+    (c.bucket < bucket) ⊎ ((bucket ≡ c.bucket) × (c.from ≤ key)) → IsBehindKey bucket key d → left_of d < left_of c
 nearer c d bucket key a b e (inl x) (inl y) = let u = y.0 in omega (arith, a, b, e, x, u)
 nearer c d bucket key a b e (inl x) (inr y) = let u = y.0 in omega (arith, a, b, e, x, u)
-nearer c d bucket key a b e (inr x) (inl y) = let u = x.0 in let v = x.1 in let w = y.0 in let z = y.1 in omega (arith, a, b, e, u, v, w, z)
+nearer c d bucket key a b e (inr x) (inl y) =
+    let u = x.0 in let v = x.1 in let w = y.0 in let z = y.1 in omega (arith, a, b, e, u, v, w, z)
 nearer c d bucket key a b e (inr x) (inr y) = let u = x.0 in let v = y.0 in omega (arith, a, b, e, u, v)

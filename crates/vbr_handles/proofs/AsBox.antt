@@ -14,7 +14,11 @@ use Rattle.vbr_handles.specs.contracts.owner.Owner as Owner
 
 -- a box of a member on the heap
 abbrev pub E : El → Bx
-E F = record { row = F.row; laws = F.laws; al = record { row = Heap.the_row; laws = heap.the_row_laws; g = ghosts; d = dict; drops = impl [] tnil dnil } }
+E F = record {
+  row = F.row;
+  laws = F.laws;
+  al = record { row = Heap.the_row; laws = heap.the_row_laws; g = ghosts; d = dict; drops = impl [] tnil dnil };
+}
 
 -- its parts, and its owner
 abbrev pub PartsRow : El → RattleType

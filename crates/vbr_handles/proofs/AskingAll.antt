@@ -1,5 +1,6 @@
 -- Members that were asked come back to their handles.
-use Rattle.std.proofs.Common.{◌≡◌, ℕ, zero, suc, ◌+◌, ◌<◌, ◌≤◌, ◌≢◌, false, List, [], ◌∷◌, ◌++◌, length, map, drop, refl, sym, ap, ◌∙◌, subst, arith}
+use Rattle.std.proofs.Common.{◌≡◌, ℕ, zero, suc, ◌+◌, ◌<◌, ◌≤◌, ◌≢◌, false, List, [], ◌∷◌, ◌++◌, length, map, drop}
+use Rattle.std.proofs.Common.{refl, sym, ap, ◌∙◌, subst, arith}
 use Rattle.std.specs.Prelude.{IfSome, IsSome, Option, None, Some, slice_index_or, slice_set}
 use Rattle.std.proofs.lemmas.Bool.{false≢true}
 use Rattle.std.proofs.lemmas.List.{length-map}
@@ -21,7 +22,8 @@ use Rattle.vbr_handles.proofs.Opened.{new_count}
 
 module _ {H : Type 0} (member : H → Option Member) where
   -- a handle of those from a number on, and the others
-  pub from_here : (handles : List H) (i : ℕ) (d : H) → i < length handles → drop i handles ≡ slice_index_or handles i d ∷ drop (suc i) handles
+  pub from_here : (handles : List H) (i : ℕ) (d : H) → i < length handles →
+      drop i handles ≡ slice_index_or handles i d ∷ drop (suc i) handles
   from_here [] i d within = absurd (omega (arith, within))
   from_here (x ∷ hs) zero d within = refl
   from_here (x ∷ hs) (suc i) d within = from_here hs i d (omega (arith, within))
@@ -33,34 +35,46 @@ module _ {H : Type 0} (member : H → Option Member) where
   others_stay (x ∷ hs) (suc i) h = others_stay hs i h
 
   -- one more member is taken out
-  pub one_out : (ms ms' whole : List Member) (m : Member) (handles : List H) (i : ℕ) (d h : H) → i < length handles → member (slice_index_or handles i d) ≡ Some m → ms' ≡ ms ++ m ∷ [] → ms ++ members_by member (drop i handles) ≡ whole
+  pub one_out : (ms ms' whole : List Member) (m : Member) (handles : List H) (i : ℕ) (d h : H) → i < length handles →
+      member (slice_index_or handles i d) ≡ Some m → ms' ≡ ms ++ m ∷ [] →
+      ms ++ members_by member (drop i handles) ≡ whole
       → ms' ++ members_by member (drop (i + 1) (slice_set handles i h)) ≡ whole
   one_out ms ms' whole m handles i d h within is more so_far =
       let next : i + 1 ≡ suc i = omega arith in
       ap (λ (n : ℕ). ms' ++ members_by member (drop n (slice_set handles i h))) next
       ∙ ap (λ (hs : List H). ms' ++ members_by member hs) (others_stay handles i h)
-      ∙ moved member ms ms' m (slice_index_or handles i d) (drop (suc i) handles) (drop i handles) more (from_here handles i d within) is
+      ∙ moved member ms ms' m (slice_index_or handles i d) (drop (suc i) handles) (drop i handles) more
+      (from_here handles i d within) is
       ∙ so_far
 
   -- and the others are still full
-  pub still_full : (handles : List H) (i : ℕ) (d h : H) → i < length handles → AreFull member (drop i handles) → AreFull member (drop (i + 1) (slice_set handles i h))
+  pub still_full : (handles : List H) (i : ℕ) (d h : H) → i < length handles → AreFull member (drop i handles) →
+      AreFull member (drop (i + 1) (slice_set handles i h))
   still_full handles i d h within full =
       let next : i + 1 ≡ suc i = omega arith in
       subst (AreFull member) (sym (ap (λ (n : ℕ). drop n (slice_set handles i h)) next ∙ others_stay handles i h))
-      (All-rest (λ (h : H). IsSome (member h)) (slice_index_or handles i d) (drop (suc i) handles) (drop i handles) (from_here handles i d within) full)
+      (All-rest (λ (h : H). IsSome (member h)) (slice_index_or handles i d) (drop (suc i) handles) (drop i handles)
+      (from_here handles i d within) full)
 
-  pub here_full : (handles : List H) (i : ℕ) (d : H) → i < length handles → AreFull member (drop i handles) → IsSome (member (slice_index_or handles i d))
-  here_full handles i d within full = All-head (λ (h : H). IsSome (member h)) (slice_index_or handles i d) (drop (suc i) handles) (All-same (λ (h : H). IsSome (member h)) _ (drop i handles) (sym (from_here handles i d within)) full)
+  pub here_full : (handles : List H) (i : ℕ) (d : H) → i < length handles → AreFull member (drop i handles) →
+      IsSome (member (slice_index_or handles i d))
+  here_full handles i d within full =
+      All-head (λ (h : H). IsSome (member h)) (slice_index_or handles i d) (drop (suc i) handles)
+      (All-same (λ (h : H). IsSome (member h)) _ (drop i handles) (sym (from_here handles i d within)) full)
 
 -- as many members come back renewed
-pub as_many_renewed : {Item R : Type 0} (kind : KindOf Item R) (members fresh : List Member) (shape : Dimensions) → RenewsAllBy kind members shape fresh → length fresh ≡ length members
+pub as_many_renewed : {Item R : Type 0} (kind : KindOf Item R) (members fresh : List Member) (shape : Dimensions) →
+    RenewsAllBy kind members shape fresh → length fresh ≡ length members
 as_many_renewed kind members fresh shape r =
     ap (λ (ms : List Member). length ms) r.new.are
-    ∙ length-map (new_passes r.new.set 0 (length members)) (λ (pass : PassView). record { set = r.new.set; pass = pass })
+    ∙ length-map (new_passes r.new.set 0 (length members))
+    (λ (pass : PassView). record { set = r.new.set; pass = pass })
     ∙ new_count r.new.set 0 (length members)
 
 -- and where there is no room there are more keys than slots
-pub more_than_slots : {Item R I : Type 0} (kind : KindOf Item R) (L : Listing R I) (members : List Member) (numbers : ShapeNumbers) (shape : Dimensions) → ((report : R) → length (L.items report) ≡ length (kind.contents report).listed.items)
+pub more_than_slots : {Item R I : Type 0} (kind : KindOf Item R) (L : Listing R I) (members : List Member)
+    (numbers : ShapeNumbers) (shape : Dimensions) →
+    ((report : R) → length (L.items report) ≡ length (kind.contents report).listed.items)
     → shape ≡ spread_shape numbers false → HasNoRoom kind members shape → HasMoreThanSlots kind L members numbers
 more_than_slots kind L members numbers shape as_many spread h =
     let same = as_many h.report in
@@ -70,19 +84,26 @@ more_than_slots kind L members numbers shape as_many spread h =
 
 module _ {H : Type 0} (member : H → Option Member) where
   -- one more handle is emptied
-  pub emptied : (handles : List H) (i : ℕ) (h : H) → i < length handles → member h ≡ None → ((k : ℕ) (d : H) → k < i → member (slice_index_or handles k d) ≡ None) → (k : ℕ) (d : H) → k < suc i → member (slice_index_or (slice_set handles i h) k d) ≡ None
+  pub emptied : (handles : List H) (i : ℕ) (h : H) → i < length handles → member h ≡ None →
+      ((k : ℕ) (d : H) → k < i → member (slice_index_or handles k d) ≡ None) → (k : ℕ) (d : H) → k < suc i →
+      member (slice_index_or (slice_set handles i h) k d) ≡ None
   emptied [] i h within none so_far k d low = absurd (omega (arith, within))
   emptied (x ∷ hs) zero h within none so_far zero d low = none
   emptied (x ∷ hs) zero h within none so_far (suc k) d low = absurd (omega (arith, low))
   emptied (x ∷ hs) (suc i) h within none so_far zero d low = so_far 0 d (omega arith)
-  emptied (x ∷ hs) (suc i) h within none so_far (suc k) d low = emptied hs i h (omega (arith, within)) none (λ j e l. so_far (suc j) e (omega (arith, l))) k d (omega (arith, low))
+  emptied (x ∷ hs) (suc i) h within none so_far (suc k) d low =
+      emptied hs i h (omega (arith, within)) none (λ j e l. so_far (suc j) e (omega (arith, l))) k d
+      (omega (arith, low))
 
   -- handles that are full have just their members
   all_members : (handles : List H) → AreFull member handles → map Some (members_by member handles) ≡ map member handles
   all_members [] full = refl
-  all_members (h ∷ hs) full = go (all_members hs (All-tail (λ (h : H). IsSome (member h)) h hs full)) (member h) refl (All-head (λ (h : H). IsSome (member h)) h hs full)
+  all_members (h ∷ hs) full =
+      go (all_members hs (All-tail (λ (h : H). IsSome (member h)) h hs full)) (member h) refl
+      (All-head (λ (h : H). IsSome (member h)) h hs full)
     where
-      go : map Some (members_by member hs) ≡ map member hs → (o : Option Member) → member h ≡ o → IsSome (member h) → map Some (members_by member (h ∷ hs)) ≡ map member (h ∷ hs)
+      go : map Some (members_by member hs) ≡ map member hs → (o : Option Member) → member h ≡ o → IsSome (member h) →
+          map Some (members_by member (h ∷ hs)) ≡ map member (h ∷ hs)
       go rest None is some = absurd (false≢true (subst (λ (o : Option Member). IsSome o) is some))
       go rest (Some m) is some =
           ap (λ (o : Option Member). map Some (joined o (members_by member hs))) is
@@ -97,7 +118,8 @@ module _ {H : Type 0} (member : H → Option Member) where
     pub many : length handles ≡ length (first ∷ others)
     pub opened : passes ≡ first.set.passes
 
-  pub counted : (passes : ℕ) (handles : List H) (d : H) → 0 < length handles → AreFull member handles → IfSome (member (slice_index_or handles 0 d)) (λ m. passes ≡ m.set.passes) → Counted passes handles
+  pub counted : (passes : ℕ) (handles : List H) (d : H) → 0 < length handles → AreFull member handles →
+      IfSome (member (slice_index_or handles 0 d)) (λ m. passes ≡ m.set.passes) → Counted passes handles
   counted passes handles d within full = go (member first) refl (here_full member handles 0 d within full)
     where
       first : H
@@ -110,36 +132,61 @@ module _ {H : Type 0} (member : H → Option Member) where
       split = from_here member handles 0 d within
 
       many : length handles ≡ length (members_by member handles)
-      many = sym (length-map handles member) ∙ sym (ap (λ (os : List (Option Member)). length os) (all_members handles full)) ∙ length-map (members_by member handles) Some
+      many = sym (length-map handles member)
+          ∙ sym (ap (λ (os : List (Option Member)). length os) (all_members handles full))
+          ∙ length-map (members_by member handles) Some
 
-      go : (o : Option Member) → member first ≡ o → IsSome o → IfSome o (λ m. passes ≡ m.set.passes) → Counted passes handles
+      go : (o : Option Member) → member first ≡ o → IsSome o → IfSome o (λ m. passes ≡ m.set.passes) →
+          Counted passes handles
       go None is some told = absurd (false≢true some)
       go (Some m) is some told =
           let are : members_by member handles ≡ m ∷ members_by member others =
           ap (members_by member) split ∙ ap (λ (o : Option Member). joined o (members_by member others)) is in
-          record { first = m; others = members_by member others; are = are; many = many ∙ ap (λ (ms : List Member). length ms) are; opened = told }
+          record {
+            first = m;
+            others = members_by member others;
+            are = are;
+            many = many ∙ ap (λ (ms : List Member). length ms) are;
+            opened = told;
+          }
 
   -- so they are fewer than a report wants, or not, and not as many as a renewal does, or just as many
-  pub too_few : (passes : ℕ) (handles : List H) → Counted passes handles → length handles < passes → AreTooFew (members_by member handles)
-  too_few passes handles c less = let many = c.many in let opened = c.opened in subst AreTooFew (sym c.are) (omega (arith, less, many, opened))
+  pub too_few : (passes : ℕ) (handles : List H) → Counted passes handles → length handles < passes →
+      AreTooFew (members_by member handles)
+  too_few passes handles c less =
+      let many = c.many in let opened = c.opened in subst AreTooFew (sym c.are) (omega (arith, less, many, opened))
 
-  pub enough : (passes : ℕ) (handles : List H) → Counted passes handles → passes ≤ length handles → ¬ (AreTooFew (members_by member handles))
-  enough passes handles c most few = let many = c.many in let opened = c.opened in let less : length (c.first ∷ c.others) < c.first.set.passes = subst AreTooFew c.are few in omega (arith, less, many, opened, most)
+  pub enough : (passes : ℕ) (handles : List H) → Counted passes handles → passes ≤ length handles →
+      ¬ (AreTooFew (members_by member handles))
+  enough passes handles c most few =
+      let many = c.many in
+      let opened = c.opened in
+      let less : length (c.first ∷ c.others) < c.first.set.passes = subst AreTooFew c.are few in
+      omega (arith, less, many, opened, most)
 
-  pub not_all : (passes : ℕ) (handles : List H) → Counted passes handles → length handles ≢ passes → AreNotAll (members_by member handles)
-  not_all passes handles c differ = subst AreNotAll (sym c.are) (λ (same : length (c.first ∷ c.others) ≡ c.first.set.passes). differ (c.many ∙ same ∙ sym c.opened))
+  pub not_all : (passes : ℕ) (handles : List H) → Counted passes handles → length handles ≢ passes →
+      AreNotAll (members_by member handles)
+  not_all passes handles c differ =
+      subst AreNotAll (sym c.are)
+      (λ (same : length (c.first ∷ c.others) ≡ c.first.set.passes). differ (c.many ∙ same ∙ sym c.opened))
 
-  pub just_all : (passes : ℕ) (handles : List H) → Counted passes handles → length handles ≡ passes → ¬ (AreNotAll (members_by member handles))
+  pub just_all : (passes : ℕ) (handles : List H) → Counted passes handles → length handles ≡ passes →
+      ¬ (AreNotAll (members_by member handles))
   just_all passes handles c same not = subst AreNotAll c.are not (sym c.many ∙ same ∙ c.opened)
 
   -- so they stay as they were where their members come back
-  pub stays : (before after : List H) (came : List Member) → AreFull member before → came ≡ members_by member before → map member after ≡ map Some came → StaySo member before after
+  pub stays : (before after : List H) (came : List Member) → AreFull member before → came ≡ members_by member before →
+      map member after ≡ map Some came → StaySo member before after
   stays before after came full same put = put ∙ ap (map Some) same ∙ all_members before full
 
   -- and are opened where fresh members come
-  pub renewed : {Item R I : Type 0} (kind : KindOf Item R) (L : Listing R I) (members : List Member) (numbers : ShapeNumbers) (shape : Dimensions) (after : List H) (came : List Member)
-      → ((shape : Dimensions) (report : R) → kind.start shape (kind.contents report).listed.items ≡ start_with (record shape { values = L.values }) (L.keys (L.items report)) (L.payloads (L.items report)))
-      → shape ≡ spread_shape numbers false → map member after ≡ map Some came → RenewsAllBy kind members shape came → RenewsTo kind L member members numbers after
+  pub renewed : {Item R I : Type 0} (kind : KindOf Item R) (L : Listing R I) (members : List Member)
+      (numbers : ShapeNumbers) (shape : Dimensions) (after : List H) (came : List Member)
+      → ((shape : Dimensions) (report : R) →
+      kind.start shape (kind.contents report).listed.items
+      ≡ start_with (record shape { values = L.values }) (L.keys (L.items report)) (L.payloads (L.items report)))
+      → shape ≡ spread_shape numbers false → map member after ≡ map Some came → RenewsAllBy kind members shape came →
+      RenewsTo kind L member members numbers after
   renewed kind L members numbers shape after came restarts spread full r =
       let new = r.new in
       let set : TableView = new.set in
@@ -154,7 +201,10 @@ module _ {H : Type 0} (member : H → Option Member) where
         reports = r.reports;
         opened = record {
           set = set;
-          shaped = new.shaped ∙ restarts shape r.report ∙ ap (λ (d : Dimensions). start_with (record d { values = L.values }) (L.keys (L.items r.report)) (L.payloads (L.items r.report))) spread;
+          shaped = new.shaped ∙ restarts shape r.report
+              ∙ ap (λ (d : Dimensions).
+              start_with (record d { values = L.values }) (L.keys (L.items r.report)) (L.payloads (L.items r.report)))
+              spread;
           counted = new.counted ∙ sym count;
           members = full ∙ ap (map Some) (new.are ∙ ap (new_members set) (sym count));
         };

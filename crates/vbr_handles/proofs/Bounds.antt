@@ -16,8 +16,16 @@ use denote.Triple.Table.{run_framed}
 use denote.Triple.Walked.{AllGo, Stays, walk_of}
 use Rattle.atomic_table.proofs.Walks.{proved_at}
 
-module _ {M : Type 1} {𝓤 : Ura M} (𝓛 : Logic 𝓤) (𝓜 : Model 𝓤 𝓛.H) (𝓡 : Running 𝓤 𝓛.H 𝓜) (T : Ended) (hs : Stays T.signature.params T.kept) (c : Clauses 𝓤 T) where
-  pub spares : AllGo 𝓛 T.signature.lifetimes T.signature.params T.kept hs → (m : ℕ) (ℓs : Lfts m) (k : Callee) (fn : Fn) → Closed 𝓤 𝓛.H (tables 𝓤 𝓛.H 𝓜 𝓡 𝓡.env).C (tables 𝓤 𝓛.H 𝓜 𝓡 𝓡.env).Λ k fn
-      → ((z : (walk_of 𝓛 T hs c).Ghost) → ent 𝓤 ((walk_of 𝓛 T hs c).pre z) (WpFn 𝓤 𝓛.H (tables 𝓤 𝓛.H 𝓜 𝓡 𝓡.env).C (tables 𝓤 𝓛.H 𝓜 𝓡 𝓡.env).Λ fn ((walk_of 𝓛 T hs c).args z) ((walk_of 𝓛 T hs c).post z)))
+module _ {M : Type 1} {𝓤 : Ura M} (𝓛 : Logic 𝓤) (𝓜 : Model 𝓤 𝓛.H) (𝓡 : Running 𝓤 𝓛.H 𝓜) (T : Ended)
+    (hs : Stays T.signature.params T.kept) (c : Clauses 𝓤 T) where
+  pub spares : AllGo 𝓛 T.signature.lifetimes T.signature.params T.kept hs →
+      (m : ℕ) (ℓs : Lfts m) (k : Callee) (fn : Fn) →
+      Closed 𝓤 𝓛.H (tables 𝓤 𝓛.H 𝓜 𝓡 𝓡.env).C (tables 𝓤 𝓛.H 𝓜 𝓡 𝓡.env).Λ k fn
+      → ((z : (walk_of 𝓛 T hs c).Ghost) →
+      ent 𝓤 ((walk_of 𝓛 T hs c).pre z)
+      (WpFn 𝓤 𝓛.H (tables 𝓤 𝓛.H 𝓜 𝓡 𝓡.env).C (tables 𝓤 𝓛.H 𝓜 𝓡 𝓡.env).Λ fn ((walk_of 𝓛 T hs c).args z)
+      ((walk_of 𝓛 T hs c).post z)))
       → Triple 𝓤 (𝓡.run (𝓡.env k)) (grown 𝓛 T.signature m ℓs (closing 𝓛 T c))
-  spares go m ℓs k fn closed walk = spared 𝓛 T.signature (𝓡.run (𝓡.env k)) (run_framed 𝓤 𝓛.H 𝓜 𝓡 (𝓡.env k)) m ℓs (closing 𝓛 T c) (proved_at 𝓛 T hs c 𝓜 𝓡 go k fn closed (λ z are. walk z))
+  spares go m ℓs k fn closed walk =
+      spared 𝓛 T.signature (𝓡.run (𝓡.env k)) (run_framed 𝓤 𝓛.H 𝓜 𝓡 (𝓡.env k)) m ℓs (closing 𝓛 T c)
+      (proved_at 𝓛 T hs c 𝓜 𝓡 go k fn closed (λ z are. walk z))

@@ -3,7 +3,9 @@ use Rattle.std.proofs.Common.{ℕ, List, [], ◌∷◌, ap}
 use Rattle.vbr_set.specs.Batches.{InTurn}
 
 module _ {M N A : Type 0} (of : M → N) (Calls : N → N → ℕ → A → Type 0) where
-  pub seen_in_turn : (m n : M) (keys : List ℕ) (answers : List A) → InTurn (λ (p : M) (q : M) (key : ℕ) (answer : A). Calls (of p) (of q) key answer) m n keys answers → InTurn Calls (of m) (of n) keys answers
+  pub seen_in_turn : (m n : M) (keys : List ℕ) (answers : List A) →
+      InTurn (λ (p : M) (q : M) (key : ℕ) (answer : A). Calls (of p) (of q) key answer) m n keys answers →
+      InTurn Calls (of m) (of n) keys answers
   seen_in_turn m n [] [] is = ap of is
   seen_in_turn m n [] (answer ∷ answers) is = absurd is
   seen_in_turn m n (key ∷ keys) [] is = absurd is

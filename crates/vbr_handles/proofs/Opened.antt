@@ -1,5 +1,6 @@
 -- There are as many handles as members.
-use Rattle.std.proofs.Common.{◌≡◌, ℕ, zero, suc, List, [], ◌∷◌, ◌++◌, map, length, append_assoc, sym, refl, ap, ◌∙◌, Option, Some}
+use Rattle.std.proofs.Common.{◌≡◌, ℕ, zero, suc, List, [], ◌∷◌, ◌++◌, map, length, append_assoc, sym, refl, ap, ◌∙◌}
+use Rattle.std.proofs.Common.{Option, Some}
 use Rattle.std.proofs.lemmas.List.{length-map, map-append}
 use Rattle.vbr_machine.specs.Start.{Start}
 use Rattle.vbr_slots.specs.Views.{PassView, TableView, new_passes}
@@ -10,14 +11,19 @@ pub new_count : (set : TableView) (who n : ℕ) → length (new_passes set who n
 new_count set who zero = refl
 new_count set who (suc n) = ap suc (new_count set (suc who) n)
 
-pub as_many : (start : Start) (count : ℕ) (members : List MemberView) (opened : List (Owner MemberView)) → AreNew start count members → map (λ h. h.member) opened ≡ map Some members → length opened ≡ count
+pub as_many : (start : Start) (count : ℕ) (members : List MemberView) (opened : List (Owner MemberView)) →
+    AreNew start count members → map (λ h. h.member) opened ≡ map Some members → length opened ≡ count
 as_many start count members opened new same =
     let mk : PassView → MemberView = λ p. record { set = new.set; pass = p } in
-    sym (length-map opened (λ (h : Owner MemberView). h.member)) ∙ ap (λ (ms : List (Option MemberView)). length ms) same ∙ length-map members Some ∙ ap (λ (ms : List MemberView). length ms) new.are
+    sym (length-map opened (λ (h : Owner MemberView). h.member))
+    ∙ ap (λ (ms : List (Option MemberView)). length ms) same ∙ length-map members Some
+    ∙ ap (λ (ms : List MemberView). length ms) new.are
     ∙ length-map (new_passes new.set 0 count) mk ∙ new_count new.set 0 count
 
 -- one more member has an owner
-pub one_more_owned : (owners owners' : List (Owner MemberView)) (owner : Owner MemberView) (m : MemberView) (left rest : List MemberView) (whole : List (Option MemberView)) → owners' ≡ owners ++ owner ∷ [] → left ≡ m ∷ rest → owner.member ≡ Some m
+pub one_more_owned : (owners owners' : List (Owner MemberView)) (owner : Owner MemberView) (m : MemberView)
+    (left rest : List MemberView) (whole : List (Option MemberView)) → owners' ≡ owners ++ owner ∷ [] →
+    left ≡ m ∷ rest → owner.member ≡ Some m
     → map (λ o. o.member) owners ++ map Some left ≡ whole → map (λ o. o.member) owners' ++ map Some rest ≡ whole
 one_more_owned owners owners' owner m left rest whole more split is so_far =
     let f : Owner MemberView → Option MemberView = λ o. o.member in

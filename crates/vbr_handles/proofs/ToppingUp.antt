@@ -1,5 +1,6 @@
 -- A call and the top-up after it stay within the budget.
-use Rattle.std.proofs.Common.{◌≡◌, ℕ, ◌+◌, ◌-◌, ◌^◌, ◌<◌, ◌≤◌, min, Bool, true, false, sym, ap, ◌∙◌, subst, ⊎_elim, arith, ◌/◌, ◌&&◌}
+use Rattle.std.proofs.Common.{◌≡◌, ℕ, ◌+◌, ◌-◌, ◌^◌, ◌<◌, ◌≤◌, min, Bool, true, false, sym, ap, ◌∙◌, subst, ⊎_elim}
+use Rattle.std.proofs.Common.{arith, ◌/◌, ◌&&◌}
 use Rattle.std.specs.Prelude.{if◌then◌else◌, Result}
 use Rattle.std.proofs.lemmas.Bool.{cases_lt, le-ltb, lt-ltb}
 use Rattle.vbr_slots.specs.PassLaw.{PassLaw}
@@ -13,31 +14,50 @@ use Rattle.vbr_handles.specs.ToppingUp.{CallsAndTopsUp, TopsUpReserve, TopsUpWhe
 
 -- what is left, where the count isn't at its end
 left_is : (budget before since : ℕ) → since < 2 ^ 64 - 1 → left_of budget before since ≡ budget - (since - before)
-left_is budget before since low = ap (λ (b : Bool). if b then budget - (since - before) else 0) (lt-ltb since (2 ^ 64 - 1) low)
+left_is budget before since low =
+    ap (λ (b : Bool). if b then budget - (since - before) else 0) (lt-ltb since (2 ^ 64 - 1) low)
 
 left_none : (budget before since : ℕ) → 2 ^ 64 - 1 ≤ since → left_of budget before since ≡ 0
-left_none budget before since high = ap (λ (b : Bool). if b then budget - (since - before) else 0) (le-ltb since (2 ^ 64 - 1) high)
+left_none budget before since high =
+    ap (λ (b : Bool). if b then budget - (since - before) else 0) (le-ltb since (2 ^ 64 - 1) high)
 
 -- after a call of so many steps no more are left than those
-few_left : (budget before steps since more : ℕ) → since ≡ before + steps → steps ≤ budget → more ≤ left_of budget (counted_steps before) (counted_steps since) → steps + more ≤ budget
+few_left : (budget before steps since more : ℕ) → since ≡ before + steps → steps ≤ budget →
+    more ≤ left_of budget (counted_steps before) (counted_steps since) → steps + more ≤ budget
 few_left budget before steps since more is within few = ⊎_elim
-    (λ (low : counted_steps since < 2 ^ 64 - 1). (let left = left_is budget (counted_steps before) (counted_steps since) low in omega (arith, left, low, few, is, within)))
-    (λ (high : 2 ^ 64 - 1 ≤ counted_steps since). (let none = left_none budget (counted_steps before) (counted_steps since) high in omega (arith, none, few, within)))
+    (λ (low : counted_steps since < 2 ^ 64 - 1).
+    (let left = left_is budget (counted_steps before) (counted_steps since) low in
+    omega (arith, left, low, few, is, within)))
+    (λ (high : 2 ^ 64 - 1 ≤ counted_steps since).
+    (let none = left_none budget (counted_steps before) (counted_steps since) high in omega (arith, none, few, within)))
     (cases_lt (counted_steps since) (2 ^ 64 - 1))
 
 -- a member that was topped up with these tries
-pub topped : {m n : Member} {budget before left wanted tries taken steps : ℕ} {p : Trace} → n.set ≡ m.set → PassLaw n.pass → before ≡ counted_steps (steps_of p) → left ≡ left_of budget before (counted_steps (steps_of m.pass.trace)) → wanted ≡ reserve_of m.set → tries ≡ min left (wanted / 8 + 1) → TopsUp m.pass n.pass wanted tries taken steps → TopsUpReserve budget p m n
-topped {m} {n} {budget} {before} {left} {wanted} {tries} {taken} {steps} {p} set law counted left_is wanted_is tries_is tops = record {
-  set = set;
-  taken = taken;
-  steps = steps;
-  tops_up = subst (λ (x : ℕ × ℕ). TopsUp m.pass n.pass x.0 x.1 taken steps) (λ i. (wanted_is i, (tries_is ∙ (λ j. min ((left_is ∙ ap (λ (x : ℕ). left_of budget x (counted_steps (steps_of m.pass.trace))) counted) j) (wanted_is j / 8 + 1))) i)) tops;
-  law = law;
-}
+pub topped : {m n : Member} {budget before left wanted tries taken steps : ℕ} {p : Trace} → n.set ≡ m.set →
+    PassLaw n.pass → before ≡ counted_steps (steps_of p) →
+    left ≡ left_of budget before (counted_steps (steps_of m.pass.trace)) → wanted ≡ reserve_of m.set →
+    tries ≡ min left (wanted / 8 + 1) → TopsUp m.pass n.pass wanted tries taken steps → TopsUpReserve budget p m n
+topped {m} {n} {budget} {before} {left} {wanted} {tries} {taken} {steps} {p} set law counted left_is wanted_is tries_is
+    tops = record {
+      set = set;
+      taken = taken;
+      steps = steps;
+      tops_up = subst (λ (x : ℕ × ℕ). TopsUp m.pass n.pass x.0 x.1 taken steps)
+          (λ i. (
+            wanted_is i,
+            (tries_is ∙ (λ j.
+                min ((left_is ∙ ap (λ (x : ℕ). left_of budget x (counted_steps (steps_of m.pass.trace))) counted) j)
+                (wanted_is j / 8 + 1))) i,
+          )) tops;
+      law = law;
+    }
 
-module _ {A : Type 0} {Calls : Member → Member → Result A Refusal → Type 0} {adds : Result A Refusal → Bool} {budget : ℕ} where
+module _ {A : Type 0} {Calls : Member → Member → Result A Refusal → Type 0} {adds : Result A Refusal → Bool}
+    {budget : ℕ} where
   -- the call and what came after it
-  pub calls_and_tops_up : {m n : Member} (b : Member) (answer : Result A Refusal) (added : Bool) → Calls m b answer → TookWithin m.pass.trace b.pass.trace budget → added ≡ adds answer → TopsUpWhere (added && lacks_slots b) budget m.pass.trace b n → CallsAndTopsUp Calls adds budget m n answer
+  pub calls_and_tops_up : {m n : Member} (b : Member) (answer : Result A Refusal) (added : Bool) → Calls m b answer →
+      TookWithin m.pass.trace b.pass.trace budget → added ≡ adds answer →
+      TopsUpWhere (added && lacks_slots b) budget m.pass.trace b n → CallsAndTopsUp Calls adds budget m n answer
   calls_and_tops_up {m} {n} b answer added called steps is tops = record {
     between = b;
     called = called;
@@ -49,5 +69,10 @@ module _ {A : Type 0} {Calls : Member → Member → Result A Refusal → Type 0
       go false same = subst (λ (x : Member). TookWithin m.pass.trace x.pass.trace budget) (sym same) steps
       go true t =
           let few = t.tops_up.tries in
-          let sum = few_left budget (steps_of m.pass.trace) steps.steps (steps_of b.pass.trace) t.steps steps.took.made steps.within (omega (arith, few)) in
-          record { steps = steps.steps + t.steps; within = sum; took = took_on steps.steps t.steps steps.took t.tops_up.takes.took }
+          let sum = few_left budget (steps_of m.pass.trace) steps.steps (steps_of b.pass.trace) t.steps steps.took.made
+          steps.within (omega (arith, few)) in
+          record {
+            steps = steps.steps + t.steps;
+            within = sum;
+            took = took_on steps.steps t.steps steps.took t.tops_up.takes.took;
+          }

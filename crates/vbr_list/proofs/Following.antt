@@ -1,6 +1,11 @@
 -- A walk of loads alone goes on from place to place, past the keys that a seek tells of.
-use Rattle.vbr_list.proofs.Names.{◌≡◌, ℕ, ◌+◌, ◌<◌, ◌≤◌, Bool, true, false, Option, Some, None, sym, ap, ◌∙◌, subst, arith, is_none, is_some}
-use Rattle.vbr_list.proofs.Names.{At, begins_trans, behind_kept, bucket_of, Held, held_in_kept, held_in_next, held_kept, held_of, IsRead, IsRun, IsSame, IsStart, itself, Keeps, keeps_on, KeyAt, knows, link_of, Marked, onward, PassLaw, PassView, PIECE, Quiet, quiet_on, quiet_refl, ReadsIn, Slot, StandsBefore, StandsBehind, Start, stood_before, Trace, ValueAt, was_absent, was_absent_on, was_entry, was_present, WasSo}
+use Rattle.vbr_list.proofs.Names.{◌≡◌, ℕ, ◌+◌, ◌<◌, ◌≤◌, Bool, true, false, Option, Some, None, sym, ap, ◌∙◌, subst}
+use Rattle.vbr_list.proofs.Names.{arith, is_none, is_some}
+use Rattle.vbr_list.proofs.Names.{At, begins_trans, behind_kept, bucket_of, Held, held_in_kept, held_in_next, held_kept}
+use Rattle.vbr_list.proofs.Names.{held_of, IsRead, IsRun, IsSame, IsStart, itself, Keeps, keeps_on, KeyAt, knows}
+use Rattle.vbr_list.proofs.Names.{link_of, Marked, onward, PassLaw, PassView, PIECE, Quiet, quiet_on, quiet_refl}
+use Rattle.vbr_list.proofs.Names.{ReadsIn, Slot, StandsBefore, StandsBehind, Start, stood_before, Trace, ValueAt}
+use Rattle.vbr_list.proofs.Names.{was_absent, was_absent_on, was_entry, was_present, WasSo}
 use Rattle.vbr_list.specs.Budgets.{steps_to_value_of}
 use Rattle.vbr_list.specs.Next.{HasNoNext}
 use Rattle.vbr_list.specs.Pieces.{LooksOn, Peeks}
@@ -24,9 +29,11 @@ use Rattle.vbr_list.proofs.Visits.{met_paid, met_past, met_to, starts_walk, visi
 -- ---- places
 
 -- what is known stays
-pub place_on : {p q : Trace} (bucket from : ℕ) (place : Held) → IsSame p q → Keeps (knows p) (knows q) → IsPlaceBefore p.start (knows p) bucket from place → IsPlaceBefore q.start (knows q) bucket from place
+pub place_on : {p q : Trace} (bucket from : ℕ) (place : Held) → IsSame p q → Keeps (knows p) (knows q) →
+    IsPlaceBefore p.start (knows p) bucket from place → IsPlaceBefore q.start (knows q) bucket from place
 place_on {p} {q} bucket from place s keeps x =
-    let P : Start → Type 0 = λ start. (key : ℕ) → bucket_of start.shape key ≡ bucket → from ≤ key → StandsBehind start (knows q) place.at key in
+    let P : Start → Type 0 =
+    λ start. (key : ℕ) → bucket_of start.shape key ≡ bucket → from ≤ key → StandsBehind start (knows q) place.at key in
     record {
       held = held_kept place keeps x.held;
       inside = held_in_kept place.at bucket keeps x.inside;
@@ -37,11 +44,14 @@ place_on {p} {q} bucket from place s keeps x =
 -- ---- from place to place
 
 -- at the head
-pub follows_head : {p q : PassView} → PassLaw p → (bucket from before since budget : ℕ) (head : Held) → LooksOn p q before since → since ≡ before + 3 → before + PIECE ≤ budget → StartsAt p.trace q.trace bucket head → Follows p q bucket from before since budget head head
+pub follows_head : {p q : PassView} → PassLaw p → (bucket from before since budget : ℕ) (head : Held) →
+    LooksOn p q before since → since ≡ before + 3 → before + PIECE ≤ budget → StartsAt p.trace q.trace bucket head →
+    Follows p q bucket from before since budget head head
 follows_head {p} law bucket from before since budget head looks sum fits x =
     let come = head_before bucket from head x in
     record {
-      peeks = peeks_on (peeks_refl p before budget (omega (arith, fits))) looks.goes looks.observes (omega (arith, sum)) (omega (arith, sum, fits));
+      peeks = peeks_on (peeks_refl p before budget (omega (arith, fits))) looks.goes looks.observes (omega (arith, sum))
+          (omega (arith, sum, fits));
       some = omega (arith, sum);
       come = come;
       inside = record { held = x.known; inside = come.is.inside };
@@ -51,7 +61,9 @@ follows_head {p} law bucket from before since budget head looks sum fits x =
     }
 
 -- and on by a visit
-module _ {p q r : PassView} (law : PassLaw p) {bucket from a b c budget : ℕ} {pred here : Held} (x : Follows p q bucket from a b budget pred here) (looks : LooksOn q r b c) (few : IsVisit b c) (fits : b + PIECE ≤ budget) where
+module _ {p q r : PassView} (law : PassLaw p) {bucket from a b c budget : ℕ} {pred here : Held}
+    (x : Follows p q bucket from a b budget pred here) (looks : LooksOn q r b c) (few : IsVisit b c)
+    (fits : b + PIECE ≤ budget) where
   pub peeks_visit : Peeks p r a c budget
   peeks_visit = peeks_on x.peeks looks.goes looks.observes (omega (arith, few)) (omega (arith, few, fits))
 
@@ -59,15 +71,22 @@ module _ {p q r : PassView} (law : PassLaw p) {bucket from a b c budget : ℕ} {
   first = x.peeks.tries.goes.quiet
 
   -- it rolled back, which was a disturbance
-  pub visit_lost : is_some (link_of here.word).slot ≡ true → MovesEpoch q.trace r.trace → (a < c) × WalksOnce 5 3 p.trace r.trace bucket a c × IsDisturbed p.trace r.trace bucket
+  pub visit_lost : is_some (link_of here.word).slot ≡ true → MovesEpoch q.trace r.trace →
+      (a < c) × WalksOnce 5 3 p.trace r.trace bucket a c × IsDisturbed p.trace r.trace bucket
   visit_lost some moves =
-      let before = grows_disturbed p.trace q.trace law.start (run_at p.trace q.trace first.same (first.is_run law.is_run)) bucket p.trace.seen first.seen in
+      let before =
+      grows_disturbed p.trace q.trace law.start (run_at p.trace q.trace first.same (first.is_run law.is_run)) bucket
+      p.trace.seen first.seen in
       let less = visit_moved law bucket first looks.goes.quiet looks.observes x.fresh moves in
-      let low = x.some in
-      (omega (arith, low, few), visit_paid law bucket first looks.goes.quiet x.walks (omega (arith, few)) some, omega (arith, before, less))
+      let low = x.some in (
+        omega (arith, low, few),
+        visit_paid law bucket first looks.goes.quiet x.walks (omega (arith, few)) some,
+        omega (arith, before, less),
+      )
 
   -- a value is read of the node that it met, in so many steps
-  module _ {met : Visited} (m : MeetsBehind q.trace r.trace b c here from met) {s : PassView} {n : ℕ} (reads : ReadsIn r s (steps_to_value_of r.trace.start)) (steps : n ≡ steps_to_value_of r.trace.start) where
+  module _ {met : Visited} (m : MeetsBehind q.trace r.trace b c here from met) {s : PassView} {n : ℕ}
+      (reads : ReadsIn r s (steps_to_value_of r.trace.start)) (steps : n ≡ steps_to_value_of r.trace.start) where
     whole : Quiet p.trace r.trace
     whole = quiet_on first looks.goes.quiet
 
@@ -76,21 +95,28 @@ module _ {p q r : PassView} (law : PassLaw p) {bucket from a b c budget : ℕ} {
 
     pub value_paid : WalksOnce 5 (steps_besides p.trace) p.trace s.trace bucket a (c + n)
     value_paid =
-        let paid = met_paid law bucket first looks.goes.quiet looks.observes x.walks m {now_used = c} (omega (arith, few)) in
+        let paid = met_paid law bucket first looks.goes.quiet looks.observes x.walks m {now_used = c}
+        (omega (arith, few)) in
         let more = met_until p.trace s.trace law.start ok bucket r.trace whole.seen reads.quiet.seen in
-        let same : steps_to_value_of r.trace.start ≡ steps_to_value_of p.trace.start = ap steps_to_value_of whole.same.start in
+        let same : steps_to_value_of r.trace.start ≡ steps_to_value_of p.trace.start =
+        ap steps_to_value_of whole.same.start in
         omega (arith, paid, more, steps, same)
 
     -- or it isn't, which was a disturbance
-    pub value_lost : MovesEpoch r.trace s.trace → (a < c + n) × WalksOnce 5 (steps_besides p.trace) p.trace s.trace bucket a (c + n) × IsDisturbed p.trace s.trace bucket
+    pub value_lost : MovesEpoch r.trace s.trace →
+        (a < c + n) × WalksOnce 5 (steps_besides p.trace) p.trace s.trace bucket a (c + n) ×
+        IsDisturbed p.trace s.trace bucket
     value_lost moves =
-        let before = grows_disturbed p.trace r.trace law.start (run_at p.trace r.trace whole.same (whole.is_run law.is_run)) bucket p.trace.seen whole.seen in
+        let before =
+        grows_disturbed p.trace r.trace law.start (run_at p.trace r.trace whole.same (whole.is_run law.is_run)) bucket
+        p.trace.seen whole.seen in
         let less = visit_moved law bucket whole reads.quiet (reads_observe reads) m.fresh moves in
         let low = x.some in
         (omega (arith, low, few), value_paid, omega (arith, before, less))
 
   -- a node with a key below the number
-  pub follows_node : (node : Held) → MeetsBehind q.trace r.trace b c here from (Smaller node) → Follows p r bucket from a c budget node node
+  pub follows_node : (node : Held) → MeetsBehind q.trace r.trace b c here from (Smaller node) →
+      Follows p r bucket from a c budget node node
   follows_node node m =
       let come = node_before bucket from m.visits.key here node x.inside m.keeps m.reads m.visits.has m.visits.low in
       record {
@@ -104,49 +130,80 @@ module _ {p q r : PassView} (law : PassLaw p) {bucket from a b c budget : ℕ} {
       }
 
   -- a marked node
-  pub follows_marked : (gone : Marked) → MeetsBehind q.trace r.trace b c here from (MarkedNode gone) → Follows p r bucket from a c budget pred (held_of gone)
+  pub follows_marked : (gone : Marked) → MeetsBehind q.trace r.trace b c here from (MarkedNode gone) →
+      Follows p r bucket from a c budget pred (held_of gone)
   follows_marked gone m =
       let held = m.visits.0 in
       let names = m.visits.1 in
       record {
         peeks = peeks_visit;
         some = let u = x.some in omega (arith, u, few);
-        come = record { is = place_on bucket from pred looks.goes.quiet.same m.keeps x.come.is; stood = stood_before x.come.stood looks.goes.quiet };
-        inside = record { held = held.held; inside = held_in_next here gone.slot bucket (held_kept here m.keeps x.inside.held) names (held_in_kept here.at bucket m.keeps x.inside.inside) };
-        leads = onward (link_of here.word) gone.slot (link_of gone.word) (leads_kept (link_of pred.word) (link_of here.word) m.keeps x.leads) names held.held.link held.mark;
+        come = record {
+          is = place_on bucket from pred looks.goes.quiet.same m.keeps x.come.is;
+          stood = stood_before x.come.stood looks.goes.quiet;
+        };
+        inside = record {
+          held = held.held;
+          inside = held_in_next here gone.slot bucket (held_kept here m.keeps x.inside.held) names
+              (held_in_kept here.at bucket m.keeps x.inside.inside);
+        };
+        leads = onward (link_of here.word) gone.slot (link_of gone.word)
+            (leads_kept (link_of pred.word) (link_of here.word) m.keeps x.leads) names held.held.link held.mark;
         fresh = m.fresh;
         walks = met_past law bucket first looks.goes.quiet looks.observes x.walks m (omega (arith, few));
       }
 
 -- and a value is read
-peeks_value : {p q r : PassView} {a : ℕ} (b n budget : ℕ) → Peeks p q a b budget → ReadsIn q r (steps_to_value_of q.trace.start) → n ≡ steps_to_value_of q.trace.start → b + 2 ≤ budget → Peeks p r a (b + n) budget
+peeks_value : {p q r : PassView} {a : ℕ} (b n budget : ℕ) → Peeks p q a b budget →
+    ReadsIn q r (steps_to_value_of q.trace.start) → n ≡ steps_to_value_of q.trace.start → b + 2 ≤ budget →
+    Peeks p r a (b + n) budget
 peeks_value {p} {q} b n budget x y e fits =
     let few = few_to_value q.trace.start in
-    peeks_on x (goes_counted b n (steps_to_value_of q.trace.start) e y) (reads_observe y) (omega arith) (omega (arith, e, few, fits))
+    peeks_on x (goes_counted b n (steps_to_value_of q.trace.start) e y) (reads_observe y) (omega arith)
+    (omega (arith, e, few, fits))
 
 -- of the node that was visited
-pub peeks_behind : {p q r t : PassView} → PassLaw p → {bucket from a b c budget : ℕ} {pred here : Held} → Follows p q bucket from a b budget pred here → LooksOn q r b c → IsVisit b c → b + PIECE ≤ budget → (n : ℕ) → ReadsIn r t (steps_to_value_of r.trace.start) → n ≡ steps_to_value_of r.trace.start → Peeks p t a (c + n) budget
-peeks_behind law {c = c} {budget = budget} x looks few fits n reads e = peeks_value c n budget (peeks_visit law x looks few fits) reads e (omega (arith, few, fits))
+pub peeks_behind : {p q r t : PassView} → PassLaw p → {bucket from a b c budget : ℕ} {pred here : Held} →
+    Follows p q bucket from a b budget pred here → LooksOn q r b c → IsVisit b c → b + PIECE ≤ budget → (n : ℕ) →
+    ReadsIn r t (steps_to_value_of r.trace.start) → n ≡ steps_to_value_of r.trace.start → Peeks p t a (c + n) budget
+peeks_behind law {c = c} {budget = budget} x looks few fits n reads e =
+    peeks_value c n budget (peeks_visit law x looks few fits) reads e (omega (arith, few, fits))
 
 -- ---- what it tells
 
 -- each key of the bucket from the number on that stands before what the place names was absent at a moment
-pub passed_by : {p q : PassView} (r : PassView) {bucket from a b budget : ℕ} {pred here : Held} → IsStart p.trace.start → Follows p q bucket from a b budget pred here → Quiet q.trace r.trace → Keeps (knows q.trace) (knows r.trace) → (other : ℕ) → bucket_of p.trace.start.shape other ≡ bucket → from ≤ other → StandsBefore (knows r.trace) other (link_of here.word).slot → WasSo p.trace r.trace other false
+pub passed_by : {p q : PassView} (r : PassView) {bucket from a b budget : ℕ} {pred here : Held} →
+    IsStart p.trace.start → Follows p q bucket from a b budget pred here → Quiet q.trace r.trace →
+    Keeps (knows q.trace) (knows r.trace) → (other : ℕ) → bucket_of p.trace.start.shape other ≡ bucket → from ≤ other →
+    StandsBefore (knows r.trace) other (link_of here.word).slot → WasSo p.trace r.trace other false
 passed_by {p} {q} r {bucket} {from} {pred = pred} {here = here} start x quiet keeps other is high before =
     let whole = quiet_on x.peeks.tries.goes.quiet quiet in
     let place = place_on bucket from pred quiet.same keeps x.come.is in
-    let now : bucket_of r.trace.start.shape other ≡ bucket = ap (λ (t : Start). bucket_of t.shape other) whole.same.start ∙ is in
-    was_absent_on pred start whole.same (record { known = place.held; stood = stood_before x.come.stood quiet }) place.unmarked other (link_of here.word) (leads_kept (link_of pred.word) (link_of here.word) keeps x.leads) (place.behind other now high) before
+    let now : bucket_of r.trace.start.shape other ≡ bucket =
+    ap (λ (t : Start). bucket_of t.shape other) whole.same.start ∙ is in
+    was_absent_on pred start whole.same (record { known = place.held; stood = stood_before x.come.stood quiet })
+    place.unmarked other (link_of here.word) (leads_kept (link_of pred.word) (link_of here.word) keeps x.leads)
+    (place.behind other now high) before
 
 no_slot : (o : Option ℕ) → is_none o ≡ true → o ≡ None
 no_slot o e = grind arith
 
 -- there is no next key
-pub tells_none : {p q : PassView} {bucket from a b budget : ℕ} {pred here : Held} → IsStart p.trace.start → Follows p q bucket from a b budget pred here → (link_of here.word).slot ≡ None → HasNoNext p.trace q.trace bucket from
-tells_none {q = q} start x none = record { behind = λ other is high. passed_by q start x (quiet_refl q.trace) (keeps_still (knows q.trace)) other is high (rw none tt) }
+pub tells_none : {p q : PassView} {bucket from a b budget : ℕ} {pred here : Held} → IsStart p.trace.start →
+    Follows p q bucket from a b budget pred here → (link_of here.word).slot ≡ None →
+    HasNoNext p.trace q.trace bucket from
+tells_none {q = q} start x none =
+    record {
+      behind = λ other is high.
+          passed_by q start x (quiet_refl q.trace) (keeps_still (knows q.trace)) other is high (rw none tt);
+    }
 
 -- the next node, and the value that was read after it
-pub tells_next : {p q r : PassView} (s : PassView) {bucket from a b c budget : ℕ} {pred here : Held} (next : NextNode) (node : Held) → IsStart p.trace.start → Follows p q bucket from a b budget pred here → Quiet q.trace r.trace → MeetsBehind q.trace r.trace b c here from (Beyond node next.key) → Quiet r.trace s.trace → ReadsValue r s node.at next.value → next.is_last ≡ is_none (link_of node.word).slot → TellsNode p.trace s.trace bucket from (Some next)
+pub tells_next : {p q r : PassView} (s : PassView) {bucket from a b c budget : ℕ} {pred here : Held} (next : NextNode)
+    (node : Held) → IsStart p.trace.start → Follows p q bucket from a b budget pred here → Quiet q.trace r.trace →
+    MeetsBehind q.trace r.trace b c here from (Beyond node next.key) → Quiet r.trace s.trace →
+    ReadsValue r s node.at next.value → next.is_last ≡ is_none (link_of node.word).slot →
+    TellsNode p.trace s.trace bucket from (Some next)
 tells_next {p} {q} {r} s {bucket} {from} {a} {b} {c} {budget} {pred} {here} next node start x visit m then v is_last =
     let quiet = quiet_on visit then in
     let keeps = keeps_on m.keeps v.keeps in
@@ -158,47 +215,81 @@ tells_next {p} {q} {r} s {bucket} {from} {a} {b} {c} {budget} {pred} {here} next
     let Q : At → Type 0 = λ at. ValueAt (knows s.trace) at next.value in
     let there = key_kept node.at next.key v.keeps k.keyed in
     let keyed : KeyAt (knows s.trace) (Slot n.slot) next.key = subst P n.at there in
-    let of_bucket : bucket_of p.trace.start.shape next.key ≡ bucket = ap (λ (t : Start). bucket_of t.shape next.key) (sym (quiet_on first visit).same.start) ∙ k.of_bucket bucket x.inside.inside in
-    let read : IsRead p.trace s.trace node = record { known = held_kept node v.keeps k.held; stood = stood_before (stood_since first n.stood) then } in (
+    let of_bucket : bucket_of p.trace.start.shape next.key ≡ bucket =
+    ap (λ (t : Start). bucket_of t.shape next.key) (sym (quiet_on first visit).same.start)
+    ∙ k.of_bucket bucket x.inside.inside in
+    let read : IsRead p.trace s.trace node =
+    record { known = held_kept node v.keeps k.held; stood = stood_before (stood_since first n.stood) then } in (
       (
         record {
           high = m.visits.1;
           of_bucket = of_bucket;
           was = was_present node start whole.same read k.unmarked next.key there;
-          between = λ other is high low. passed_by s start x quiet keeps other is high (rw n.named (next.key, keyed, low));
+          between = λ other is high low.
+              passed_by s start x quiet keeps other is high (rw n.named (next.key, keyed, low));
         },
-        λ values. was_entry node start whole.same read k.unmarked n.slot next.key next.value n.at keyed (subst Q n.at (v.value (ap (λ (t : Start). t.shape.values) (quiet_on first visit).same.start ∙ values))) values,
+        λ values. was_entry node start whole.same read k.unmarked n.slot next.key next.value n.at keyed
+            (subst Q n.at (v.value (ap (λ (t : Start). t.shape.values) (quiet_on first visit).same.start ∙ values)))
+            values,
       ),
       λ last. record {
         behind = λ other is high.
-            let same_bucket : bucket_of p.trace.start.shape other ≡ bucket_of p.trace.start.shape next.key = is ∙ sym of_bucket in
+            let same_bucket : bucket_of p.trace.start.shape other ≡ bucket_of p.trace.start.shape next.key =
+            is ∙ sym of_bucket in
             let S : Start → Type 0 = λ t. bucket_of t.shape other ≡ bucket_of t.shape next.key in
             let now = subst S (sym whole.same.start) same_bucket in
             let none = no_slot (link_of node.word).slot (sym is_last ∙ last) in
-            was_absent node start whole.same read k.unmarked other (behind_node s.trace.start (knows s.trace) node.at n.slot next.key other n.at there now (omega (arith, high))) (rw none tt);
+            was_absent node start whole.same read k.unmarked other
+            (behind_node s.trace.start (knows s.trace) node.at n.slot next.key other n.at there now
+            (omega (arith, high))) (rw none tt);
       },
     )
 
 -- ---- again
 
 -- what a later part of what the pass did tells is told of the whole
-pub tells_since : {p q : Trace} (r : Trace) (bucket from : ℕ) (told : Option NextNode) → Quiet p q → TellsNode q r bucket from told → TellsNode p r bucket from told
+pub tells_since : {p q : Trace} (r : Trace) (bucket from : ℕ) (told : Option NextNode) → Quiet p q →
+    TellsNode q r bucket from told → TellsNode p r bucket from told
 tells_since {p} {q} r bucket from told a x =
     let P : Start → Type 0 = λ s. TellsNode (record q { start = s }) r bucket from told in
     go told (subst P a.same.start x)
   where
     so : {key : ℕ} {present : Bool} → WasSo (record q { start = p.start }) r key present → WasSo p r key present
-    so w = record { moment = w.moment; within = record { from = begins_trans p.seen q.seen w.moment a.seen w.within.from; to = w.within.to; is_run = w.within.is_run }; was = w.was }
+    so w = record {
+      moment = w.moment;
+      within = record {
+        from = begins_trans p.seen q.seen w.moment a.seen w.within.from;
+        to = w.within.to;
+        is_run = w.within.is_run;
+      };
+      was = w.was;
+    }
 
     none : (from : ℕ) → HasNoNext (record q { start = p.start }) r bucket from → HasNoNext p r bucket from
     none from y = record { behind = λ other is high. so (y.behind other is high) }
 
-    go : (told : Option NextNode) → TellsNode (record q { start = p.start }) r bucket from told → TellsNode p r bucket from told
+    go : (told : Option NextNode) → TellsNode (record q { start = p.start }) r bucket from told →
+        TellsNode p r bucket from told
     go None y = none from y
     go (Some next) y = (
       (
-        record { high = y.0.0.high; of_bucket = y.0.0.of_bucket; was = so y.0.0.was; between = λ other is high low. so (y.0.0.between other is high low) },
-        λ values. let e = y.0.1 values in record { moment = e.moment; within = record { from = begins_trans p.seen q.seen e.moment a.seen e.within.from; to = e.within.to; is_run = e.within.is_run }; was = e.was; stored = e.stored },
+        record {
+          high = y.0.0.high;
+          of_bucket = y.0.0.of_bucket;
+          was = so y.0.0.was;
+          between = λ other is high low. so (y.0.0.between other is high low);
+        },
+        λ values. let e = y.0.1 values in
+            record {
+              moment = e.moment;
+              within = record {
+                from = begins_trans p.seen q.seen e.moment a.seen e.within.from;
+                to = e.within.to;
+                is_run = e.within.is_run;
+              };
+              was = e.was;
+              stored = e.stored;
+            },
       ),
       λ last. none (next.key + 1) (y.1 last),
     )

@@ -1,6 +1,9 @@
 -- Pieces one after another: they make no call, their steps add up, and the slot in hand stays.
-use Rattle.vbr_list.proofs.Names.{◌≡◌, ℕ, ◌+◌, ◌≤◌, Result, Ok, Err, refl, sym, ap, ◌∙◌, subst, arith, inl, inr, ◌⊎◌, IfOk}
-use Rattle.vbr_list.proofs.Names.{AtTable, counts_none, counts_on, CountsSteps, Dimensions, Ghosts, IsOf, IsSame, IsSameTable, Keeps, KeepsOwn, Know, LeavesRoom, PassView, PIECE, Quiet, quiet_on, quiet_refl, ReadsIn, Start, TableView, TakesNoSlot, Took, took_all, TookWithin, Trace}
+use Rattle.vbr_list.proofs.Names.{◌≡◌, ℕ, ◌+◌, ◌≤◌, Result, Ok, Err, refl, sym, ap, ◌∙◌, subst, arith, inl, inr, ◌⊎◌}
+use Rattle.vbr_list.proofs.Names.{IfOk}
+use Rattle.vbr_list.proofs.Names.{AtTable, counts_none, counts_on, CountsSteps, Dimensions, Ghosts, IsOf, IsSame}
+use Rattle.vbr_list.proofs.Names.{IsSameTable, Keeps, KeepsOwn, Know, LeavesRoom, PassView, PIECE, Quiet, quiet_on}
+use Rattle.vbr_list.proofs.Names.{quiet_refl, ReadsIn, Start, TableView, TakesNoSlot, Took, took_all, TookWithin, Trace}
 use Rattle.vbr_words.specs.Buckets.{bucket_of}
 use Rattle.vbr_list.specs.Pieces.{Goes, GoesOn, IsSameCall, Settles, Tries, pass_in, trace_in}
 use Rattle.vbr_list.specs.declared.call.PendingCall.{PendingCall}
@@ -22,9 +25,11 @@ pub goes_refl : (p : PassView) (a : ℕ) → Goes p p a a
 goes_refl p a = record { quiet = quiet_refl p.trace; counts = counts_none p.trace a; hand = hand_refl p }
 
 pub goes_on : {p q r : PassView} {a b c : ℕ} → Goes p q a b → Goes q r b c → Goes p r a c
-goes_on x y = record { quiet = quiet_on x.quiet y.quiet; counts = counts_on x.counts y.counts; hand = hand_on x.hand y.hand }
+goes_on x y =
+    record { quiet = quiet_on x.quiet y.quiet; counts = counts_on x.counts y.counts; hand = hand_on x.hand y.hand }
 
-pub goes_step : {p q : PassView} (a n : ℕ) → Quiet p.trace q.trace → Took p.trace q.trace n → KeepsOwn p q → TakesNoSlot p q → Goes p q a (a + n)
+pub goes_step : {p q : PassView} (a n : ℕ) → Quiet p.trace q.trace → Took p.trace q.trace n → KeepsOwn p q →
+    TakesNoSlot p q → Goes p q a (a + n)
 goes_step a n quiet took own none = record { quiet = quiet; counts = counts_step a n took; hand = own_kept own none }
 
 -- a call that reads
@@ -34,7 +39,8 @@ goes_read {n = n} a x = goes_step a n x.quiet x.took x.own x.takes_no_slot
 pub tries_refl : (p : PassView) (a budget : ℕ) → a ≤ budget → Tries p p a a budget
 tries_refl p a budget h = record { goes = goes_refl p a; within = (omega arith, h) }
 
-pub tries_on : {p q r : PassView} {a b c budget : ℕ} → Tries p q a b budget → Goes q r b c → b ≤ c → c ≤ budget → Tries p r a c budget
+pub tries_on : {p q r : PassView} {a b c budget : ℕ} → Tries p q a b budget → Goes q r b c → b ≤ c → c ≤ budget →
+    Tries p r a c budget
 tries_on x y le high = record { goes = goes_on x.goes y; within = (let u = x.within.0 in omega arith, high) }
 
 pub took_same : {p q : Trace} (m n : ℕ) → m ≡ n → Took p q n → Took p q m
@@ -48,31 +54,48 @@ pub within_of : {p q : Trace} (used budget : ℕ) → used ≤ budget → Counts
 within_of used budget le counts = record { steps = used; within = le; took = took_all counts }
 
 -- what leaves room in a budget is the steps that were counted
-pub room_left : {p q : PassView} (used budget : ℕ) → CountsSteps p.trace q.trace 0 used → LeavesRoom p q budget → used + PIECE ≤ budget
-room_left used budget counts left = let x = (took_all counts).made in let y = left.took.made in let room = left.room in omega (arith, x, y, room)
+pub room_left : {p q : PassView} (used budget : ℕ) → CountsSteps p.trace q.trace 0 used → LeavesRoom p q budget →
+    used + PIECE ≤ budget
+room_left used budget counts left =
+    let x = (took_all counts).made in let y = left.took.made in let room = left.room in omega (arith, x, y, room)
 
 -- the bucket of a key is that of the table's shape
-pub bucket_is : (a b : Start) (shape : Dimensions) (bucket key : ℕ) → a ≡ b → shape ≡ b.shape → bucket ≡ bucket_of shape key → bucket ≡ bucket_of a.shape key
+pub bucket_is : (a b : Start) (shape : Dimensions) (bucket key : ℕ) → a ≡ b → shape ≡ b.shape →
+    bucket ≡ bucket_of shape key → bucket ≡ bucket_of a.shape key
 unfolding bucket_of
-bucket_is a b shape bucket key e g f = f ∙ ap (λ (s : Dimensions). bucket_of s key) g ∙ ap (λ (start : Start). bucket_of start.shape key) (sym e)
+bucket_is a b shape bucket key e g f =
+    f ∙ ap (λ (s : Dimensions). bucket_of s key) g ∙ ap (λ (start : Start). bucket_of start.shape key) (sym e)
 
 -- the pass stays the same one at the same table from piece to piece
-pub table_on : {N : Type 0} {kind : Ghosts N} → {b c d : AtTable N kind} → IsSameTable b c → IsSameTable c d → IsSameTable b d
+pub table_on : {N : Type 0} {kind : Ghosts N} → {b c d : AtTable N kind} → IsSameTable b c → IsSameTable c d →
+    IsSameTable b d
 table_on x y = record { pass = y.pass ∙ x.pass; slots = y.slots ∙ x.slots }
 
 -- so does a call
-pub call_on : {N : Type 0} {kind : Ghosts N} → {b c d : PendingCall N kind} → IsSameCall b c → IsSameCall c d → IsSameCall b d
-call_on x y = record { at = table_on x.at y.at; key = y.key ∙ x.key; bucket = y.bucket ∙ x.bucket; budget = y.budget ∙ x.budget }
+pub call_on : {N : Type 0} {kind : Ghosts N} → {b c d : PendingCall N kind} → IsSameCall b c → IsSameCall c d →
+    IsSameCall b d
+call_on x y =
+    record { at = table_on x.at y.at; key = y.key ∙ x.key; bucket = y.bucket ∙ x.bucket; budget = y.budget ∙ x.budget }
 
 -- after what it did first, it has gone on
-pub goes_further : {N : Type 0} {kind : Ghosts N} → {b c d : PendingCall N kind} → IsSameCall b c → Tries (pass_in b) (pass_in c) b.used c.used b.budget → GoesOn c d → GoesOn b d
-goes_further same tries v = record { call = call_on same v.call; goes = goes_on tries.goes v.goes; more = let x = tries.within.0 in let y = v.more in omega (arith, x, y) }
+pub goes_further : {N : Type 0} {kind : Ghosts N} → {b c d : PendingCall N kind} → IsSameCall b c →
+    Tries (pass_in b) (pass_in c) b.used c.used b.budget → GoesOn c d → GoesOn b d
+goes_further same tries v =
+    record {
+      call = call_on same v.call;
+      goes = goes_on tries.goes v.goes;
+      more = let x = tries.within.0 in
+          let y = v.more in
+          omega (arith, x, y);
+    }
 
 pub call_refl : {N : Type 0} {kind : Ghosts N} → (c : PendingCall N kind) → IsSameCall c c
 call_refl c = record { at = record { pass = refl; slots = refl }; key = refl; bucket = refl; budget = refl }
 
 -- it may be answered by one step
-pub settles_step : {N : Type 0} {kind : Ghosts N} → {c d : PendingCall N kind} → IsSameCall c d → d.used ≡ c.used + 1 → Took (trace_in c) (trace_in d) 1 → KeepsOwn (pass_in c) (pass_in d) → TakesNoSlot (pass_in c) (pass_in d) → Settles c d
+pub settles_step : {N : Type 0} {kind : Ghosts N} → {c d : PendingCall N kind} → IsSameCall c d → d.used ≡ c.used + 1 →
+    Took (trace_in c) (trace_in d) 1 → KeepsOwn (pass_in c) (pass_in d) → TakesNoSlot (pass_in c) (pass_in d) →
+    Settles c d
 settles_step {c = c} {d = d} same used took own none =
     let counts = subst (CountsSteps (trace_in c) (trace_in d) c.used) (sym used) (counts_step c.used 1 took) in
     record { call = same; counts = counts; hand = own_kept own none; more = omega (arith, used) }

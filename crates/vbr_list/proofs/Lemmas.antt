@@ -5,7 +5,8 @@ pub use Rattle.vbr_list.proofs.Going.{of_on}
 -- An iteration: what it has given before its first call, with one more call, and at the end.
 pub use Rattle.vbr_list.proofs.Cursors.{entry_more, entry_since, given_all, given_none, given_on, sees_on}
 -- What disturbs a pass, and the budgets that suffice all the same.
-pub use Rattle.vbr_list.proofs.Disturbing.{disturbed_most, enough_among_more, enough_to_insert_more, enough_to_search_more, enough_to_store_more}
+pub use Rattle.vbr_list.proofs.Disturbing.{disturbed_most, enough_among_more, enough_to_insert_more}
+pub use Rattle.vbr_list.proofs.Disturbing.{enough_to_search_more, enough_to_store_more}
 pub use Rattle.vbr_list.proofs.Sufficing.{lacks_more}
 -- What a pass that is its table's only one adds to its calls.
 pub use Rattle.vbr_list.proofs.LonePasses.{alone_all}

@@ -1,6 +1,8 @@
 -- What a store told once it had read what was there, told from before that.
-use Rattle.vbr_list.proofs.Names.{◌≡◌, ℕ, ◌+◌, ◌≤◌, Bool, true, false, List, Option, None, inl, inr, arith, sym, ◌∙◌, subst}
-use Rattle.vbr_list.proofs.Names.{AddsNone, Call, counts_on, Ghosts, IsStart, Keeps, knows, none_on, PassLaw, PIECE, Quiet}
+use Rattle.vbr_list.proofs.Names.{◌≡◌, ℕ, ◌+◌, ◌≤◌, Bool, true, false, List, Option, None, inl, inr, arith, sym, ◌∙◌}
+use Rattle.vbr_list.proofs.Names.{subst}
+use Rattle.vbr_list.proofs.Names.{AddsNone, Call, counts_on, Ghosts, IsStart, Keeps, knows, none_on, PassLaw, PIECE}
+use Rattle.vbr_list.proofs.Names.{Quiet}
 use Rattle.vbr_list.specs.Leaving.{LeavesReplaced}
 use Rattle.vbr_list.specs.Pieces.{GoesOn, pass_in, trace_in}
 use Rattle.vbr_list.specs.Removing.{MarksAndSearches}
@@ -18,7 +20,8 @@ use Rattle.vbr_list.proofs.Stores.{makes_on, replaced_not, replaced_where, store
 use Rattle.vbr_list.proofs.Sweeping.{leaves_replaced_since}
 
 -- what stays of the call
-pub settles_after : {N : Type 0} {kind : Ghosts N} {c d e : PendingCall N kind} → GoesOn c d → MaySettle d e → MaySettle c e
+pub settles_after : {N : Type 0} {kind : Ghosts N} {c d e : PendingCall N kind} → GoesOn c d → MaySettle d e →
+    MaySettle c e
 settles_after went x = record {
   call = call_on went.call x.call;
   counts = counts_on went.goes.counts x.counts;
@@ -29,7 +32,9 @@ settles_after went x = record {
 -- ---- the answer
 
 -- the value was stored, as what was there is as it is wanted
-pub change_answers : {N : Type 0} {kind : Ghosts N} (c d : PendingCall N kind) (value : ℕ) (wanted : Wanted) (there : Option ℕ) → wants wanted there ≡ true → StoresAndLeaves value c d there → StoreAnswers value wanted c d there
+pub change_answers : {N : Type 0} {kind : Ghosts N} (c d : PendingCall N kind) (value : ℕ) (wanted : Wanted)
+    (there : Option ℕ) → wants wanted there ≡ true → StoresAndLeaves value c d there →
+    StoreAnswers value wanted c d there
 change_answers c d value wanted there is x =
     let M : List Call → Type 0 = λ calls. Makes calls (trace_in c) (trace_in d) in
     record {
@@ -39,7 +44,9 @@ change_answers c d value wanted there is x =
     }
 
 -- a get was answered, as it isn't
-pub told_answers : {N : Type 0} {kind : Ghosts N} (c d : PendingCall N kind) (value : ℕ) (wanted : Wanted) (there : Option ℕ) → wants wanted there ≡ false → TellsThere c d there → (pass_in d).hand ≡ None → StoreAnswers value wanted c d there
+pub told_answers : {N : Type 0} {kind : Ghosts N} (c d : PendingCall N kind) (value : ℕ) (wanted : Wanted)
+    (there : Option ℕ) → wants wanted there ≡ false → TellsThere c d there → (pass_in d).hand ≡ None →
+    StoreAnswers value wanted c d there
 told_answers c d value wanted there is told spent =
     let M : List Call → Type 0 = λ calls. Makes calls (trace_in c) (trace_in d) in
     let none = replaced_not wanted there is in
@@ -50,7 +57,9 @@ told_answers c d value wanted there is told spent =
     }
 
 -- after what made no call
-pub answers_since : {N : Type 0} {kind : Ghosts N} (b c d : PendingCall N kind) (value : ℕ) (wanted : Wanted) (there : Option ℕ) → c.key ≡ b.key → IsStart (trace_in b).start → Quiet (trace_in b) (trace_in c) → StoreAnswers value wanted c d there → StoreAnswers value wanted b d there
+pub answers_since : {N : Type 0} {kind : Ghosts N} (b c d : PendingCall N kind) (value : ℕ) (wanted : Wanted)
+    (there : Option ℕ) → c.key ≡ b.key → IsStart (trace_in b).start → Quiet (trace_in b) (trace_in c) →
+    StoreAnswers value wanted c d there → StoreAnswers value wanted b d there
 answers_since b c d value wanted there key start quiet x =
     let p = trace_in b in
     let q = trace_in c in
@@ -59,21 +68,25 @@ answers_since b c d value wanted there key start quiet x =
     let W : ℕ → Type 0 = λ who. Makes (stored_calls who b.key value wanted there) p r in
     let L : ℕ → Type 0 = λ k. LeavesReplaced q r k in
     record {
-      made = subst W quiet.same.who (subst K key (makes_on p q r (stored_calls q.who c.key value wanted there) quiet x.made));
+      made = subst W quiet.same.who
+          (subst K key (makes_on p q r (stored_calls q.who c.key value wanted there) quiet x.made));
       spent = x.spent;
       leaves = λ yes room. leaves_replaced_since r b.key start quiet (subst L key (x.leaves yes room));
     }
 
 -- ---- what it cost
 
-module _ {N : Type 0} {kind : Ghosts N} (b c d : PendingCall N kind) (found : Found) (law : PassLaw (pass_in b)) (went : GoesOn b c) (few : c.used ≤ b.used + 2) (none : AddsNone (trace_in b) (trace_in c)) (keeps : Keeps (knows (trace_in b)) (knows (trace_in c))) where
+module _ {N : Type 0} {kind : Ghosts N} (b c d : PendingCall N kind) (found : Found) (law : PassLaw (pass_in b))
+    (went : GoesOn b c) (few : c.used ≤ b.used + 2) (none : AddsNone (trace_in b) (trace_in c))
+    (keeps : Keeps (knows (trace_in b)) (knows (trace_in c))) where
   soon_since : (stored : Bool) → SettlesSoon 6 stored c d → SettlesSoon PIECE stored b d
   soon_since stored soon = record {
     few = let then = soon.few in omega (arith, then, few);
     leaves = λ yes room.
         let budget = went.call.budget in
         let L : ℕ → Type 0 = λ k. LeavesReplaced (trace_in c) (trace_in d) k in
-        leaves_replaced_since (trace_in d) b.key law.start went.goes.quiet (subst L went.call.key (soon.leaves yes (omega (arith, room, few, budget))));
+        leaves_replaced_since (trace_in d) b.key law.start went.goes.quiet
+        (subst L went.call.key (soon.leaves yes (omega (arith, room, few, budget))));
   }
 
   -- with the steps of reading
@@ -82,11 +95,14 @@ module _ {N : Type 0} {kind : Ghosts N} (b c d : PendingCall N kind) (found : Fo
   settles_since true (inl soon) = inl (soon_since true soon)
   settles_since true (inr late) =
       let M : ℕ → Type 0 = λ k. MarksAndSearches 6 (trace_in c) (trace_in d) k c.used d.used found.pred in
-      let x : MarksAndSearches 6 (trace_in c) (trace_in d) b.key c.used d.used found.pred = subst M went.call.key late in
+      let x : MarksAndSearches 6 (trace_in c) (trace_in d) b.key c.used d.used found.pred =
+      subst M went.call.key late in
       let quiet = went.goes.quiet in
       inr (record {
         marked = x.marked;
-        marks = marks_later (trace_in b) (trace_in c) x.marked b.key found.pred law.start (run_at (trace_in b) (trace_in c) quiet.same (quiet.is_run law.is_run)) quiet none keeps.epoch went.goes.hand.takes_no_slot.count x.marks;
+        marks = marks_later (trace_in b) (trace_in c) x.marked b.key found.pred law.start
+            (run_at (trace_in b) (trace_in c) quiet.same (quiet.is_run law.is_run)) quiet none keeps.epoch
+            went.goes.hand.takes_no_slot.count x.marks;
         used = x.used;
         few = let then = x.few in omega (arith, then, few);
         searches = x.searches;

@@ -16,7 +16,8 @@ module _ (start : Start) (know : Know) (key : ℕ) where
   pub sight_unmarked : (sight : Sight) → IsSight start know key sight → (link_of (sighted sight).word).mark ≡ false
   sight_unmarked sight s = grind arith
 
-  pub sight_answers : (sight : Sight) → IsSight start know key sight → DecidesKey start know key (sighted sight) (is_present sight)
+  pub sight_answers : (sight : Sight) → IsSight start know key sight →
+      DecidesKey start know key (sighted sight) (is_present sight)
   sight_answers (Present node) s = (keyed_slot know node.at key s.2, s.2)
   sight_answers (Absent pred) s = (s.0.behind, s.1)
 

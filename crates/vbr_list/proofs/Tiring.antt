@@ -15,7 +15,8 @@ use Rattle.vbr_list.proofs.Observing.{observes_on}
 use Rattle.vbr_list.proofs.Walking.{HasRepeated, lacks_steps}
 
 -- a call that has tried so far goes on, and then its budget has no room for one more piece
-module _ {p q r : PassView} (law : PassLaw p) (key : ℕ) {a b budget : ℕ} (tries : Tries p q 0 a budget) (went : Goes q r a b) (within : b ≤ budget) (short : budget < b + PIECE) (hand : r.hand ≡ None) where
+module _ {p q r : PassView} (law : PassLaw p) (key : ℕ) {a b budget : ℕ} (tries : Tries p q 0 a budget)
+    (went : Goes q r a b) (within : b ≤ budget) (short : budget < b + PIECE) (hand : r.hand ≡ None) where
   whole : Goes p r 0 b
   whole = goes_on tries.goes went
 
@@ -25,34 +26,55 @@ module _ {p q r : PassView} (law : PassLaw p) (key : ℕ) {a b budget : ℕ} (tr
   tired : IsTired p r budget (OutOfSteps b)
   tired = record { took = took_all whole.counts; within = within; short = short }
 
-  refused : {A : Type 0} {told : A → Call} {S : Result A Refusal → Type 0} → S (Err (OutOfSteps b)) → CallsAs told S p r budget (Err (OutOfSteps b))
-  refused bounds = record { same = whole.quiet.same; made = tt; alone = tt; quiet = whole.quiet; hand = hand; steps = within_of b budget within whole.counts; bounds = bounds }
+  refused : {A : Type 0} {told : A → Call} {S : Result A Refusal → Type 0} → S (Err (OutOfSteps b)) →
+      CallsAs told S p r budget (Err (OutOfSteps b))
+  refused bounds =
+      record {
+        same = whole.quiet.same;
+        made = tt;
+        alone = tt;
+        quiet = whole.quiet;
+        hand = hand;
+        steps = within_of b budget within whole.counts;
+        bounds = bounds;
+      }
 
-  pub remove_tires : {A : Type 0} {told : A → Call} {yes : A → Bool} → HasRepeated 9 p.trace q.trace key 6 0 a → WalksAgain 9 q.trace r.trace key a b → CallsAs told (BoundsOfRemove yes p r key budget) p r budget (Err (OutOfSteps b))
+  pub remove_tires : {A : Type 0} {told : A → Call} {yes : A → Bool} → HasRepeated 9 p.trace q.trace key 6 0 a →
+      WalksAgain 9 q.trace r.trace key a b →
+      CallsAs told (BoundsOfRemove yes p r key budget) p r budget (Err (OutOfSteps b))
   remove_tires {A} {told} {yes} lost walks =
-      let lacks = lacks_steps p.trace q.trace r.trace law.start ok key tries.goes.quiet went.quiet (omega arith) lost walks budget short in
+      let lacks = lacks_steps p.trace q.trace r.trace law.start ok key tries.goes.quiet went.quiet (omega arith) lost
+      walks budget short in
       refused {S = BoundsOfRemove yes p r key budget} (record {
         takes_no_slot = whole.hand.takes_no_slot;
         unlists = tt;
         refused = tired;
-        within = λ alone. let x = undisturbed (λ t. budget < enough_to_search_among (listed_for p.trace key) t) key lacks alone in omega (arith, x);
+        within = λ alone.
+            let x = undisturbed (λ t. budget < enough_to_search_among (listed_for p.trace key) t) key lacks alone in
+            omega (arith, x);
         disturbed_within = lacks;
         costs = tt;
         disturbed_costs = tt;
         fewer = tt;
       })
 
-  pub look_up_tires : {A : Type 0} {told : A → Call} {reading each : ℕ} → each ≤ 3 → Observes p.trace q.trace → Observes q.trace r.trace → HasRepeated 5 p.trace q.trace key (3 + each) 0 a → WalksAgain 5 q.trace r.trace key a b → CallsAs told (BoundsOfLookUp told reading p r key budget) p r budget (Err (OutOfSteps b))
+  pub look_up_tires : {A : Type 0} {told : A → Call} {reading each : ℕ} → each ≤ 3 → Observes p.trace q.trace →
+      Observes q.trace r.trace → HasRepeated 5 p.trace q.trace key (3 + each) 0 a →
+      WalksAgain 5 q.trace r.trace key a b →
+      CallsAs told (BoundsOfLookUp told reading p r key budget) p r budget (Err (OutOfSteps b))
   look_up_tires {A} {told} {reading} {each} few before now rounds looks =
       let seen = observes_on before now in
-      let lacks = lacks_steps p.trace q.trace r.trace law.start ok key tries.goes.quiet went.quiet (omega (arith, few)) rounds looks budget short in
+      let lacks = lacks_steps p.trace q.trace r.trace law.start ok key tries.goes.quiet went.quiet (omega (arith, few))
+      rounds looks budget short in
       refused {S = BoundsOfLookUp told reading p r key budget} (record {
         only_loads = seen.only_loads;
         adds = tt;
         adds_none = seen.adds_none;
         takes_no_slot = whole.hand.takes_no_slot;
         refused = tired;
-        within = λ alone. let x = undisturbed (λ t. budget < enough_among (listed_for p.trace key) t) key lacks alone in omega (arith, x);
+        within = λ alone.
+            let x = undisturbed (λ t. budget < enough_among (listed_for p.trace key) t) key lacks alone in
+            omega (arith, x);
         disturbed_within = lacks;
         costs = tt;
         disturbed_costs = tt;

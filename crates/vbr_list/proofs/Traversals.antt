@@ -13,7 +13,8 @@ pub record Traverses (p q : PassView) (bucket key before since budget : ℕ) (pr
   pub reached : HasComeTo p.trace q.trace key pred
   pub walks : Walks 9 p.trace q.trace bucket before since pred pred
 
--- a walk of loads alone that began with so many steps stands at this place, and known marked links lead to it from a place before the number, which stood so at a moment
+-- a walk of loads alone that began with so many steps stands at this place, and known marked links lead to it from
+-- a place before the number, which stood so at a moment
 pub record Follows (p q : PassView) (bucket from before since budget : ℕ) (pred here : Held) : Type 0 where
   pub peeks : Peeks p q before since budget
   pub some : before < since

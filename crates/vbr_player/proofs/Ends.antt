@@ -23,28 +23,36 @@ pub start_values : (kind : Kind) (shape : Dimensions) → (start_for kind shape)
 start_values Set shape = refl
 start_values Map shape = refl
 
-pub opened_values : (kind : Kind) (start : Start) (listed : List (Item kind)) → (opened_with kind start listed).shape.values ≡ start.shape.values
+pub opened_values : (kind : Kind) (start : Start) (listed : List (Item kind)) →
+    (opened_with kind start listed).shape.values ≡ start.shape.values
 opened_values Set start listed = refl
 opened_values Map start listed = refl
 
 -- what opens with entries has each key with its value
 abbrev pub OpensAsListed : Type 0
-OpensAsListed = (shape : Dimensions) (entries : List (ℕ × ℕ)) (key : ℕ) → opening_entries (map_start shape entries) key ≡ entries_in entries key
+OpensAsListed = (shape : Dimensions) (entries : List (ℕ × ℕ)) (key : ℕ) →
+    opening_entries (map_start shape entries) key ≡ entries_in entries key
 
 -- what opens with a list of what was left has that
-opens_listed : (kind : Kind) (start : Start) (listed : List (Item kind)) (left : Contents kind) → OpensAsListed → start.shape.values ≡ is_map kind → AreContents kind listed left → opening_contents kind (opened_with kind start listed) ≡ left
+opens_listed : (kind : Kind) (start : Start) (listed : List (Item kind)) (left : Contents kind) → OpensAsListed →
+    start.shape.values ≡ is_map kind → AreContents kind listed left →
+    opening_contents kind (opened_with kind start listed) ≡ left
 opens_listed Set start listed left opens_as values are = λ i key. are.same key i
 opens_listed Map start listed left opens_as values are =
     let valued : opening_contents Map (opened_with Map start listed) ≡ opening_entries (map_start start.shape listed) =
-    λ i. opening_entries (start_with (record start.shape { values = values i }) (keys_listed listed) (values_listed listed)) in
-    let each : (key : ℕ) → opening_contents Map (opened_with Map start listed) key ≡ left key = λ key. (λ i. valued i key) ∙ opens_as start.shape listed key ∙ are.1 key in
+    λ i. opening_entries
+    (start_with (record start.shape { values = values i }) (keys_listed listed) (values_listed listed)) in
+    let each : (key : ℕ) → opening_contents Map (opened_with Map start listed) key ≡ left key =
+    λ key. (λ i. valued i key) ∙ opens_as start.shape listed key ∙ are.1 key in
     λ i key. each key i
 
 -- ---- how it ends
 
-module _ {I R : Type 0} {kind : KindOf I R} {script : Kind} {listed : R → List (Item script)} {epoch : R → ℕ} (plays : IsPlayedAs kind script listed epoch) (set : TableView) (passes : List PassView) where
+module _ {I R : Type 0} {kind : KindOf I R} {script : Kind} {listed : R → List (Item script)} {epoch : R → ℕ}
+    (plays : IsPlayedAs kind script listed epoch) (set : TableView) (passes : List PassView) where
   -- it is closed
-  pub closes_as : (report : R) → ClosesBy kind set passes report → ClosesListing script set passes (listed report) (epoch report)
+  pub closes_as : (report : R) → ClosesBy kind set passes report →
+      ClosesListing script set passes (listed report) (epoch report)
   closes_as report closes =
       let calls = calls_of set.start closes.run in
       record {
@@ -58,7 +66,8 @@ module _ {I R : Type 0} {kind : KindOf I R} {script : Kind} {listed : R → List
       }
 
   -- it is renewed
-  pub renews_as : (next : TableView) → OpensAsListed → set.start.shape.values ≡ is_map script → RenewsBy kind set passes next → RenewsAs script set passes next
+  pub renews_as : (next : TableView) → OpensAsListed → set.start.shape.values ≡ is_map script →
+      RenewsBy kind set passes next → RenewsAs script set passes next
   renews_as next opens_as values renews =
       let items = listed renews.report in
       let closes = closes_as renews.report renews.closes in

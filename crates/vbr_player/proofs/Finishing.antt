@@ -21,43 +21,76 @@ use Rattle.vbr_player.proofs.PlayedWhole.{are_played, have_replies, have_played}
 use Rattle.vbr_transcript.proofs.Lemmas.{set_run_of_workers}
 
 -- each worker has a reply to each of its lines
-pub merges : {N : Type 0} {kind : Kind} → (set : TableView) (budget : ℕ) (lines : List Line) (from phases : ℕ) (passes : List PassView) (own : List (List Reply)) → ArePhased kind set.passes phases lines → PlayedWhole kind N set budget lines from phases passes own → HaveReplies own lines
-merges {N} {kind} set budget lines from phases passes own phased played = subst (λ (some : List (List Reply)). HaveReplies some lines) (sym played.replies_are) (have_replies set budget lines set.passes from phases played.workers phased played.stand)
+pub merges : {N : Type 0} {kind : Kind} →
+    (set : TableView) (budget : ℕ) (lines : List Line) (from phases : ℕ) (passes : List PassView)
+    (own : List (List Reply)) → ArePhased kind set.passes phases lines →
+    PlayedWhole kind N set budget lines from phases passes own → HaveReplies own lines
+merges {N} {kind} set budget lines from phases passes own phased played =
+    subst (λ (some : List (List Reply)). HaveReplies some lines) (sym played.replies_are)
+    (have_replies set budget lines set.passes from phases played.workers phased played.stand)
 
 -- the passes are those of the set
-all_of : {N : Type 0} {kind : Kind} → (set : TableView) (budget most : ℕ) (script lines : List Line) (workers : List (Worker N)) → All (HasPlayed kind set budget most script lines) workers → AllOf set (passes_of workers)
+all_of : {N : Type 0} {kind : Kind} →
+    (set : TableView) (budget most : ℕ) (script lines : List Line) (workers : List (Worker N)) →
+    All (HasPlayed kind set budget most script lines) workers → AllOf set (passes_of workers)
 all_of {N} {kind} set budget most script lines [] played = tt
-all_of {N} {kind} set budget most script lines (worker ∷ workers) played =
-    ((All-head (HasPlayed kind set budget most script lines) worker workers played).of, all_of set budget most script lines workers (All-tail (HasPlayed kind set budget most script lines) worker workers played))
+all_of {N} {kind} set budget most script lines (worker ∷ workers) played = (
+  (All-head (HasPlayed kind set budget most script lines) worker workers played).of,
+  all_of set budget most script lines workers
+      (All-tail (HasPlayed kind set budget most script lines) worker workers played),
+)
 
-pub closes : {N : Type 0} {kind : Kind} → (set : TableView) (budget : ℕ) (script : List Line) (from phases : ℕ) (passes : List PassView) (own : List (List Reply)) → PlayedWhole kind N set budget script from phases passes own → AllOf set passes
-closes {N} {kind} set budget script from phases passes own played = subst (AllOf set) (sym played.passes_are) (all_of set budget ((set.passes - 1) * (phases - from)) script script played.workers played.stand.played)
+pub closes : {N : Type 0} {kind : Kind} →
+    (set : TableView) (budget : ℕ) (script : List Line) (from phases : ℕ) (passes : List PassView)
+    (own : List (List Reply)) → PlayedWhole kind N set budget script from phases passes own → AllOf set passes
+closes {N} {kind} set budget script from phases passes own played =
+    subst (AllOf set) (sym played.passes_are)
+    (all_of set budget ((set.passes - 1) * (phases - from)) script script played.workers played.stand.played)
 
 -- and there are as many
-pub as_many : {N : Type 0} {kind : Kind} → (set : TableView) (budget : ℕ) (lines : List Line) (from phases : ℕ) (passes : List PassView) (own : List (List Reply)) → PlayedWhole kind N set budget lines from phases passes own → length passes ≡ set.passes
-as_many {N} {kind} set budget lines from phases passes own played = ap length played.passes_are ∙ length-map played.workers (λ (worker : Worker N). worker.caller.pass) ∙ played.stand.count_is
+pub as_many : {N : Type 0} {kind : Kind} →
+    (set : TableView) (budget : ℕ) (lines : List Line) (from phases : ℕ) (passes : List PassView)
+    (own : List (List Reply)) → PlayedWhole kind N set budget lines from phases passes own → length passes ≡ set.passes
+as_many {N} {kind} set budget lines from phases passes own played = ap length played.passes_are
+    ∙ length-map played.workers (λ (worker : Worker N). worker.caller.pass) ∙ played.stand.count_is
 
 -- what the passes have played has been played when it is closed
-pub closed : {N : Type 0} {kind : Kind} → (set : TableView) (budget : ℕ) (lines : List Line) (from phases : ℕ) (passes : List PassView) (replies : List Reply) (listed : List (Item kind)) (epoch : ℕ) → ArePhased kind set.passes phases lines → 0 < set.passes → PlayedSpan kind N set budget lines from phases passes replies → ClosesListing kind set passes listed epoch → HasPlayedSpan kind set budget lines (phases - from) replies listed epoch
+pub closed : {N : Type 0} {kind : Kind} →
+    (set : TableView) (budget : ℕ) (lines : List Line) (from phases : ℕ) (passes : List PassView) (replies : List Reply)
+    (listed : List (Item kind)) (epoch : ℕ) → ArePhased kind set.passes phases lines → 0 < set.passes →
+    PlayedSpan kind N set budget lines from phases passes replies → ClosesListing kind set passes listed epoch →
+    HasPlayedSpan kind set budget lines (phases - from) replies listed epoch
 closed {N} {kind} set budget lines from phases passes replies listed epoch phased some played closes =
     let whole = played.whole in
-    let seen : EachSeen closes.run (passes_of whole.workers) = subst (EachSeen closes.run) whole.passes_are closes.begins in
-    let merged : IsMerged lines (replies_of whole.workers) replies = subst (λ (own : List (List Reply)). IsMerged lines own replies) whole.replies_are played.merged in
+    let seen : EachSeen closes.run (passes_of whole.workers) =
+    subst (EachSeen closes.run) whole.passes_are closes.begins in
+    let merged : IsMerged lines (replies_of whole.workers) replies =
+    subst (λ (own : List (List Reply)). IsMerged lines own replies) whole.replies_are played.merged in
     record {
       one_each = merged.one_each;
       run = closes.run;
-      of_set = set_run_of_workers kind (ArePlayed kind set.passes budget) set.start set.passes phases (phases - from) lines (replies_of whole.workers) replies closes.run (are_played set budget lines from phases whole.workers replies closes.run phased whole.stand seen merged) phased merged closes.is_run closes.safe closes.legal (have_played set budget lines set.passes from phases whole.workers closes.run some whole.stand seen closes.safe);
+      of_set = set_run_of_workers kind (ArePlayed kind set.passes budget) set.start set.passes phases (phases - from)
+          lines (replies_of whole.workers) replies closes.run
+          (are_played set budget lines from phases whole.workers replies closes.run phased whole.stand seen merged)
+          phased merged closes.is_run closes.safe closes.legal
+          (have_played set budget lines set.passes from phases whole.workers closes.run some whole.stand seen
+          closes.safe);
       contents = closes.contents;
       last = closes.last;
     }
 
 -- and so it has when it is renewed, and another follows it
-pub followed : {N : Type 0} {kind : Kind} → (set : TableView) (budget : ℕ) (lines : List Line) (from phases : ℕ) (passes : List PassView) (replies : List Reply) (next : TableView) → ArePhased kind set.passes phases lines → 0 < set.passes → PlayedSpan kind N set budget lines from phases passes replies → RenewsAs kind set passes next → IsFollowed kind set budget lines (phases - from) replies next
+pub followed : {N : Type 0} {kind : Kind} →
+    (set : TableView) (budget : ℕ) (lines : List Line) (from phases : ℕ) (passes : List PassView) (replies : List Reply)
+    (next : TableView) → ArePhased kind set.passes phases lines → 0 < set.passes →
+    PlayedSpan kind N set budget lines from phases passes replies → RenewsAs kind set passes next →
+    IsFollowed kind set budget lines (phases - from) replies next
 unfolding closed
 followed {N} {kind} set budget lines from phases passes replies next phased some played renews = record {
   listed = renews.listed;
   epoch = renews.epoch;
-  played = closed set budget lines from phases passes replies renews.listed renews.epoch phased some played renews.closes;
+  played = closed set budget lines from phases passes replies renews.listed renews.epoch phased some played
+      renews.closes;
   start = renews.start;
   opens = renews.opens;
   passes = renews.count;

@@ -1,5 +1,6 @@
 -- A lone worker is refused no call for want of steps, where its budget is ample.
-use Rattle.std.proofs.Common.{◌≡◌, ◌≢◌, ℕ, zero, suc, ◌<◌, ◌≤◌, Bool, true, false, List, [], ◌∷◌, ◌++◌, sym, ap, subst, ◌∙◌, arith}
+use Rattle.std.proofs.Common.{◌≡◌, ◌≢◌, ℕ, zero, suc, ◌<◌, ◌≤◌, Bool, true, false, List, [], ◌∷◌, ◌++◌, sym, ap, subst}
+use Rattle.std.proofs.Common.{◌∙◌, arith}
 use Rattle.std.specs.Prelude.{All, IfErr, Option, Some, None, Result, Ok, Err, if◌then◌else◌}
 use Rattle.std.proofs.lemmas.List.Elements.{All-nil, All-cons}
 use Rattle.vbr_machine.specs.Start.{Start}
@@ -26,21 +27,27 @@ use Rattle.vbr_script.specs.declared.script.Kind.TheVariants.{Set, Map}
 use Rattle.vbr_transcript.specs.Calls.{Outcome}
 use Rattle.vbr_transcript.specs.declared.reply.Reply.{Reply}
 use Rattle.vbr_transcript.specs.declared.reply.Reply.TheVariants.{Tired}
-use Rattle.vbr_player.specs.Calling.{CallsInTurn, HasMetOften, IsCalled, IsMapCalled, ample, reply_given, reply_refused, reply_told}
+use Rattle.vbr_player.specs.Calling.{CallsInTurn, HasMetOften, IsCalled, IsMapCalled, ample, reply_given, reply_refused}
+use Rattle.vbr_player.specs.Calling.{reply_told}
 
 -- ---- alone
 
 -- all events of a run with one pass are its own
-all_own : (start : Start) (passes : ℕ) (w : World) (events : List Event) → passes ≡ 1 → AreAccepted start passes w events → OnlyEventsOf 0 events
+all_own : (start : Start) (passes : ℕ) (w : World) (events : List Event) → passes ≡ 1 →
+    AreAccepted start passes w events → OnlyEventsOf 0 events
 all_own start passes w [] one accepted = tt
-all_own start passes w (event ∷ events) one accepted = ((let low = accepted.0.0 in omega arith), all_own start passes (after start w event.pass event.step) events one accepted.1)
+all_own start passes w (event ∷ events) one accepted = (
+  (let low = accepted.0.0 in omega arith),
+  all_own start passes (after start w event.pass event.step) events one accepted.1,
+)
 
 later_own : (before later : List Event) → OnlyEventsOf 0 (before ++ later) → OnlyEventsOf 0 later
 later_own [] later own = own
 later_own (event ∷ before) later own = later_own before later own.1
 
 -- so it was alone
-was_alone : (p q : Trace) → p.who ≡ 0 → q.passes ≡ 1 → Begins p.seen q.seen → IsRun q.start q.passes q.seen → IsAlone p q
+was_alone : (p q : Trace) → p.who ≡ 0 → q.passes ≡ 1 → Begins p.seen q.seen → IsRun q.start q.passes q.seen →
+    IsAlone p q
 was_alone p q first one begins is_run =
     let all : OnlyEventsOf 0 q.seen = all_own q.start q.passes (opening q.start) q.seen one is_run in
     let own : OnlyEventsOf 0 begins.0 = later_own p.seen begins.0 (subst (OnlyEventsOf 0) begins.1 all) in
@@ -75,12 +82,14 @@ look_up_ample : (p : Trace) (key : ℕ) → enough_to_look_up p key ≤ ample p.
 look_up_ample p key = omega (arith, listed_few p key)
 
 -- a refusal for want of so many steps is one for want of more
-lacks_more : (steps most budget : ℕ) (refusal : Refusal) → steps ≤ most → LacksSteps steps budget refusal → LacksSteps most budget refusal
+lacks_more : (steps most budget : ℕ) (refusal : Refusal) → steps ≤ most → LacksSteps steps budget refusal →
+    LacksSteps most budget refusal
 lacks_more steps most budget (OutOfSteps used) within lacks = omega (arith, within, lacks)
 lacks_more steps most budget NoSlot within lacks = tt
 lacks_more steps most budget (EpochSpent epoch) within lacks = tt
 
-lacks_below : (steps most budget : ℕ) (refusal : Refusal) → steps ≤ most → budget < steps → LacksSteps most budget refusal
+lacks_below : (steps most budget : ℕ) (refusal : Refusal) → steps ≤ most → budget < steps →
+    LacksSteps most budget refusal
 lacks_below steps most budget (OutOfSteps used) within below = omega (arith, within, below)
 lacks_below steps most budget NoSlot within below = tt
 lacks_below steps most budget (EpochSpent epoch) within below = tt
@@ -89,84 +98,130 @@ lacks_below steps most budget (EpochSpent epoch) within below = tt
 abbrev LacksAmple : PassView → PassView → ℕ → Refusal → Type 0
 LacksAmple p q budget refusal = IsAlone p.trace q.trace → LacksSteps (ample p.trace.start) budget refusal
 
-insert_lacks : (p q : PassView) (key budget : ℕ) (refusal : Refusal) → BoundsOfInsert p q key budget (Err refusal) → LacksAmple p q budget refusal
-insert_lacks p q key budget refusal bounds alone = lacks_more (enough_to_insert p key) (ample p.trace.start) budget refusal (insert_ample p key) (bounds.within alone)
+insert_lacks : (p q : PassView) (key budget : ℕ) (refusal : Refusal) → BoundsOfInsert p q key budget (Err refusal) →
+    LacksAmple p q budget refusal
+insert_lacks p q key budget refusal bounds alone =
+    lacks_more (enough_to_insert p key) (ample p.trace.start) budget refusal (insert_ample p key) (bounds.within alone)
 
-lacks : (op : Op) (p q : PassView) (key budget : ℕ) (refusal : Refusal) → BoundsOfCall op p q key budget (Err refusal) → LacksAmple p q budget refusal
+lacks : (op : Op) (p q : PassView) (key budget : ℕ) (refusal : Refusal) → BoundsOfCall op p q key budget (Err refusal) →
+    LacksAmple p q budget refusal
 lacks Insert p q key budget refusal bounds = insert_lacks p q key budget refusal bounds
-lacks Remove p q key budget refusal bounds = λ alone. lacks_below (enough_to_search p.trace key) (ample p.trace.start) budget refusal (search_ample p.trace key) (bounds.within alone)
-lacks Has p q key budget refusal bounds = λ alone. lacks_below (enough_to_look_up p.trace key) (ample p.trace.start) budget refusal (look_up_ample p.trace key) (bounds.within alone)
+lacks Remove p q key budget refusal bounds = λ alone.
+    lacks_below (enough_to_search p.trace key) (ample p.trace.start) budget refusal (search_ample p.trace key)
+    (bounds.within alone)
+lacks Has p q key budget refusal bounds = λ alone.
+    lacks_below (enough_to_look_up p.trace key) (ample p.trace.start) budget refusal (look_up_ample p.trace key)
+    (bounds.within alone)
 lacks Get p q key budget refusal bounds = absurd bounds
 
 -- ---- replies
 
 -- a refusal of the first of all passes is none for want of steps
-refused_untired : (set : TableView) (budget : ℕ) (p q : MemberView) (refusal : Refusal) → set.passes ≡ 1 → ample set.start ≤ budget → IsSame (new_trace set 0) p.pass.trace → Quiet p.pass.trace q.pass.trace → HasSafeRun q.pass.trace → LacksAmple p.pass q.pass budget refusal → reply_refused refusal ≢ Tired
+refused_untired : (set : TableView) (budget : ℕ) (p q : MemberView) (refusal : Refusal) → set.passes ≡ 1 →
+    ample set.start ≤ budget → IsSame (new_trace set 0) p.pass.trace → Quiet p.pass.trace q.pass.trace →
+    HasSafeRun q.pass.trace → LacksAmple p.pass q.pass budget refusal → reply_refused refusal ≢ Tired
 refused_untired set budget p q NoSlot one enough same quiet safe lacks is = cc
 refused_untired set budget p q (EpochSpent epoch) one enough same quiet safe lacks is = cc
 refused_untired set budget p q (OutOfSteps used) one enough same quiet safe lacks is =
-    let alone : IsAlone p.pass.trace q.pass.trace = was_alone p.pass.trace q.pass.trace same.who (quiet.same.passes ∙ same.passes ∙ one) quiet.seen safe.is_run in
+    let alone : IsAlone p.pass.trace q.pass.trace =
+    was_alone p.pass.trace q.pass.trace same.who (quiet.same.passes ∙ same.passes ∙ one) quiet.seen safe.is_run in
     let few : budget < ample p.pass.trace.start = lacks alone in
     let here : ample p.pass.trace.start ≡ ample set.start = ap ample same.start in
     omega (arith, few, here, enough)
 
 -- so no answer is one
-told_untired : (answer : Result Bool Refusal) → IfErr answer (λ refusal. reply_refused refusal ≢ Tired) → reply_told answer ≢ Tired
+told_untired : (answer : Result Bool Refusal) → IfErr answer (λ refusal. reply_refused refusal ≢ Tired) →
+    reply_told answer ≢ Tired
 told_untired (Ok true) untired is = cc
 told_untired (Ok false) untired is = cc
 told_untired (Err refusal) untired is = untired is
 
-given_untired : (answer : Result (Option ℕ) Refusal) → IfErr answer (λ refusal. reply_refused refusal ≢ Tired) → reply_given answer ≢ Tired
+given_untired : (answer : Result (Option ℕ) Refusal) → IfErr answer (λ refusal. reply_refused refusal ≢ Tired) →
+    reply_given answer ≢ Tired
 given_untired (Ok (Some value)) untired is = cc
 given_untired (Ok None) untired is = cc
 given_untired (Err refusal) untired is = untired is
 
-called_untired : (set : TableView) (budget : ℕ) (op : Op) (p q : MemberView) (key : ℕ) (answer : Result Bool Refusal) → set.passes ≡ 1 → ample set.start ≤ budget → IsSame (new_trace set 0) p.pass.trace → Called op p q key budget answer → IfErr answer (λ refusal. reply_refused refusal ≢ Tired)
+called_untired : (set : TableView) (budget : ℕ) (op : Op) (p q : MemberView) (key : ℕ) (answer : Result Bool Refusal) →
+    set.passes ≡ 1 → ample set.start ≤ budget → IsSame (new_trace set 0) p.pass.trace →
+    Called op p q key budget answer → IfErr answer (λ refusal. reply_refused refusal ≢ Tired)
 called_untired set budget op p q key (Ok reply) one enough same called = tt
-called_untired set budget op p q key (Err refusal) one enough same called = refused_untired set budget p q refusal one enough same called.quiet called.safe (lacks op p.pass q.pass key budget refusal called.bounds)
+called_untired set budget op p q key (Err refusal) one enough same called =
+    refused_untired set budget p q refusal one enough same called.quiet called.safe
+    (lacks op p.pass q.pass key budget refusal called.bounds)
 
-entry_untired : {A : Type 0} {told : A → List Call} {BoundsSo : Result A Refusal → Type 0} (set : TableView) (budget : ℕ) (p q : MemberView) (answer : Result A Refusal) → set.passes ≡ 1 → ample set.start ≤ budget → IsSame (new_trace set 0) p.pass.trace → CalledBy MapAnswersAll told BoundsSo p q budget answer → ((refusal : Refusal) → BoundsSo (Err refusal) → LacksAmple p.pass q.pass budget refusal) → IfErr answer (λ refusal. reply_refused refusal ≢ Tired)
+entry_untired : {A : Type 0} {told : A → List Call} {BoundsSo : Result A Refusal → Type 0} (set : TableView)
+    (budget : ℕ) (p q : MemberView) (answer : Result A Refusal) → set.passes ≡ 1 → ample set.start ≤ budget →
+    IsSame (new_trace set 0) p.pass.trace → CalledBy MapAnswersAll told BoundsSo p q budget answer →
+    ((refusal : Refusal) → BoundsSo (Err refusal) → LacksAmple p.pass q.pass budget refusal) →
+    IfErr answer (λ refusal. reply_refused refusal ≢ Tired)
 entry_untired set budget p q (Ok reply) one enough same called lacks = tt
-entry_untired set budget p q (Err refusal) one enough same called lacks = refused_untired set budget p q refusal one enough same called.quiet called.safe (lacks refusal called.bounds)
+entry_untired set budget p q (Err refusal) one enough same called lacks =
+    refused_untired set budget p q refusal one enough same called.quiet called.safe (lacks refusal called.bounds)
 
 -- ---- lines
 
 -- what a call of a map tells a lone worker
-map_untired : (set : TableView) (budget : ℕ) (op : Op) (key value : ℕ) (reply : Reply) (p q : MemberView) → set.passes ≡ 1 → ample set.start ≤ budget → IsSame (new_trace set 0) p.pass.trace → IsMapCalled op key value budget reply p q → reply ≢ Tired
+map_untired : (set : TableView) (budget : ℕ) (op : Op) (key value : ℕ) (reply : Reply) (p q : MemberView) →
+    set.passes ≡ 1 → ample set.start ≤ budget → IsSame (new_trace set 0) p.pass.trace →
+    IsMapCalled op key value budget reply p q → reply ≢ Tired
 map_untired set budget Insert key value reply p q one enough same called is =
-    told_untired called.0 (entry_untired set budget p q called.0 one enough same called.1 (λ refusal bounds. insert_lacks p.pass q.pass key budget refusal bounds)) (sym called.2 ∙ is)
+    told_untired called.0
+    (entry_untired set budget p q called.0 one enough same called.1
+    (λ refusal bounds. insert_lacks p.pass q.pass key budget refusal bounds)) (sym called.2 ∙ is)
 map_untired set budget Remove key value reply p q one enough same called is =
-    given_untired called.0 (entry_untired set budget p q called.0 one enough same called.1 (λ refusal bounds alone. lacks_below (enough_to_search p.pass.trace key) (ample p.pass.trace.start) budget refusal (search_ample p.pass.trace key) (bounds.within alone))) (sym called.2 ∙ is)
-map_untired set budget Has key value reply p q one enough same called is = told_untired called.0 (called_untired set budget Has p q key called.0 one enough same called.1) (sym called.2 ∙ is)
+    given_untired called.0
+    (entry_untired set budget p q called.0 one enough same called.1
+    (λ refusal bounds alone.
+    lacks_below (enough_to_search p.pass.trace key) (ample p.pass.trace.start) budget refusal
+    (search_ample p.pass.trace key) (bounds.within alone))) (sym called.2 ∙ is)
+map_untired set budget Has key value reply p q one enough same called is =
+    told_untired called.0 (called_untired set budget Has p q key called.0 one enough same called.1) (sym called.2 ∙ is)
 map_untired set budget Get key value reply p q one enough same called is =
-    given_untired called.0 (entry_untired set budget p q called.0 one enough same called.1 (λ refusal bounds alone. lacks_below (enough_to_look_up p.pass.trace key) (ample p.pass.trace.start) budget refusal (look_up_ample p.pass.trace key) (bounds.within alone))) (sym called.2 ∙ is)
+    given_untired called.0
+    (entry_untired set budget p q called.0 one enough same called.1
+    (λ refusal bounds alone.
+    lacks_below (enough_to_look_up p.pass.trace key) (ample p.pass.trace.start) budget refusal
+    (look_up_ample p.pass.trace key) (bounds.within alone))) (sym called.2 ∙ is)
 
 -- what the call of a line does
-line_untired : (kind : Kind) (set : TableView) (budget : ℕ) (outcome : Outcome) (p q : MemberView) → set.passes ≡ 1 → ample set.start ≤ budget → IsSame (new_trace set 0) p.pass.trace → IsCalled kind budget outcome p q → outcome.1 ≢ Tired
-line_untired Set set budget outcome p q one enough same called is = told_untired called.0 (called_untired set budget outcome.0.op p q outcome.0.key called.0 one enough same called.1) (sym called.2 ∙ is)
-line_untired Map set budget outcome p q one enough same called is = map_untired set budget outcome.0.op outcome.0.key outcome.0.value outcome.1 p q one enough same called is
+line_untired : (kind : Kind) (set : TableView) (budget : ℕ) (outcome : Outcome) (p q : MemberView) → set.passes ≡ 1 →
+    ample set.start ≤ budget → IsSame (new_trace set 0) p.pass.trace → IsCalled kind budget outcome p q →
+    outcome.1 ≢ Tired
+line_untired Set set budget outcome p q one enough same called is =
+    told_untired called.0 (called_untired set budget outcome.0.op p q outcome.0.key called.0 one enough same called.1)
+    (sym called.2 ∙ is)
+line_untired Map set budget outcome p q one enough same called is =
+    map_untired set budget outcome.0.op outcome.0.key outcome.0.value outcome.1 p q one enough same called is
 
 -- the pass stays the same
-map_same : (op : Op) (key value budget : ℕ) (reply : Reply) (p q : MemberView) → IsMapCalled op key value budget reply p q → IsSame p.pass.trace q.pass.trace
+map_same : (op : Op) (key value budget : ℕ) (reply : Reply) (p q : MemberView) →
+    IsMapCalled op key value budget reply p q → IsSame p.pass.trace q.pass.trace
 map_same Insert key value budget reply p q called = called.1.same
 map_same Remove key value budget reply p q called = called.1.same
 map_same Has key value budget reply p q called = called.1.same
 map_same Get key value budget reply p q called = called.1.same
 
-line_same : (kind : Kind) (budget : ℕ) (outcome : Outcome) (p q : MemberView) → IsCalled kind budget outcome p q → IsSame p.pass.trace q.pass.trace
+line_same : (kind : Kind) (budget : ℕ) (outcome : Outcome) (p q : MemberView) → IsCalled kind budget outcome p q →
+    IsSame p.pass.trace q.pass.trace
 line_same Set budget outcome p q called = called.1.same
-line_same Map budget outcome p q called = map_same outcome.0.op outcome.0.key outcome.0.value budget outcome.1 p q called
+line_same Map budget outcome p q called =
+    map_same outcome.0.op outcome.0.key outcome.0.value budget outcome.1 p q called
 
 often_same : (times : ℕ) (m n : MemberView) → HasMetOften times m n → IsSame m.pass.trace n.pass.trace
-often_same zero m n met = subst (λ (k : MemberView). IsSame m.pass.trace k.pass.trace) (sym met) (same_refl m.pass.trace)
+often_same zero m n met =
+    subst (λ (k : MemberView). IsSame m.pass.trace k.pass.trace) (sym met) (same_refl m.pass.trace)
 often_same (suc times) m n met = same_on (often_same times m met.0 met.1) met.4.shares.quiet.same
 
 -- none of its replies is one for want of steps
-pub lone_untired : (kind : Kind) (set : TableView) (budget : ℕ) (outcomes : List Outcome) (m n : MemberView) → set.passes ≡ 1 → ample set.start ≤ budget → IsSame (new_trace set 0) m.pass.trace → CallsInTurn kind budget outcomes m n → All (λ outcome. outcome.1 ≢ Tired) outcomes
+pub lone_untired : (kind : Kind) (set : TableView) (budget : ℕ) (outcomes : List Outcome) (m n : MemberView) →
+    set.passes ≡ 1 → ample set.start ≤ budget → IsSame (new_trace set 0) m.pass.trace →
+    CallsInTurn kind budget outcomes m n → All (λ outcome. outcome.1 ≢ Tired) outcomes
 lone_untired kind set budget [] m n one enough same turn = All-nil (λ (outcome : Outcome). outcome.1 ≢ Tired)
 lone_untired kind set budget (outcome ∷ outcomes) m n one enough same turn =
     let p = turn.1 in let q = turn.3 in let called = turn.4 in
     let here = same_on same (often_same turn.0 m p turn.2) in
     All-cons (λ (outcome : Outcome). outcome.1 ≢ Tired) outcome outcomes
     (line_untired kind set budget outcome p q one enough here called)
-    (lone_untired kind set budget outcomes q n one enough (same_on here (line_same kind budget outcome p q called)) turn.5)
+    (lone_untired kind set budget outcomes q n one enough (same_on here (line_same kind budget outcome p q called))
+    turn.5)

@@ -16,22 +16,39 @@ use Rattle.vbr_player.specs.Calling.{ArePlayed}
 use Rattle.vbr_player.specs.Playing.{Prints, start_for}
 
 -- these are the totals' counts, what they list, and their epoch
-pub record AreTotals (kind : Kind) (totals : TotalsOf kind) (tally : Tally) (listed : List (Item kind)) (epoch : ℕ) : Type 0 where
+pub record AreTotals (kind : Kind) (totals : TotalsOf kind) (tally : Tally) (listed : List (Item kind)) (epoch : ℕ) :
+    Type 0 where
   pub tally_is : tally_in kind totals ≡ tally
   pub listed_is : listed_in kind totals ≡ listed
   pub epoch_is : epoch_in kind totals ≡ epoch
 
 -- such replies and totals are those of a run of the script, and are printed so
-pub prints : {kind : Kind} (settings : Settings) (text : List ℕ) (script : Script) (replies : List Reply) (totals : TotalsOf kind) (tally : Tally) (listed : List (Item kind)) (epoch : ℕ) (output : List ℕ) → IsScriptOf kind settings.workers text script → AreTotals kind totals tally listed epoch → length replies ≡ length script.lines.items → AreExplained kind (ArePlayed kind settings.workers settings.budget) (start_for kind settings.shape) settings.workers 0 script.phases script.renewals.items (zip script.lines.items replies) listed epoch → Counts tally (zip script.lines.items replies) → output ≡ text_of settings.epoch replies tally (listed_text kind listed) epoch → Prints kind settings text totals output
+pub prints : {kind : Kind} (settings : Settings) (text : List ℕ) (script : Script) (replies : List Reply)
+    (totals : TotalsOf kind) (tally : Tally) (listed : List (Item kind)) (epoch : ℕ) (output : List ℕ) →
+    IsScriptOf kind settings.workers text script → AreTotals kind totals tally listed epoch →
+    length replies ≡ length script.lines.items →
+    AreExplained kind (ArePlayed kind settings.workers settings.budget) (start_for kind settings.shape) settings.workers
+    0 script.phases script.renewals.items (zip script.lines.items replies) listed epoch →
+    Counts tally (zip script.lines.items replies) →
+    output ≡ text_of settings.epoch replies tally (listed_text kind listed) epoch →
+    Prints kind settings text totals output
 prints {kind} settings text script replies totals tally listed epoch output is are one_each explained counts printed =
-    let Of : List Line × ℕ × List ℕ → Type 0 = λ k. IsScriptRun kind (ArePlayed kind settings.workers settings.budget) (start_for kind settings.shape) settings.workers k.1 k.2 k.0 replies totals in
+    let Of : List Line × ℕ × List ℕ → Type 0 =
+    λ k. IsScriptRun kind (ArePlayed kind settings.workers settings.budget) (start_for kind settings.shape)
+    settings.workers k.1 k.2 k.0 replies totals in
     let run : Of (script.lines.items, script.phases, script.renewals.items) = record {
       one_each = one_each;
-      explained = subst (λ (k : List (Item kind) × ℕ). AreExplained kind (ArePlayed kind settings.workers settings.budget) (start_for kind settings.shape) settings.workers 0 script.phases script.renewals.items (zip script.lines.items replies) k.0 k.1) (λ i. (sym are.listed_is i, sym are.epoch_is i)) explained;
+      explained = subst
+          (λ (k : List (Item kind) × ℕ).
+          AreExplained kind (ArePlayed kind settings.workers settings.budget) (start_for kind settings.shape)
+          settings.workers 0 script.phases script.renewals.items (zip script.lines.items replies) k.0 k.1)
+          (λ i. (sym are.listed_is i, sym are.epoch_is i)) explained;
       counts = subst (λ (some : Tally). Counts some (zip script.lines.items replies)) (sym are.tally_is) counts;
     } in (
       replies,
       is.faultless,
       subst Of (λ i. (is.lines i, is.phases i, is.renewals i)) run,
-      printed ∙ (λ i. text_of settings.epoch replies (sym are.tally_is i) (listed_text kind (sym are.listed_is i)) (sym are.epoch_is i)),
+      printed ∙ (λ i.
+          text_of settings.epoch replies (sym are.tally_is i) (listed_text kind (sym are.listed_is i))
+          (sym are.epoch_is i)),
     )

@@ -1,5 +1,6 @@
 -- The balances of all members of a set add up to how many keys it has.
-use Rattle.std.proofs.Common.{◌≡◌, ◌≢◌, ℕ, zero, suc, ◌+◌, ◌<◌, Bool, true, false, cond, List, [], ◌∷◌, ◌++◌, map, append_assoc, append-nil, length, refl, sym, ap, ◌∙◌, subst, arith, inl, inr}
+use Rattle.std.proofs.Common.{◌≡◌, ◌≢◌, ℕ, zero, suc, ◌+◌, ◌<◌, Bool, true, false, cond, List, [], ◌∷◌, ◌++◌, map}
+use Rattle.std.proofs.Common.{append_assoc, append-nil, length, refl, sym, ap, ◌∙◌, subst, arith, inl, inr}
 use Rattle.std.specs.Prelude.{◌==◌, ◌⊎◌, ℤ, pos, ◌+ℤ◌, count_by, nat_eq, FitsSigned}
 use Rattle.std.specs.Int.{w64, int_wrap}
 use Rattle.std.proofs.lemmas.Bool.{cases_Bool, eq-eqb, eqb-true, false≢true}
@@ -47,12 +48,15 @@ sum_both f g [] = omega (arith, ints)
 sum_both f g (m ∷ ms) = let rest = sum_both f g ms in omega (arith, ints, rest)
 
 -- two functions of numbers that differ at one
-module _ (f g : ℕ → ℤ) (p : ℕ) (change : ℤ) (here : f p ≡ g p +ℤ change) (elsewhere : (who : ℕ) → p ≢ who → f who ≡ g who) where
+module _ (f g : ℕ → ℤ) (p : ℕ) (change : ℤ) (here : f p ≡ g p +ℤ change)
+    (elsewhere : (who : ℕ) → p ≢ who → f who ≡ g who) where
   abbrev times : List MemberView → ℕ
   times ms = count_by (λ m. m.pass.trace.who == p) ms
 
-  times-cons : (m : MemberView) (ms : List MemberView) (b : Bool) → (m.pass.trace.who == p) ≡ b → times (m ∷ ms) ≡ cond b 1 0 + times ms
-  times-cons m ms b is = sum_by-cons (λ (n : MemberView). cond (n.pass.trace.who == p) 1 0) m ms ∙ ap (λ (t : Bool). cond t 1 0 + times ms) is
+  times-cons : (m : MemberView) (ms : List MemberView) (b : Bool) → (m.pass.trace.who == p) ≡ b →
+      times (m ∷ ms) ≡ cond b 1 0 + times ms
+  times-cons m ms b is = sum_by-cons (λ (n : MemberView). cond (n.pass.trace.who == p) 1 0) m ms
+      ∙ ap (λ (t : Bool). cond t 1 0 + times ms) is
 
   away : (who : ℕ) → (who == p) ≡ false → f who ≡ g who
   away who differs = elsewhere who (λ same. false≢true (sym differs ∙ eq-eqb who p (sym same)))
@@ -62,8 +66,10 @@ module _ (f g : ℕ → ℤ) (p : ℕ) (change : ℤ) (here : f p ≡ g p +ℤ c
   sums_same [] none = refl
   sums_same (m ∷ ms) none = go (λ rest. sums_same ms rest) (cases_Bool (m.pass.trace.who == p))
     where
-      go : (times ms ≡ 0 → sum_of f ms ≡ sum_of g ms) → ((m.pass.trace.who == p) ≡ true) ⊎ ((m.pass.trace.who == p) ≡ false) → sum_of f (m ∷ ms) ≡ sum_of g (m ∷ ms)
-      go later (inl same) = absurd (let found : 1 + times ms ≡ 0 = sym (times-cons m ms true same) ∙ none in omega (arith, found))
+      go : (times ms ≡ 0 → sum_of f ms ≡ sum_of g ms) →
+          ((m.pass.trace.who == p) ≡ true) ⊎ ((m.pass.trace.who == p) ≡ false) → sum_of f (m ∷ ms) ≡ sum_of g (m ∷ ms)
+      go later (inl same) =
+          absurd (let found : 1 + times ms ≡ 0 = sym (times-cons m ms true same) ∙ none in omega (arith, found))
       go later (inr differs) =
           let found : 0 + times ms ≡ 0 = sym (times-cons m ms false differs) ∙ none in
           let rest : times ms ≡ 0 = omega (arith, found) in
@@ -74,12 +80,15 @@ module _ (f g : ℕ → ℤ) (p : ℕ) (change : ℤ) (here : f p ≡ g p +ℤ c
   sums_differ [] one = absurd (omega (arith, one))
   sums_differ (m ∷ ms) one = go (λ rest. sums_differ ms rest) (cases_Bool (m.pass.trace.who == p))
     where
-      go : (times ms ≡ 1 → sum_of f ms ≡ sum_of g ms +ℤ change) → ((m.pass.trace.who == p) ≡ true) ⊎ ((m.pass.trace.who == p) ≡ false) → sum_of f (m ∷ ms) ≡ sum_of g (m ∷ ms) +ℤ change
+      go : (times ms ≡ 1 → sum_of f ms ≡ sum_of g ms +ℤ change) →
+          ((m.pass.trace.who == p) ≡ true) ⊎ ((m.pass.trace.who == p) ≡ false) →
+          sum_of f (m ∷ ms) ≡ sum_of g (m ∷ ms) +ℤ change
       go others (inl same) =
           let found : 1 + times ms ≡ 1 = sym (times-cons m ms true same) ∙ one in
           let none : times ms ≡ 0 = omega (arith, found) in
           let is : m.pass.trace.who ≡ p = eqb-true m.pass.trace.who p same in
-          let at : f m.pass.trace.who ≡ g m.pass.trace.who +ℤ change = subst (λ (who : ℕ). f who ≡ g who +ℤ change) (sym is) here in
+          let at : f m.pass.trace.who ≡ g m.pass.trace.who +ℤ change =
+          subst (λ (who : ℕ). f who ≡ g who +ℤ change) (sym is) here in
           let rest = sums_same ms none in
           omega (arith, ints, at, rest)
       go others (inr differs) =
@@ -92,7 +101,8 @@ module _ (f g : ℕ → ℤ) (p : ℕ) (change : ℤ) (here : f p ≡ g p +ℤ c
 -- ---- calls
 
 -- each call of a run is that of one member
-module _ (start : Start) (passes : ℕ) (ms : List MemberView) (once : (who : ℕ) → who < passes → count_by (λ m. m.pass.trace.who == who) ms ≡ 1) where
+module _ (start : Start) (passes : ℕ) (ms : List MemberView)
+    (once : (who : ℕ) → who < passes → count_by (λ m. m.pass.trace.who == who) ms ≡ 1) where
   abbrev AddUp : List Event → Type 0
   AddUp run = sum_of (λ who. change_of (own_calls start run who)) ms ≡ change_of (calls_of start run)
 
@@ -101,7 +111,9 @@ module _ (start : Start) (passes : ℕ) (ms : List MemberView) (once : (who : �
       let added : List Call = calls_added start (world_after start run) event.pass event.step in
       let own = ap change_of (own_calls-snoc start run event) ∙ change-append (own_calls start run event.pass) added in
       let all = ap change_of (calls-snoc start run event) ∙ change-append (calls_of start run) added in
-      sums_differ (λ who. change_of (own_calls start (run ++ event ∷ []) who)) (λ who. change_of (own_calls start run who)) event.pass (change_of added) own (λ who other. ap change_of (others_leave_calls start run (event ∷ []) who (other, tt))) ms (once event.pass low)
+      sums_differ (λ who. change_of (own_calls start (run ++ event ∷ []) who))
+      (λ who. change_of (own_calls start run who)) event.pass (change_of added) own
+      (λ who other. ap change_of (others_leave_calls start run (event ∷ []) who (other, tt))) ms (once event.pass low)
       ∙ ap (λ (z : ℤ). z +ℤ change_of added) so_far
       ∙ sym all
 
@@ -110,13 +122,17 @@ module _ (start : Start) (passes : ℕ) (ms : List MemberView) (once : (who : �
   more_events before (event ∷ rest) is_run so_far =
       let whole : (before ++ event ∷ []) ++ rest ≡ before ++ event ∷ rest = append_assoc before (event ∷ []) rest in
       let accepted = is_run_after start passes before (event ∷ rest) is_run in
-      subst AddUp whole (more_events (before ++ event ∷ []) rest (subst (IsRun start passes) (sym whole) is_run) (one_event before event accepted.0.0 so_far))
+      subst AddUp whole
+      (more_events (before ++ event ∷ []) rest (subst (IsRun start passes) (sym whole) is_run)
+      (one_event before event accepted.0.0 so_far))
 
   calls_add_up : (run : List Event) → IsRun start passes run → AddUp run
   calls_add_up run is_run = more_events [] run is_run (sum_none ms)
 
   opened_add_up : 0 < passes → sum_of (opened_for start) ms ≡ pos (length start.keys)
-  opened_add_up some = sums_differ (opened_for start) (λ who. pos 0) 0 (pos (length start.keys)) (omega (arith, ints)) others ms (once 0 some) ∙ ap (λ (z : ℤ). z +ℤ pos (length start.keys)) (sum_none ms) ∙ omega (arith, ints)
+  opened_add_up some =
+      sums_differ (opened_for start) (λ who. pos 0) 0 (pos (length start.keys)) (omega (arith, ints)) others ms
+      (once 0 some) ∙ ap (λ (z : ℤ). z +ℤ pos (length start.keys)) (sum_none ms) ∙ omega (arith, ints)
     where
       others : (who : ℕ) → 0 ≢ who → opened_for start who ≡ pos 0
       others zero other = absurd (other refl)
@@ -129,11 +145,13 @@ module _ (set : TableView) (run : List Event) where
   abbrev whole : ℕ → ℤ
   whole who = opened_for set.start who +ℤ change_of (own_calls set.start run who)
 
-  wrapped_once : (ms : List MemberView) → AreOfSet set ms → EachMade set.start run (map (λ m. m.pass) ms) → int_wrap w64 (sum_of_balances ms) ≡ int_wrap w64 (sum_of whole ms)
+  wrapped_once : (ms : List MemberView) → AreOfSet set ms → EachMade set.start run (map (λ m. m.pass) ms) →
+      int_wrap w64 (sum_of_balances ms) ≡ int_wrap w64 (sum_of whole ms)
   wrapped_once [] of_set made = refl
   wrapped_once (m ∷ ms) of_set made =
       let balance : ℤ = opened_for m.set.start m.pass.trace.who +ℤ change_of (made_by m.pass.trace) in
-      let is : balance ≡ whole m.pass.trace.who = λ i. opened_for ((of_set.0 i).start) m.pass.trace.who +ℤ change_of (sym made.0 i) in
+      let is : balance ≡ whole m.pass.trace.who =
+      λ i. opened_for ((of_set.0 i).start) m.pass.trace.who +ℤ change_of (sym made.0 i) in
       int_wrap-add_left w64 balance (sum_of_balances ms)
       ∙ sym (int_wrap-add_right w64 balance (sum_of_balances ms))
       ∙ (λ i. int_wrap w64 (is i +ℤ wrapped_once ms of_set.1 made.1 i))
@@ -142,13 +160,18 @@ module _ (set : TableView) (run : List Event) where
 -- ---- keys
 
 -- how many keys there are after a run
-keys_after_run : (start : Start) (passes : ℕ) (run : List Event) → IsStart start → IsRun start passes run → pos (linked_after start run) ≡ pos (length start.keys) +ℤ change_of (calls_of start run)
+keys_after_run : (start : Start) (passes : ℕ) (run : List Event) → IsStart start → IsRun start passes run →
+    pos (linked_after start run) ≡ pos (length start.keys) +ℤ change_of (calls_of start run)
 keys_after_run start passes run is is_run =
     let a : Incarnations = incarnations_after start run in
     let g = run_agrees start passes run is is_run in
-    let opens : ListsOnce start.keys (opening_keys start) = record { distinct = ascending_distinct start.keys is.ascending; same = λ key. refl } in
-    let there : ListsOnce (linked_keys a start.shape.slots) (set_after (opening_keys start) a.calls) = record { distinct = distinct g.sound start.shape.slots; same = set_is g.sound g.fits g.tells } in
-    ap pos (sym (length_linked a start.shape.slots)) ∙ counted_after start.keys (linked_keys a start.shape.slots) (opening_keys start) a.calls opens g.tells.legal there ∙ ap (λ (calls : List Call). pos (length start.keys) +ℤ change_of calls) (sym g.calls)
+    let opens : ListsOnce start.keys (opening_keys start) =
+    record { distinct = ascending_distinct start.keys is.ascending; same = λ key. refl } in
+    let there : ListsOnce (linked_keys a start.shape.slots) (set_after (opening_keys start) a.calls) =
+    record { distinct = distinct g.sound start.shape.slots; same = set_is g.sound g.fits g.tells } in
+    ap pos (sym (length_linked a start.shape.slots))
+    ∙ counted_after start.keys (linked_keys a start.shape.slots) (opening_keys start) a.calls opens g.tells.legal there
+    ∙ ap (λ (calls : List Call). pos (length start.keys) +ℤ change_of calls) (sym g.calls)
 
 add_up_by : {Item R : Type 0} (kind : KindOf Item R) → AddUpBy kind
 add_up_by kind members report told pass law own once =
@@ -163,7 +186,8 @@ add_up_by kind members report told pass law own once =
     wrapped_once set c.run members told.of_set c.made
     ∙ ap (int_wrap w64) (
     sum_both (opened_for set.start) (λ who. change_of (own_calls set.start c.run who)) members
-    ∙ (λ i. opened_add_up set.start set.passes members once (omega (arith, low)) i +ℤ calls_add_up set.start set.passes members once c.run c.is_run i)
+    ∙ (λ i. opened_add_up set.start set.passes members once (omega (arith, low)) i +ℤ calls_add_up set.start set.passes
+    members once c.run c.is_run i)
     ∙ sym (keys_after_run set.start set.passes c.run is c.is_run)
     ∙ ap pos (sym live)
     )

@@ -15,11 +15,14 @@ use Rattle.vbr_set.specs.Tokens.{BeginsWith, CatchesUp, IsChain, IsTokenOf, Prec
 use Rattle.vbr_set.proofs.Histories.{reads_right, start_of}
 
 -- a run that goes on adds its calls at the end
-pub calls_begin : (start : Start) (seen run : List Event) → Begins seen run → BeginsWith (calls_of start seen) (calls_of start run)
+pub calls_begin : (start : Start) (seen run : List Event) → Begins seen run →
+    BeginsWith (calls_of start seen) (calls_of start run)
 calls_begin = calls_since
 
 -- what is answered later stands behind all that was told
-pub stands_behind : (told : List Event) (q : Trace) (calls : List Call) (r s : Trace) → Begins told q.seen → IsSame q r → Begins q.seen r.seen → AnswersAll calls r s → Follows (calls_of q.start told) calls (calls_of s.start s.seen)
+pub stands_behind : (told : List Event) (q : Trace) (calls : List Call) (r s : Trace) → Begins told q.seen →
+    IsSame q r → Begins q.seen r.seen → AnswersAll calls r s →
+    Follows (calls_of q.start told) calls (calls_of s.start s.seen)
 stands_behind told q calls r s first same on answered =
     let told_calls = calls_of q.start told in
     let front = calls_begin q.start told r.seen (begins_trans told q.seen r.seen first on) in
@@ -45,7 +48,8 @@ since_quiet {p} {q} s = record {
 }
 
 -- a pass that caught up, and has then seen what the token tells
-pub catches_up : {set : TableView} {p q : PassView} {token : SeenView} → IsOf p.trace set → IsStart p.trace.start → Since p.trace q.trace → KeepsPool p q → Begins token.seen q.trace.seen → CatchesUp set p token q
+pub catches_up : {set : TableView} {p q : PassView} {token : SeenView} → IsOf p.trace set → IsStart p.trace.start →
+    Since p.trace q.trace → KeepsPool p q → Begins token.seen q.trace.seen → CatchesUp set p token q
 catches_up {set} {p} {q} {token} own is since pool begins =
     let run = since_run since in
     let start = start_of p.trace.start q.trace.start since.same.1 is in
@@ -69,13 +73,17 @@ catches_up {set} {p} {q} {token} own is since pool begins =
 begins_itself : (seen : List Event) → Begins seen seen
 begins_itself seen = ([], sym (append-nil seen))
 
-chain_begins : (first : SeenView) (tokens : List SeenView) → IsChain first tokens → Begins first.seen (end_of first tokens).seen
+chain_begins : (first : SeenView) (tokens : List SeenView) → IsChain first tokens →
+    Begins first.seen (end_of first tokens).seen
 chain_begins first [] chain = begins_itself first.seen
-chain_begins first (next ∷ tokens) chain = begins_trans first.seen next.seen (end_of next tokens).seen chain.1 (chain_begins next tokens chain.2)
+chain_begins first (next ∷ tokens) chain =
+    begins_trans first.seen next.seen (end_of next tokens).seen chain.1 (chain_begins next tokens chain.2)
 
-pub handed_on : (set : TableView) (first : SeenView) (tokens : List SeenView) (p q : PassView) → IsChain first tokens → CatchesUp set p (end_of first tokens) q → CatchesUp set p first q
+pub handed_on : (set : TableView) (first : SeenView) (tokens : List SeenView) (p q : PassView) → IsChain first tokens →
+    CatchesUp set p (end_of first tokens) q → CatchesUp set p first q
 handed_on set first tokens p q chain caught =
-    let begins = begins_trans first.seen (end_of first tokens).seen q.trace.seen (chain_begins first tokens chain) caught.begins in
+    let begins =
+    begins_trans first.seen (end_of first tokens).seen q.trace.seen (chain_begins first tokens chain) caught.begins in
     record {
       pass = caught.pass;
       since = caught.since;
@@ -90,17 +98,23 @@ handed_on set first tokens p q chain caught =
       safe = caught.safe;
     }
 
-regrouped : (front ones a b c others more : List Call) → (((front ++ (ones ++ a)) ++ b) ++ c) ++ (others ++ more) ≡ front ++ (ones ++ (((a ++ b) ++ c) ++ (others ++ more)))
+regrouped : (front ones a b c others more : List Call) →
+    (((front ++ (ones ++ a)) ++ b) ++ c) ++ (others ++ more) ≡ front ++ (ones ++ (((a ++ b) ++ c) ++ (others ++ more)))
 regrouped front ones a b c others more =
     let rest = others ++ more in
     ap (λ l. (l ++ c) ++ rest) (append_assoc front (ones ++ a) b ∙ ap (λ l. front ++ l) (append_assoc ones a b))
-    ∙ ap (λ l. l ++ rest) (append_assoc front (ones ++ (a ++ b)) c ∙ ap (λ l. front ++ l) (append_assoc ones (a ++ b) c))
+    ∙ ap (λ l. l ++ rest)
+    (append_assoc front (ones ++ (a ++ b)) c ∙ ap (λ l. front ++ l) (append_assoc ones (a ++ b) c))
     ∙ append_assoc front (ones ++ ((a ++ b) ++ c)) rest
     ∙ ap (λ l. front ++ l) (append_assoc ones ((a ++ b) ++ c) rest)
 
-pub in_order : (set : TableView) (ones others : List Call) (g h k : Trace) (first : SeenView) (tokens : List SeenView) (p q : PassView) (r s : Trace) → AnswersAll ones g h → IsSame h k → Begins h.seen k.seen → IsTokenOf set k first → IsChain first tokens
-    → CatchesUp set p (end_of first tokens) q → IsSame q.trace r → Begins q.trace.seen r.seen → AnswersAll others r s → Precedes ones others (calls_of s.start s.seen)
-in_order set ones others g h k first tokens p q r s answered same on token chain caught same_then on_then answered_then =
+pub in_order : (set : TableView) (ones others : List Call) (g h k : Trace) (first : SeenView) (tokens : List SeenView)
+    (p q : PassView) (r s : Trace) → AnswersAll ones g h → IsSame h k → Begins h.seen k.seen → IsTokenOf set k first →
+    IsChain first tokens
+    → CatchesUp set p (end_of first tokens) q → IsSame q.trace r → Begins q.trace.seen r.seen → AnswersAll others r s →
+    Precedes ones others (calls_of s.start s.seen)
+in_order set ones others g h k first tokens p q r s answered same on token chain caught same_then on_then
+    answered_then =
     let own = answered.together in
     let more = calls_begin h.start h.seen k.seen on in
     let start : q.trace.start ≡ h.start = caught.pass.1 ∙ sym token.pass.1 ∙ same.start in

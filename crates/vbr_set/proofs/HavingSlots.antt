@@ -20,7 +20,11 @@ use Rattle.vbr_set.specs.Room.{HasAllSlots}
 use Rattle.vbr_set.specs.Tokens.{CatchesUp}
 
 pub all_kept : (p q : PassView) → KeepsSlots p q → HasAllSlots p → HasAllSlots q
-all_kept p q kept all = record { free = λ slot m. kept.free slot (m, λ before. all.free slot before); stamped = λ slot u. all.stamped slot (kept.stamped slot u) }
+all_kept p q kept all =
+    record {
+      free = λ slot m. kept.free slot (m, λ before. all.free slot before);
+      stamped = λ slot u. all.stamped slot (kept.stamped slot u);
+    }
 
 -- what a call of a set keeps, or one of a map
 set_kept : (op : Op) (m n : MemberView) → IsSetCall op m n → KeepsSlots m.pass n.pass
@@ -44,10 +48,12 @@ call_kept op m n (inr call) = map_kept op m n call
 pub all_called : (op : Op) (m n : MemberView) → HasAllSlots m.pass → IsCall op m n → HasAllSlots n.pass
 all_called op m n all call = all_kept m.pass n.pass (call_kept op m n call) all
 
-pub all_met : (p q : PassView) (epoch : ℕ) → HasAllSlots p → Did ReadEpoch p.trace q.trace epoch → KeepsPool p q → HasAllSlots q
+pub all_met : (p q : PassView) (epoch : ℕ) → HasAllSlots p → Did ReadEpoch p.trace q.trace epoch → KeepsPool p q →
+    HasAllSlots q
 all_met p q epoch all did pool = all_kept p q (did_none did refl pool).kept all
 
-pub all_caught : (set : TableView) (p q : PassView) (token : SeenView) → HasAllSlots p → CatchesUp set p token q → HasAllSlots q
+pub all_caught : (set : TableView) (p q : PassView) (token : SeenView) → HasAllSlots p → CatchesUp set p token q →
+    HasAllSlots q
 all_caught set p q token all c =
     record {
       free = λ slot m. has slot (all.free slot (subst (λ (k : Know). MayBear (k.own slot)) c.since.know m));
@@ -69,21 +75,26 @@ pub turn_opened : (set : TableView) (who : ℕ) → UnlinkedInTurn (new_trace se
 turn_opened set who [] later pred expected s e = absurd (cc)
 turn_opened set who (x ∷ before) later pred expected s e = absurd (cc)
 
-pub turn_called : (op : Op) (m n : MemberView) → HasAllSlots m.pass → UnlinkedInTurn m.pass.trace → IsCall op m n → UnlinkedInTurn n.pass.trace
+pub turn_called : (op : Op) (m n : MemberView) → HasAllSlots m.pass → UnlinkedInTurn m.pass.trace → IsCall op m n →
+    UnlinkedInTurn n.pass.trace
 turn_called op m n all turn call = (call_kept op m n call).turn all.stamped turn
 
 pub turn_met : (p q : Trace) (epoch : ℕ) → UnlinkedInTurn p → Did ReadEpoch p q epoch → UnlinkedInTurn q
 turn_met p q epoch turn did = did_stay_turn did refl turn
 
-pub turn_caught : (set : TableView) (p q : PassView) (token : SeenView) → UnlinkedInTurn p.trace → CatchesUp set p token q → UnlinkedInTurn q.trace
+pub turn_caught : (set : TableView) (p q : PassView) (token : SeenView) → UnlinkedInTurn p.trace →
+    CatchesUp set p token q → UnlinkedInTurn q.trace
 turn_caught set p q token turn c =
-    subst P (λ i. (sym c.since.same.1 i, sym c.since.seen i, sym c.since.same.3 i)) (turn_others p.trace.start p.trace.seen c.since.rest p.trace.who c.since.none turn)
+    subst P (λ i. (sym c.since.same.1 i, sym c.since.seen i, sym c.since.same.3 i))
+    (turn_others p.trace.start p.trace.seen c.since.rest p.trace.who c.since.none turn)
   where
     P : Start × List Event × ℕ → Type 0
     P x = UnlinksInTurn x.0 x.1 x.2
 
-pub turn_gave : (p q : PassView) (shared : ℕ) → HasAllSlots p → UnlinkedInTurn p.trace → GivesSlotsBack p q shared → UnlinkedInTurn q.trace
+pub turn_gave : (p q : PassView) (shared : ℕ) → HasAllSlots p → UnlinkedInTurn p.trace → GivesSlotsBack p q shared →
+    UnlinkedInTurn q.trace
 turn_gave p q shared all turn g = g.kept.turn all.stamped turn
 
-pub turn_reserved : (p q : PassView) (steps : ℕ) → HasAllSlots p → UnlinkedInTurn p.trace → TakesFlags p q steps → UnlinkedInTurn q.trace
+pub turn_reserved : (p q : PassView) (steps : ℕ) → HasAllSlots p → UnlinkedInTurn p.trace → TakesFlags p q steps →
+    UnlinkedInTurn q.trace
 turn_reserved p q steps all turn takes = takes.kept.turn all.stamped turn

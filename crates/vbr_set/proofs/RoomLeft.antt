@@ -1,12 +1,14 @@
 -- Where a lone insert finds no slot, none is in the shared pool, and its own pass has none.
-use Rattle.std.proofs.Common.{◌≡◌, ◌≢◌, ℕ, ◌+◌, ◌<◌, ◌==◌, ◌&&◌, Bool, true, false, cond, List, [], ◌∷◌, ◌++◌, Option, Some, None, refl, arith, sym, subst, ap, ◌∙◌, append_assoc, eq-eqb, inl, inr}
+use Rattle.std.proofs.Common.{◌≡◌, ◌≢◌, ℕ, ◌+◌, ◌<◌, ◌==◌, ◌&&◌, Bool, true, false, cond, List, [], ◌∷◌, ◌++◌, Option}
+use Rattle.std.proofs.Common.{Some, None, refl, arith, sym, subst, ap, ◌∙◌, append_assoc, eq-eqb, inl, inr}
 use Rattle.std.specs.Prelude.{Contains, count_by}
 use Rattle.std.proofs.lemmas.Bool.{false≢true}
 use Rattle.std.proofs.lemmas.List.{append_cancel_left}
 use Rattle.std.proofs.lemmas.List.Sums.{sum_by-append}
 use Rattle.vbr_machine.specs.Acceptance.{IsUnlinked, MayBear}
 use Rattle.vbr_machine.specs.Runs.{world_after}
-use Rattle.vbr_machine.specs.Whereabouts.{InSharedPool, Unstamped, WithPass, is_at, is_unstamped, may_bear, number_at, number_had}
+use Rattle.vbr_machine.specs.Whereabouts.{InSharedPool, Unstamped, WithPass, is_at, is_unstamped, may_bear, number_at}
+use Rattle.vbr_machine.specs.Whereabouts.{number_had}
 use Rattle.vbr_machine.specs.declared.event.Event.{Event}
 use Rattle.vbr_machine.specs.declared.event.Step.{Step}
 use Rattle.vbr_machine.specs.declared.knowledge.Holding.{Holding}
@@ -34,7 +36,9 @@ raise_counts step is = grind arith
 
 one_raises : (who : ℕ) (event : Event) → event.pass ≡ who → raised_in who (event ∷ []) ≡ 0 → IsRaise event.step → ⊥
 one_raises who event e none is =
-    let x : raised_in who (event ∷ []) ≡ 1 = ap (λ (b : Bool). 0 + cond (b && is_raise event.step) 1 0) (eq-eqb event.pass who e) ∙ ap (λ (b : Bool). 0 + cond b 1 0) (raise_counts event.step is) in
+    let x : raised_in who (event ∷ []) ≡ 1 =
+    ap (λ (b : Bool). 0 + cond (b && is_raise event.step) 1 0) (eq-eqb event.pass who e)
+    ∙ ap (λ (b : Bool). 0 + cond b 1 0) (raise_counts event.step is) in
     omega arith
 
 none_raised : (who : ℕ) (own : List Event) → OnlyEventsOf who own → raised_in who own ≡ 0 → NoneRaises own
@@ -59,18 +63,22 @@ module _ {p q : Trace} (alone : IsAlone p q) (who : q.who ≡ p.who) (same : fla
 
   -- what was outside the shared pool at a moment is outside at the end
   outside_now : (slot : ℕ) → WasOutside p q slot → (world_after p.start q.seen).place slot ≢ Shared
-  outside_now slot was = subst P (sym was.is.to.1) (stays_outside p.start was.moment was.is.to.0 slot behind was.outside)
+  outside_now slot was =
+      subst P (sym was.is.to.1) (stays_outside p.start was.moment was.is.to.0 slot behind was.outside)
     where
       P : List Event → Type 0
       P run = (world_after p.start run).place slot ≢ Shared
 
       own : alone.own ≡ was.is.from.0 ++ was.is.to.0
-      own = append_cancel_left p.seen alone.own (was.is.from.0 ++ was.is.to.0) (sym alone.seen ∙ was.is.to.1 ∙ ap (λ (l : List Event). l ++ was.is.to.0) was.is.from.1 ∙ append_assoc p.seen was.is.from.0 was.is.to.0)
+      own = append_cancel_left p.seen alone.own (was.is.from.0 ++ was.is.to.0)
+          (sym alone.seen ∙ was.is.to.1 ∙ ap (λ (l : List Event). l ++ was.is.to.0) was.is.from.1
+          ∙ append_assoc p.seen was.is.from.0 was.is.to.0)
 
       behind : NoneRaises was.is.to.0
       behind = none_behind was.is.from.0 was.is.to.0 (subst NoneRaises own own_raised)
 
-  pub none_in_shared_pool : ((slot : ℕ) → slot < p.start.shape.slots → WasOutside p q slot) → number_at p.start q.seen InSharedPool ≡ 0
+  pub none_in_shared_pool : ((slot : ℕ) → slot < p.start.shape.slots → WasOutside p q slot) →
+      number_at p.start q.seen InSharedPool ≡ 0
   none_in_shared_pool was = none_shared p.start q.seen (λ slot low. outside_now slot (was slot low))
 
 -- ---- what a pass has
@@ -93,15 +101,22 @@ not_true false n = refl
 
 -- a pass that has all its slots has none unstamped
 pub none_unstamped : (p : PassView) → HasAllSlots p → number_at p.trace.start p.trace.seen (Unstamped p.trace.who) ≡ 0
-none_unstamped p all = count_none _ p.trace.start.shape.slots (λ s low. not_true _ (λ e. all.stamped s (is_unlinked ((knows p.trace).own s) e)))
+none_unstamped p all =
+    count_none _ p.trace.start.shape.slots
+    (λ s low. not_true _ (λ e. all.stamped s (is_unlinked ((knows p.trace).own s) e)))
 
 -- and with an empty pool and an empty hand it has none at all
-pub none_had : (p : PassView) → HasAllSlots p → p.pool ≡ [] → p.hand ≡ None → number_had p.trace.start p.trace.seen p.trace.who ≡ 0
+pub none_had : (p : PassView) → HasAllSlots p → p.pool ≡ [] → p.hand ≡ None →
+    number_had p.trace.start p.trace.seen p.trace.who ≡ 0
 none_had p all empty no_hand =
-    let a = count_none (is_at p.trace.start p.trace.seen (WithPass p.trace.who)) p.trace.start.shape.slots (λ s low. not_true _ (λ e. no_slot s (all.free s (bears ((knows p.trace).own s) e)))) in
+    let a = count_none (is_at p.trace.start p.trace.seen (WithPass p.trace.who)) p.trace.start.shape.slots
+    (λ s low. not_true _ (λ e. no_slot s (all.free s (bears ((knows p.trace).own s) e)))) in
     let b = none_unstamped p all in
     omega arith
   where
     no_slot : (s : ℕ) → HasSlot p s → ⊥
-    no_slot s (inl there) = let in_none : Contains [] s = subst (λ (l : List ℕ). Contains l s) empty there in let low = in_none.1 in omega arith
+    no_slot s (inl there) =
+        let in_none : Contains [] s = subst (λ (l : List ℕ). Contains l s) empty there in
+        let low = in_none.1 in
+        omega arith
     no_slot s (inr there) = absurd (let x : None ≡ Some s = sym no_hand ∙ there in cc)

@@ -1,6 +1,7 @@
 -- Between calls the passes of a set have no more slots than their own pools have room for.
 -- Sums over all passes but one say how many.
-use Rattle.std.proofs.Common.{◌≡◌, ◌≢◌, ℕ, zero, suc, ◌+◌, ◌-◌, ◌*◌, ◌<◌, ◌≤◌, ◌==◌, ◌&&◌, Bool, true, false, List, [], ◌∷◌, length, Some, None, refl, arith, sym, subst, ap, ◌∙◌, eq-eqb, inl, inr}
+use Rattle.std.proofs.Common.{◌≡◌, ◌≢◌, ℕ, zero, suc, ◌+◌, ◌-◌, ◌*◌, ◌<◌, ◌≤◌, ◌==◌, ◌&&◌, Bool, true, false, List, []}
+use Rattle.std.proofs.Common.{◌∷◌, length, Some, None, refl, arith, sym, subst, ap, ◌∙◌, eq-eqb, inl, inr}
 use Rattle.std.specs.Prelude.{◌⊎◌, Contains, if◌then◌else◌, not}
 use Rattle.std.proofs.lemmas.Bool.{and_parts, cases_Bool, cases_eq, cases_order, ne_eqb}
 use Rattle.std.proofs.Math.Nat.{mul-suc}
@@ -37,9 +38,12 @@ sum_but_none passes who f none = sum_same passes f (but who f) (λ i. go i (case
     go i (inl e) = ap f e ∙ none ∙ sym (but_here who f i e)
     go i (inr ne) = sym (but_other who f i ne)
 
-pub sum_but_at_most : (passes who most : ℕ) (f : ℕ → ℕ) → who < passes → ((i : ℕ) → i < passes → i ≢ who → f i ≤ most) → sum_of passes (but who f) ≤ most * (passes - 1)
+pub sum_but_at_most : (passes who most : ℕ) (f : ℕ → ℕ) → who < passes → ((i : ℕ) → i < passes → i ≢ who → f i ≤ most) →
+    sum_of passes (but who f) ≤ most * (passes - 1)
 sum_but_at_most zero who most f low h = absurd (omega arith)
-sum_but_at_most (suc m) who most f low h = subst (λ (n : ℕ). sum_of (suc m) (but who f) ≤ most * n) same (go (cases_order m who) (λ l. sum_but_at_most m who most f l (λ i j. h i (omega arith))))
+sum_but_at_most (suc m) who most f low h =
+    subst (λ (n : ℕ). sum_of (suc m) (but who f) ≤ most * n) same
+    (go (cases_order m who) (λ l. sum_but_at_most m who most f l (λ i j. h i (omega arith))))
   where
     same : m ≡ suc m - 1
     same = omega arith
@@ -51,7 +55,8 @@ sum_but_at_most (suc m) who most f low h = subst (λ (n : ℕ). sum_of (suc m) (
         by (inl e) = let x = but_here who f i e in omega arith
         by (inr ne) = let x = but_other who f i ne in let y = h i l ne in omega arith
 
-    go : (m ≡ who) ⊎ ((m < who) ⊎ (who < m)) → (who < m → sum_of m (but who f) ≤ most * (m - 1)) → sum_of (suc m) (but who f) ≤ most * m
+    go : (m ≡ who) ⊎ ((m < who) ⊎ (who < m)) → (who < m → sum_of m (but who f) ≤ most * (m - 1)) →
+        sum_of (suc m) (but who f) ≤ most * m
     go (inl e) on =
         let before = sum_at_most m most (but who f) (λ i l. each i (omega arith)) in
         let here = but_here who f m e in
@@ -62,7 +67,8 @@ sum_but_at_most (suc m) who most f low h = subst (λ (n : ℕ). sum_of (suc m) (
         more : (k : ℕ) → sum_of k (but who f) ≤ most * (k - 1) → who < k → sum_of k (but who f) + but who f m ≤ most * k
         more zero before l = absurd (omega arith)
         more (suc k) before l =
-            let less : sum_of (suc k) (but who f) ≤ most * k = (let e : suc k - 1 ≡ k = omega arith in rw e at before) in
+            let less : sum_of (suc k) (but who f) ≤ most * k =
+            (let e : suc k - 1 ≡ k = omega arith in rw e at before) in
             let now = each m (omega arith) in
             let product = mul-suc most k in
             omega arith
@@ -104,27 +110,33 @@ count_but test x (suc n) = go (cases_eq n x) (count_but test x n)
     both true m k l = omega arith
     both false m k l = omega arith
 
-    go : (n ≡ x) ⊎ (n ≢ x) → count_below test n ≤ suc (count_below (test_but test x) n) → (if test n then suc (count_below test n) else count_below test n) ≤ suc (if test_but test x n then suc (count_below (test_but test x) n) else count_below (test_but test x) n)
+    go : (n ≡ x) ⊎ (n ≢ x) → count_below test n ≤ suc (count_below (test_but test x) n) →
+        (if test n then suc (count_below test n) else count_below test n)
+        ≤ suc (if test_but test x n then suc (count_below (test_but test x) n) else count_below (test_but test x) n)
     go (inl e) before =
         let below = same_below test x n (omega arith) in
         let a = with_one (test n) (count_below test n) (count_below (test_but test x) n) (omega arith) in
         let b = without_one (test_but test x n) (count_below (test_but test x) n) in
         omega arith
-    go (inr ne) before = rw (but_same test x n ne) (both (test n) (count_below test n) (count_below (test_but test x) n) before)
+    go (inr ne) before =
+        rw (but_same test x n ne) (both (test n) (count_below test n) (count_below (test_but test x) n) before)
 
 none_in : (test : ℕ → Bool) (n : ℕ) → ((s : ℕ) → test s ≡ true → ⊥) → count_below test n ≡ 0
 none_in test zero h = refl
 none_in test (suc n) h = go (cases_Bool (test n)) (none_in test n h)
   where
-    go : (test n ≡ true) ⊎ (test n ≡ false) → count_below test n ≡ 0 → (if test n then suc (count_below test n) else count_below test n) ≡ 0
+    go : (test n ≡ true) ⊎ (test n ≡ false) → count_below test n ≡ 0 →
+        (if test n then suc (count_below test n) else count_below test n) ≡ 0
     go (inl t) e = absurd (h n t)
     go (inr f) e = rw f e
 
 -- what a list has that passes a test is no more than the list
-count_in_list : (xs : List ℕ) (test : ℕ → Bool) (n : ℕ) → ((s : ℕ) → test s ≡ true → Contains xs s) → count_below test n ≤ length xs
+count_in_list : (xs : List ℕ) (test : ℕ → Bool) (n : ℕ) → ((s : ℕ) → test s ≡ true → Contains xs s) →
+    count_below test n ≤ length xs
 count_in_list [] test n h = let e = none_in test n (λ s t. (let l = (h s t).1 in omega arith)) in omega arith
 count_in_list (x ∷ xs) test n h =
-    let rest = count_in_list xs (test_but test x) n (λ s t. behind s (other s t) (h s (and_parts (test s) (not (s == x)) t).0)) in
+    let rest = count_in_list xs (test_but test x) n
+    (λ s t. behind s (other s t) (h s (and_parts (test s) (not (s == x)) t).0)) in
     let one = count_but test x n in
     omega arith
   where
@@ -142,9 +154,11 @@ count_in_list (x ∷ xs) test n h =
 -- ---- between calls
 
 -- a pass that has all its slots, none of them in its hand, has as many as its pool
-pub had_in_pool : (p : PassView) → HasAllSlots p → p.hand ≡ None → number_had p.trace.start p.trace.seen p.trace.who ≤ length p.pool
+pub had_in_pool : (p : PassView) → HasAllSlots p → p.hand ≡ None →
+    number_had p.trace.start p.trace.seen p.trace.who ≤ length p.pool
 had_in_pool p all no_hand =
-    let a = count_in_list p.pool (is_at p.trace.start p.trace.seen (WithPass p.trace.who)) p.trace.start.shape.slots (λ s e. in_pool s (all.free s (bears ((knows p.trace).own s) e))) in
+    let a = count_in_list p.pool (is_at p.trace.start p.trace.seen (WithPass p.trace.who)) p.trace.start.shape.slots
+    (λ s e. in_pool s (all.free s (bears ((knows p.trace).own s) e))) in
     let b = none_unstamped p all in
     omega arith
   where
@@ -157,11 +171,14 @@ pub had_between : (p : PassView) (q : Trace) → IsBetweenCalls p q → number_h
 had_between p q b =
     let room = b.law.room in
     let own = had_in_pool p b.has_all b.empty_hand in
-    let same : number_had q.start q.seen p.trace.who ≡ number_had p.trace.start p.trace.seen p.trace.who = (λ i. number_had_by (sym b.start i) (known i)) in
+    let same : number_had q.start q.seen p.trace.who ≡ number_had p.trace.start p.trace.seen p.trace.who =
+    (λ i. number_had_by (sym b.start i) (known i)) in
     omega arith
   where
     number_had_by : Start → Know → ℕ
-    number_had_by start know = count_below (λ s. may_bear (know.own s)) start.shape.slots + count_below (λ s. is_unstamped (know.own s)) start.shape.slots
+    number_had_by start know = count_below (λ s. may_bear (know.own s)) start.shape.slots
+        + count_below (λ s. is_unstamped (know.own s)) start.shape.slots
 
     known : know_after q.start q.seen p.trace.who ≡ know_after p.trace.start p.trace.seen p.trace.who
-    known = ap (λ (d : Start). know_after d q.seen p.trace.who) (sym b.start) ∙ begins_for_know p.trace.start p.trace.who p.trace.seen q.seen b.seen
+    known = ap (λ (d : Start). know_after d q.seen p.trace.who) (sym b.start)
+        ∙ begins_for_know p.trace.start p.trace.who p.trace.seen q.seen b.seen

@@ -11,7 +11,8 @@ use Rattle.vbr_words.proofs.Lemmas.{link_of-word_of}
 use Rattle.vbr_machine.specs.Accounts.{incarnations_after, notes_after}
 use Rattle.vbr_machine.specs.Agreement.{Agrees}
 use Rattle.vbr_machine.specs.Images.{slot_shown, link_in_state, link_shown, link_shown_at, value_shown}
-use Rattle.vbr_machine.specs.Incarnations.{State, Unborn, InHand, GivenUp, Linked, Marked, Unlinked, Stamped, Incarnations}
+use Rattle.vbr_machine.specs.Incarnations.{State, Unborn, InHand, GivenUp, Linked, Marked, Unlinked, Stamped}
+use Rattle.vbr_machine.specs.Incarnations.{Incarnations}
 use Rattle.vbr_machine.specs.Runs.{world_after}
 use Rattle.vbr_machine.specs.Safety.{IsSafe}
 use Rattle.vbr_machine.specs.Sound.{IsListed}
@@ -22,21 +23,31 @@ use Rattle.vbr_set.specs.Walking.{AreAfter}
 
 -- ---- words
 
-pub agrees : {start : Start} {words : List ℕ} {run : List Event} → AreAfter start words run → Agrees start (world_after start run) (incarnations_after start run) (notes_after start run)
+pub agrees : {start : Start} {words : List ℕ} {run : List Event} → AreAfter start words run →
+    Agrees start (world_after start run) (incarnations_after start run) (notes_after start run)
 agrees {start} {words} {run} x = run_agrees start x.passes run x.is_start x.is_run
 
 pub safe : {start : Start} {words : List ℕ} {run : List Event} → AreAfter start words run → IsSafe start run
 safe {start} {words} {run} x = every_run start x.passes run x.is_start x.is_run
 
 -- the link of a word is the one that the incarnations show there
-pub link_read : {start : Start} {words : List ℕ} {run : List Event} → AreAfter start words run → (at : At) → IsIn start.shape (place_of at) → link_of (slice_index words (index_of start.shape (place_of at))) ≡ link_shown_at (incarnations_after start run) at
-link_read {start} {words} {run} x (Head b) is = ap link_of (x.are.each (place.Head b) is) ∙ link_of-word_of ((world_after start run).head b) ((safe x).links (Head b)) ∙ (agrees x).image.head b
-link_read {start} {words} {run} x (Slot s) is = ap link_of (x.are.each (place.LinkOf s) is) ∙ link_of-word_of ((world_after start run).link s) ((safe x).links (Slot s)) ∙ (agrees x).image.link s
+pub link_read : {start : Start} {words : List ℕ} {run : List Event} → AreAfter start words run → (at : At) →
+    IsIn start.shape (place_of at) →
+    link_of (slice_index words (index_of start.shape (place_of at))) ≡ link_shown_at (incarnations_after start run) at
+link_read {start} {words} {run} x (Head b) is = ap link_of (x.are.each (place.Head b) is)
+    ∙ link_of-word_of ((world_after start run).head b) ((safe x).links (Head b)) ∙ (agrees x).image.head b
+link_read {start} {words} {run} x (Slot s) is = ap link_of (x.are.each (place.LinkOf s) is)
+    ∙ link_of-word_of ((world_after start run).link s) ((safe x).links (Slot s)) ∙ (agrees x).image.link s
 
-pub key_read : {start : Start} {words : List ℕ} {run : List Event} → AreAfter start words run → (s : ℕ) → s < start.shape.slots → slice_index words (index_of start.shape (place.Key s)) ≡ key_in_slot (incarnations_after start run) s
+pub key_read : {start : Start} {words : List ℕ} {run : List Event} → AreAfter start words run → (s : ℕ) →
+    s < start.shape.slots →
+    slice_index words (index_of start.shape (place.Key s)) ≡ key_in_slot (incarnations_after start run) s
 key_read x s is = x.are.each (place.Key s) is ∙ (agrees x).image.key s
 
-pub value_read : {start : Start} {words : List ℕ} {run : List Event} → AreAfter start words run → (s : ℕ) → IsIn start.shape (place.Value s) → slice_index words (index_of start.shape (place.Value s)) ≡ value_shown (incarnations_after start run) ((incarnations_after start run).last s)
+pub value_read : {start : Start} {words : List ℕ} {run : List Event} → AreAfter start words run → (s : ℕ) →
+    IsIn start.shape (place.Value s) →
+    slice_index words (index_of start.shape (place.Value s))
+    ≡ value_shown (incarnations_after start run) ((incarnations_after start run).last s)
 value_read x s is = x.are.each (place.Value s) is ∙ (agrees x).image.value s
 
 -- ---- nodes in lists
@@ -45,7 +56,8 @@ pub stands_state : {a : Incarnations} {s c : ℕ} → Stands a s c → state_in 
 stands_state {a} n = ap (state_shown a) n.last
 
 -- its link names the slot of its successor, and has the mark once the node is marked
-link_named : (a : Incarnations) (c : ℕ) (st : State) → IsListed st → ((link_in_state a c st).slot ≡ slot_shown a (a.next c)) × ((link_in_state a c st).mark ≡ is_marked st)
+link_named : (a : Incarnations) (c : ℕ) (st : State) → IsListed st →
+    ((link_in_state a c st).slot ≡ slot_shown a (a.next c)) × ((link_in_state a c st).mark ≡ is_marked st)
 link_named a c Linked l = (refl, refl)
 link_named a c Marked l = (refl, refl)
 link_named a c Unborn l = absurd l
@@ -54,8 +66,12 @@ link_named a c GivenUp l = absurd l
 link_named a c (Unlinked p at) l = absurd l
 link_named a c (Stamped at stamp) l = absurd l
 
-pub next_of_node : {a : Incarnations} {s c : ℕ} → Stands a s c → (link_shown a (a.last s)).slot ≡ slot_shown a (a.next c)
-next_of_node {a} {s} {c} n = ap (λ (l : Option ℕ). (link_shown a l).slot) n.last ∙ (link_named a c (a.state c) n.listed).0
+pub next_of_node : {a : Incarnations} {s c : ℕ} → Stands a s c →
+    (link_shown a (a.last s)).slot ≡ slot_shown a (a.next c)
+next_of_node {a} {s} {c} n =
+    ap (λ (l : Option ℕ). (link_shown a l).slot) n.last ∙ (link_named a c (a.state c) n.listed).0
 
-pub mark_of_node : {a : Incarnations} {s c : ℕ} → Stands a s c → (link_shown a (a.last s)).mark ≡ is_marked (state_in a s)
-mark_of_node {a} {s} {c} n = ap (λ (l : Option ℕ). (link_shown a l).mark) n.last ∙ (link_named a c (a.state c) n.listed).1 ∙ sym (ap is_marked (stands_state n))
+pub mark_of_node : {a : Incarnations} {s c : ℕ} → Stands a s c →
+    (link_shown a (a.last s)).mark ≡ is_marked (state_in a s)
+mark_of_node {a} {s} {c} n = ap (λ (l : Option ℕ). (link_shown a l).mark) n.last
+    ∙ (link_named a c (a.state c) n.listed).1 ∙ sym (ap is_marked (stands_state n))

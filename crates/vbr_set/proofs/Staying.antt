@@ -18,7 +18,8 @@ use Rattle.vbr_set.proofs.Histories.{reads_right}
 use Rattle.vbr_set.proofs.MapHistories.{RunsAreMaps}
 
 -- calls that stand in a history stand in each that goes on from it
-follows_more : {first calls history longer : List Call} → Follows first calls history → (more : List Call) → longer ≡ history ++ more → Follows first calls longer
+follows_more : {first calls history longer : List Call} → Follows first calls history → (more : List Call) →
+    longer ≡ history ++ more → Follows first calls longer
 follows_more {first} {calls} {history} {longer} at more is = record {
   between = at.between;
   more = at.more ++ more;
@@ -28,7 +29,8 @@ follows_more {first} {calls} {history} {longer} at more is = record {
       ∙ ap (λ l. (first ++ at.between) ++ l) (append_assoc calls at.more more);
 }
 
-stays : (calls : List Call) (p : Trace) (q r : PassView) → PassLaw r → AnswersAll calls p q.trace → Quiet q.trace r.trace → AnswersAll calls p r.trace
+stays : (calls : List Call) (p : Trace) (q r : PassView) → PassLaw r → AnswersAll calls p q.trace →
+    Quiet q.trace r.trace → AnswersAll calls p r.trace
 stays calls p q r law a quiet =
     let more = calls_since q.trace.start q.trace.seen r.trace.seen quiet.seen in
     record {

@@ -1,5 +1,6 @@
 -- Where a lone insert or store finds no slot, all slots are taken up.
-use Rattle.std.proofs.Common.{◌≡◌, ◌≢◌, ℕ, ◌+◌, ◌-◌, ◌*◌, ◌<◌, ◌≤◌, List, [], length, None, arith, subst, ap, ◌∙◌, inl, inr}
+use Rattle.std.proofs.Common.{◌≡◌, ◌≢◌, ℕ, ◌+◌, ◌-◌, ◌*◌, ◌<◌, ◌≤◌, List, [], length, None, arith, subst, ap, ◌∙◌, inl}
+use Rattle.std.proofs.Common.{inr}
 use Rattle.vbr_machine.specs.Start.{Start}
 use Rattle.vbr_machine.specs.History.{set_after}
 use Rattle.vbr_machine.specs.Keys.{AreKeysOf}
@@ -44,11 +45,33 @@ found_none : {p q : PassView} {key : ℕ} → FoundNoSlot p q key → HasNoSlot 
 found_none x = record { empty = x.empty; still = x.still; outside = x.outside }
 
 told_none : (m n : MemberView) (key budget : ℕ) → InsertRefused m n key budget NoSlot → ToldNone m n
-told_none m n key budget (inl c) = record { same = c.same; hand = c.hand; none = found_none c.bounds.refused; shared = c.bounds.shared; kept = c.bounds.kept }
-told_none m n key budget (inr (inl (value, c))) = record { same = c.same; hand = c.hand; none = found_none c.bounds.refused; shared = c.bounds.shared; kept = c.bounds.kept }
-told_none m n key budget (inr (inr (value, wanted, c))) = record { same = c.same; hand = c.hand; none = c.bounds.1.refused.none; shared = c.bounds.1.shared; kept = c.bounds.0 }
+told_none m n key budget (inl c) =
+    record {
+      same = c.same;
+      hand = c.hand;
+      none = found_none c.bounds.refused;
+      shared = c.bounds.shared;
+      kept = c.bounds.kept;
+    }
+told_none m n key budget (inr (inl (value, c))) =
+    record {
+      same = c.same;
+      hand = c.hand;
+      none = found_none c.bounds.refused;
+      shared = c.bounds.shared;
+      kept = c.bounds.kept;
+    }
+told_none m n key budget (inr (inr (value, wanted, c))) =
+    record {
+      same = c.same;
+      hand = c.hand;
+      none = c.bounds.1.refused.none;
+      shared = c.bounds.1.shared;
+      kept = c.bounds.0;
+    }
 
-module _ (m n : MemberView) (key budget : ℕ) (law : PassLaw n.pass) (all : HasAllSlots m.pass) (refused : InsertRefused m n key budget NoSlot) (alone : IsAlone m.pass.trace n.pass.trace) where
+module _ (m n : MemberView) (key budget : ℕ) (law : PassLaw n.pass) (all : HasAllSlots m.pass)
+    (refused : InsertRefused m n key budget NoSlot) (alone : IsAlone m.pass.trace n.pass.trace) where
   abbrev p : PassView
   p = m.pass
 
@@ -59,25 +82,32 @@ module _ (m n : MemberView) (key budget : ℕ) (law : PassLaw n.pass) (all : Has
   c = told_none m n key budget refused
 
   none_shared : number_at q.trace.start q.trace.seen InSharedPool ≡ 0
-  none_shared = ap (λ (start : Start). number_at start q.trace.seen InSharedPool) c.same.start ∙ none_in_shared_pool alone c.same.who (none_raised p q c.none.still c.shared) c.none.outside
+  none_shared = ap (λ (start : Start). number_at start q.trace.seen InSharedPool) c.same.start
+      ∙ none_in_shared_pool alone c.same.who (none_raised p q c.none.still c.shared) c.none.outside
 
   none_own : number_had q.trace.start q.trace.seen q.trace.who ≡ 0
   none_own = none_had q (all_kept p q c.kept all) c.none.still c.hand
 
-  in_set : (keys : List ℕ) → AreKeysOf keys (set_after (opening_keys q.trace.start) (calls_of q.trace.start q.trace.seen)) → length keys ≡ number_at q.trace.start q.trace.seen InSet
+  in_set : (keys : List ℕ) →
+      AreKeysOf keys (set_after (opening_keys q.trace.start) (calls_of q.trace.start q.trace.seen)) →
+      length keys ≡ number_at q.trace.start q.trace.seen InSet
   in_set keys are =
       let g = run_agrees q.trace.start q.trace.passes q.trace.seen law.start law.is_run in
-      counted_keys g.sound g.fits g.tells keys (subst (λ (calls : List Call). AreKeysOf keys (set_after (opening_keys q.trace.start) calls)) g.calls are)
+      counted_keys g.sound g.fits g.tells keys
+      (subst (λ (calls : List Call). AreKeysOf keys (set_after (opening_keys q.trace.start) calls)) g.calls are)
 
   pub taken_up : AreTakenUp q.trace
   taken_up keys are =
-      let sum = add_up q.trace.start q.trace.passes q.trace.seen (somewhere q.trace.start q.trace.passes q.trace.seen law.safe law.is_run) in
+      let sum = add_up q.trace.start q.trace.passes q.trace.seen
+      (somewhere q.trace.start q.trace.passes q.trace.seen law.safe law.is_run) in
       let others = sum_but_none q.trace.passes q.trace.who (number_had q.trace.start q.trace.seen) none_own in
       let a = none_shared in
       let b = in_set keys are in
       omega arith
 
-  pub suffices : OthersAreBetweenCalls q.trace → (keys : List ℕ) → AreKeysOf keys (set_after (opening_keys q.trace.start) (calls_of q.trace.start q.trace.seen)) → q.trace.start.shape.slots ≤ length keys + marked_after q.trace.start q.trace.seen + POOL * (q.trace.passes - 1)
+  pub suffices : OthersAreBetweenCalls q.trace → (keys : List ℕ) →
+      AreKeysOf keys (set_after (opening_keys q.trace.start) (calls_of q.trace.start q.trace.seen)) →
+      q.trace.start.shape.slots ≤ length keys + marked_after q.trace.start q.trace.seen + POOL * (q.trace.passes - 1)
   suffices between keys are =
       let up = taken_up keys are in
       let few = sum_but_at_most q.trace.passes q.trace.who POOL (number_had q.trace.start q.trace.seen) law.low each in

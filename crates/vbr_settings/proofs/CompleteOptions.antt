@@ -1,5 +1,6 @@
 -- The matches of the program's command are complete.
-use Rattle.std.proofs.Common.{◌≡◌, ℕ, zero, suc, ◌<◌, ◌≤◌, Bool, true, false, not, ◌&&◌, ◌||◌, List, [], ◌∷◌, length, map, Option, Some, None, refl, sym, ap, ◌∙◌, inl, inr, subst, codes, arith}
+use Rattle.std.proofs.Common.{◌≡◌, ℕ, zero, suc, ◌<◌, ◌≤◌, Bool, true, false, not, ◌&&◌, ◌||◌, List, [], ◌∷◌, length}
+use Rattle.std.proofs.Common.{map, Option, Some, None, refl, sym, ap, ◌∙◌, inl, inr, subst, codes, arith}
 use Rattle.std.specs.List.{slice_index_or, list_all}
 use Rattle.std.specs.Option.{IfSome}
 use Rattle.std.specs.Str.{bytes_eq}
@@ -20,15 +21,18 @@ use Rattle.clap.specs.declared.builder.value_parser.ValueParser.TheVariants as v
 use Rattle.clap.specs.declared.parser.matches.Found.{Found}
 use Rattle.clap.specs.declared.parser.matches.ArgMatches.{ArgMatches}
 use Rattle.clap.proofs.WalkLemmas.{both, one_text-rows}
-use Rattle.vbr_settings.specs.Options.{number_option, switch, options, command_line, HasNumber, number_among, IsSwitch, AreComplete}
+use Rattle.vbr_settings.specs.Options.{number_option, switch, options, command_line, HasNumber, number_among, IsSwitch}
+use Rattle.vbr_settings.specs.Options.{AreComplete}
 use Rattle.vbr_settings.specs.declared.config.TheConstants.{MAX_WORKERS}
 use Rattle.vbr_settings.proofs.OptionValues.{its_number}
-use Rattle.vbr_settings.proofs.OptionsRead.{none_in, StandsAlone, stands_alone, IsOption, TakesValue, text_of, switch_text}
+use Rattle.vbr_settings.proofs.OptionsRead.{none_in, StandsAlone, stands_alone, IsOption, TakesValue, text_of}
+use Rattle.vbr_settings.proofs.OptionsRead.{switch_text}
 
 -- ---- tests of a list of rules
 
 -- what holds of all rules holds of each
-passes_at : (test : Rule → Bool) (rules : List Rule) (k : ℕ) (r : Rule) → k < length rules → list_all test rules ≡ true → test (slice_index_or rules k r) ≡ true
+passes_at : (test : Rule → Bool) (rules : List Rule) (k : ℕ) (r : Rule) → k < length rules →
+    list_all test rules ≡ true → test (slice_index_or rules k r) ≡ true
 passes_at test rules k r inside all = at (test (slice_index_or rules k r)) refl
   where
     at : (b : Bool) → test (slice_index_or rules k r) ≡ b → test (slice_index_or rules k r) ≡ true
@@ -39,7 +43,10 @@ passes_at test rules k r inside all = at (test (slice_index_or rules k r)) refl
 
 -- a rule of an option that stands alone, under a name of its own
 is_sound : Rule → Bool
-is_sound r = r.is_simple && (r.is_free && (not r.ignore_case && (not (is_empty r.id) && (not (bytes_eq r.id (codes "help")) && not (bytes_eq r.id (codes "version"))))))
+is_sound r = r.is_simple
+    && (r.is_free
+    && (not r.ignore_case
+    && (not (is_empty r.id) && (not (bytes_eq r.id (codes "help")) && not (bytes_eq r.id (codes "version"))))))
 
 -- the same, test by test
 record PassesEach (r : Rule) : Type 0 where
@@ -58,28 +65,44 @@ each_of r sound =
     let named = both _ _ exact.1 in
     let help = both _ _ named.1 in
     let version = both _ _ help.1 in
-    record { simple = free.0; free = exact.0; exact = named.0; named = help.0; no_help = version.0; no_version = version.1 }
+    record {
+      simple = free.0;
+      free = exact.0;
+      exact = named.0;
+      named = help.0;
+      no_help = version.0;
+      no_version = version.1;
+    }
 
 -- no rule has the name of another
 are_distinct : List Rule → Bool
 are_distinct [] = true
-are_distinct (r ∷ rules) = list_all (λ other. not (bytes_eq other.id r.id) && not (bytes_eq r.id other.id)) rules && are_distinct rules
+are_distinct (r ∷ rules) =
+    list_all (λ other. not (bytes_eq other.id r.id) && not (bytes_eq r.id other.id)) rules && are_distinct rules
 
-distinct_at : (rules : List Rule) (j k : ℕ) (d e : Rule) → are_distinct rules ≡ true → j < length rules → k < length rules → bytes_eq (slice_index_or rules j d).id (slice_index_or rules k e).id ≡ true → j ≡ k
+distinct_at : (rules : List Rule) (j k : ℕ) (d e : Rule) → are_distinct rules ≡ true → j < length rules →
+    k < length rules → bytes_eq (slice_index_or rules j d).id (slice_index_or rules k e).id ≡ true → j ≡ k
 unfolding are_distinct
 distinct_at [] j k d e distinct low high same = absurd (omega arith)
 distinct_at (r ∷ rules) zero zero d e distinct low high same = refl
 distinct_at (r ∷ rules) zero (suc k) d e distinct low high same =
-    let apart = passes_at (λ other. not (bytes_eq other.id r.id) && not (bytes_eq r.id other.id)) rules k e (omega arith) (both _ _ distinct).0 in
-    let off : not (bytes_eq r.id (slice_index_or rules k e).id) ≡ true = (both (not (bytes_eq (slice_index_or rules k e).id r.id)) (not (bytes_eq r.id (slice_index_or rules k e).id)) apart).1 in
+    let apart = passes_at (λ other. not (bytes_eq other.id r.id) && not (bytes_eq r.id other.id)) rules k e
+    (omega arith) (both _ _ distinct).0 in
+    let off : not (bytes_eq r.id (slice_index_or rules k e).id) ≡ true =
+    (both (not (bytes_eq (slice_index_or rules k e).id r.id)) (not (bytes_eq r.id (slice_index_or rules k e).id))
+    apart).1 in
     let bad : false ≡ true = rw same at off in
     cc
 distinct_at (r ∷ rules) (suc j) zero d e distinct low high same =
-    let apart = passes_at (λ other. not (bytes_eq other.id r.id) && not (bytes_eq r.id other.id)) rules j d (omega arith) (both _ _ distinct).0 in
-    let off : not (bytes_eq (slice_index_or rules j d).id r.id) ≡ true = (both (not (bytes_eq (slice_index_or rules j d).id r.id)) (not (bytes_eq r.id (slice_index_or rules j d).id)) apart).0 in
+    let apart = passes_at (λ other. not (bytes_eq other.id r.id) && not (bytes_eq r.id other.id)) rules j d
+    (omega arith) (both _ _ distinct).0 in
+    let off : not (bytes_eq (slice_index_or rules j d).id r.id) ≡ true =
+    (both (not (bytes_eq (slice_index_or rules j d).id r.id)) (not (bytes_eq r.id (slice_index_or rules j d).id))
+    apart).0 in
     let bad : false ≡ true = rw same at off in
     cc
-distinct_at (r ∷ rules) (suc j) (suc k) d e distinct low high same = ap suc (distinct_at rules j k d e (both _ _ distinct).1 (omega arith) (omega arith) same)
+distinct_at (r ∷ rules) (suc j) (suc k) d e distinct low high same =
+    ap suc (distinct_at rules j k d e (both _ _ distinct).1 (omega arith) (omega arith) same)
 
 -- ---- a command that has the rules
 
@@ -94,15 +117,20 @@ record HasRules (old : Command) (rules : List Rule) : Type 0 where
 as_many : (old : Command) (rules : List Rule) → HasRules old rules → length (args_of old) ≡ length rules
 as_many old rules has = sym (length-map (args_of old) rule_of) ∙ ap length has.are
 
-rule_at : (old : Command) (rules : List Rule) (k : ℕ) (d : Arg) (r : Rule) → HasRules old rules → k < length rules → slice_index_or rules k r ≡ rule_of (slice_index_or (args_of old) k d)
+rule_at : (old : Command) (rules : List Rule) (k : ℕ) (d : Arg) (r : Rule) → HasRules old rules → k < length rules →
+    slice_index_or rules k r ≡ rule_of (slice_index_or (args_of old) k d)
 rule_at old rules k d r has inside =
     let many = as_many old rules has in
     ap (λ (xs : List Rule). slice_index_or xs k r) (sym has.are) ∙ get_or-map rule_of (args_of old) k d r (omega arith)
 
-sound_at : (old : Command) (rules : List Rule) (k : ℕ) (d : Arg) → HasRules old rules → k < length rules → is_sound (rule_of (slice_index_or (args_of old) k d)) ≡ true
-sound_at old rules k d has inside = subst (λ (r : Rule). is_sound r ≡ true) (rule_at old rules k d (rule_of d) has inside) (passes_at is_sound rules k (rule_of d) inside has.sound)
+sound_at : (old : Command) (rules : List Rule) (k : ℕ) (d : Arg) → HasRules old rules → k < length rules →
+    is_sound (rule_of (slice_index_or (args_of old) k d)) ≡ true
+sound_at old rules k d has inside =
+    subst (λ (r : Rule). is_sound r ≡ true) (rule_at old rules k d (rule_of d) has inside)
+    (passes_at is_sound rules k (rule_of d) inside has.sound)
 
-alone_at : (old : Command) (rules : List Rule) (k : ℕ) (d : Arg) → HasRules old rules → k < length rules → StandsAlone (slice_index_or (args_of old) k d)
+alone_at : (old : Command) (rules : List Rule) (k : ℕ) (d : Arg) → HasRules old rules → k < length rules →
+    StandsAlone (slice_index_or (args_of old) k d)
 alone_at old rules k d has inside =
     let each = each_of (rule_of (slice_index_or (args_of old) k d)) (sound_at old rules k d has inside) in
     stands_alone (slice_index_or (args_of old) k d) each.simple each.free
@@ -126,7 +154,9 @@ not_same id other apart is =
     let bad : false ≡ true = rw same at apart in
     cc
 
-option_at : (old : Command) (rules : List Rule) (k : ℕ) (d : Arg) (parser : ValueParser) → HasRules old rules → k < length rules → (slice_index_or rules k (rule_of d)).parser ≡ Some parser → IsOption old k (slice_index_or (args_of old) k d) parser
+option_at : (old : Command) (rules : List Rule) (k : ℕ) (d : Arg) (parser : ValueParser) → HasRules old rules →
+    k < length rules → (slice_index_or rules k (rule_of d)).parser ≡ Some parser →
+    IsOption old k (slice_index_or (args_of old) k d) parser
 option_at old rules k d parser has inside reads =
     let many = as_many old rules has in
     let a : Arg = slice_index_or (args_of old) k d in
@@ -135,9 +165,15 @@ option_at old rules k d parser has inside reads =
     record {
       inside = omega (arith, many);
       here = get_or_default (args_of old) k a d (omega (arith, many));
-      unique = λ j e low same. distinct_at rules j k (rule_of e) (rule_of d) has.distinct (omega (arith, many)) inside (rw (rule_at old rules j e (rule_of e) has (omega (arith, many)), here) same);
+      unique = λ j e low same.
+          distinct_at rules j k (rule_of e) (rule_of d) has.distinct (omega (arith, many)) inside
+          (rw (rule_at old rules j e (rule_of e) has (omega (arith, many)), here) same);
       named = not_empty a.id.now each.named;
-      own = λ auto. elim auto [ inl is ↦ not_same a.id.now (codes "help") each.no_help is | inr is ↦ not_same a.id.now (codes "version") each.no_version is ];
+      own = λ auto.
+          elim auto [
+            | inl is ↦ not_same a.id.now (codes "help") each.no_help is
+            | inr is ↦ not_same a.id.now (codes "version") each.no_version is
+          ];
       reads = sym (ap (λ (r : Rule). r.parser) here) ∙ reads;
       exact = false_of a.ignore_case each.exact;
     }
@@ -150,28 +186,38 @@ record Numbered (least most : ℕ) (name : Text) (rows : List Row) : Type 0 wher
   low : least ≤ number_among name rows
   high : number_among name rows ≤ most
 
-takes_value : (a : Arg) (name : Text) (least most : ℕ) (default : Text) → rule_of a ≡ number_option name least most default → StandsAlone a → TakesValue a
+takes_value : (a : Arg) (name : Text) (least most : ℕ) (default : Text) →
+    rule_of a ≡ number_option name least most default → StandsAlone a → TakesValue a
 takes_value a name least most default is alone =
     let range : a.num_vals ≡ None = ap (λ (r : Rule). r.range) is in
     let defaults : texts (items_of a.default_vals) ≡ default ∷ [] = ap (λ (r : Rule). r.defaults) is in
-    let one : length (items_of a.default_vals) ≡ 1 = sym (length-map (items_of a.default_vals) (λ s. s.now)) ∙ ap length defaults in
+    let one : length (items_of a.default_vals) ≡ 1 =
+    sym (length-map (items_of a.default_vals) (λ s. s.now)) ∙ ap length defaults in
     record {
       sets = ap (λ (r : Rule). r.action) is;
-      least = subst (λ (range : Option ValueRange). 1 ≤ (unwrap_or_range range).start_inclusive) (sym range) (omega arith);
+      least = subst (λ (range : Option ValueRange). 1 ≤ (unwrap_or_range range).start_inclusive) (sym range)
+          (omega arith);
       delimiter = alone.delimiter;
       defaults = (alone.ifs, omega arith);
     }
 
-numbered_at : (old : Command) (m : ArgMatches) (p : IsParsedFrom old m) (rules : List Rule) (k : ℕ) (d : Arg) (name : Text) (least most : ℕ) (default : Text) → HasRules old rules → k < length rules → slice_index_or rules k (rule_of d) ≡ number_option name least most default → most ≤ 18446744073709551615 → Numbered least most name (rows_of (found_of m))
+numbered_at : (old : Command) (m : ArgMatches) (p : IsParsedFrom old m) (rules : List Rule) (k : ℕ) (d : Arg)
+    (name : Text) (least most : ℕ) (default : Text) → HasRules old rules → k < length rules →
+    slice_index_or rules k (rule_of d) ≡ number_option name least most default → most ≤ 18446744073709551615 →
+    Numbered least most name (rows_of (found_of m))
 numbered_at old m p rules k d name least most default has inside is small =
     let a : Arg = slice_index_or (args_of old) k d in
     let f : Found = found_of m in
-    let here : rule_of a ≡ number_option name least most default = sym (rule_at old rules k d (rule_of d) has inside) ∙ is in
-    let option : IsOption old k a (value.Unsigned least most) = option_at old rules k d (value.Unsigned least most) has inside (ap (λ (r : Rule). r.parser) is) in
+    let here : rule_of a ≡ number_option name least most default =
+    sym (rule_at old rules k d (rule_of d) has inside) ∙ is in
+    let option : IsOption old k a (value.Unsigned least most) =
+    option_at old rules k d (value.Unsigned least most) has inside (ap (λ (r : Rule). r.parser) is) in
     let alone : StandsAlone a = alone_at old rules k d has inside in
     let takes : TakesValue a = takes_value a name least most default here alone in
     let got = text_of old m p k a (value.Unsigned least most) option takes (plain_of old rules has) has.globals in
-    let text : one_of name (rows_of f) ≡ Some got.0 = sym (one_text-rows f name) ∙ subst (λ (id : Text). one_text f id ≡ Some got.0) (ap (λ (r : Rule). r.id) here) got.1 in
+    let text : one_of name (rows_of f) ≡ Some got.0 =
+    sym (one_text-rows f name)
+    ∙ subst (λ (id : Text). one_text f id ≡ Some got.0) (ap (λ (r : Rule). r.id) here) got.1 in
     let number = its_number name (rows_of f) got.0 text in
     record {
       number = (got.0, text, (got.2.0, got.2.1, omega arith, omega (arith, got.2.3)));
@@ -180,14 +226,21 @@ numbered_at old m p rules k d name least most default has inside is small =
     }
 
 -- a switch has no text but yes or no
-switch_at : (old : Command) (m : ArgMatches) (p : IsParsedFrom old m) (rules : List Rule) (k : ℕ) (d : Arg) (name : Text) → HasRules old rules → k < length rules → slice_index_or rules k (rule_of d) ≡ switch name → IsSwitch name (rows_of (found_of m))
+switch_at : (old : Command) (m : ArgMatches) (p : IsParsedFrom old m) (rules : List Rule) (k : ℕ) (d : Arg)
+    (name : Text) → HasRules old rules → k < length rules → slice_index_or rules k (rule_of d) ≡ switch name →
+    IsSwitch name (rows_of (found_of m))
 switch_at old m p rules k d name has inside is =
     let a : Arg = slice_index_or (args_of old) k d in
     let f : Found = found_of m in
     let here : rule_of a ≡ switch name = sym (rule_at old rules k d (rule_of d) has inside) ∙ is in
-    let option : IsOption old k a value.Bool = option_at old rules k d value.Bool has inside (ap (λ (r : Rule). r.parser) is) in
+    let option : IsOption old k a value.Bool =
+    option_at old rules k d value.Bool has inside (ap (λ (r : Rule). r.parser) is) in
     let got = switch_text old m p k a option (plain_of old rules has) has.globals in
-    subst (λ (o : Option Text). IfSome o (λ text. (bytes_eq text (codes "true") || bytes_eq text (codes "false")) ≡ true)) (one_text-rows f name) (subst (λ (id : Text). IfSome (one_text f id) (λ text. (bytes_eq text (codes "true") || bytes_eq text (codes "false")) ≡ true)) (ap (λ (r : Rule). r.id) here) got)
+    subst (λ (o : Option Text).
+    IfSome o (λ text. (bytes_eq text (codes "true") || bytes_eq text (codes "false")) ≡ true)) (one_text-rows f name)
+    (subst (λ (id : Text).
+    IfSome (one_text f id) (λ text. (bytes_eq text (codes "true") || bytes_eq text (codes "false")) ≡ true))
+    (ap (λ (r : Rule). r.id) here) got)
 
 has_options : (old : Command) → app_of old ≡ command_line → HasRules old options
 unfolding command_line is_sound are_distinct
@@ -205,7 +258,8 @@ has_options old is =
     }
 
 -- the matches that the program's command makes of arguments
-pub complete : (old : Command) (m : ArgMatches) → app_of old ≡ command_line → IsParsedFrom old m → AreComplete (rows_of (found_of m))
+pub complete : (old : Command) (m : ArgMatches) → app_of old ≡ command_line → IsParsedFrom old m →
+    AreComplete (rows_of (found_of m))
 complete old m is p = at (args_of old) refl
   where
     has : HasRules old options
@@ -217,11 +271,20 @@ complete old m is p = at (args_of old) refl
         let zero : length (args_of old) ≡ 0 = ap length none in
         absurd (omega (arith, nine, zero))
     at (d ∷ rest) some =
-        let workers = numbered_at old m p options 0 d (codes "workers") 1 MAX_WORKERS (codes "1") has (omega arith) refl (omega arith) in
-        let slots = numbered_at old m p options 1 d (codes "slots") 0 4294967295 (codes "1024") has (omega arith) refl (omega arith) in
-        let buckets = numbered_at old m p options 2 d (codes "buckets") 0 4294967295 (codes "16") has (omega arith) refl (omega arith) in
-        let last_epoch = numbered_at old m p options 3 d (codes "last-epoch") 0 18446744073709551615 (codes "549755813887") has (omega arith) refl (omega arith) in
-        let budget = numbered_at old m p options 4 d (codes "budget") 0 4294967295 (codes "100000") has (omega arith) refl (omega arith) in
+        let workers =
+        numbered_at old m p options 0 d (codes "workers") 1 MAX_WORKERS (codes "1") has (omega arith) refl
+        (omega arith) in
+        let slots = numbered_at old m p options 1 d (codes "slots") 0 4294967295 (codes "1024") has (omega arith) refl
+        (omega arith) in
+        let buckets =
+        numbered_at old m p options 2 d (codes "buckets") 0 4294967295 (codes "16") has (omega arith) refl
+        (omega arith) in
+        let last_epoch =
+        numbered_at old m p options 3 d (codes "last-epoch") 0 18446744073709551615 (codes "549755813887") has
+        (omega arith) refl (omega arith) in
+        let budget =
+        numbered_at old m p options 4 d (codes "budget") 0 4294967295 (codes "100000") has (omega arith) refl
+        (omega arith) in
         record {
           workers = workers.number;
           slots = slots.number;

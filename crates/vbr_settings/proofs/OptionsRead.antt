@@ -1,5 +1,6 @@
 -- What the matches of a command hold of its options, where it has plain options with defaults, and flags.
-use Rattle.std.proofs.Common.{◌≡◌, ℕ, zero, suc, ◌<◌, ◌≤◌, inl, inr, Bool, true, false, not, List, [], ◌∷◌, length, is_some, Option, Some, None, refl, sym, ap, ◌∙◌, subst, arith}
+use Rattle.std.proofs.Common.{◌≡◌, ℕ, zero, suc, ◌<◌, ◌≤◌, inl, inr, Bool, true, false, not, List, [], ◌∷◌, length}
+use Rattle.std.proofs.Common.{is_some, Option, Some, None, refl, sym, ap, ◌∙◌, subst, arith}
 use Rattle.std.specs.List.{All, slice_index_or}
 use Rattle.std.specs.Str.{bytes_eq}
 use Rattle.std.specs.Prelude.{find, option_map, slice_get, IfSome}
@@ -9,7 +10,8 @@ use Rattle.std.proofs.lemmas.List.Elements.{All-get_or, All-weaker}
 use Rattle.std.proofs.lemmas.Slice.Eq.{bytes_eq-Decides}
 use Rattle.clap.specs.Words.{Text, one_text, found_of, matched_of, read_as, reading_of, Accepts}
 use Rattle.clap.specs.Walk.{is_empty, is_simple_arg, is_free_arg}
-use Rattle.clap.specs.Facts.{args_of, groups_of, Entry, EntryPasses, PassesArg, HasIn, HasId, WantsDefault, least_values, parser_of, parser_of_value}
+use Rattle.clap.specs.Facts.{args_of, groups_of, Entry, EntryPasses, PassesArg, HasIn, HasId, WantsDefault}
+use Rattle.clap.specs.Facts.{least_values, parser_of, parser_of_value}
 use Rattle.clap.specs.Built.{IsPlain, IsPlainArg, IsParsedFrom, IsAuto, SameRules}
 use Rattle.clap.specs.declared.builder.action.ArgAction.TheVariants.{Set, Count}
 use Rattle.clap.specs.declared.builder.arg.Arg.{Arg}
@@ -51,7 +53,12 @@ stands_alone a simple free =
     let exclusive = both _ _ free in
     let conflicts = both _ _ exclusive.1 in
     record {
-      plain = (is_not a.exclusive exclusive.0, none_in a.conflicts.items conflicts.0, none_in a.overrides.items overrides.0, none_in a.groups.items groups.0);
+      plain = (
+        is_not a.exclusive exclusive.0,
+        none_in a.conflicts.items conflicts.0,
+        none_in a.overrides.items overrides.0,
+        none_in a.groups.items groups.0,
+      );
       ifs = none_in a.default_vals_ifs.items ifs.0;
       delimiter = is_none a.val_delim delimiter.0;
     }
@@ -66,31 +73,44 @@ stands_alone a simple free =
 pub record IsOption (old : Command) (k : ℕ) (a : Arg) (parser : ValueParser) : Type 0 where
   pub inside : k < length (args_of old)
   pub here : slice_index_or (args_of old) k a ≡ a
-  pub unique : (j : ℕ) (e : Arg) → j < length (args_of old) → bytes_eq (slice_index_or (args_of old) j e).id.now a.id.now ≡ true → j ≡ k
+  pub unique : (j : ℕ) (e : Arg) → j < length (args_of old) →
+      bytes_eq (slice_index_or (args_of old) j e).id.now a.id.now ≡ true → j ≡ k
   pub named : a.id.now ≡ [] → ⊥
   pub own : IsAuto a → ⊥
   pub reads : a.value_parser ≡ Some parser
   pub exact : a.ignore_case ≡ false
 
 -- the one argument of the built command with the name of an option
-rules_of : (old : Command) (m : ArgMatches) (p : IsParsedFrom old m) (k : ℕ) (a : Arg) (parser : ValueParser) → IsOption old k a parser → (j : ℕ) (y : Arg) → j < length (args_of p.built) → slice_index_or (args_of p.built) j y ≡ y → bytes_eq y.id.now a.id.now ≡ true → SameRules a y
+rules_of : (old : Command) (m : ArgMatches) (p : IsParsedFrom old m) (k : ℕ) (a : Arg) (parser : ValueParser) →
+    IsOption old k a parser → (j : ℕ) (y : Arg) → j < length (args_of p.built) →
+    slice_index_or (args_of p.built) j y ≡ y → bytes_eq y.id.now a.id.now ≡ true → SameRules a y
 rules_of old m p k a parser option j y inside at same =
-    let unique : (i : ℕ) (e : Arg) → i < length (args_of old) → bytes_eq (slice_index_or (args_of old) i e).id.now (slice_index_or (args_of old) k a).id.now ≡ true → i ≡ k = λ i e low is. option.unique i e low (subst (λ (b : Arg). bytes_eq (slice_index_or (args_of old) i e).id.now b.id.now ≡ true) option.here is) in
+    let unique : (i : ℕ) (e : Arg) → i < length (args_of old) →
+    bytes_eq (slice_index_or (args_of old) i e).id.now (slice_index_or (args_of old) k a).id.now ≡ true → i ≡ k =
+    λ i e low is.
+    option.unique i e low
+    (subst (λ (b : Arg). bytes_eq (slice_index_or (args_of old) i e).id.now b.id.now ≡ true) option.here is) in
     let own : IsAuto (slice_index_or (args_of old) k a) → ⊥ = λ auto. option.own (subst IsAuto option.here auto) in
-    let is : bytes_eq y.id.now (slice_index_or (args_of old) k a).id.now ≡ true = subst (λ (b : Arg). bytes_eq y.id.now b.id.now ≡ true) (sym option.here) same in
-    subst (λ (b : Arg). SameRules b y) option.here (same_rules_by_id old m p k a option.inside unique own j y inside at is)
+    let is : bytes_eq y.id.now (slice_index_or (args_of old) k a).id.now ≡ true =
+    subst (λ (b : Arg). bytes_eq y.id.now b.id.now ≡ true) (sym option.here) same in
+    subst (λ (b : Arg). SameRules b y) option.here
+    (same_rules_by_id old m p k a option.inside unique own j y inside at is)
 
 -- what the entry of an option holds: values that its parser accepts, read as the parser says
 record HoldsValue (option : ValueParser) (x : MatchedArg) : Type 0 where
   accepts : All (λ v. Accepts false option v.now) x.vals.items
   reading : x.reading ≡ reading_of option
 
-accepted : (a y : Arg) (parser : ValueParser) (text : List ℕ) → SameRules a y → a.value_parser ≡ Some parser → a.ignore_case ≡ false → Accepts y.ignore_case (parser_of y) text → Accepts false parser text
+accepted : (a y : Arg) (parser : ValueParser) (text : List ℕ) → SameRules a y → a.value_parser ≡ Some parser →
+    a.ignore_case ≡ false → Accepts y.ignore_case (parser_of y) text → Accepts false parser text
 accepted a y parser text rules reads exact is =
     let same : parser_of y ≡ parser = ap parser_of_value (rules.parser parser reads) in
-    subst (λ (b : Bool). Accepts b parser text) (rules.ignore_case ∙ exact) (subst (λ (q : ValueParser). Accepts y.ignore_case q text) same is)
+    subst (λ (b : Bool). Accepts b parser text) (rules.ignore_case ∙ exact)
+    (subst (λ (q : ValueParser). Accepts y.ignore_case q text) same is)
 
-held : (old : Command) (m : ArgMatches) (p : IsParsedFrom old m) (k : ℕ) (a : Arg) (parser : ValueParser) (e : Entry) (x : MatchedArg) → IsOption old k a parser → groups_of p.built ≡ [] → EntryPasses p.built e → e.1 ≡ x → e.0.now ≡ a.id.now → HoldsValue parser x
+held : (old : Command) (m : ArgMatches) (p : IsParsedFrom old m) (k : ℕ) (a : Arg) (parser : ValueParser) (e : Entry)
+    (x : MatchedArg) → IsOption old k a parser → groups_of p.built ≡ [] → EntryPasses p.built e → e.1 ≡ x →
+    e.0.now ≡ a.id.now → HoldsValue parser x
 held old m p k a parser e x option no_groups passes same name =
     let no_group : e.1.is_group ≡ true → ⊥ = λ group. elim (passes.3 group) [
       | inl empty ↦ option.named (sym name ∙ empty)
@@ -101,7 +121,12 @@ held old m p k a parser e x option no_groups passes same name =
     record {
       accepts = elim passes.0 [
         | inl group ↦ absurd (no_group group)
-        | inr values ↦ All-weaker (λ v. PassesArg p.built e.0.now v.now) (λ v. Accepts false parser v.now) (λ v pass. accepted a pass.1 parser v.now (rules_of old m p k a parser option pass.0 pass.1 pass.2 pass.3 (rw name at pass.4.0)) option.reads option.exact pass.4.1) x.vals.items (subst (λ (y : MatchedArg). All (λ v. PassesArg p.built e.0.now v.now) y.vals.items) same values)
+        | inr values ↦
+            All-weaker (λ v. PassesArg p.built e.0.now v.now) (λ v. Accepts false parser v.now)
+            (λ v pass. accepted a pass.1 parser v.now
+            (rules_of old m p k a parser option pass.0 pass.1 pass.2 pass.3 (rw name at pass.4.0)) option.reads
+            option.exact pass.4.1) x.vals.items
+            (subst (λ (y : MatchedArg). All (λ v. PassesArg p.built e.0.now v.now) y.vals.items) same values)
       ];
       reading = elim passes.4 [
         | inl group ↦ absurd (no_group group)
@@ -121,7 +146,9 @@ pub record TakesValue (a : Arg) : Type 0 where
   pub delimiter : a.val_delim ≡ None
   pub defaults : WantsDefault a
 
-has_value : (old : Command) (m : ArgMatches) (p : IsParsedFrom old m) (k : ℕ) (a : Arg) (parser : ValueParser) (e : Entry) (x : MatchedArg) → IsOption old k a parser → TakesValue a → groups_of p.built ≡ [] → EntryPasses p.built e → e.1 ≡ x → e.0.now ≡ a.id.now → 0 < length x.vals.items
+has_value : (old : Command) (m : ArgMatches) (p : IsParsedFrom old m) (k : ℕ) (a : Arg) (parser : ValueParser)
+    (e : Entry) (x : MatchedArg) → IsOption old k a parser → TakesValue a → groups_of p.built ≡ [] →
+    EntryPasses p.built e → e.1 ≡ x → e.0.now ≡ a.id.now → 0 < length x.vals.items
 has_value old m p k a parser e x option takes no_groups passes same name = elim passes.1 [
   | inl group ↦ elim group.1 [
     | inl empty ↦ absurd (option.named (sym name ∙ empty))
@@ -149,34 +176,49 @@ has_value old m p k a parser e x option takes no_groups passes same name = elim 
 ]
 
 -- an id that an entry has is found
-found_in : (xs : List Entry) (id : List ℕ) → HasIn xs id → is_some (option_map (λ e. e.1) (find (λ e. bytes_eq e.0.now id) xs)) ≡ true
+found_in : (xs : List Entry) (id : List ℕ) → HasIn xs id →
+    is_some (option_map (λ e. e.1) (find (λ e. bytes_eq e.0.now id) xs)) ≡ true
 found_in [] id has = absurd (omega (arith, has.1))
 found_in (x ∷ xs) id has = at (bytes_eq x.0.now id) refl (found_in xs id)
   where
-    rest : (i : ℕ) → i < length (x ∷ xs) → ((d : Entry) → bytes_eq (slice_index_or (x ∷ xs) i d).0.now id ≡ true) → bytes_eq x.0.now id ≡ false → HasIn xs id
+    rest : (i : ℕ) → i < length (x ∷ xs) → ((d : Entry) → bytes_eq (slice_index_or (x ∷ xs) i d).0.now id ≡ true) →
+        bytes_eq x.0.now id ≡ false → HasIn xs id
     rest zero inside is other =
         let bad : false ≡ true = sym other ∙ is x in
         cc
     rest (suc i) inside is other = (i, omega arith, is)
 
-    at : (b : Bool) → bytes_eq x.0.now id ≡ b → (HasIn xs id → is_some (option_map (λ e. e.1) (find (λ e. bytes_eq e.0.now id) xs)) ≡ true) → is_some (option_map (λ e. e.1) (find (λ e. bytes_eq e.0.now id) (x ∷ xs))) ≡ true
+    at : (b : Bool) → bytes_eq x.0.now id ≡ b →
+        (HasIn xs id → is_some (option_map (λ e. e.1) (find (λ e. bytes_eq e.0.now id) xs)) ≡ true) →
+        is_some (option_map (λ e. e.1) (find (λ e. bytes_eq e.0.now id) (x ∷ xs))) ≡ true
     at true is behind = rw is refl
     at false is behind = rw is (behind (rest has.0 has.1 has.2 is))
 
-head_of : (parser : ValueParser) (how : Reading) (values : List (Bor (List ℕ))) → All (λ v. Accepts false parser v.now) values → 0 < length values → (text : Text) × (option_map (λ s. read_as how s.now) (slice_get values 0) ≡ Some (read_as how text)) × Accepts false parser text
+head_of : (parser : ValueParser) (how : Reading) (values : List (Bor (List ℕ))) →
+    All (λ v. Accepts false parser v.now) values → 0 < length values →
+    (text : Text) × (option_map (λ s. read_as how s.now) (slice_get values 0) ≡ Some (read_as how text)) ×
+    Accepts false parser text
 head_of parser how [] accepts some = absurd (omega arith)
-head_of parser how (v ∷ values) accepts some = (v.now, refl, All-get_or (λ v. Accepts false parser v.now) (v ∷ values) 0 v (omega arith) accepts)
+head_of parser how (v ∷ values) accepts some =
+    (v.now, refl, All-get_or (λ v. Accepts false parser v.now) (v ∷ values) 0 v (omega arith) accepts)
 
 -- an option that takes a value has a text that its parser accepts
-pub text_of : (old : Command) (m : ArgMatches) (p : IsParsedFrom old m) (k : ℕ) (a : Arg) (parser : ValueParser) → IsOption old k a parser → TakesValue a → IsPlain old → (out-Command old).has_globals ≡ false → (text : Text) × (one_text (found_of m) a.id.now ≡ Some (read_as (reading_of parser) text)) × Accepts false parser text
+pub text_of : (old : Command) (m : ArgMatches) (p : IsParsedFrom old m) (k : ℕ) (a : Arg) (parser : ValueParser) →
+    IsOption old k a parser → TakesValue a → IsPlain old → (out-Command old).has_globals ≡ false →
+    (text : Text) × (one_text (found_of m) a.id.now ≡ Some (read_as (reading_of parser) text)) ×
+    Accepts false parser text
 text_of old m p k a parser option takes plain globals = at (matched_of (found_of m) a.id.now) refl
   where
     has : HasId (found_of m) a.id.now
-    has = subst (λ (b : Arg). HasId (found_of m) b.id.now) option.here (default_present old m p globals k a option.inside (subst WantsDefault (sym option.here) takes.defaults))
+    has = subst (λ (b : Arg). HasId (found_of m) b.id.now) option.here
+        (default_present old m p globals k a option.inside (subst WantsDefault (sym option.here) takes.defaults))
 
-    at : (entry : Option MatchedArg) → matched_of (found_of m) a.id.now ≡ entry → (text : Text) × (one_text (found_of m) a.id.now ≡ Some (read_as (reading_of parser) text)) × Accepts false parser text
+    at : (entry : Option MatchedArg) → matched_of (found_of m) a.id.now ≡ entry →
+        (text : Text) × (one_text (found_of m) a.id.now ≡ Some (read_as (reading_of parser) text)) ×
+        Accepts false parser text
     at None is =
-        let bad : is_some (matched_of (found_of m) a.id.now) ≡ true = found_in (found_of m).entries.items a.id.now has in
+        let bad : is_some (matched_of (found_of m) a.id.now) ≡ true =
+        found_in (found_of m).entries.items a.id.now has in
         let no : is_some (matched_of (found_of m) a.id.now) ≡ false = rw is refl in
         cc
     at (Some x) is =
@@ -187,18 +229,26 @@ text_of old m p k a parser option takes plain globals = at (matched_of (found_of
         let holds = held old m p k a parser entry.0 x option no_groups entry.3 entry.1 name in
         let some = has_value old m p k a parser entry.0 x option takes no_groups entry.3 entry.1 name in
         let first = head_of parser (reading_of parser) x.vals.items holds.accepts some in
-        let read : one_text (found_of m) a.id.now ≡ option_map (λ s. read_as (reading_of parser) s.now) (slice_get x.vals.items 0) = rw (is, holds.reading) refl in
+        let read : one_text (found_of m) a.id.now
+        ≡ option_map (λ s. read_as (reading_of parser) s.now) (slice_get x.vals.items 0) =
+        rw (is, holds.reading) refl in
         (first.0, read ∙ first.1, first.2)
 
 -- a switch that has a text has one that its parser accepts
-pub switch_text : (old : Command) (m : ArgMatches) (p : IsParsedFrom old m) (k : ℕ) (a : Arg) → IsOption old k a value.Bool → IsPlain old → (out-Command old).has_globals ≡ false → IfSome (one_text (found_of m) a.id.now) (λ text. Accepts false value.Bool text)
+pub switch_text : (old : Command) (m : ArgMatches) (p : IsParsedFrom old m) (k : ℕ) (a : Arg) →
+    IsOption old k a value.Bool → IsPlain old → (out-Command old).has_globals ≡ false →
+    IfSome (one_text (found_of m) a.id.now) (λ text. Accepts false value.Bool text)
 switch_text old m p k a option plain globals = at (matched_of (found_of m) a.id.now) refl
   where
-    first : (how : Reading) (values : List (Bor (List ℕ))) → how ≡ reading.AsWritten → All (λ v. Accepts false value.Bool v.now) values → IfSome (option_map (λ s. read_as how s.now) (slice_get values 0)) (λ text. Accepts false value.Bool text)
+    first : (how : Reading) (values : List (Bor (List ℕ))) → how ≡ reading.AsWritten →
+        All (λ v. Accepts false value.Bool v.now) values →
+        IfSome (option_map (λ s. read_as how s.now) (slice_get values 0)) (λ text. Accepts false value.Bool text)
     first how [] written accepts = tt
-    first how (v ∷ values) written accepts = rw written (All-get_or (λ v. Accepts false value.Bool v.now) (v ∷ values) 0 v (omega arith) accepts)
+    first how (v ∷ values) written accepts =
+        rw written (All-get_or (λ v. Accepts false value.Bool v.now) (v ∷ values) 0 v (omega arith) accepts)
 
-    at : (entry : Option MatchedArg) → matched_of (found_of m) a.id.now ≡ entry → IfSome (one_text (found_of m) a.id.now) (λ text. Accepts false value.Bool text)
+    at : (entry : Option MatchedArg) → matched_of (found_of m) a.id.now ≡ entry →
+        IfSome (one_text (found_of m) a.id.now) (λ text. Accepts false value.Bool text)
     at None is = rw is tt
     at (Some x) is =
         let parsed = p.parsed (p.from.globals ∙ globals) in

@@ -1,5 +1,6 @@
 -- The steps of a pass that was alone: nothing was done before each but what the pass had seen.
-use Rattle.std.proofs.Common.{◌≡◌, ℕ, ◌≤◌, false, List, [], ◌∷◌, ◌++◌, Option, refl, sym, ap, ◌∙◌, subst, arith, append_assoc, append-nil}
+use Rattle.std.proofs.Common.{◌≡◌, ℕ, ◌≤◌, false, List, [], ◌∷◌, ◌++◌, Option, refl, sym, ap, ◌∙◌, subst, arith}
+use Rattle.std.proofs.Common.{append_assoc, append-nil}
 use Rattle.std.proofs.lemmas.List.{append_cancel_left}
 use Rattle.vbr_machine.specs.Start.{Start, IsStart}
 use Rattle.vbr_words.specs.Words.{link_of, word_of}
@@ -16,8 +17,12 @@ use Rattle.vbr_machine.specs.Runs.{IsRun, Begins, NoneOf, world_after}
 use Rattle.vbr_machine.specs.declared.event.Event.{Event}
 use Rattle.vbr_machine.specs.declared.event.Effect.TheVariants.{Value}
 use Rattle.vbr_machine.specs.declared.event.Step.{Step}
-use Rattle.vbr_machine.specs.declared.event.Step.TheVariants.{ReadEpoch, LoadLink, StoreStamp, Raise, StoreKey, StoreLink, StoreValue}
-use Rattle.vbr_machine.proofs.Lemmas.{begins_trans, calls_or_adds_none, is_run_before, is_run_last, key_leaves_links, link_leaves_links, link_loaded, own_calls-snoc, raise_epoch, raise_leaves, raise_links, read_leaves, run_agrees, stamp_epoch, stamp_leaves, stamp_links, value_leaves_links}
+use Rattle.vbr_machine.specs.declared.event.Step.TheVariants.{ReadEpoch, LoadLink, StoreStamp, Raise, StoreKey}
+use Rattle.vbr_machine.specs.declared.event.Step.TheVariants.{StoreLink, StoreValue}
+use Rattle.vbr_machine.proofs.Lemmas.{begins_trans, calls_or_adds_none, is_run_before, is_run_last, key_leaves_links}
+use Rattle.vbr_machine.proofs.Lemmas.{link_leaves_links, link_loaded, own_calls-snoc, raise_epoch, raise_leaves}
+use Rattle.vbr_machine.proofs.Lemmas.{raise_links, read_leaves, run_agrees, stamp_epoch, stamp_leaves, stamp_links}
+use Rattle.vbr_machine.proofs.Lemmas.{value_leaves_links}
 use Rattle.vbr_machine.specs.Calls.{calls_added, own_calls}
 use Rattle.vbr_machine.specs.Membership.{Knows}
 use Rattle.vbr_machine.specs.declared.history.Call.{Call}
@@ -42,20 +47,30 @@ all_back who (x ∷ xs) ys h = all_back who xs ys h.1
 
 -- what was done is what was done first, and then the rest
 in_parts : (p q r : Trace) (x : Begins p.seen q.seen) (y : Begins q.seen r.seen) (a : IsAlone p r) → a.own ≡ x.0 ++ y.0
-in_parts p q r x y a = append_cancel_left p.seen a.own (x.0 ++ y.0) (sym a.seen ∙ y.1 ∙ ap (λ l. l ++ y.0) x.1 ∙ append_assoc p.seen x.0 y.0)
+in_parts p q r x y a =
+    append_cancel_left p.seen a.own (x.0 ++ y.0)
+    (sym a.seen ∙ y.1 ∙ ap (λ l. l ++ y.0) x.1 ∙ append_assoc p.seen x.0 y.0)
 
 pub alone_first : {p q r : Trace} → Begins p.seen q.seen → Begins q.seen r.seen → IsAlone p r → IsAlone p q
-alone_first {p} {q} {r} x y a = let P : List Event → Type 0 = OnlyEventsOf p.who in record { own = x.0; each = all_front p.who x.0 y.0 (subst P (in_parts p q r x y a) a.each); seen = x.1 }
+alone_first {p} {q} {r} x y a =
+    let P : List Event → Type 0 = OnlyEventsOf p.who in
+    record { own = x.0; each = all_front p.who x.0 y.0 (subst P (in_parts p q r x y a) a.each); seen = x.1 }
 
-pub alone_then : {p q r : Trace} → q.who ≡ p.who → Begins p.seen q.seen → Begins q.seen r.seen → IsAlone p r → IsAlone q r
+pub alone_then : {p q r : Trace} → q.who ≡ p.who → Begins p.seen q.seen → Begins q.seen r.seen → IsAlone p r →
+    IsAlone q r
 alone_then {p} {q} {r} who x y a =
     let P : List Event → Type 0 = OnlyEventsOf p.who in
     let Q : ℕ → Type 0 = λ w. OnlyEventsOf w y.0 in
-    record { own = y.0; each = subst Q (sym who) (all_back p.who x.0 y.0 (subst P (in_parts p q r x y a) a.each)); seen = y.1 }
+    record {
+      own = y.0;
+      each = subst Q (sym who) (all_back p.who x.0 y.0 (subst P (in_parts p q r x y a) a.each));
+      seen = y.1;
+    }
 
 -- ---- one step
 
-none_and_all : (who : ℕ) (rest : List Event) (e : Event) → NoneOf who rest → OnlyEventsOf who (rest ++ e ∷ []) → rest ≡ []
+none_and_all : (who : ℕ) (rest : List Event) (e : Event) → NoneOf who rest → OnlyEventsOf who (rest ++ e ∷ []) →
+    rest ≡ []
 none_and_all who [] e n a = refl
 none_and_all who (x ∷ rest) e n a = absurd (n.0 a.0)
 
@@ -64,7 +79,9 @@ module _ {step : Step} {p q : Trace} {r : ℕ} (d : Did step p q r) (alone : IsA
   pub no_rest : d.rest ≡ []
   no_rest =
       let P : List Event → Type 0 = OnlyEventsOf p.who in
-      let same : alone.own ≡ d.rest ++ event_of p.who step ∷ [] = append_cancel_left p.seen alone.own (d.rest ++ event_of p.who step ∷ []) (sym alone.seen ∙ d.seen ∙ append_assoc p.seen d.rest (event_of p.who step ∷ [])) in
+      let same : alone.own ≡ d.rest ++ event_of p.who step ∷ [] =
+      append_cancel_left p.seen alone.own (d.rest ++ event_of p.who step ∷ [])
+      (sym alone.seen ∙ d.seen ∙ append_assoc p.seen d.rest (event_of p.who step ∷ [])) in
       none_and_all p.who d.rest (event_of p.who step) d.none (subst P same alone.each)
 
   pub before_it : p.seen ++ d.rest ≡ p.seen
@@ -78,11 +95,14 @@ module _ {step : Step} {p q : Trace} {r : ℕ} (d : Did step p q r) (alone : IsA
 
   -- the run was one before it
   pub run_was : IsRun p.start p.passes p.seen
-  run_was = let P : List Event → Type 0 = IsRun p.start p.passes in is_run_before p.start p.passes p.seen (event_of p.who step ∷ []) (subst P seen_next d.is_run)
+  run_was =
+      let P : List Event → Type 0 = IsRun p.start p.passes in
+      is_run_before p.start p.passes p.seen (event_of p.who step ∷ []) (subst P seen_next d.is_run)
 
   -- a step that only reads leaves the incarnations as they were
   pub looks : ((w : World) (a : Incarnations) → happens p.start w a p.who step ≡ []) → nodes q ≡ nodes p
-  looks none = nodes_next ∙ read_leaves p.start p.seen p.who step (none (world_after p.start p.seen) (incarnations_after p.start p.seen))
+  looks none = nodes_next
+      ∙ read_leaves p.start p.seen p.who step (none (world_after p.start p.seen) (incarnations_after p.start p.seen))
 
 -- ---- what was read
 
@@ -90,28 +110,38 @@ value_was : (r n : ℕ) → Value r ≡ Value n → n ≡ r
 value_was r n e = cc
 
 -- the link that was read stands there
-pub link_now : {p q : Trace} {at : At} {word : ℕ} → IsStart p.start → Did (LoadLink at) p q word → IsAlone p q → link_shown_at (nodes p) at ≡ link_of word
+pub link_now : {p q : Trace} {at : At} {word : ℕ} → IsStart p.start → Did (LoadLink at) p q word → IsAlone p q →
+    link_shown_at (nodes p) at ≡ link_of word
 link_now {p} {q} {at} {word} is d alone =
     let ok = run_was d alone in
-    let w : word ≡ found p.start (world_after p.start p.seen) (LoadLink at) = sym (value_was word _ d.shows.answers) ∙ ap (λ l. found p.start (world_after p.start l) (LoadLink at)) (before_it d alone) in
-    sym (image at (run_agrees p.start p.passes p.seen is ok)) ∙ link_loaded p.start p.passes p.seen is ok p.who at ∙ ap link_of (sym w)
+    let w : word ≡ found p.start (world_after p.start p.seen) (LoadLink at) =
+    sym (value_was word _ d.shows.answers)
+    ∙ ap (λ l. found p.start (world_after p.start l) (LoadLink at)) (before_it d alone) in
+    sym (image at (run_agrees p.start p.passes p.seen is ok)) ∙ link_loaded p.start p.passes p.seen is ok p.who at
+    ∙ ap link_of (sym w)
   where
-    image : (at : At) → Agrees p.start (world_after p.start p.seen) (incarnations_after p.start p.seen) (notes_after p.start p.seen) → machine.link_at (world_after p.start p.seen) at ≡ link_shown_at (incarnations_after p.start p.seen) at
+    image : (at : At) →
+        Agrees p.start (world_after p.start p.seen) (incarnations_after p.start p.seen) (notes_after p.start p.seen) →
+        machine.link_at (world_after p.start p.seen) at ≡ link_shown_at (incarnations_after p.start p.seen) at
     image (Head b) g = g.image.head b
     image (Slot s) g = g.image.link s
 
 -- the epoch that was read is the one that stands
-pub epoch_now : {p q : Trace} {epoch : ℕ} → IsStart p.start → Did ReadEpoch p q epoch → IsAlone p q → epoch ≡ (nodes p).epoch
+pub epoch_now : {p q : Trace} {epoch : ℕ} → IsStart p.start → Did ReadEpoch p q epoch → IsAlone p q →
+    epoch ≡ (nodes p).epoch
 epoch_now {p} {q} {epoch} is d alone =
     let ok = run_was d alone in
-    sym (value_was epoch _ d.shows.answers) ∙ ap (λ l. (world_after p.start l).epoch) (before_it d alone) ∙ (run_agrees p.start p.passes p.seen is ok).image.epoch
+    sym (value_was epoch _ d.shows.answers) ∙ ap (λ l. (world_after p.start l).epoch) (before_it d alone)
+    ∙ (run_agrees p.start p.passes p.seen is ok).image.epoch
 
 -- ---- steps in a row
 
-pub alone_two : {s1 s2 : Step} {p q r : Trace} {a b : ℕ} → Did s1 p q a → Did s2 q r b → IsAlone p r → IsAlone p q × IsAlone q r
+pub alone_two : {s1 s2 : Step} {p q r : Trace} {a b : ℕ} → Did s1 p q a → Did s2 q r b → IsAlone p r →
+    IsAlone p q × IsAlone q r
 alone_two d e h = (alone_first (did_seen d) (did_seen e) h, alone_then d.same.3 (did_seen d) (did_seen e) h)
 
-pub alone_three : {s1 s2 s3 : Step} {p q r t : Trace} {a b c : ℕ} → Did s1 p q a → Did s2 q r b → Did s3 r t c → IsAlone p t → IsAlone p q × IsAlone q r × IsAlone r t
+pub alone_three : {s1 s2 s3 : Step} {p q r t : Trace} {a b c : ℕ} → Did s1 p q a → Did s2 q r b → Did s3 r t c →
+    IsAlone p t → IsAlone p q × IsAlone q r × IsAlone r t
 alone_three {s1} {s2} {s3} {p} {q} {r} {t} d e f h =
     let later = alone_then d.same.3 (did_seen d) (begins_trans q.seen r.seen t.seen (did_seen e) (did_seen f)) h in
     let rest = alone_two e f later in
@@ -120,11 +150,14 @@ alone_three {s1} {s2} {s3} {p} {q} {r} {t} d e f h =
 -- ---- the epoch once it was read
 
 -- an epoch that was just read is the one that stands, whoever did what before
-pub fresh_read : {p q : Trace} {epoch : ℕ} → IsStart p.start → Did ReadEpoch p q epoch → (knows q).epoch ≡ epoch → IsFresh q
+pub fresh_read : {p q : Trace} {epoch : ℕ} → IsStart p.start → Did ReadEpoch p q epoch → (knows q).epoch ≡ epoch →
+    IsFresh q
 fresh_read {p} {q} {epoch} is d knew =
     let P : List Event → Type 0 = IsRun p.start p.passes in
-    let ok = is_run_before p.start p.passes (p.seen ++ d.rest) (event_of p.who ReadEpoch ∷ []) (subst P d.seen d.is_run) in
-    ap (λ (a : Incarnations). a.epoch) ((λ i. incarnations_after (d.same.1 i) (d.seen i)) ∙ read_leaves p.start (p.seen ++ d.rest) p.who ReadEpoch refl)
+    let ok = is_run_before p.start p.passes (p.seen ++ d.rest) (event_of p.who ReadEpoch ∷ [])
+    (subst P d.seen d.is_run) in
+    ap (λ (a : Incarnations). a.epoch)
+    ((λ i. incarnations_after (d.same.1 i) (d.seen i)) ∙ read_leaves p.start (p.seen ++ d.rest) p.who ReadEpoch refl)
     ∙ sym (run_agrees p.start p.passes (p.seen ++ d.rest) is ok).image.epoch
     ∙ value_was epoch _ d.shows.answers
     ∙ sym knew
@@ -132,21 +165,31 @@ fresh_read {p} {q} {epoch} is d knew =
 -- ---- what an exchange finds
 
 -- the word of a link that stands at a place
-pub stands_found : (p : Trace) (at : At) (word : ℕ) → IsStart p.start → IsRun p.start p.passes p.seen → link_shown_at (nodes p) at ≡ link_of word → word_of (machine.link_at (world_after p.start p.seen) at) ≡ word
-stands_found p at word is ok stands = ap word_of (image at (run_agrees p.start p.passes p.seen is ok) ∙ stands) ∙ word_of-link_of word
+pub stands_found : (p : Trace) (at : At) (word : ℕ) → IsStart p.start → IsRun p.start p.passes p.seen →
+    link_shown_at (nodes p) at ≡ link_of word → word_of (machine.link_at (world_after p.start p.seen) at) ≡ word
+stands_found p at word is ok stands =
+    ap word_of (image at (run_agrees p.start p.passes p.seen is ok) ∙ stands) ∙ word_of-link_of word
   where
-    image : (at : At) → Agrees p.start (world_after p.start p.seen) (incarnations_after p.start p.seen) (notes_after p.start p.seen) → machine.link_at (world_after p.start p.seen) at ≡ link_shown_at (incarnations_after p.start p.seen) at
+    image : (at : At) →
+        Agrees p.start (world_after p.start p.seen) (incarnations_after p.start p.seen) (notes_after p.start p.seen) →
+        machine.link_at (world_after p.start p.seen) at ≡ link_shown_at (incarnations_after p.start p.seen) at
     image (Head b) g = g.image.head b
     image (Slot s) g = g.image.link s
 
 -- a step that was made alone found what stood after all that the pass had seen
-pub found_now : {step : Step} {p q : Trace} {r : ℕ} (d : Did step p q r) → IsAlone p q → found p.start (world_after p.start (p.seen ++ d.rest)) step ≡ found p.start (world_after p.start p.seen) step
+pub found_now : {step : Step} {p q : Trace} {r : ℕ} (d : Did step p q r) → IsAlone p q →
+    found p.start (world_after p.start (p.seen ++ d.rest)) step ≡ found p.start (world_after p.start p.seen) step
 found_now {step} {p} d alone = ap (λ l. found p.start (world_after p.start l) step) (before_it d alone)
 
 -- ---- what leaves the lists as they were
 
 pub leaves_on : {p q r : Trace} → LeavesLists p q → LeavesLists q r → LeavesLists p r
-leaves_on x y = record { epoch = y.epoch ∙ x.epoch; links = λ at. y.links at ∙ x.links at; count = λ bucket at. y.count bucket at ∙ x.count bucket at }
+leaves_on x y =
+    record {
+      epoch = y.epoch ∙ x.epoch;
+      links = λ at. y.links at ∙ x.links at;
+      count = λ bucket at. y.count bucket at ∙ x.count bucket at;
+    }
 
 -- the same incarnations, in the same shape
 pub same_leaves : (p q : Trace) → q.start ≡ p.start → nodes q ≡ nodes p → LeavesLists p q
@@ -158,16 +201,24 @@ same_leaves p q start same = record {
 
 module _ {step : Step} {p q : Trace} {r : ℕ} (d : Did step p q r) (alone : IsAlone p q) where
   pub accepted_now : Accepts p.start (knows p) step
-  accepted_now = let P : List Event → Type 0 = IsRun p.start p.passes in (is_run_last p.start p.passes p.seen (event_of p.who step) (subst P (seen_next d alone) d.is_run)).1
+  accepted_now =
+      let P : List Event → Type 0 = IsRun p.start p.passes in
+      (is_run_last p.start p.passes p.seen (event_of p.who step) (subst P (seen_next d alone) d.is_run)).1
 
-  next_leaves : (nodes q).epoch ≡ (nodes p).epoch → ((at : At) → link_shown_at (incarnations_after p.start (p.seen ++ event_of p.who step ∷ [])) at ≡ link_shown_at (nodes p) at) → ((bucket : ℕ) (at : At) → behind p.start (incarnations_after p.start (p.seen ++ event_of p.who step ∷ [])) bucket at ≡ ahead p bucket at) → LeavesLists p q
+  next_leaves : (nodes q).epoch ≡ (nodes p).epoch →
+      ((at : At) →
+      link_shown_at (incarnations_after p.start (p.seen ++ event_of p.who step ∷ [])) at ≡ link_shown_at (nodes p) at) →
+      ((bucket : ℕ) (at : At) →
+      behind p.start (incarnations_after p.start (p.seen ++ event_of p.who step ∷ [])) bucket at ≡ ahead p bucket at) →
+      LeavesLists p q
   next_leaves epoch links count = record {
     epoch = epoch;
     links = λ at. ap (λ a. link_shown_at a at) (nodes_next d alone) ∙ links at;
     count = λ bucket at. (λ i. behind (d.same.1 i) (nodes_next d alone i) bucket at) ∙ count bucket at;
   }
 
-pub stamp_leaves_lists : {p q : Trace} {s stamp r : ℕ} → IsStart p.start → Did (StoreStamp s stamp) p q r → IsAlone p q → LeavesLists p q
+pub stamp_leaves_lists : {p q : Trace} {s stamp r : ℕ} → IsStart p.start → Did (StoreStamp s stamp) p q r →
+    IsAlone p q → LeavesLists p q
 stamp_leaves_lists {p} {q} {s} {stamp} is d alone =
     let ok = run_was d alone in
     next_leaves d alone
@@ -186,31 +237,42 @@ raise_leaves_lists {p} {q} {s} is d alone =
 -- ---- filling a slot in hand
 
 -- a key that is stored in a slot in hand leaves the link of each place
-pub key_stored_leaves : {p q : Trace} {s key r : ℕ} (at : At) → IsStart p.start → Did (StoreKey s key) p q r → IsAlone p q → link_shown_at (nodes q) at ≡ link_shown_at (nodes p) at
+pub key_stored_leaves : {p q : Trace} {s key r : ℕ} (at : At) → IsStart p.start → Did (StoreKey s key) p q r →
+    IsAlone p q → link_shown_at (nodes q) at ≡ link_shown_at (nodes p) at
 key_stored_leaves {p} {q} {s} {key} at is d alone =
-    ap (λ a. link_shown_at a at) (nodes_next d alone) ∙ key_leaves_links p.start p.passes p.seen is (run_was d alone) p.who s key at
+    ap (λ a. link_shown_at a at) (nodes_next d alone)
+    ∙ key_leaves_links p.start p.passes p.seen is (run_was d alone) p.who s key at
 
 -- and so does a value
-pub value_stored_leaves : {p q : Trace} {s value r : ℕ} (at : At) → IsStart p.start → Did (StoreValue s value) p q r → IsAlone p q → link_shown_at (nodes q) at ≡ link_shown_at (nodes p) at
+pub value_stored_leaves : {p q : Trace} {s value r : ℕ} (at : At) → IsStart p.start → Did (StoreValue s value) p q r →
+    IsAlone p q → link_shown_at (nodes q) at ≡ link_shown_at (nodes p) at
 value_stored_leaves {p} {q} {s} {value} at is d alone =
-    ap (λ a. link_shown_at a at) (nodes_next d alone) ∙ value_leaves_links p.start p.passes p.seen is (run_was d alone) p.who s value at
+    ap (λ a. link_shown_at a at) (nodes_next d alone)
+    ∙ value_leaves_links p.start p.passes p.seen is (run_was d alone) p.who s value at
 
 -- a link that is stored in a slot in hand leaves one that is known unmarked, and stands
-pub link_stored_leaves : {p q : Trace} {s r : ℕ} {next : Option ℕ} (at : At) (link : Link) → IsStart p.start → Did (StoreLink s next) p q r → IsAlone p q → Knows (knows p) (LinkAt at link) → link.mark ≡ false → link_shown_at (nodes p) at ≡ link → link_shown_at (nodes q) at ≡ link
+pub link_stored_leaves : {p q : Trace} {s r : ℕ} {next : Option ℕ} (at : At) (link : Link) → IsStart p.start →
+    Did (StoreLink s next) p q r → IsAlone p q → Knows (knows p) (LinkAt at link) → link.mark ≡ false →
+    link_shown_at (nodes p) at ≡ link → link_shown_at (nodes q) at ≡ link
 link_stored_leaves {p} {q} {s} {r} {next} at link is d alone known unmarked stands =
-    ap (λ a. link_shown_at a at) (nodes_next d alone) ∙ link_leaves_links p.start p.passes p.seen is (run_was d alone) p.who s next at link known unmarked stands
+    ap (λ a. link_shown_at a at) (nodes_next d alone)
+    ∙ link_leaves_links p.start p.passes p.seen is (run_was d alone) p.who s next at link known unmarked stands
 
 -- ---- without a call
 
 -- the calls of a pass go on with those of its own events
-calls_go_on : (start : Start) (who : ℕ) (run own : List Event) → OnlyEventsOf who own → (more : List Call) × (own_calls start (run ++ own) who ≡ own_calls start run who ++ more)
-calls_go_on start who run [] h = ([], ap (λ l. own_calls start l who) (append-nil run) ∙ sym (append-nil (own_calls start run who)))
+calls_go_on : (start : Start) (who : ℕ) (run own : List Event) → OnlyEventsOf who own →
+    (more : List Call) × (own_calls start (run ++ own) who ≡ own_calls start run who ++ more)
+calls_go_on start who run [] h =
+    ([], ap (λ l. own_calls start l who) (append-nil run) ∙ sym (append-nil (own_calls start run who)))
 calls_go_on start who run (e ∷ own) h =
     let rest = calls_go_on start who (run ++ e ∷ []) own h.1 in
     let added = calls_added start (world_after start run) e.pass e.step in
     let P : ℕ → Type 0 = λ w. own_calls start (run ++ e ∷ []) w ≡ own_calls start run w ++ added in (
       added ++ rest.0,
-      ap (λ l. own_calls start l who) (sym (append_assoc run (e ∷ []) own)) ∙ rest.1 ∙ ap (λ l. l ++ rest.0) (subst P h.0 (own_calls-snoc start run e)) ∙ append_assoc (own_calls start run who) added rest.0,
+      ap (λ l. own_calls start l who) (sym (append_assoc run (e ∷ []) own)) ∙ rest.1
+          ∙ ap (λ l. l ++ rest.0) (subst P h.0 (own_calls-snoc start run e))
+          ∙ append_assoc (own_calls start run who) added rest.0,
     )
 
 none_first : {A : Type 0} (xs ys : List A) → xs ++ ys ≡ [] → xs ≡ []
@@ -218,10 +280,15 @@ none_first [] ys e = refl
 none_first (x ∷ xs) ys e = absurd (cc)
 
 -- own events by which the pass makes no call add no node to a list
-own_add_none : (start : Start) (passes who bucket h : ℕ) → IsStart start → (run own : List Event) → OnlyEventsOf who own → IsRun start passes (run ++ own) → own_calls start (run ++ own) who ≡ own_calls start run who →
-    behind start (incarnations_after start (run ++ own)) bucket (Head h) ≤ behind start (incarnations_after start run) bucket (Head h)
+own_add_none : (start : Start) (passes who bucket h : ℕ) → IsStart start → (run own : List Event) →
+    OnlyEventsOf who own → IsRun start passes (run ++ own) →
+    own_calls start (run ++ own) who ≡ own_calls start run who →
+    behind start (incarnations_after start (run ++ own)) bucket (Head h)
+    ≤ behind start (incarnations_after start run) bucket (Head h)
 own_add_none start passes who bucket h is run [] each ok calls =
-    let P : List Event → Type 0 = λ l. behind start (incarnations_after start l) bucket (Head h) ≤ behind start (incarnations_after start run) bucket (Head h) in
+    let P : List Event → Type 0 =
+    λ l. behind start (incarnations_after start l) bucket (Head h)
+    ≤ behind start (incarnations_after start run) bucket (Head h) in
     subst P (sym (append-nil run)) (omega arith)
 own_add_none start passes who bucket h is run (e ∷ own) each ok calls =
     let next = run ++ e ∷ [] in
@@ -234,21 +301,35 @@ own_add_none start passes who bucket h is run (e ∷ own) each ok calls =
     let added = calls_added start (world_after start run) e.pass e.step in
     let more = calls_go_on start who next own each.1 in
     let R : ℕ → Type 0 = λ w. own_calls start next w ≡ own_calls start run w ++ added in
-    let one : own_calls start next who ≡ own_calls start run who ++ added = subst R each.0 (own_calls-snoc start run e) in
+    let one : own_calls start next who ≡ own_calls start run who ++ added =
+    subst R each.0 (own_calls-snoc start run e) in
     let all : own_calls start run who ++ (added ++ more.0) ≡ own_calls start run who ++ [] =
-    sym (append_assoc (own_calls start run who) added more.0) ∙ ap (λ l. l ++ more.0) (sym one) ∙ sym more.1 ∙ subst P split calls ∙ sym (append-nil (own_calls start run who)) in
-    let none : added ≡ [] = none_first added more.0 (append_cancel_left (own_calls start run who) (added ++ more.0) [] all) in
-    let still : own_calls start next who ≡ own_calls start run who = one ∙ ap (λ l. own_calls start run who ++ l) none ∙ append-nil (own_calls start run who) in
-    let first : behind start (incarnations_after start next) bucket (Head h) ≤ behind start (incarnations_after start run) bucket (Head h) = calls_or_adds_none start passes run is (is_run_before start passes run (e ∷ []) ok_next) e.pass bucket h e.step last.1 none in
+    sym (append_assoc (own_calls start run who) added more.0) ∙ ap (λ l. l ++ more.0) (sym one) ∙ sym more.1
+    ∙ subst P split calls ∙ sym (append-nil (own_calls start run who)) in
+    let none : added ≡ [] =
+    none_first added more.0 (append_cancel_left (own_calls start run who) (added ++ more.0) [] all) in
+    let still : own_calls start next who ≡ own_calls start run who =
+    one ∙ ap (λ l. own_calls start run who ++ l) none ∙ append-nil (own_calls start run who) in
+    let first : behind start (incarnations_after start next) bucket (Head h)
+    ≤ behind start (incarnations_after start run) bucket (Head h) =
+    calls_or_adds_none start passes run is (is_run_before start passes run (e ∷ []) ok_next) e.pass bucket h e.step
+    last.1 none in
     let rest = own_add_none start passes who bucket h is next own each.1 ok_all (subst P split calls ∙ sym still) in
-    let S : List Event → Type 0 = λ l. behind start (incarnations_after start l) bucket (Head h) ≤ behind start (incarnations_after start run) bucket (Head h) in
+    let S : List Event → Type 0 =
+    λ l. behind start (incarnations_after start l) bucket (Head h)
+    ≤ behind start (incarnations_after start run) bucket (Head h) in
     subst S (sym split) (omega (arith, first, rest))
 
 -- a pass that was alone and made no call has no more nodes in a list than before
-pub quiet_adds_none : {p q : Trace} → IsStart p.start → IsRun p.start p.passes p.seen → Quiet p q → IsAlone p q → (bucket h : ℕ) → ahead q bucket (Head h) ≤ ahead p bucket (Head h)
+pub quiet_adds_none : {p q : Trace} → IsStart p.start → IsRun p.start p.passes p.seen → Quiet p q → IsAlone p q →
+    (bucket h : ℕ) → ahead q bucket (Head h) ≤ ahead p bucket (Head h)
 quiet_adds_none {p} {q} is ok quiet alone bucket h =
-    let same : ahead q bucket (Head h) ≡ behind p.start (incarnations_after p.start (p.seen ++ alone.own)) bucket (Head h) = (λ i. behind (quiet.same.start i) (incarnations_after (quiet.same.start i) (alone.seen i)) bucket (Head h)) in
-    let run : IsRun p.start p.passes (p.seen ++ alone.own) = rw (quiet.same.start, quiet.same.passes, alone.seen) at (quiet.is_run ok) in
-    let calls : own_calls p.start (p.seen ++ alone.own) p.who ≡ own_calls p.start p.seen p.who = sym (λ i. own_calls (quiet.same.start i) (alone.seen i) (quiet.same.who i)) ∙ quiet.calls in
+    let same : ahead q bucket (Head h)
+    ≡ behind p.start (incarnations_after p.start (p.seen ++ alone.own)) bucket (Head h) =
+    (λ i. behind (quiet.same.start i) (incarnations_after (quiet.same.start i) (alone.seen i)) bucket (Head h)) in
+    let run : IsRun p.start p.passes (p.seen ++ alone.own) =
+    rw (quiet.same.start, quiet.same.passes, alone.seen) at (quiet.is_run ok) in
+    let calls : own_calls p.start (p.seen ++ alone.own) p.who ≡ own_calls p.start p.seen p.who =
+    sym (λ i. own_calls (quiet.same.start i) (alone.seen i) (quiet.same.who i)) ∙ quiet.calls in
     let P : ℕ → Type 0 = λ n. n ≤ ahead p bucket (Head h) in
     subst P (sym same) (own_add_none p.start p.passes p.who bucket h is p.seen alone.own alone.each run calls)

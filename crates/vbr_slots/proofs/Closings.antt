@@ -1,5 +1,6 @@
 -- The end of a table: its passes joined, and its words.
-use Rattle.std.proofs.Common.{Bool, ◌≡◌, ℕ, zero, suc, ◌+◌, List, [], ◌∷◌, ◌++◌, length, take, refl, sym, ap, ◌∙◌, subst, append-nil, arith}
+use Rattle.std.proofs.Common.{Bool, ◌≡◌, ℕ, zero, suc, ◌+◌, List, [], ◌∷◌, ◌++◌, length, take, refl, sym, ap, ◌∙◌}
+use Rattle.std.proofs.Common.{subst, append-nil, arith}
 use mathlib.Core.Option.{some, some-ne-none, some-injective}
 use lib.ListN.{get_elem?}
 use Rattle.atomic_table.specs.Table.{Final, Seen}
@@ -26,13 +27,16 @@ take_at l i x at = ap (λ (n : ℕ). take n l) (let e : i + 1 ≡ suc i = omega 
     go (y ∷ ys) zero at = ap (λ (z : ℕ). z ∷ []) (some-injective y x at)
     go (y ∷ ys) (suc i) at = ap (λ zs. y ∷ zs) (go ys i at)
 
-pub one_of : (t : TableView) (ys : List PassView) (p : PassView) (zs : List PassView) → AllOf t (ys ++ (p ∷ zs)) → IsOf p.trace t
+pub one_of : (t : TableView) (ys : List PassView) (p : PassView) (zs : List PassView) → AllOf t (ys ++ (p ∷ zs)) →
+    IsOf p.trace t
 one_of t [] p zs all = all.0
 one_of t (y ∷ ys) p zs all = one_of t ys p zs all.1
 
-pub witnesses_of-snoc : (ys : List PassView) (p : PassView) → witnesses_of (ys ++ p ∷ []) ≡ witnesses_of ys ++ witness (opened_of p.trace.start) p.trace.who p.trace.seen ∷ []
+pub witnesses_of-snoc : (ys : List PassView) (p : PassView) →
+    witnesses_of (ys ++ p ∷ []) ≡ witnesses_of ys ++ witness (opened_of p.trace.start) p.trace.who p.trace.seen ∷ []
 witnesses_of-snoc [] p = refl
-witnesses_of-snoc (y ∷ ys) p = ap (λ ms. witness (opened_of y.trace.start) y.trace.who y.trace.seen ∷ ms) (witnesses_of-snoc ys p)
+witnesses_of-snoc (y ∷ ys) p =
+    ap (λ ms. witness (opened_of y.trace.start) y.trace.who y.trace.seen ∷ ms) (witnesses_of-snoc ys p)
 
 pub each_seen : (run : List Event) (ps : List PassView) → EachBegins run (witnesses_of ps) → EachSeen run ps
 each_seen run [] b = tt
@@ -42,17 +46,21 @@ pub none_left : (xs ys : List PassView) (zs : List PassView) → length ys ≡ 0
 none_left xs [] zs none is = sym (append-nil xs) ∙ is
 none_left xs (y ∷ ys) zs none is = absurd (omega arith)
 
-pub ends : {N : Type 0} {values : Bool} (t : SlotsInside N) (table : TableView) → IsBuilt values t → table_of t ≡ table → (id : ℕ) (me : Sat) (ps : List PassView) → me ≡ (witnesses_of ps, []) → (words : List ℕ) (xs : List (Unit {0}))
+pub ends : {N : Type 0} {values : Bool} (t : SlotsInside N) (table : TableView) → IsBuilt values t →
+    table_of t ≡ table → (id : ℕ) (me : Sat) (ps : List PassView) → me ≡ (witnesses_of ps, []) →
+    (words : List ℕ) (xs : List (Unit {0}))
     → Final (Seen (Kept t.table.shared.key) id me.0) words xs → Ends table ps words
 ends t table built t_is id me ps is words xs last =
     let key : t.table.shared.key ≡ opening_of table = built.key ∙ ap opening_of t_is in
     let start : IsStart table.start = subst (λ (q : TableView). IsStart q.start) t_is built.start in
     let kept = last.1.0 in
-    let is_run : IsRun table.start table.passes kept.run = subst (λ (o : TableStart). IsRun o.start o.passes kept.run) key kept.is_run in
+    let is_run : IsRun table.start table.passes kept.run =
+    subst (λ (o : TableStart). IsRun o.start o.passes kept.run) key kept.is_run in
     record {
       run = kept.run;
       is_run = is_run;
       safe = every_run table.start table.passes kept.run start is_run;
-      are = subst (λ (x : TableStart × List ℕ). AreWordsOf x.0.start (world_after x.0.start kept.run) x.1) (λ i. (key i, last.2 i)) kept.words;
+      are = subst (λ (x : TableStart × List ℕ). AreWordsOf x.0.start (world_after x.0.start kept.run) x.1)
+          (λ i. (key i, last.2 i)) kept.words;
       begins = each_seen kept.run ps (subst (λ (m : Sat). EachBegins kept.run m.0) is (kept.begins id me.0 last.1.1));
     }

@@ -12,25 +12,35 @@ use Rattle.vbr_slots.specs.Views.{PassView, Trace, counted_steps, steps_of}
 use Rattle.vbr_slots.proofs.Calls.{count_on, did_took}
 
 -- the count goes on, where the pass was lent as it was
-pub counts : {p lent : PassView} {q : Trace} {old new : ℕ} (more : ℕ) → lent ≡ p → old ≡ counted_steps (steps_of p.trace) → new ≡ counted_steps (old + more) → Took lent.trace q more → new ≡ counted_steps (steps_of q)
-counts {p} {lent} {q} {old} {new} more same is after took = count_on old new more (is ∙ ap (λ (v : PassView). counted_steps (steps_of v.trace)) (sym same)) after took
+pub counts : {p lent : PassView} {q : Trace} {old new : ℕ} (more : ℕ) → lent ≡ p →
+    old ≡ counted_steps (steps_of p.trace) → new ≡ counted_steps (old + more) → Took lent.trace q more →
+    new ≡ counted_steps (steps_of q)
+counts {p} {lent} {q} {old} {new} more same is after took =
+    count_on old new more (is ∙ ap (λ (v : PassView). counted_steps (steps_of v.trace)) (sym same)) after took
 
-pub expects_took : (step : Step) (p q : PassView) (expected : ℕ) (answer : Result (Unit {0}) ℕ) → OnOk answer (Finds step p q expected) → IfErr answer (FindsOther step p q expected) → Took p.trace q.trace 1
+pub expects_took : (step : Step) (p q : PassView) (expected : ℕ) (answer : Result (Unit {0}) ℕ) →
+    OnOk answer (Finds step p q expected) → IfErr answer (FindsOther step p q expected) → Took p.trace q.trace 1
 expects_took step p q expected (Ok done) finds other = did_took finds.did
 expects_took step p q expected (Err found) finds other = did_took other.did
 
-pub publishes_took : (pred : At) (expected slot : ℕ) (p q : PassView) (answer : Result (Unit {0}) ℕ) → OnOk answer (Publishes pred expected slot p q) → IfErr answer (FindsOther (Publish pred expected slot) p q expected) → Took p.trace q.trace 1
+pub publishes_took : (pred : At) (expected slot : ℕ) (p q : PassView) (answer : Result (Unit {0}) ℕ) →
+    OnOk answer (Publishes pred expected slot p q) →
+    IfErr answer (FindsOther (Publish pred expected slot) p q expected) → Took p.trace q.trace 1
 publishes_took pred expected slot p q (Ok done) publishes other = did_took publishes.did
 publishes_took pred expected slot p q (Err found) publishes other = did_took other.did
 
-pub replaces_took : (slot expected new : ℕ) (p q : PassView) (answer : Result (Unit {0}) ℕ) → OnOk answer (ReplacesNode slot expected new p q) → IfErr answer (FindsOther (Replace slot expected new) p q expected) → Took p.trace q.trace 1
+pub replaces_took : (slot expected new : ℕ) (p q : PassView) (answer : Result (Unit {0}) ℕ) →
+    OnOk answer (ReplacesNode slot expected new p q) →
+    IfErr answer (FindsOther (Replace slot expected new) p q expected) → Took p.trace q.trace 1
 replaces_took slot expected new p q (Ok done) replaces other = did_took replaces.did
 replaces_took slot expected new p q (Err found) replaces other = did_took other.did
 
-pub flag_took : (slot : ℕ) (p q : PassView) (answer : Result (Unit {0}) ℕ) → OnOk answer (TakesFlag slot p q) → IfErr answer (MissesFlag slot p q) → Took p.trace q.trace 1
+pub flag_took : (slot : ℕ) (p q : PassView) (answer : Result (Unit {0}) ℕ) → OnOk answer (TakesFlag slot p q) →
+    IfErr answer (MissesFlag slot p q) → Took p.trace q.trace 1
 flag_took slot p q (Ok done) takes misses = did_took takes.did
 flag_took slot p q (Err found) takes misses = did_took misses.did
 
-pub advance_took : (step : Step) (p q : PassView) (from : ℕ) (b : Bool) → MatchBool b (Finds step p q from) ((found : ℕ) × FindsOther step p q from found) → Took p.trace q.trace 1
+pub advance_took : (step : Step) (p q : PassView) (from : ℕ) (b : Bool) →
+    MatchBool b (Finds step p q from) ((found : ℕ) × FindsOther step p q from found) → Took p.trace q.trace 1
 advance_took step p q from true finds = did_took finds.did
 advance_took step p q from false other = did_took other.1.did

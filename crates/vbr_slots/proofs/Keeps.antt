@@ -1,5 +1,6 @@
 -- A step of the machine keeps the rule of the table.
-use Rattle.std.proofs.Common.{◌≡◌, ◌≢◌, ℕ, ◌<◌, List, [], ◌∷◌, ◌++◌, set, get_or, refl, sym, ap, ◌∙◌, subst, ⊎_elim, inl, inr, arith}
+use Rattle.std.proofs.Common.{◌≡◌, ◌≢◌, ℕ, ◌<◌, List, [], ◌∷◌, ◌++◌, set, get_or, refl, sym, ap, ◌∙◌, subst, ⊎_elim}
+use Rattle.std.proofs.Common.{inl, inr, arith}
 use mathlib.Core.Option.{some}
 use Rattle.std.proofs.lemmas.List.{set-get_or}
 use lib.ListN.{get_elem?}
@@ -13,7 +14,8 @@ use Rattle.vbr_machine.specs.Knowledge.{Know}
 use Rattle.vbr_machine.specs.Machine.{word_made, World, access_of, found, place_of_step}
 use Rattle.vbr_machine.specs.Runs.{BeginsFor, IsRun, world_after, know_after, NoneOf}
 use Rattle.vbr_machine.specs.declared.event.Event.{Event}
-use Rattle.vbr_machine.proofs.Lemmas.{begins_for_refl, is_run_after_others, others_leave_it_accepted, others_leave_know, place_in, run_agrees, world_after-snoc}
+use Rattle.vbr_machine.proofs.Lemmas.{begins_for_refl, is_run_after_others, others_leave_it_accepted, others_leave_know}
+use Rattle.vbr_machine.proofs.Lemmas.{place_in, run_agrees, world_after-snoc}
 use Rattle.vbr_slots.specs.declared.rule.Witness.{Witness}
 use Rattle.vbr_slots.specs.TableStart.{TableStart}
 use Rattle.vbr_slots.specs.Rule.{witness, nobody, Caught, EachBegins, times, Kept, Shows, Told, opened_of}
@@ -30,16 +32,22 @@ module _ (opening : TableStart) (is_start : IsStart opening.start) where
   St = Standing (Unit {0}) V
 
   -- the words after the event
-  moved : (words : List ℕ) (run : List Event) (e : Event) (i : ℕ) (f : ℕ → ℕ) → IsRun opening.start opening.passes run → Accepts opening.start (know_after opening.start run e.pass) e.step → i ≡ index_of opening.start.shape (place_of_step e.step)
-      → ((n : ℕ) → f n ≡ word_made (access_of (know_after opening.start run e.pass) e.step) n) → AreWordsOf opening.start (world_after opening.start run) words
+  moved : (words : List ℕ) (run : List Event) (e : Event) (i : ℕ) (f : ℕ → ℕ) → IsRun opening.start opening.passes run →
+      Accepts opening.start (know_after opening.start run e.pass) e.step →
+      i ≡ index_of opening.start.shape (place_of_step e.step)
+      → ((n : ℕ) → f n ≡ word_made (access_of (know_after opening.start run e.pass) e.step) n) →
+      AreWordsOf opening.start (world_after opening.start run) words
       → AreWordsOf opening.start (world_after opening.start (run ++ e ∷ [])) (set words i (f (get_or words i 0)))
   moved words run e i f is_run ok place does are =
       let start = opening.start in
-      subst (λ (x : ℕ × World). AreWordsOf start x.1 (set words x.0 (f (get_or words x.0 0)))) (λ k. (sym place k, sym (world_after-snoc start run e) k))
-      (words_after start (world_after start run) (incarnations_after start run) (notes_after start run) e.pass e.step (run_agrees start opening.passes run is_start is_run) ok words are f does)
+      subst (λ (x : ℕ × World). AreWordsOf start x.1 (set words x.0 (f (get_or words x.0 0))))
+      (λ k. (sym place k, sym (world_after-snoc start run e) k))
+      (words_after start (world_after start run) (incarnations_after start run) (notes_after start run) e.pass e.step
+      (run_agrees start opening.passes run is_start is_run) ok words are f does)
 
   -- no other seat has the number of the first witness
-  others_away : (s : St) (h : Kept opening s) (id j : ℕ) (m : Witness) (ms u : List Witness) → m.who ≢ nobody → j ≢ id → get_elem? s.views id ≡ some (m ∷ ms) → get_elem? s.views j ≡ some u → times m.who u ≡ 0
+  others_away : (s : St) (h : Kept opening s) (id j : ℕ) (m : Witness) (ms u : List Witness) → m.who ≢ nobody → j ≢ id →
+      get_elem? s.views id ≡ some (m ∷ ms) → get_elem? s.views j ≡ some u → times m.who u ≡ 0
   others_away s h id j m ms u other apart at bt =
       let two = two_in m.who s.views id j (m ∷ ms) u apart at bt in
       let all = h.counted m.who other in
@@ -47,7 +55,8 @@ module _ (opening : TableStart) (is_start : IsStart opening.start) where
       let first = times-first m ms in
       omega arith
 
-  mates_away : (s : St) (h : Kept opening s) (id : ℕ) (m : Witness) (ms : List Witness) → m.who ≢ nobody → get_elem? s.views id ≡ some (m ∷ ms) → times m.who ms ≡ 0
+  mates_away : (s : St) (h : Kept opening s) (id : ℕ) (m : Witness) (ms : List Witness) → m.who ≢ nobody →
+      get_elem? s.views id ≡ some (m ∷ ms) → times m.who ms ≡ 0
   mates_away s h id m ms other at =
       let one = one_in m.who s.views id (m ∷ ms) at in
       let all = h.counted m.who other in
@@ -56,9 +65,13 @@ module _ (opening : TableStart) (is_start : IsStart opening.start) where
       omega arith
 
   -- the first witness of the seat takes the step
-  pub plays : (slots id : ℕ) (e : Event) (seen : List Event) (others : List Witness) (cs : List (ℕ × Unit {0})) (i : ℕ) (f g : ℕ → ℕ) → e.pass < opening.passes → e.pass ≢ nobody → i ≡ index_of opening.start.shape (place_of_step e.step)
-      → ((n : ℕ) → f n ≡ word_made (access_of (know_after opening.start seen e.pass) e.step) n) → ((n : ℕ) → Shows e.step (g n) n) → Accepts opening.start (know_after opening.start seen e.pass) e.step
-      → Allows (Kept opening) slots id (witness (opened_of opening.start) e.pass seen ∷ others, cs) i f (λ r. Told opening e (witness (opened_of opening.start) e.pass seen ∷ others, cs) (g r))
+  pub plays : (slots id : ℕ) (e : Event) (seen : List Event) (others : List Witness) (cs : List (ℕ × Unit {0})) (i : ℕ)
+      (f g : ℕ → ℕ) → e.pass < opening.passes → e.pass ≢ nobody →
+      i ≡ index_of opening.start.shape (place_of_step e.step)
+      → ((n : ℕ) → f n ≡ word_made (access_of (know_after opening.start seen e.pass) e.step) n) →
+      ((n : ℕ) → Shows e.step (g n) n) → Accepts opening.start (know_after opening.start seen e.pass) e.step
+      → Allows (Kept opening) slots id (witness (opened_of opening.start) e.pass seen ∷ others, cs) i f
+      (λ r. Told opening e (witness (opened_of opening.start) e.pass seen ∷ others, cs) (g r))
   plays slots id e seen others cs i f g low other place does same ok s h _ at _ =
       let start = opening.start in
       let mine = h.begins id (witness (opened_of opening.start) e.pass seen ∷ others) at in
@@ -69,13 +82,19 @@ module _ (opening : TableStart) (is_start : IsStart opening.start) where
       let run' : List Event = run ++ e ∷ [] in
       let w : List Witness = witness (opened_of opening.start) e.pass run' ∷ others in
       let before : IsRun start opening.passes run = subst (IsRun start opening.passes) is h.is_run in
-      let is_run : IsRun start opening.passes run' = is_run_after_others start opening.passes seen rest e before low none ok in
-      let know : know_after start seen e.pass ≡ know_after start run e.pass = sym (others_leave_know start seen rest e.pass none) in
+      let is_run : IsRun start opening.passes run' =
+      is_run_after_others start opening.passes seen rest e before low none ok in
+      let know : know_after start seen e.pass ≡ know_after start run e.pass =
+      sym (others_leave_know start seen rest e.pass none) in
       let does' = λ (n : ℕ). does n ∙ ap (λ (k : Know). word_made (access_of k e.step) n) know in
-      let words : AreWordsOf start (world_after start run) s.words = subst (λ (r : List Event). AreWordsOf start (world_after start r) s.words) is h.words in
-      let ok' : Accepts start (know_after start run e.pass) e.step = others_leave_it_accepted start seen rest e.pass e.step none ok in
-      let more = λ (u : List Witness) (away : times e.pass u ≡ 0) (b : EachBegins h.run u). each_begins_more run e u away (subst (λ r. EachBegins r u) is b) in
-      let theirs : EachBegins run' others = more others (mates_away s h id (witness (opened_of opening.start) e.pass seen) others other at) mine.1 in (
+      let words : AreWordsOf start (world_after start run) s.words =
+      subst (λ (r : List Event). AreWordsOf start (world_after start r) s.words) is h.words in
+      let ok' : Accepts start (know_after start run e.pass) e.step =
+      others_leave_it_accepted start seen rest e.pass e.step none ok in
+      let more = λ (u : List Witness) (away : times e.pass u ≡ 0) (b : EachBegins h.run u).
+      each_begins_more run e u away (subst (λ r. EachBegins r u) is b) in
+      let theirs : EachBegins run' others =
+      more others (mates_away s h id (witness (opened_of opening.start) e.pass seen) others other at) mine.1 in (
         w,
         keeps,
         tt,
@@ -86,34 +105,55 @@ module _ (opening : TableStart) (is_start : IsStart opening.start) where
           begins = λ j u bt.
               ⊎_elim
               (λ (x : (j ≡ id) × (w ≡ u)). subst (EachBegins run') x.1 (begins_for_refl e.pass run', theirs))
-              (λ (x : (j ≢ id) × (get_elem? s.views j ≡ some u)). more u (others_away s h id j (witness (opened_of opening.start) e.pass seen) others u other x.0 at x.1) (h.begins j u x.1))
+              (λ (x : (j ≢ id) × (get_elem? s.views j ≡ some u)).
+              more u (others_away s h id j (witness (opened_of opening.start) e.pass seen) others u other x.0 at x.1)
+              (h.begins j u x.1))
               (at_set s.views id j w u bt);
-          seen = inr (id, w, set_at s.views id w (witness (opened_of opening.start) e.pass seen ∷ others) at, inl (other, refl));
-          counted = λ who else. let t = times-set who s.views id w (witness (opened_of opening.start) e.pass seen ∷ others) at in let all = h.counted who else in omega arith;
+          seen = inr (
+            id,
+            w,
+            set_at s.views id w (witness (opened_of opening.start) e.pass seen ∷ others) at,
+            inl (other, refl),
+          );
+          counted = λ who else.
+              let t = times-set who s.views id w (witness (opened_of opening.start) e.pass seen ∷ others) at in
+              let all = h.counted who else in
+              omega arith;
         },
         record {
           rest = rest;
           none = none;
           now = refl;
           is_run = is_run;
-          shows = subst (λ (n : ℕ). Shows e.step (g (get_or s.words i 0)) n) (shown s.words run words) (same (get_or s.words i 0));
+          shows = subst (λ (n : ℕ). Shows e.step (g (get_or s.words i 0)) n) (shown s.words run words)
+              (same (get_or s.words i 0));
           others = theirs;
         },
       )
     where
-      shown : (words : List ℕ) (run : List Event) → AreWordsOf opening.start (world_after opening.start run) words → get_or words i 0 ≡ found opening.start (world_after opening.start run) e.step
-      shown words run are = ap (λ (j : ℕ). get_or words j 0) place ∙ are.each (place_of_step e.step) (place_in opening.start e.step ok.in_shape)
+      shown : (words : List ℕ) (run : List Event) → AreWordsOf opening.start (world_after opening.start run) words →
+          get_or words i 0 ≡ found opening.start (world_after opening.start run) e.step
+      shown words run are = ap (λ (j : ℕ). get_or words j 0) place
+          ∙ are.each (place_of_step e.step) (place_in opening.start e.step ok.in_shape)
 
   -- the same at a seat that is known to be so
-  pub plays_as : (slots id : ℕ) (e : Event) (seen : List Event) (others : List Witness) (cs : List (ℕ × Unit {0})) (me : Me (Unit {0}) V) (i : ℕ) (f g : ℕ → ℕ) → me ≡ (witness (opened_of opening.start) e.pass seen ∷ others, cs) → e.pass < opening.passes → e.pass ≢ nobody
-      → i ≡ index_of opening.start.shape (place_of_step e.step) → ((n : ℕ) → f n ≡ word_made (access_of (know_after opening.start seen e.pass) e.step) n) → ((n : ℕ) → Shows e.step (g n) n)
-      → Accepts opening.start (know_after opening.start seen e.pass) e.step → Allows (Kept opening) slots id me i f (λ r. Told opening e me (g r))
+  pub plays_as : (slots id : ℕ) (e : Event) (seen : List Event) (others : List Witness) (cs : List (ℕ × Unit {0}))
+      (me : Me (Unit {0}) V) (i : ℕ) (f g : ℕ → ℕ) → me ≡ (witness (opened_of opening.start) e.pass seen ∷ others, cs) →
+      e.pass < opening.passes → e.pass ≢ nobody
+      → i ≡ index_of opening.start.shape (place_of_step e.step) →
+      ((n : ℕ) → f n ≡ word_made (access_of (know_after opening.start seen e.pass) e.step) n) →
+      ((n : ℕ) → Shows e.step (g n) n)
+      → Accepts opening.start (know_after opening.start seen e.pass) e.step →
+      Allows (Kept opening) slots id me i f (λ r. Told opening e me (g r))
   plays_as slots id e seen others cs me i f g known low other place does same ok =
-      subst (λ (m : Me (Unit {0}) V). Allows (Kept opening) slots id m i f (λ r. Told opening e m (g r))) (sym known) (plays slots id e seen others cs i f g low other place does same ok)
+      subst (λ (m : Me (Unit {0}) V). Allows (Kept opening) slots id m i f (λ r. Told opening e m (g r))) (sym known)
+      (plays slots id e seen others cs i f g low other place does same ok)
 
   -- the first witness of the seat catches up with the run, and those beside it, which are of tokens, are spent
-  pub catches : (slots id who : ℕ) (seen : List Event) (others : List Witness) (cs : List (ℕ × Unit {0})) (i : ℕ) → who ≢ nobody → ((number : ℕ) → number ≢ nobody → times number others ≡ 0)
-      → Allows (Kept opening) slots id (witness (opened_of opening.start) who seen ∷ others, cs) i (λ n. n) (λ _. Caught opening who (witness (opened_of opening.start) who seen ∷ others, cs))
+  pub catches : (slots id who : ℕ) (seen : List Event) (others : List Witness) (cs : List (ℕ × Unit {0})) (i : ℕ) →
+      who ≢ nobody → ((number : ℕ) → number ≢ nobody → times number others ≡ 0)
+      → Allows (Kept opening) slots id (witness (opened_of opening.start) who seen ∷ others, cs) i (λ n. n)
+      (λ _. Caught opening who (witness (opened_of opening.start) who seen ∷ others, cs))
   catches slots id who seen others cs i apart spent s h _ at _ =
       let start = opening.start in
       let mine = h.begins id (witness (opened_of opening.start) who seen ∷ others) at in
@@ -126,14 +166,26 @@ module _ (opening : TableStart) (is_start : IsStart opening.start) where
         record {
           run = h.run;
           is_run = h.is_run;
-          words = subst (λ (words : List ℕ). AreWordsOf start (world_after start h.run) words) (sym (set-get_or s.words i 0)) h.words;
+          words = subst (λ (words : List ℕ). AreWordsOf start (world_after start h.run) words)
+              (sym (set-get_or s.words i 0)) h.words;
           begins = λ j u bt.
               ⊎_elim
-              (λ (x : (j ≡ id) × (w ≡ u)). subst (EachBegins h.run) x.1 (subst (λ (r : List Event). BeginsFor who r h.run) is (begins_for_refl who h.run), tt))
+              (λ (x : (j ≡ id) × (w ≡ u)).
+              subst (EachBegins h.run) x.1
+              (subst (λ (r : List Event). BeginsFor who r h.run) is (begins_for_refl who h.run), tt))
               (λ (x : (j ≢ id) × (get_elem? s.views j ≡ some u)). h.begins j u x.1)
               (at_set s.views id j w u bt);
-          seen = inr (id, w, set_at s.views id w (witness (opened_of opening.start) who seen ∷ others) at, inl (apart, sym is));
-          counted = λ number else. let t = times-set number s.views id w (witness (opened_of opening.start) who seen ∷ others) at in let all = h.counted number else in let none = spent number else in omega arith;
+          seen = inr (
+            id,
+            w,
+            set_at s.views id w (witness (opened_of opening.start) who seen ∷ others) at,
+            inl (apart, sym is),
+          );
+          counted = λ number else.
+              let t = times-set number s.views id w (witness (opened_of opening.start) who seen ∷ others) at in
+              let all = h.counted number else in
+              let none = spent number else in
+              omega arith;
         },
         record {
           rest = rest;
@@ -144,6 +196,10 @@ module _ (opening : TableStart) (is_start : IsStart opening.start) where
         },
       )
 
-  pub catches_as : (slots id who : ℕ) (seen : List Event) (others : List Witness) (me : Me (Unit {0}) V) (i : ℕ) → me ≡ (witness (opened_of opening.start) who seen ∷ others, []) → who ≢ nobody → ((number : ℕ) → number ≢ nobody → times number others ≡ 0)
+  pub catches_as : (slots id who : ℕ) (seen : List Event) (others : List Witness) (me : Me (Unit {0}) V) (i : ℕ) →
+      me ≡ (witness (opened_of opening.start) who seen ∷ others, []) → who ≢ nobody →
+      ((number : ℕ) → number ≢ nobody → times number others ≡ 0)
       → Allows (Kept opening) slots id me i (λ n. n) (λ _. Caught opening who me)
-  catches_as slots id who seen others me i known apart spent = subst (λ (m : Me (Unit {0}) V). Allows (Kept opening) slots id m i (λ n. n) (λ _. Caught opening who m)) (sym known) (catches slots id who seen others [] i apart spent)
+  catches_as slots id who seen others me i known apart spent =
+      subst (λ (m : Me (Unit {0}) V). Allows (Kept opening) slots id m i (λ n. n) (λ _. Caught opening who m))
+      (sym known) (catches slots id who seen others [] i apart spent)

@@ -9,7 +9,8 @@ use Rattle.vbr_machine.specs.Knowledge.{Know}
 use Rattle.vbr_machine.specs.Learning.{learn, read_epoch}
 use Rattle.vbr_machine.specs.Machine.{Access, Store, access_of}
 use Rattle.vbr_machine.specs.declared.event.Step.{Step}
-use Rattle.vbr_machine.specs.declared.event.Step.TheVariants.{ReadEpoch, StoreStamp, TakeFlag, StoreBirth, StoreKey, StoreValue, StoreLink, Publish, Mark, Replace, Unlink}
+use Rattle.vbr_machine.specs.declared.event.Step.TheVariants.{ReadEpoch, StoreStamp, TakeFlag, StoreBirth, StoreKey}
+use Rattle.vbr_machine.specs.declared.event.Step.TheVariants.{StoreValue, StoreLink, Publish, Mark, Replace, Unlink}
 use Rattle.vbr_slots.specs.Rule.{Shows}
 use Rattle.vbr_slots.specs.Views.{Did, Trace, epoch_after, knows}
 
@@ -46,18 +47,27 @@ either_way true f x y n p q = p
 either_way false f x y n p q = q
 
 epoch_read : (found : ℕ) (know : Know) → (read_epoch know found).epoch ≡ found
-epoch_read found know = ⊎_elim (λ (t : (found == know.epoch) ≡ true). rw t (grind (arith, nat_tests))) (λ (t : (found == know.epoch) ≡ false). rw t refl) (cases_Bool (found == know.epoch))
+epoch_read found know =
+    ⊎_elim (λ (t : (found == know.epoch) ≡ true). rw t (grind (arith, nat_tests)))
+    (λ (t : (found == know.epoch) ≡ false). rw t refl) (cases_Bool (found == know.epoch))
 
 -- the epoch that a pass knows after a step
-pub epoch_learned : (step : Step) (r stamp : ℕ) (know : Know) → (learn step r stamp know).epoch ≡ epoch_after step r know.epoch
+pub epoch_learned : (step : Step) (r stamp : ℕ) (know : Know) →
+    (learn step r stamp know).epoch ≡ epoch_after step r know.epoch
 epoch_learned ReadEpoch r stamp know = epoch_read r know
 epoch_learned (TakeFlag s) r stamp know = either_way (has_flag r s) (λ (k : Know). k.epoch) _ know know.epoch refl refl
-epoch_learned (Publish pred expected s) r stamp know = either_way (r == expected) (λ (k : Know). k.epoch) _ know know.epoch refl refl
-epoch_learned (Mark s expected) r stamp know = either_way (r == expected) (λ (k : Know). k.epoch) _ know know.epoch refl refl
-epoch_learned (Replace s expected t) r stamp know = either_way (r == expected) (λ (k : Know). k.epoch) _ know know.epoch refl refl
-epoch_learned (Unlink pred expected s) r stamp know = either_way (r == expected) (λ (k : Know). k.epoch) _ know know.epoch refl refl
+epoch_learned (Publish pred expected s) r stamp know =
+    either_way (r == expected) (λ (k : Know). k.epoch) _ know know.epoch refl refl
+epoch_learned (Mark s expected) r stamp know =
+    either_way (r == expected) (λ (k : Know). k.epoch) _ know know.epoch refl refl
+epoch_learned (Replace s expected t) r stamp know =
+    either_way (r == expected) (λ (k : Know). k.epoch) _ know know.epoch refl refl
+epoch_learned (Unlink pred expected s) r stamp know =
+    either_way (r == expected) (λ (k : Know). k.epoch) _ know know.epoch refl refl
 epoch_learned _ r stamp know = refl
 
 -- after a step that is no read of the epoch, the pass knows the epoch that it knew
-pub epoch_stays : (step : Step) {p q : Trace} {found : ℕ} → Did step p q found → ((found epoch : ℕ) → epoch_after step found epoch ≡ epoch) → (knows q).epoch ≡ (knows p).epoch
-epoch_stays step {p} {q} {found} d stays = ap (λ (k : Know). k.epoch) d.know ∙ epoch_learned step found _ (knows p) ∙ stays found (knows p).epoch
+pub epoch_stays : (step : Step) {p q : Trace} {found : ℕ} → Did step p q found →
+    ((found epoch : ℕ) → epoch_after step found epoch ≡ epoch) → (knows q).epoch ≡ (knows p).epoch
+epoch_stays step {p} {q} {found} d stays =
+    ap (λ (k : Know). k.epoch) d.know ∙ epoch_learned step found _ (knows p) ∙ stays found (knows p).epoch

@@ -1,5 +1,6 @@
 -- A slot that leaves its pool by its place.
-use Rattle.std.proofs.Common.{◌≡◌, ◌≢◌, ℕ, suc, ◌+◌, ◌<◌, ◌==◌, Bool, true, false, not, List, [], ◌∷◌, length, Option, Some, None, cond, refl, sym, ap, ◌∙◌, subst, eq-eqb, ⊎_elim, arith}
+use Rattle.std.proofs.Common.{◌≡◌, ◌≢◌, ℕ, suc, ◌+◌, ◌<◌, ◌==◌, Bool, true, false, not, List, [], ◌∷◌, length, Option}
+use Rattle.std.proofs.Common.{Some, None, cond, refl, sym, ap, ◌∙◌, subst, eq-eqb, ⊎_elim, arith}
 use Rattle.std.specs.Prelude.{AllPairs, slice_index_or}
 use Rattle.std.specs.List.{remove, position_from}
 use Rattle.std.proofs.lemmas.Bool.{cases_eq, ne_eqb, true≢false}
@@ -26,25 +27,35 @@ pub not_found : (slot : ℕ) (xs : List ℕ) (k : ℕ) → position_from (λ x. 
 not_found slot [] k e = refl
 not_found slot (x ∷ xs) k e =
     ⊎_elim
-    (λ same. let t = eq-eqb x slot same in absurd (true≢false (ap there (sym (ap (λ (b : Bool). cond b (Some k) (position_from (λ y. y == slot) (k + 1) xs)) t) ∙ e))))
-    (λ other. let f = ne_eqb x slot other in ap (λ (b : Bool). cond (not b) (x ∷ without slot xs) (without slot xs)) f ∙ ap (λ ys. x ∷ ys) (not_found slot xs (k + 1) (sym (ap (λ (b : Bool). cond b (Some k) (position_from (λ y. y == slot) (k + 1) xs)) f) ∙ e)))
+    (λ same. let t = eq-eqb x slot same in
+    absurd (true≢false
+    (ap there (sym (ap (λ (b : Bool). cond b (Some k) (position_from (λ y. y == slot) (k + 1) xs)) t) ∙ e))))
+    (λ other. let f = ne_eqb x slot other in
+    ap (λ (b : Bool). cond (not b) (x ∷ without slot xs) (without slot xs)) f
+    ∙ ap (λ ys. x ∷ ys)
+    (not_found slot xs (k + 1)
+    (sym (ap (λ (b : Bool). cond b (Some k) (position_from (λ y. y == slot) (k + 1) xs)) f) ∙ e)))
     (cases_eq x slot)
 
-pub found_at : (slot : ℕ) (xs : List ℕ) (k i : ℕ) → AllPairs ◌≢◌ xs → position_from (λ x. x == slot) k xs ≡ Some i → (j : ℕ) × (i ≡ k + j) × (j < length xs) × (remove xs j ≡ without slot xs)
+pub found_at : (slot : ℕ) (xs : List ℕ) (k i : ℕ) → AllPairs ◌≢◌ xs → position_from (λ x. x == slot) k xs ≡ Some i →
+    (j : ℕ) × (i ≡ k + j) × (j < length xs) × (remove xs j ≡ without slot xs)
 found_at slot [] k i apart e = absurd (true≢false (sym (ap there e)))
 found_at slot (x ∷ xs) k i apart e =
     ⊎_elim
     (λ same.
     let t = eq-eqb x slot same in
-    let here : k ≡ i = ap (value k) (sym (ap (λ (b : Bool). cond b (Some k) (position_from (λ y. y == slot) (k + 1) xs)) t) ∙ e) in (
+    let here : k ≡ i =
+    ap (value k) (sym (ap (λ (b : Bool). cond b (Some k) (position_from (λ y. y == slot) (k + 1) xs)) t) ∙ e) in (
       0,
       omega (arith, here),
       omega arith,
-      sym (ap (λ (b : Bool). cond (not b) (x ∷ without slot xs) (without slot xs)) t ∙ absent slot xs (λ j d low is. apart 0 (suc j) d (omega arith) (omega (arith, low)) (same ∙ sym is))),
+      sym (ap (λ (b : Bool). cond (not b) (x ∷ without slot xs) (without slot xs)) t
+          ∙ absent slot xs (λ j d low is. apart 0 (suc j) d (omega arith) (omega (arith, low)) (same ∙ sym is))),
     ))
     (λ other.
     let f = ne_eqb x slot other in
-    let rest = found_at slot xs (k + 1) i (later x xs apart) (sym (ap (λ (b : Bool). cond b (Some k) (position_from (λ y. y == slot) (k + 1) xs)) f) ∙ e) in
+    let rest = found_at slot xs (k + 1) i (later x xs apart)
+    (sym (ap (λ (b : Bool). cond b (Some k) (position_from (λ y. y == slot) (k + 1) xs)) f) ∙ e) in
     let on = rest.1 in
     let low = rest.2 in (
       suc rest.0,
@@ -55,7 +66,9 @@ found_at slot (x ∷ xs) k i apart e =
     (cases_eq x slot)
 
 -- where the place was found, it is in the pool, and the slot is what leaves there
-pub left : (slot at : ℕ) (pool seen : List ℕ) (place : Option ℕ) → AllPairs ◌≢◌ pool → seen ≡ pool → place ≡ position_from (λ x. x == slot) 0 seen → place ≡ Some at → (at < length pool) × (remove pool at ≡ without slot pool)
+pub left : (slot at : ℕ) (pool seen : List ℕ) (place : Option ℕ) → AllPairs ◌≢◌ pool → seen ≡ pool →
+    place ≡ position_from (λ x. x == slot) 0 seen → place ≡ Some at →
+    (at < length pool) × (remove pool at ≡ without slot pool)
 left slot at pool seen place apart is found some =
     let f = found_at slot pool 0 at apart (ap (position_from (λ x. x == slot) 0) (sym is) ∙ sym found ∙ some) in
     let on = f.1 in
@@ -64,5 +77,7 @@ left slot at pool seen place apart is found some =
     (omega (arith, on, low), subst (λ (n : ℕ). remove pool n ≡ without slot pool) here f.3)
 
 -- where none was found, the slot isn't there
-pub stays : (slot : ℕ) (pool seen : List ℕ) (place : Option ℕ) → seen ≡ pool → place ≡ position_from (λ x. x == slot) 0 seen → place ≡ None → pool ≡ without slot pool
-stays slot pool seen place is found none = sym (not_found slot pool 0 (ap (position_from (λ x. x == slot) 0) (sym is) ∙ sym found ∙ none))
+pub stays : (slot : ℕ) (pool seen : List ℕ) (place : Option ℕ) → seen ≡ pool →
+    place ≡ position_from (λ x. x == slot) 0 seen → place ≡ None → pool ≡ without slot pool
+stays slot pool seen place is found none =
+    sym (not_found slot pool 0 (ap (position_from (λ x. x == slot) 0) (sym is) ∙ sym found ∙ none))

@@ -1,5 +1,7 @@
 -- The words at the opening are laid place by place: those of the bare world, then key after key.
-use Rattle.std.proofs.Common.{◌≡◌, ◌≢◌, ◌⊎◌, inl, inr, ℕ, zero, suc, ◌+◌, ◌-◌, ◌<◌, nat_lt, ◌≤◌, Bool, true, false, List, Option, Some, None, ◌++◌, length, take, set, get_or, replicate, if◌then◌else◌, refl, sym, subst, ap, ◌∙◌, length-set, get_or-set_other, get_or-set_same, arith}
+use Rattle.std.proofs.Common.{◌≡◌, ◌≢◌, ◌⊎◌, inl, inr, ℕ, zero, suc, ◌+◌, ◌-◌, ◌<◌, nat_lt, ◌≤◌, Bool, true, false}
+use Rattle.std.proofs.Common.{List, Option, Some, None, ◌++◌, length, take, set, get_or, replicate, if◌then◌else◌, refl}
+use Rattle.std.proofs.Common.{sym, subst, ap, ◌∙◌, length-set, get_or-set_other, get_or-set_same, arith}
 use Rattle.std.specs.Prelude.{◌&&◌, bit_and}
 use Rattle.std.proofs.Math.Seq.{take-append_seam}
 use Rattle.std.proofs.lemmas.Bool.Decides.{nat_tests}
@@ -24,7 +26,8 @@ use Rattle.vbr_machine.specs.Machine.{World, with_link_at, counted}
 use Rattle.vbr_machine.specs.Machine as machine
 use Rattle.vbr_machine.specs.Making.{opening_from, with_key_ahead}
 use Rattle.vbr_machine.specs.declared.knowledge.SlotPlace.TheVariants.{Listed}
-use Rattle.vbr_machine.proofs.Lemmas.{FirstOrNone, bare, first_or_none, flag_in, opening_none, put_here, put_other, same_word, taken_word}
+use Rattle.vbr_machine.proofs.Lemmas.{FirstOrNone, bare, first_or_none, flag_in, opening_none, put_here, put_other}
+use Rattle.vbr_machine.proofs.Lemmas.{same_word, taken_word}
 use Rattle.vbr_slots.specs.Words.{AreWordsOf, HeadsFit}
 
 -- the words once the epoch, the shape, so many links and so many flag words are laid
@@ -48,7 +51,8 @@ get_or-replicate (suc n) (suc i) = get_or-replicate n i
 below-same : {A : Type 0} (i : ℕ) (x y : A) → (if nat_lt i (i + 1) then x else y) ≡ x
 below-same i x y = grind (arith, nat_tests)
 
-below-other : {A : Type 0} (s i : ℕ) (x y : A) → s ≢ i → (if nat_lt s i then x else y) ≡ (if nat_lt s (i + 1) then x else y)
+below-other : {A : Type 0} (s i : ℕ) (x y : A) → s ≢ i →
+    (if nat_lt s i then x else y) ≡ (if nat_lt s (i + 1) then x else y)
 below-other s i x y other = grind (arith, nat_tests)
 
 not_below : {A : Type 0} (s : ℕ) (x y : A) → (if nat_lt s 0 then x else y) ≡ y
@@ -62,7 +66,9 @@ pub whole : {A : Type 0} (n : ℕ) (xs rest : List A) → n ≡ length xs → ta
 whole n xs rest is = ap (λ (m : ℕ). take m (xs ++ rest)) is ∙ take-append_seam xs rest
 
 -- one more word, at a place
-laid_at : (shape : Dimensions) (before after : Place → ℕ) (words : List ℕ) (place : Place) (value : ℕ) → IsIn shape place → after place ≡ value → ((q : Place) → q ≢ place → after q ≡ before q) → AreLaid shape before words → AreLaid shape after (set words (index_of shape place) value)
+laid_at : (shape : Dimensions) (before after : Place → ℕ) (words : List ℕ) (place : Place) (value : ℕ) →
+    IsIn shape place → after place ≡ value → ((q : Place) → q ≢ place → after q ≡ before q) →
+    AreLaid shape before words → AreLaid shape after (set words (index_of shape place) value)
 laid_at shape before after words place value here is others are =
     let i : ℕ = index_of shape place in
     let low : i < length words = let c = are.count in let l = index_of-lt shape place here in omega arith in
@@ -70,8 +76,10 @@ laid_at shape before after words place value here is others are =
       count = length-set words i value ∙ are.count;
       each = λ q q_in.
           dite (ℕ_discrete (index_of shape q) i)
-          (λ same. ap (λ (j : ℕ). get_or (set words i value) j 0) same ∙ get_or-set_same words i value 0 low ∙ sym is ∙ ap after (sym (same_place shape q place q_in here same)))
-          (λ other. get_or-set_other words i (index_of shape q) value 0 other ∙ are.each q q_in ∙ sym (others q (λ same. other (ap (index_of shape) same))));
+          (λ same. ap (λ (j : ℕ). get_or (set words i value) j 0) same ∙ get_or-set_same words i value 0 low ∙ sym is
+          ∙ ap after (sym (same_place shape q place q_in here same)))
+          (λ other. get_or-set_other words i (index_of shape q) value 0 other ∙ are.each q q_in
+          ∙ sym (others q (λ same. other (ap (index_of shape) same))));
     }
 
 blank_link : word_of opening_link ≡ MARK
@@ -87,62 +95,93 @@ and_true true = refl
 and_true false = refl
 
 -- all links and all flag words: no key is linked yet
-pub laid_all : (shape : Dimensions) (words : List ℕ) → AreLaid shape (laid shape shape.slots (flag_words shape.slots)) words → (keys payloads : List ℕ)
+pub laid_all : (shape : Dimensions) (words : List ℕ) →
+    AreLaid shape (laid shape shape.slots (flag_words shape.slots)) words → (keys payloads : List ℕ)
     → AreWordsOf (start_with shape keys payloads) (opening_from (start_with shape keys payloads) (length keys)) words
-laid_all shape words are keys payloads = subst (λ (w : World). AreWordsOf (start_with shape keys payloads) w words) (sym (opening_none (start_with shape keys payloads))) (record { count = are.count; each = each })
+laid_all shape words are keys payloads =
+    subst (λ (w : World). AreWordsOf (start_with shape keys payloads) w words)
+    (sym (opening_none (start_with shape keys payloads))) (record { count = are.count; each = each })
   where
-    each : (place : Place) → IsIn shape place → get_or words (index_of shape place) 0 ≡ machine.word_at (start_with shape keys payloads) bare place
+    each : (place : Place) → IsIn shape place →
+        get_or words (index_of shape place) 0 ≡ machine.word_at (start_with shape keys payloads) bare place
     each (Head b) here = are.each (Head b) here ∙ sym blank_head
     each (LinkOf s) here = are.each (LinkOf s) here ∙ below s shape.slots MARK 0 here ∙ sym blank_link
     each (Flags number) here =
         are.each (Flags number) here
         ∙ below number (flag_words shape.slots) (flag_word (λ s. nat_lt s shape.slots) number) 0 here
-        ∙ flag_word_same (λ s. nat_lt s shape.slots) (machine.is_flagged (start_with shape keys payloads) bare) number (λ s _. and_true (nat_lt s shape.slots))
+        ∙ flag_word_same (λ s. nat_lt s shape.slots) (machine.is_flagged (start_with shape keys payloads) bare) number
+        (λ s _. and_true (nat_lt s shape.slots))
     each q here = are.each q here
 
 -- ---- one more key
 
 -- one more word of a world
-written_at : (start : Start) (w v : World) (words : List ℕ) (place : Place) (i value : ℕ) → i ≡ index_of start.shape place → IsIn start.shape place → machine.word_at start v place ≡ value → ((q : Place) → q ≢ place → machine.word_at start v q ≡ machine.word_at start w q)
+written_at : (start : Start) (w v : World) (words : List ℕ) (place : Place) (i value : ℕ) →
+    i ≡ index_of start.shape place → IsIn start.shape place → machine.word_at start v place ≡ value →
+    ((q : Place) → q ≢ place → machine.word_at start v q ≡ machine.word_at start w q)
     → AreWordsOf start w words → AreWordsOf start v (set words i value)
 written_at start w v words place i value at here is others are =
-    let laid_on = laid_at start.shape (machine.word_at start w) (machine.word_at start v) words place value here is others (record { count = are.count; each = are.each }) in
-    subst (λ (j : ℕ). AreWordsOf start v (set words j value)) (sym at) (record { count = laid_on.count; each = laid_on.each })
+    let laid_on =
+    laid_at start.shape (machine.word_at start w) (machine.word_at start v) words place value here is others
+    (record { count = are.count; each = are.each }) in
+    subst (λ (j : ℕ). AreWordsOf start v (set words j value)) (sym at)
+    (record { count = laid_on.count; each = laid_on.each })
 
 module _ (start : Start) (w : World) (words : List ℕ) (are : AreWordsOf start w words) where
-  link_laid : (s i value : ℕ) (link : Link) → i ≡ index_of start.shape (LinkOf s) → s < start.shape.slots → value ≡ word_of link → AreWordsOf start (with_link_at w (at.Slot s) link) (set words i value)
-  link_laid s i value link place low is = written_at start w (with_link_at w (at.Slot s) link) words (LinkOf s) i value place low (ap word_of (put_here w.link s link) ∙ sym is) others are
+  link_laid : (s i value : ℕ) (link : Link) → i ≡ index_of start.shape (LinkOf s) → s < start.shape.slots →
+      value ≡ word_of link → AreWordsOf start (with_link_at w (at.Slot s) link) (set words i value)
+  link_laid s i value link place low is =
+      written_at start w (with_link_at w (at.Slot s) link) words (LinkOf s) i value place low
+      (ap word_of (put_here w.link s link) ∙ sym is) others are
     where
-      others : (q : Place) → q ≢ LinkOf s → machine.word_at start (with_link_at w (at.Slot s) link) q ≡ machine.word_at start w q
+      others : (q : Place) → q ≢ LinkOf s →
+          machine.word_at start (with_link_at w (at.Slot s) link) q ≡ machine.word_at start w q
       others (LinkOf t) ne = ap word_of (put_other w.link s link t (λ e. ne (ap LinkOf e)))
       others _ ne = refl
 
-  head_laid : (b i value : ℕ) (link : Link) → i ≡ index_of start.shape (Head b) → b < start.shape.buckets → value ≡ word_of link → AreWordsOf start (with_link_at w (at.Head b) link) (set words i value)
-  head_laid b i value link place low is = written_at start w (with_link_at w (at.Head b) link) words (Head b) i value place low (ap word_of (put_here w.head b link) ∙ sym is) others are
+  head_laid : (b i value : ℕ) (link : Link) → i ≡ index_of start.shape (Head b) → b < start.shape.buckets →
+      value ≡ word_of link → AreWordsOf start (with_link_at w (at.Head b) link) (set words i value)
+  head_laid b i value link place low is =
+      written_at start w (with_link_at w (at.Head b) link) words (Head b) i value place low
+      (ap word_of (put_here w.head b link) ∙ sym is) others are
     where
-      others : (q : Place) → q ≢ Head b → machine.word_at start (with_link_at w (at.Head b) link) q ≡ machine.word_at start w q
+      others : (q : Place) → q ≢ Head b →
+          machine.word_at start (with_link_at w (at.Head b) link) q ≡ machine.word_at start w q
       others (Head c) ne = ap word_of (put_other w.head b link c (λ e. ne (ap Head e)))
       others _ ne = refl
 
-  birth_laid : (s i : ℕ) → i ≡ index_of start.shape (Birth s) → s < start.shape.slots → AreWordsOf start (record w { birth = put w.birth s 1; births = counted w.births }) (set words i 1)
-  birth_laid s i place low = written_at start w (record w { birth = put w.birth s 1; births = counted w.births }) words (Birth s) i 1 place low (put_here w.birth s 1) others are
+  birth_laid : (s i : ℕ) → i ≡ index_of start.shape (Birth s) → s < start.shape.slots →
+      AreWordsOf start (record w { birth = put w.birth s 1; births = counted w.births }) (set words i 1)
+  birth_laid s i place low =
+      written_at start w (record w { birth = put w.birth s 1; births = counted w.births }) words (Birth s) i 1 place low
+      (put_here w.birth s 1) others are
     where
-      others : (q : Place) → q ≢ Birth s → machine.word_at start (record w { birth = put w.birth s 1; births = counted w.births }) q ≡ machine.word_at start w q
+      others : (q : Place) → q ≢ Birth s →
+          machine.word_at start (record w { birth = put w.birth s 1; births = counted w.births }) q
+          ≡ machine.word_at start w q
       others (Birth t) ne = put_other w.birth s 1 t (λ e. ne (ap Birth e))
       others _ ne = refl
 
-  key_laid : (s i key : ℕ) → i ≡ index_of start.shape (Key s) → s < start.shape.slots → AreWordsOf start (record w { key = put w.key s key }) (set words i key)
-  key_laid s i key place low = written_at start w (record w { key = put w.key s key }) words (Key s) i key place low (put_here w.key s key) others are
+  key_laid : (s i key : ℕ) → i ≡ index_of start.shape (Key s) → s < start.shape.slots →
+      AreWordsOf start (record w { key = put w.key s key }) (set words i key)
+  key_laid s i key place low =
+      written_at start w (record w { key = put w.key s key }) words (Key s) i key place low (put_here w.key s key)
+      others are
     where
-      others : (q : Place) → q ≢ Key s → machine.word_at start (record w { key = put w.key s key }) q ≡ machine.word_at start w q
+      others : (q : Place) → q ≢ Key s →
+          machine.word_at start (record w { key = put w.key s key }) q ≡ machine.word_at start w q
       others (Key t) ne = put_other w.key s key t (λ e. ne (ap Key e))
       others _ ne = refl
 
   -- a slot comes into a list, and its flag is cleared
-  flag_laid : (s b i f bits : ℕ) → i ≡ index_of start.shape (Flags f) → f ≡ word_of_flag s → bits ≡ all_but s → s < start.shape.slots → AreWordsOf start (record w { place = put w.place s (Listed b) }) (set words i (bit_and (get_or words i 0) bits))
+  flag_laid : (s b i f bits : ℕ) → i ≡ index_of start.shape (Flags f) → f ≡ word_of_flag s → bits ≡ all_but s →
+      s < start.shape.slots →
+      AreWordsOf start (record w { place = put w.place s (Listed b) }) (set words i (bit_and (get_or words i 0) bits))
   flag_laid s b i f bits place number clear low =
-      written_at start w (record w { place = put w.place s (Listed b) }) words (Flags (word_of_flag s)) i _ here (flag_in start s low)
-      (taken_word start w (record w { place = put w.place s (Listed b) }) s (Listed b) refl refl ∙ (λ k. bit_and (sym found k) (sym clear k))) others are
+      written_at start w (record w { place = put w.place s (Listed b) }) words (Flags (word_of_flag s)) i _ here
+      (flag_in start s low)
+      (taken_word start w (record w { place = put w.place s (Listed b) }) s (Listed b) refl refl
+      ∙ (λ k. bit_and (sym found k) (sym clear k))) others are
     where
       here : i ≡ index_of start.shape (Flags (word_of_flag s))
       here = place ∙ ap (λ (n : ℕ). index_of start.shape (Flags n)) number
@@ -150,10 +189,12 @@ module _ (start : Start) (w : World) (words : List ℕ) (are : AreWordsOf start 
       found : get_or words i 0 ≡ machine.word_at start w (Flags (word_of_flag s))
       found = ap (λ (j : ℕ). get_or words j 0) here ∙ are.each (Flags (word_of_flag s)) (flag_in start s low)
 
-      others : (q : Place) → q ≢ Flags (word_of_flag s) → machine.word_at start (record w { place = put w.place s (Listed b) }) q ≡ machine.word_at start w q
+      others : (q : Place) → q ≢ Flags (word_of_flag s) →
+          machine.word_at start (record w { place = put w.place s (Listed b) }) q ≡ machine.word_at start w q
       others (Flags number) ne =
           same_word start (record w { place = put w.place s (Listed b) }) w number
-          (λ t is. ap machine.is_shared (put_other w.place s (Listed b) t (λ e. ne (ap Flags (sym is ∙ ap word_of_flag e)))))
+          (λ t is. ap machine.is_shared
+          (put_other w.place s (Listed b) t (λ e. ne (ap Flags (sym is ∙ ap word_of_flag e)))))
       others _ ne = refl
 
 -- where the words of the link of a slot, of the head, of the birth, of the key and of the flags stand
@@ -175,27 +216,42 @@ module _ (start : Start) (w : World) (words : List ℕ) (s value : ℕ) (are : A
   value_bare : start.shape.values ≡ false → AreWordsOf start (record w { value = put w.value s value }) words
   value_bare bare = record { count = are.count; each = each }
     where
-      each : (place : Place) → IsIn start.shape place → get_or words (index_of start.shape place) 0 ≡ machine.word_at start (record w { value = put w.value s value }) place
+      each : (place : Place) → IsIn start.shape place →
+          get_or words (index_of start.shape place) 0
+          ≡ machine.word_at start (record w { value = put w.value s value }) place
       each (Value t) here = absurd (let has = here.1 in cc)
       each q here = are.each q here
 
-  value_laid : (i : ℕ) → i ≡ index_of start.shape (Value s) → s < start.shape.slots → start.shape.values ≡ true → AreWordsOf start (record w { value = put w.value s value }) (set words i value)
-  value_laid i place low has = written_at start w (record w { value = put w.value s value }) words (Value s) i value place (low, has) (put_here w.value s value) others are
+  value_laid : (i : ℕ) → i ≡ index_of start.shape (Value s) → s < start.shape.slots → start.shape.values ≡ true →
+      AreWordsOf start (record w { value = put w.value s value }) (set words i value)
+  value_laid i place low has =
+      written_at start w (record w { value = put w.value s value }) words (Value s) i value place (low, has)
+      (put_here w.value s value) others are
     where
-      others : (q : Place) → q ≢ Value s → machine.word_at start (record w { value = put w.value s value }) q ≡ machine.word_at start w q
+      others : (q : Place) → q ≢ Value s →
+          machine.word_at start (record w { value = put w.value s value }) q ≡ machine.word_at start w q
       others (Value t) ne = put_other w.value s value t (λ e. ne (ap Value e))
       others _ ne = refl
 
-  value_written : (written : List ℕ) → s < start.shape.slots → IsValueWritten start s value words written → AreWordsOf start (record w { value = put w.value s value }) written
-  value_written written low (inl none) = subst (AreWordsOf start (record w { value = put w.value s value })) (sym none.1) (value_bare none.0)
-  value_written written low (inr some) = subst (AreWordsOf start (record w { value = put w.value s value })) (sym some.3) (value_laid some.1 some.2 low some.0)
+  value_written : (written : List ℕ) → s < start.shape.slots → IsValueWritten start s value words written →
+      AreWordsOf start (record w { value = put w.value s value }) written
+  value_written written low (inl none) =
+      subst (AreWordsOf start (record w { value = put w.value s value })) (sym none.1) (value_bare none.0)
+  value_written written low (inr some) =
+      subst (AreWordsOf start (record w { value = put w.value s value })) (sym some.3)
+      (value_laid some.1 some.2 low some.0)
 
 -- a key is linked with its value ahead of the others of its bucket
-pub key_ahead : (start : Start) (w : World) (words valued : List ℕ) (number key value link first bits i j k m n : ℕ) → AreWordsOf start w words → KeyIndices start number (bucket_of start.shape key) i j k m n → number < start.shape.slots → bucket_of start.shape key < start.shape.buckets
-    → link ≡ word_of (link_to (w.head (bucket_of start.shape key)).slot 1 (w.head (bucket_of start.shape key)).version) → first ≡ word_of (link_to (Some number) 0 1) → bits ≡ all_but number
+pub key_ahead : (start : Start) (w : World) (words valued : List ℕ) (number key value link first bits i j k m n : ℕ) →
+    AreWordsOf start w words → KeyIndices start number (bucket_of start.shape key) i j k m n →
+    number < start.shape.slots → bucket_of start.shape key < start.shape.buckets
+    → link ≡ word_of
+    (link_to (w.head (bucket_of start.shape key)).slot 1 (w.head (bucket_of start.shape key)).version) →
+    first ≡ word_of (link_to (Some number) 0 1) → bits ≡ all_but number
     → IsValueWritten start number value (set (set (set (set words i link) j first) k 1) m key) valued
     → AreWordsOf start (with_key_ahead start number key value w) (set valued n (bit_and (get_or valued n 0) bits))
-key_ahead start w words valued number key value link first bits i j k m n are at low in_shape link_is first_is clear value_is =
+key_ahead start w words valued number key value link first bits i j k m n are at low in_shape link_is first_is clear
+    value_is =
     let b = bucket_of start.shape key in
     let one = link_laid start w words are number i link _ at.link_at low link_is in
     let two = head_laid start _ _ one b j first _ at.head_at in_shape first_is in
@@ -207,10 +263,13 @@ key_ahead start w words valued number key value link first bits i j k m n are at
 -- ---- heads
 
 -- each head names a slot of the shape or none
-pub heads_fit : (start : Start) (from : ℕ) → from ≤ key_count start → key_count start ≤ MAX_SLOTS → HeadsFit (opening_from start from)
-heads_fit start from low few b = at (first_from start b from) (first_or_none (is_key_of start b) from (key_count start - from))
+pub heads_fit : (start : Start) (from : ℕ) → from ≤ key_count start → key_count start ≤ MAX_SLOTS →
+    HeadsFit (opening_from start from)
+heads_fit start from low few b =
+    at (first_from start b from) (first_or_none (is_key_of start b) from (key_count start - from))
   where
-    at : (first : Option ℕ) → FirstOrNone (is_key_of start b) from (from + (key_count start - from)) first → IsLink (link_to_key start 0 first)
+    at : (first : Option ℕ) → FirstOrNone (is_key_of start b) from (from + (key_count start - from)) first →
+        IsLink (link_to_key start 0 first)
     at None none = record { slot = tt; version = omega arith }
     at (Some m) is = record { slot = (let high = is.high in omega (arith, high)); version = version }
       where

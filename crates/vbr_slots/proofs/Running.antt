@@ -14,7 +14,8 @@ each_knows : (start : Start) (run : List Event) (ms : List Witness) → EachBegi
 each_knows start run [] b = tt
 each_knows start run (m ∷ ms) b = (sym (begins_for_know start m.who m.seen run b.0), each_knows start run ms b.1)
 
-pub runs : (opening : TableStart) (s : Standing (Unit {0}) (List Witness)) → IsStart opening.start → Kept opening s → IsRunning opening s
+pub runs : (opening : TableStart) (s : Standing (Unit {0}) (List Witness)) → IsStart opening.start → Kept opening s →
+    IsRunning opening s
 runs opening s is h = record {
   run = h.run;
   is_run = h.is_run;
@@ -23,5 +24,8 @@ runs opening s is h = record {
   begins = h.begins;
   knows = λ j v at. each_knows opening.start h.run v (h.begins j v at);
   seen = h.seen;
-  once = λ who other. let all = h.counted who other in let most = times-members (opened_of opening.start) who 0 opening.passes in omega arith;
+  once = λ who other.
+      let all = h.counted who other in
+      let most = times-members (opened_of opening.start) who 0 opening.passes in
+      omega arith;
 }

@@ -1,6 +1,8 @@
 -- Words that are read while a seat has the witnesses of all passes are those of one run.
 -- For nobody can make a step meanwhile.
-use Rattle.std.proofs.Common.{◌≡◌, ◌≢◌, ℕ, zero, suc, ◌+◌, ◌<◌, ◌≤◌, ◌==◌, eq-eqb, ne_eqb, List, [], ◌∷◌, ◌++◌, set, get_or, length, refl, sym, ap, ◌∙◌, subst, ⊎_elim, inl, inr, append_assoc, append-nil, Bool, arith}
+use Rattle.std.proofs.Common.{◌≡◌, ◌≢◌, ℕ, zero, suc, ◌+◌, ◌<◌, ◌≤◌, ◌==◌, eq-eqb, ne_eqb, List, [], ◌∷◌, ◌++◌, set}
+use Rattle.std.proofs.Common.{get_or, length, refl, sym, ap, ◌∙◌, subst, ⊎_elim, inl, inr, append_assoc, append-nil}
+use Rattle.std.proofs.Common.{Bool, arith}
 use Rattle.std.proofs.lemmas.Bool.{cases_lt}
 use mathlib.Core.Logic.{dite}
 use native.Mathlib.Decide.{ℕ_discrete}
@@ -21,7 +23,8 @@ use Rattle.vbr_slots.specs.declared.rule.Opened.{Opened}
 use Rattle.vbr_slots.specs.declared.rule.Witness.{Witness}
 use Rattle.vbr_slots.specs.TableStart.{TableStart}
 use Rattle.vbr_slots.specs.declared.slots.Slots.TheInside.{Inside as SlotsInside}
-use Rattle.vbr_slots.specs.Rule.{Kept, head_of, tail_of, witness, witnesses, nobody, times, EachBegins, HasSeen, IsSeen, opened_of}
+use Rattle.vbr_slots.specs.Rule.{Kept, head_of, tail_of, witness, witnesses, nobody, times, EachBegins, HasSeen, IsSeen}
+use Rattle.vbr_slots.specs.Rule.{opened_of}
 use Rattle.vbr_slots.specs.Closing.{AllOf, Ends}
 use Rattle.vbr_slots.specs.SlotsView.{table_of, IsBuilt}
 use Rattle.vbr_slots.specs.Snapshots.{AreReadBy, EachLow, IsLatest, IsWordAt, ReadsWord, witnesses_of}
@@ -55,8 +58,12 @@ total-high (suc n) m ms high =
 total-low : (n : ℕ) (m : Witness) (ms : V) → m.who < n → total n (m ∷ ms) ≡ 1 + total n ms
 total-low zero m ms low = absurd (omega arith)
 total-low (suc n) m ms low = dite (ℕ_discrete m.who n)
-    (λ is. let here : one_if (m.who == n) ≡ 1 = ap one_if (eq-eqb m.who n is) in let more = total-high n m ms (omega arith) in omega arith)
-    (λ not. let here : one_if (m.who == n) ≡ 0 = ap one_if (ne_eqb m.who n not) in let more = total-low n m ms (omega arith) in omega arith)
+    (λ is. let here : one_if (m.who == n) ≡ 1 = ap one_if (eq-eqb m.who n is) in
+    let more = total-high n m ms (omega arith) in
+    omega arith)
+    (λ not. let here : one_if (m.who == n) ≡ 0 = ap one_if (ne_eqb m.who n not) in
+    let more = total-low n m ms (omega arith) in
+    omega arith)
 
 total-each : (n : ℕ) (ms : V) → EachLow n ms → total n ms ≡ length ms
 total-each n [] low = total-none n
@@ -67,7 +74,8 @@ AtMostOnce n ms = (k : ℕ) → k < n → times k ms ≤ 1
 
 total-most : (n : ℕ) (ms : V) → AtMostOnce n ms → total n ms ≤ n
 total-most zero ms once = omega arith
-total-most (suc n) ms once = let here = once n (omega arith) in let more = total-most n ms (λ k low. once k (omega arith)) in omega arith
+total-most (suc n) ms once =
+    let here = once n (omega arith) in let more = total-most n ms (λ k low. once k (omega arith)) in omega arith
 
 each_once : (n : ℕ) (ms : V) → AtMostOnce n ms → n ≤ total n ms → (k : ℕ) → k < n → times k ms ≡ 1
 each_once zero ms once all k low = absurd (omega arith)
@@ -91,10 +99,14 @@ times-above opened who k (suc n) high =
 -- who has seen all of it stands there
 has_stood : (run : List Event) (ms : V) → HasSeen run ms → (who : ℕ) × (who ≢ nobody) × (1 ≤ times who ms)
 has_stood run [] seen = absurd seen
-has_stood run (m ∷ ms) (inl seen) = (m.who, seen.0, let here : one_if (m.who == m.who) ≡ 1 = ap one_if (eq-eqb m.who m.who refl) in omega arith)
-has_stood run (m ∷ ms) (inr seen) = let more = has_stood run ms seen in let there = more.2 in (more.0, more.1, omega arith)
+has_stood run (m ∷ ms) (inl seen) =
+    (m.who, seen.0, let here : one_if (m.who == m.who) ≡ 1 = ap one_if (eq-eqb m.who m.who refl) in omega arith)
+has_stood run (m ∷ ms) (inr seen) =
+    let more = has_stood run ms seen in let there = more.2 in (more.0, more.1, omega arith)
 
-module _ (opening : TableStart) (s : Standing (Unit {0}) V) (h : Kept opening s) (id : ℕ) (ms : V) (at : get_elem? s.views id ≡ some ms) (few : opening.passes ≤ nobody) (low : EachLow opening.passes ms) (all : opening.passes ≤ length ms) where
+module _ (opening : TableStart) (s : Standing (Unit {0}) V) (h : Kept opening s) (id : ℕ) (ms : V)
+    (at : get_elem? s.views id ≡ some ms) (few : opening.passes ≤ nobody) (low : EachLow opening.passes ms)
+    (all : opening.passes ≤ length ms) where
   once : AtMostOnce opening.passes ms
   once k lower =
       let one = one_in k s.views id ms at in
@@ -115,7 +127,8 @@ module _ (opening : TableStart) (s : Standing (Unit {0}) V) (h : Kept opening s)
       let most = times-members (opened_of opening.start) who 0 opening.passes in
       ⊎_elim
       (λ (lower : who < opening.passes). let here = each who lower in omega arith)
-      (λ (high : opening.passes ≤ who). let none = times-above (opened_of opening.start) who 0 opening.passes (omega arith) in omega arith)
+      (λ (high : opening.passes ≤ who).
+      let none = times-above (opened_of opening.start) who 0 opening.passes (omega arith) in omega arith)
       (cases_lt who opening.passes)
 
   latest : IsLatest h.run ms
@@ -127,9 +140,15 @@ module _ (opening : TableStart) (s : Standing (Unit {0}) V) (h : Kept opening s)
           (λ not. absurd (no_other x.0 x.1 not x.2 x.3))
 
 -- a load of any word keeps the rule, and tells the word after what the seat's witnesses have seen
-pub surveys : (opening : TableStart) (slots id index : ℕ) (me : Me (Unit {0}) V) → opening.passes ≤ nobody → EachLow opening.passes me.0 → opening.passes ≤ length me.0 → Allows (Kept opening) slots id me index (λ n. n) (ReadsWord opening index me)
+pub surveys : (opening : TableStart) (slots id index : ℕ) (me : Me (Unit {0}) V) → opening.passes ≤ nobody →
+    EachLow opening.passes me.0 → opening.passes ≤ length me.0 →
+    Allows (Kept opening) slots id me index (λ n. n) (ReadsWord opening index me)
 surveys opening slots id index me few low all s h _ at _ =
-    let again : record { words = set s.words index (get_or s.words index 0); homes = s.homes; views = set s.views id me.0 } ≡ s =
+    let again : record {
+      words = set s.words index (get_or s.words index 0);
+      homes = s.homes;
+      views = set s.views id me.0;
+    } ≡ s =
     λ i. record { words = set-get_or s.words index 0 i; homes = s.homes; views = set_again s.views id me.0 at i } in (
       me.0,
       keeps,
@@ -150,7 +169,8 @@ surveys opening slots id index me few low all s h _ at _ =
 
 begins_of : (run other : List Event) (ms : V) → HasSeen run ms → EachBegins other ms → Begins run other
 begins_of run other [] seen begins = absurd seen
-begins_of run other (m ∷ ms) (inl seen) begins = subst (λ (es : List Event). Begins es other) seen.1 (begins.0.0, begins.0.1)
+begins_of run other (m ∷ ms) (inl seen) begins =
+    subst (λ (es : List Event). Begins es other) seen.1 (begins.0.0, begins.0.1)
 begins_of run other (m ∷ ms) (inr seen) begins = begins_of run other ms seen begins.1
 
 begins_each : (run other : List Event) (ms : V) → IsLatest run ms → IsLatest other ms → Begins run other
@@ -159,7 +179,11 @@ begins_each run other ms (begins, inr seen) last = begins_of run other ms seen l
 
 begins_both : (run other : List Event) → Begins run other → Begins other run → run ≡ other
 begins_both run other (rest, is) (more, was) =
-    let none : length rest ≡ 0 = let a = ap (λ (es : List Event). length es) is in let b = ap (λ (es : List Event). length es) was in let c = length-append run rest in let d = length-append other more in omega arith in
+    let none : length rest ≡ 0 = let a = ap (λ (es : List Event). length es) is in
+    let b = ap (λ (es : List Event). length es) was in
+    let c = length-append run rest in
+    let d = length-append other more in
+    omega arith in
     sym (is ∙ ap (λ (es : List Event). run ++ es) (nothing_left rest none) ∙ append-nil run)
   where
     nothing_left : (es : List Event) → length es ≡ 0 → es ≡ []
@@ -171,7 +195,8 @@ pub one_run : (run other : List Event) (ms : V) → IsLatest run ms → IsLatest
 one_run run other ms a b = begins_both run other (begins_each run other ms a b) (begins_each other run ms b a)
 
 -- as many words as there are, each read so, are those of the run
-pub are_read : (t : TableView) (ms : V) (words : List ℕ) → length words ≡ words_in t.start.shape → ((k : ℕ) → k < length words → IsWordAt (opening_of t) ms k (get_or words k 0)) → AreReadBy t ms words
+pub are_read : (t : TableView) (ms : V) (words : List ℕ) → length words ≡ words_in t.start.shape →
+    ((k : ℕ) → k < length words → IsWordAt (opening_of t) ms k (get_or words k 0)) → AreReadBy t ms words
 are_read t ms words count each =
     let some_word : 0 < length words = omega (arith, count) in
     let first = each 0 some_word in record {
@@ -182,34 +207,46 @@ are_read t ms words count each =
         count = count;
         each = λ place inside.
             let index : ℕ = index_of t.start.shape place in
-            let low : index < length words = subst (λ (n : ℕ). index < n) (sym count) (index_of-lt t.start.shape place inside) in
+            let low : index < length words =
+            subst (λ (n : ℕ). index < n) (sym count) (index_of-lt t.start.shape place inside) in
             let it = each index low in
-            it.found place inside refl ∙ ap (λ (run : List Event). word_at t.start (world_after t.start run) place) (one_run it.run first.run ms it.latest first.latest);
+            it.found place inside refl
+            ∙ ap (λ (run : List Event). word_at t.start (world_after t.start run) place)
+            (one_run it.run first.run ms it.latest first.latest);
       };
     }
 
 -- ---- at a table
 
-module _ {N : Type 0} {values : Bool} (t : SlotsInside N) (table : TableView) (built : IsBuilt values t) (t_is : table_of t ≡ table) where
+module _ {N : Type 0} {values : Bool} (t : SlotsInside N) (table : TableView) (built : IsBuilt values t)
+    (t_is : table_of t ≡ table) where
   -- how many words it has
   pub words_are : t.table.shared.table_id.words ≡ words_in table.start.shape
   words_are = built.words ∙ ap (λ (q : TableView). words_in q.start.shape) t_is
 
   -- what a load asks of the seat
-  pub asks_to_read : (z : TableId) → z ≡ table.table → (id : ℕ) (me : Sat) → EachLow table.passes me.0 → table.passes ≤ length me.0 → (index : ℕ) → index < t.table.shared.table_id.words → (opening : TableStart) → opening ≡ opening_of table
-      → (z ≡ t.table.shared.table_id) × (index < t.table.shared.table_id.words) × Allows (Kept t.table.shared.key) t.table.shared.table_id.slots id me index (λ n. n) (ReadsWord opening index me)
+  pub asks_to_read : (z : TableId) → z ≡ table.table → (id : ℕ) (me : Sat) → EachLow table.passes me.0 →
+      table.passes ≤ length me.0 → (index : ℕ) → index < t.table.shared.table_id.words → (opening : TableStart) →
+      opening ≡ opening_of table
+      → (z ≡ t.table.shared.table_id) × (index < t.table.shared.table_id.words) ×
+      Allows (Kept t.table.shared.key) t.table.shared.table_id.slots id me index (λ n. n) (ReadsWord opening index me)
   asks_to_read z z_is id me low all index inside opening named =
       let key : opening_of table ≡ t.table.shared.key = sym (ap opening_of t_is) ∙ sym built.key in
-      let few : table.passes ≤ nobody = subst (λ (n : ℕ). n ≤ nobody) (ap (λ (q : TableView). q.passes) t_is) built.few in (
+      let few : table.passes ≤ nobody =
+      subst (λ (n : ℕ). n ≤ nobody) (ap (λ (q : TableView). q.passes) t_is) built.few in (
         z_is ∙ sym (ap (λ (q : TableView). q.table) t_is),
         inside,
-        subst (λ (x : TableStart × TableStart). Allows (Kept x.0) t.table.shared.table_id.slots id me index (λ n. n) (ReadsWord x.1 index me)) (λ i. (key i, sym named i)) (surveys (opening_of table) t.table.shared.table_id.slots id index me few low all),
+        subst (λ (x : TableStart × TableStart).
+            Allows (Kept x.0) t.table.shared.table_id.slots id me index (λ n. n) (ReadsWord x.1 index me))
+            (λ i. (key i, sym named i))
+            (surveys (opening_of table) t.table.shared.table_id.slots id index me few low all),
       )
 
 -- ---- one more pass
 
 -- the last of the passes, and the others
-module _ (t : TableView) (passes others : List PassView) (last : PassView) (parts : passes ≡ others ++ last ∷ []) (all : AllOf t passes) where
+module _ (t : TableView) (passes others : List PassView) (last : PassView) (parts : passes ≡ others ++ last ∷ [])
+    (all : AllOf t passes) where
   pub last_of : IsOf last.trace t
   last_of = one_of t others last [] (subst (AllOf t) parts all)
 
@@ -221,22 +258,31 @@ module _ (t : TableView) (passes others : List PassView) (last : PassView) (part
       front_of (p ∷ ps) all = (all.0, front_of ps all.1)
 
   -- its witness goes in front of those that were joined before
-  pub joined : (ms both : V) → both ≡ witness (opened_of last.trace.start) last.trace.who last.trace.seen ∷ ms → witnesses_of others ++ both ≡ witnesses_of passes ++ ms
+  pub joined : (ms both : V) → both ≡ witness (opened_of last.trace.start) last.trace.who last.trace.seen ∷ ms →
+      witnesses_of others ++ both ≡ witnesses_of passes ++ ms
   joined ms both is =
       ap (λ (vs : V). witnesses_of others ++ vs) is
-      ∙ sym (append_assoc (witnesses_of others) (witness (opened_of last.trace.start) last.trace.who last.trace.seen ∷ []) ms)
+      ∙ sym (append_assoc (witnesses_of others)
+      (witness (opened_of last.trace.start) last.trace.who last.trace.seen ∷ []) ms)
       ∙ ap (λ (vs : V). vs ++ ms) (sym (witnesses_of-snoc others last) ∙ ap witnesses_of (sym parts))
 
 -- a seat that was joined behind that of one pass
-pub in_front : (u : Witness) (own given seat both : Sat) → own ≡ (u ∷ [], []) → given ≡ (own.0, []) → both ≡ (given.0 ++ seat.0, given.1) → both ≡ (u ∷ seat.0, [])
-in_front u own given seat both alone from into = into ∙ (λ i. ((from i).0 ++ seat.0, (from i).1)) ∙ ap (λ (m : Sat). (m.0 ++ seat.0, [])) alone
+pub in_front : (u : Witness) (own given seat both : Sat) → own ≡ (u ∷ [], []) → given ≡ (own.0, []) →
+    both ≡ (given.0 ++ seat.0, given.1) → both ≡ (u ∷ seat.0, [])
+in_front u own given seat both alone from into =
+    into ∙ (λ i. ((from i).0 ++ seat.0, (from i).1)) ∙ ap (λ (m : Sat). (m.0 ++ seat.0, [])) alone
 
 -- and is parted from it again
-pub parted : (u : Witness) (seat both left right : Sat) → both ≡ (u ∷ seat.0, []) → seat.1 ≡ [] → left ≡ (head_of both.0, both.1) → right ≡ (tail_of both.0, []) → (left ≡ (u ∷ [], [])) × (right ≡ seat)
-parted u seat both left right is none from to = (from ∙ ap (λ (m : Sat). (head_of m.0, m.1)) is, to ∙ ap (λ (m : Sat). (tail_of m.0, [])) is ∙ (λ i. (seat.0, sym none i)))
+pub parted : (u : Witness) (seat both left right : Sat) → both ≡ (u ∷ seat.0, []) → seat.1 ≡ [] →
+    left ≡ (head_of both.0, both.1) → right ≡ (tail_of both.0, []) → (left ≡ (u ∷ [], [])) × (right ≡ seat)
+parted u seat both left right is none from to = (
+  from ∙ ap (λ (m : Sat). (head_of m.0, m.1)) is,
+  to ∙ ap (λ (m : Sat). (tail_of m.0, [])) is ∙ (λ i. (seat.0, sym none i)),
+)
 
 -- the end of a table as its snapshot shows it
-pub ends_so : (t : TableView) (ps : List PassView) (words : List ℕ) → IsStart t.start → AreReadBy t (witnesses_of ps) words → Ends t ps words
+pub ends_so : (t : TableView) (ps : List PassView) (words : List ℕ) → IsStart t.start →
+    AreReadBy t (witnesses_of ps) words → Ends t ps words
 ends_so t ps words is_start read = record {
   run = read.run;
   is_run = read.is_run;

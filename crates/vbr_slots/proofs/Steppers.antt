@@ -1,5 +1,6 @@
 -- A step that leaves the own pool and the hand of its pass leaves the stepper well that made it.
-use Rattle.std.proofs.Common.{◌≡◌, ℕ, ◌<◌, ◌==◌, Bool, true, false, List, get_or, Option, Some, None, cond, refl, sym, subst}
+use Rattle.std.proofs.Common.{◌≡◌, ℕ, ◌<◌, ◌==◌, Bool, true, false, List, get_or, Option, Some, None, cond, refl, sym}
+use Rattle.std.proofs.Common.{subst}
 use mathlib.Core.Logic.{dite}
 use native.Mathlib.Decide.{ℕ_discrete}
 use Rattle.vbr_words.specs.declared.link.Link.{Link}
@@ -12,7 +13,9 @@ use Rattle.vbr_machine.specs.Learning.{learn, reread, with_key, with_value, with
 use Rattle.vbr_machine.specs.Machine.{Load, access_of}
 use Rattle.vbr_machine.specs.Put.{put}
 use Rattle.vbr_machine.specs.declared.event.Step.{Step}
-use Rattle.vbr_machine.specs.declared.event.Step.TheVariants.{ReadEpoch, StoreStamp, Raise, TakeFlag, StoreBirth, StoreKey, StoreValue, StoreLink, Publish, Mark, Replace, Unlink}
+use Rattle.vbr_machine.specs.declared.event.Step.TheVariants.{ReadEpoch, StoreStamp, Raise, TakeFlag, StoreBirth}
+use Rattle.vbr_machine.specs.declared.event.Step.TheVariants.{StoreKey, StoreValue, StoreLink, Publish, Mark, Replace}
+use Rattle.vbr_machine.specs.declared.event.Step.TheVariants.{Unlink}
 use Rattle.vbr_machine.specs.declared.knowledge.Holding.{Holding}
 use Rattle.vbr_machine.specs.declared.knowledge.Holding.TheVariants.{Unlinked, InHand}
 use Rattle.vbr_machine.proofs.Lemmas.{put_here, put_other}
@@ -50,7 +53,8 @@ AllStayOwn was is = (s : ℕ) → StaysOwn (was s) (is s)
 all_stay : (own : ℕ → Option Holding) → AllStayOwn own own
 all_stay own s = record { may = λ x. x; in_hand = λ x. x }
 
-either_own : (b : Bool) (own : ℕ → Option Holding) (k l : Know) → AllStayOwn own k.own → AllStayOwn own l.own → AllStayOwn own (cond b k l).own
+either_own : (b : Bool) (own : ℕ → Option Holding) (k l : Know) → AllStayOwn own k.own → AllStayOwn own l.own →
+    AllStayOwn own (cond b k l).own
 either_own true own k l a b = a
 either_own false own k l a b = b
 
@@ -70,18 +74,24 @@ link_own : (holding : Option Holding) (link : Link) → StaysOwn holding (with_l
 link_own (Some (InHand known)) link = record { may = λ x. x; in_hand = λ x. x }
 link_own _ link = record { may = λ x. x; in_hand = λ x. x }
 
-put_own : (own : ℕ → Option Holding) (t : ℕ) (holding : Option Holding) → StaysOwn (own t) holding → AllStayOwn own (put own t holding)
+put_own : (own : ℕ → Option Holding) (t : ℕ) (holding : Option Holding) → StaysOwn (own t) holding →
+    AllStayOwn own (put own t holding)
 put_own own t holding stays s =
     dite (ℕ_discrete s t)
-    (λ same. subst (λ (x : ℕ). StaysOwn (own x) (put own t holding x)) (sym same) (subst (StaysOwn (own t)) (sym (put_here own t holding)) stays))
-    (λ other. subst (StaysOwn (own s)) (sym (put_other own t holding s other)) (record { may = λ x. x; in_hand = λ x. x }))
+    (λ same. subst (λ (x : ℕ). StaysOwn (own x) (put own t holding x)) (sym same)
+    (subst (StaysOwn (own t)) (sym (put_here own t holding)) stays))
+    (λ other. subst (StaysOwn (own s)) (sym (put_other own t holding s other))
+    (record { may = λ x. x; in_hand = λ x. x }))
 
-owns_still : (step : Step) (r stamp : ℕ) (know : Know) → LeavesPools step → AllStayOwn know.own (learn step r stamp know).own
-owns_still ReadEpoch r stamp know leaves = either_own (r == know.epoch) know.own _ _ (λ s. reread_own (know.own s)) (λ s. reread_own (know.own s))
+owns_still : (step : Step) (r stamp : ℕ) (know : Know) → LeavesPools step →
+    AllStayOwn know.own (learn step r stamp know).own
+owns_still ReadEpoch r stamp know leaves =
+    either_own (r == know.epoch) know.own _ _ (λ s. reread_own (know.own s)) (λ s. reread_own (know.own s))
 owns_still (StoreKey s key) r stamp know leaves = put_own know.own s _ (key_own (know.own s) key)
 owns_still (StoreValue s value) r stamp know leaves = put_own know.own s _ (value_own (know.own s) value)
 owns_still (StoreLink s next) r stamp know leaves = put_own know.own s _ (link_own (know.own s) _)
-owns_still (Mark s expected) r stamp know leaves = either_own (r == expected) know.own _ know (all_stay know.own) (all_stay know.own)
+owns_still (Mark s expected) r stamp know leaves =
+    either_own (r == expected) know.own _ know (all_stay know.own) (all_stay know.own)
 owns_still (StoreStamp s new) r stamp know leaves = absurd leaves
 owns_still (Raise s) r stamp know leaves = absurd leaves
 owns_still (TakeFlag s) r stamp know leaves = absurd leaves
@@ -93,11 +103,13 @@ owns_still _ r stamp know leaves = all_stay know.own
 
 -- ---- the pool and the hand
 
-hand_still : (start : Start) (was is : Know) (pool : List ℕ) (hand : Option ℕ) → AllStayOwn was.own is.own → HandFits start was pool hand → HandFits start is pool hand
+hand_still : (start : Start) (was is : Know) (pool : List ℕ) (hand : Option ℕ) → AllStayOwn was.own is.own →
+    HandFits start was pool hand → HandFits start is pool hand
 hand_still start was is pool None stays h = tt
 hand_still start was is pool (Some s) stays h = (h.0, (stays s).in_hand h.1, h.2)
 
-pool_still : (start : Start) (was is : Know) (pool : List ℕ) (hand : Option ℕ) → AllStayOwn was.own is.own → OwnPool start was pool hand → OwnPool start is pool hand
+pool_still : (start : Start) (was is : Know) (pool : List ℕ) (hand : Option ℕ) → AllStayOwn was.own is.own →
+    OwnPool start was pool hand → OwnPool start is pool hand
 pool_still start was is pool hand stays o = record {
   pooled = λ k d low. let at = o.pooled k d low in (at.0, (stays (get_or pool k d)).may at.1);
   apart = o.apart;
@@ -108,8 +120,11 @@ tries_none : (step : Step) (before : ℕ) → LeavesPools step → tried_by step
 tries_none (TakeFlag s) before leaves = absurd leaves
 tries_none _ before leaves = refl
 
--- a stepper is well after a step that tries to take no slot, where its pool and its hand are as the pass then knows its slots
-pub well_after : {step : Step} {q : Trace} {r : ℕ} (p : Inside) (hand : Option ℕ) → Did step p.runner q r → tried_by step (last_tried p.runner) ≡ last_tried p.runner → OwnPool q.start (knows q) p.pool.items hand → IsWell p → IsWell (record p { runner = q; hand = hand })
+-- a stepper is well after a step that tries to take no slot, where its pool and its hand are as the pass then knows
+-- its slots
+pub well_after : {step : Step} {q : Trace} {r : ℕ} (p : Inside) (hand : Option ℕ) → Did step p.runner q r →
+    tried_by step (last_tried p.runner) ≡ last_tried p.runner → OwnPool q.start (knows q) p.pool.items hand → IsWell p →
+    IsWell (record p { runner = q; hand = hand })
 well_after {step} {q} p hand d tries pool well = record {
   start = subst IsStart (sym d.same.1) well.start;
   pool = pool;
@@ -118,9 +133,13 @@ well_after {step} {q} p hand d tries pool well = record {
 }
 
 -- and after a step of a kind that leaves them
-pub stays_well : {step : Step} {q : Trace} {r : ℕ} (p : Inside) → Did step p.runner q r → LeavesPools step → IsWell p → IsWell (record p { runner = q })
+pub stays_well : {step : Step} {q : Trace} {r : ℕ} (p : Inside) → Did step p.runner q r → LeavesPools step → IsWell p →
+    IsWell (record p { runner = q })
 stays_well {step} {q} {r} p d leaves well =
-    well_after p p.hand d (tries_none step _ leaves) (pool_after p.runner q step r d p.pool.items p.hand (pool_still p.runner.start (knows p.runner) _ p.pool.items p.hand (owns_still step r _ (knows p.runner) leaves) well.pool)) well
+    well_after p p.hand d (tries_none step _ leaves)
+    (pool_after p.runner q step r d p.pool.items p.hand
+    (pool_still p.runner.start (knows p.runner) _ p.pool.items p.hand (owns_still step r _ (knows p.runner) leaves)
+    well.pool)) well
 
 -- a load is a step of such a kind
 pub load_leaves : (know : Know) (step : Step) → access_of know step ≡ Load → LeavesPools step

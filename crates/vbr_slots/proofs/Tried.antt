@@ -1,5 +1,6 @@
 -- What a step does to the slot that its pass tried last.
-use Rattle.std.proofs.Common.{◌≡◌, ℕ, ◌==◌, Bool, true, false, cond, List, [], ◌∷◌, ◌++◌, refl, sym, ap, ◌∙◌, eq-eqb, inl, inr}
+use Rattle.std.proofs.Common.{◌≡◌, ℕ, ◌==◌, Bool, true, false, cond, List, [], ◌∷◌, ◌++◌, refl, sym, ap, ◌∙◌, eq-eqb}
+use Rattle.std.proofs.Common.{inl, inr}
 use Rattle.std.proofs.lemmas.Bool.{cases_Bool, eqb-true}
 use Rattle.std.specs.Prelude.{◌⊎◌}
 use Rattle.vbr_machine.specs.Runs.{NoneOf}
@@ -11,16 +12,20 @@ use Rattle.vbr_slots.specs.Tried.{first_tried, last_tried, tried_by, tried_in}
 use Rattle.vbr_slots.specs.Views.{Trace, Did, event_of}
 
 -- events in a row
-tried_on : (who : ℕ) (events more : List Event) (before : ℕ) → tried_in who (events ++ more) before ≡ tried_in who more (tried_in who events before)
+tried_on : (who : ℕ) (events more : List Event) (before : ℕ) →
+    tried_in who (events ++ more) before ≡ tried_in who more (tried_in who events before)
 unfolding tried_in
 tried_on who [] more before = refl
 tried_on who (e ∷ events) more before = tried_on who events more (cond (e.pass == who) (tried_by e.step before) before)
 
 -- events of others
-pub tried_others : (who : ℕ) (events : List Event) (before : ℕ) → NoneOf who events → tried_in who events before ≡ before
+pub tried_others : (who : ℕ) (events : List Event) (before : ℕ) → NoneOf who events →
+    tried_in who events before ≡ before
 unfolding tried_in
 tried_others who [] before none = refl
-tried_others who (e ∷ events) before none = ap (λ (b : Bool). tried_in who events (cond b (tried_by e.step before) before)) (other (cases_Bool (e.pass == who))) ∙ tried_others who events before none.1
+tried_others who (e ∷ events) before none =
+    ap (λ (b : Bool). tried_in who events (cond b (tried_by e.step before) before)) (other (cases_Bool (e.pass == who)))
+    ∙ tried_others who events before none.1
   where
     other : ((e.pass == who) ≡ true) ⊎ ((e.pass == who) ≡ false) → (e.pass == who) ≡ false
     other (inl own) = absurd (none.0 (eqb-true e.pass who own))
@@ -36,7 +41,8 @@ abbrev begins_with : Trace → ℕ
 begins_with p = first_tried p.start.shape p.passes p.who
 
 -- the same pass begins with the same slot
-begins_same : (p q : Trace) → (q.start ≡ p.start) × (q.passes ≡ p.passes) × (q.who ≡ p.who) → begins_with q ≡ begins_with p
+begins_same : (p q : Trace) → (q.start ≡ p.start) × (q.passes ≡ p.passes) × (q.who ≡ p.who) →
+    begins_with q ≡ begins_with p
 begins_same p q same =
     ap (λ (start : Start). first_tried start.shape q.passes q.who) same.0
     ∙ ap (λ (passes : ℕ). first_tried p.start.shape passes q.who) same.1
@@ -57,10 +63,12 @@ did_tried {step} {p} {q} d =
     ∙ ap (λ (seen : List Event). tried_in p.who seen first) d.seen
     ∙ tried_on p.who (p.seen ++ d.rest) (event_of p.who step ∷ []) first
     ∙ tried_own p.who step (tried_in p.who (p.seen ++ d.rest) first)
-    ∙ ap (tried_by step) (tried_on p.who p.seen d.rest first ∙ tried_others p.who d.rest (tried_in p.who p.seen first) d.none)
+    ∙ ap (tried_by step)
+    (tried_on p.who p.seen d.rest first ∙ tried_others p.who d.rest (tried_in p.who p.seen first) d.none)
 
 -- a step of another kind leaves it
-pub keeps_tried : {step : Step} {p q : Trace} {r slot : ℕ} → Did step p q r → tried_by step (last_tried p) ≡ last_tried p → slot ≡ last_tried p → slot ≡ last_tried q
+pub keeps_tried : {step : Step} {p q : Trace} {r slot : ℕ} → Did step p q r →
+    tried_by step (last_tried p) ≡ last_tried p → slot ≡ last_tried p → slot ≡ last_tried q
 keeps_tried d kind same = same ∙ sym kind ∙ sym (did_tried d)
 
 -- what others did leaves it

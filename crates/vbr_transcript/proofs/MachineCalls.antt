@@ -10,17 +10,26 @@ use Rattle.vbr_machine.specs.Runs.{IsRun, AreAccepted, world_from, world_after, 
 use Rattle.vbr_machine.specs.Calls.{own_calls}
 use Rattle.vbr_machine.specs.declared.event.Event.{Event}
 use Rattle.vbr_machine.specs.declared.event.Step.{Step}
-use Rattle.vbr_machine.specs.declared.event.Step.TheVariants.{ReadEpoch, Advance, LoadStamp, StoreStamp, Raise, TakeFlag, StoreBirth, StoreKey, StoreValue, StoreLink, LoadLink, LoadBirth, LoadKey, LoadValue, Publish, Mark, Replace, Unlink, ConfirmPresent, ConfirmAbsent}
+use Rattle.vbr_machine.specs.declared.event.Step.TheVariants.{ReadEpoch, Advance, LoadStamp, StoreStamp, Raise}
+use Rattle.vbr_machine.specs.declared.event.Step.TheVariants.{TakeFlag, StoreBirth, StoreKey, StoreValue, StoreLink}
+use Rattle.vbr_machine.specs.declared.event.Step.TheVariants.{LoadLink, LoadBirth, LoadKey, LoadValue, Publish, Mark}
+use Rattle.vbr_machine.specs.declared.event.Step.TheVariants.{Replace, Unlink, ConfirmPresent, ConfirmAbsent}
 use Rattle.vbr_machine.proofs.Lemmas.{others_leave_calls, world_after-append}
 
 -- no pass beyond the number of passes has an event
-none_beyond : (start : Start) (passes who : ℕ) (w : World) (events : List Event) → passes ≤ who → AreAccepted start passes w events → NoneOf who events
+none_beyond : (start : Start) (passes who : ℕ) (w : World) (events : List Event) → passes ≤ who →
+    AreAccepted start passes w events → NoneOf who events
 none_beyond start passes who w [] beyond accepted = tt
-none_beyond start passes who w (event ∷ events) beyond accepted = (λ same. omega (arith, accepted.0.0), none_beyond start passes who (after start w event.pass event.step) events beyond accepted.1)
+none_beyond start passes who w (event ∷ events) beyond accepted = (
+  λ same. omega (arith, accepted.0.0),
+  none_beyond start passes who (after start w event.pass event.step) events beyond accepted.1,
+)
 
 -- so it has no calls
-pub no_calls_beyond : (start : Start) (passes who : ℕ) (run : List Event) → passes ≤ who → IsRun start passes run → own_calls start run who ≡ []
-no_calls_beyond start passes who run beyond is_run = others_leave_calls start [] run who (none_beyond start passes who (opening start) run beyond is_run)
+pub no_calls_beyond : (start : Start) (passes who : ℕ) (run : List Event) → passes ≤ who → IsRun start passes run →
+    own_calls start run who ≡ []
+no_calls_beyond start passes who run beyond is_run =
+    others_leave_calls start [] run who (none_beyond start passes who (opening start) run beyond is_run)
 
 -- ---- the epoch
 
@@ -62,10 +71,18 @@ epoch_after start w p (ConfirmAbsent op key (Slot t) expected) = kept (word_of (
 
 epoch_from : (start : Start) (w : World) (events : List Event) → w.epoch ≤ (world_from start w events).epoch
 epoch_from start w [] = omega arith
-epoch_from start w (event ∷ events) = omega (arith, epoch_after start w event.pass event.step, epoch_from start (after start w event.pass event.step) events)
+epoch_from start w (event ∷ events) =
+    omega (
+      arith,
+      epoch_after start w event.pass event.step,
+      epoch_from start (after start w event.pass event.step) events,
+    )
 
 -- what begins a run has an epoch no greater than the run's
-pub epoch_begins : (start : Start) (seen run : List Event) → Begins seen run → (world_after start seen).epoch ≤ (world_after start run).epoch
+pub epoch_begins : (start : Start) (seen run : List Event) → Begins seen run →
+    (world_after start seen).epoch ≤ (world_after start run).epoch
 epoch_begins start seen run begins =
-    let same : (world_after start run).epoch ≡ (world_from start (world_after start seen) begins.0).epoch = ap (λ (events : List Event). (world_after start events).epoch) begins.1 ∙ ap (λ (w : World). w.epoch) (world_after-append start seen begins.0) in
+    let same : (world_after start run).epoch ≡ (world_from start (world_after start seen) begins.0).epoch =
+    ap (λ (events : List Event). (world_after start events).epoch) begins.1
+    ∙ ap (λ (w : World). w.epoch) (world_after-append start seen begins.0) in
     omega (arith, epoch_from start (world_after start seen) begins.0)

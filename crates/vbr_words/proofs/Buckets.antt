@@ -5,7 +5,8 @@ use Rattle.vbr_words.specs.Buckets.{bucket_among, bucket_of, mixed}
 use Rattle.vbr_words.specs.Dimensions.{Dimensions}
 
 -- where keys are spread
-pub bucket_of-spread : (shape : Dimensions) (key multiplier : ℕ) → shape.spread ≡ Some multiplier → mixed multiplier key * shape.buckets / 2 ^ 32 ≡ bucket_of shape key
+pub bucket_of-spread : (shape : Dimensions) (key multiplier : ℕ) → shape.spread ≡ Some multiplier →
+    mixed multiplier key * shape.buckets / 2 ^ 32 ≡ bucket_of shape key
 unfolding bucket_of
 bucket_of-spread shape key multiplier e = sym (ap (λ (spread : Option ℕ). bucket_among shape.buckets spread key) e)
 
@@ -25,5 +26,7 @@ pub bucket_of-lt : (shape : Dimensions) (key : ℕ) → 0 < shape.buckets → bu
 bucket_of-lt shape key some = go shape.spread refl
   where
     go : (spread : Option ℕ) → shape.spread ≡ spread → bucket_of shape key < shape.buckets
-    go (Some multiplier) e = subst (λ (n : ℕ). n < shape.buckets) (bucket_of-spread shape key multiplier e) (part_low (mixed multiplier key) shape.buckets (omega arith) some)
+    go (Some multiplier) e =
+        subst (λ (n : ℕ). n < shape.buckets) (bucket_of-spread shape key multiplier e)
+        (part_low (mixed multiplier key) shape.buckets (omega arith) some)
     go None e = subst (λ (n : ℕ). n < shape.buckets) (bucket_of-modulo shape key e) (omega arith)

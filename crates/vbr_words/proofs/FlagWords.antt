@@ -1,6 +1,7 @@
 -- A flag word has just the flags of the slots that are set.
 -- What sets or clears one flag, and which flag comes next.
-use Rattle.std.proofs.Common.{◌≡◌, ◌≢◌, ℕ, zero, suc, ◌+◌, ◌-◌, ◌*◌, ◌/◌, ◌%◌, ◌^◌, ◌<◌, ◌≤◌, ◌==◌, nat_lt, min, max, Bool, true, false, refl, sym, ap, ◌∙◌, inl, inr, ⊎_elim, arith}
+use Rattle.std.proofs.Common.{◌≡◌, ◌≢◌, ℕ, zero, suc, ◌+◌, ◌-◌, ◌*◌, ◌/◌, ◌%◌, ◌^◌, ◌<◌, ◌≤◌, ◌==◌, nat_lt, min, max}
+use Rattle.std.proofs.Common.{Bool, true, false, refl, sym, ap, ◌∙◌, inl, inr, ⊎_elim, arith}
 use Rattle.std.specs.Prelude.{bit_and, bit_or}
 use Rattle.std.specs.Int.{bit_at, trailing_zeros, w64}
 use Rattle.std.specs.Int.Bits.{and_lt}
@@ -9,7 +10,9 @@ use Rattle.std.proofs.Math.Nat.{pow-suc}
 use Rattle.std.proofs.lemmas.Bool.{cases_lt, cases_eq}
 use Rattle.std.proofs.lemmas.Bool.Decides.{nat_tests}
 use Rattle.std.proofs.lemmas.Nat.{pow_below, or_lt}
-use Rattle.std.proofs.lemmas.Nat.Bits.{bit_at-lt, bit_at-zero, bit_at_and, bit_at_or, bit_at_not, bit_at-pow_same, bit_at-pow_other, bit_at_cat_low, bit_at_cat_high, bit_at_ones, bit_at_ones_above, bit_at-trailing_zeros, same_from_bits_below, shr_and_one}
+use Rattle.std.proofs.lemmas.Nat.Bits.{bit_at-lt, bit_at-zero, bit_at_and, bit_at_or, bit_at_not, bit_at-pow_same}
+use Rattle.std.proofs.lemmas.Nat.Bits.{bit_at-pow_other, bit_at_cat_low, bit_at_cat_high, bit_at_ones}
+use Rattle.std.proofs.lemmas.Nat.Bits.{bit_at_ones_above, bit_at-trailing_zeros, same_from_bits_below, shr_and_one}
 use Rattle.vbr_words.specs.Flags.{word_of_flag, flag_of, all_but, has_flag, digit, first_bits, flag_word, IsNextFlag}
 
 -- ---- a number by its first bits
@@ -52,7 +55,8 @@ bit_at-first_bits bit (suc n) i low =
     (λ (more : n ≤ i).
     let here : i ≡ n = omega arith in
     let none : i - n ≡ 0 = omega arith in
-    bit_at_cat_high (digit (bit n)) n (first_bits bit n) i (first_bits-lt bit n) more ∙ ap (bit_at (digit (bit n))) none ∙ bit_of_digit (bit n) ∙ ap (λ (j : ℕ). digit (bit j)) (sym here))
+    bit_at_cat_high (digit (bit n)) n (first_bits bit n) i (first_bits-lt bit n) more ∙ ap (bit_at (digit (bit n))) none
+    ∙ bit_of_digit (bit n) ∙ ap (λ (j : ℕ). digit (bit j)) (sym here))
     (cases_lt i n)
 
 -- ---- a flag and its word
@@ -71,7 +75,8 @@ unfolding flag_word
 flag_word-lt is_set number = first_bits-lt (λ i. is_set (64 * number + i)) 64
 
 -- the bits of a flag word
-bit_at-flag_word : (is_set : ℕ → Bool) (number i : ℕ) → i < 64 → bit_at (flag_word is_set number) i ≡ digit (is_set (64 * number + i))
+bit_at-flag_word : (is_set : ℕ → Bool) (number i : ℕ) → i < 64 →
+    bit_at (flag_word is_set number) i ≡ digit (is_set (64 * number + i))
 unfolding flag_word
 bit_at-flag_word is_set number i low = bit_at-first_bits (λ j. is_set (64 * number + j)) 64 i low
 
@@ -79,7 +84,8 @@ bit_at-flag_word is_set number i low = bit_at-first_bits (λ j. is_set (64 * num
 pub has_flag-flag_word : (is_set : ℕ → Bool) (s : ℕ) → has_flag (flag_word is_set (word_of_flag s)) s ≡ is_set s
 unfolding has_flag
 has_flag-flag_word is_set s =
-    ap (λ (d : ℕ). d == 1) (bit_at-flag_word is_set (s / 64) (s % 64) (low_bit s)) ∙ digit_is_one (is_set (64 * (s / 64) + s % 64)) ∙ ap is_set (again s)
+    ap (λ (d : ℕ). d == 1) (bit_at-flag_word is_set (s / 64) (s % 64) (low_bit s))
+    ∙ digit_is_one (is_set (64 * (s / 64) + s % 64)) ∙ ap is_set (again s)
 
 -- a word with no flag
 pub has_flag-zero : (s : ℕ) → has_flag 0 s ≡ false
@@ -87,13 +93,18 @@ unfolding has_flag
 has_flag-zero s = ap (λ (d : ℕ). d == 1) (bit_at-zero (s % 64))
 
 -- a word is told by its flags
-by_flags : (is_set : ℕ → Bool) (number word : ℕ) → word < 2 ^ 64 → ((i : ℕ) → i < 64 → bit_at word i ≡ digit (is_set (64 * number + i))) → flag_word is_set number ≡ word
-by_flags is_set number word low same = same_from_bits_below 64 (flag_word is_set number) word (flag_word-lt is_set number) low (λ i less. bit_at-flag_word is_set number i less ∙ sym (same i less))
+by_flags : (is_set : ℕ → Bool) (number word : ℕ) → word < 2 ^ 64 →
+    ((i : ℕ) → i < 64 → bit_at word i ≡ digit (is_set (64 * number + i))) → flag_word is_set number ≡ word
+by_flags is_set number word low same =
+    same_from_bits_below 64 (flag_word is_set number) word (flag_word-lt is_set number) low
+    (λ i less. bit_at-flag_word is_set number i less ∙ sym (same i less))
 
 -- where the same flags are set, the words are the same
-pub flag_word_same : (a b : ℕ → Bool) (number : ℕ) → ((s : ℕ) → word_of_flag s ≡ number → a s ≡ b s) → flag_word a number ≡ flag_word b number
+pub flag_word_same : (a b : ℕ → Bool) (number : ℕ) → ((s : ℕ) → word_of_flag s ≡ number → a s ≡ b s) →
+    flag_word a number ≡ flag_word b number
 flag_word_same a b number same =
-    by_flags a number (flag_word b number) (flag_word-lt b number) (λ i less. bit_at-flag_word b number i less ∙ ap digit (sym (same (64 * number + i) (in_word number i less))))
+    by_flags a number (flag_word b number) (flag_word-lt b number)
+    (λ i less. bit_at-flag_word b number i less ∙ ap digit (sym (same (64 * number + i) (in_word number i less))))
 
 -- ---- one flag
 
@@ -123,21 +134,27 @@ module _ (before after : ℕ → Bool) (s : ℕ) (others : (t : ℕ) → t ≢ s
 
   -- setting it
   pub flag_raised : after s ≡ true → flag_word after (word_of_flag s) ≡ bit_or old (flag_of s)
-  flag_raised set = by_flags after (s / 64) (bit_or old (2 ^ (s % 64))) (or_lt 64 old (2 ^ (s % 64)) (flag_word-lt before (s / 64)) (pow_below (s % 64) 64 (low_bit s))) each
+  flag_raised set =
+      by_flags after (s / 64) (bit_or old (2 ^ (s % 64)))
+      (or_lt 64 old (2 ^ (s % 64)) (flag_word-lt before (s / 64)) (pow_below (s % 64) 64 (low_bit s))) each
     where
       each : (i : ℕ) → i < 64 → bit_at (bit_or old (2 ^ (s % 64))) i ≡ digit (after (64 * (s / 64) + i))
       each i low =
           bit_at_or old (2 ^ (s % 64)) i
           ∙ ⊎_elim
           (λ (here : i ≡ s % 64).
-          ap (λ (d : ℕ). max (bit_at old i) d) (ap (bit_at (2 ^ (s % 64))) here ∙ bit_at-pow_same (s % 64)) ∙ or_with_one (bit_at old i) (bit_at-lt old i) ∙ sym (ap digit (own_bit i here ∙ set)))
+          ap (λ (d : ℕ). max (bit_at old i) d) (ap (bit_at (2 ^ (s % 64))) here ∙ bit_at-pow_same (s % 64))
+          ∙ or_with_one (bit_at old i) (bit_at-lt old i) ∙ sym (ap digit (own_bit i here ∙ set)))
           (λ (ne : i ≢ s % 64).
-          ap (λ (d : ℕ). max (bit_at old i) d) (bit_at-pow_other (s % 64) i ne) ∙ or_with_zero (bit_at old i) ∙ bit_at-flag_word before (s / 64) i low ∙ ap digit (sym (other_bit i low ne)))
+          ap (λ (d : ℕ). max (bit_at old i) d) (bit_at-pow_other (s % 64) i ne) ∙ or_with_zero (bit_at old i)
+          ∙ bit_at-flag_word before (s / 64) i low ∙ ap digit (sym (other_bit i low ne)))
           (cases_eq i (s % 64))
 
   -- clearing it
   pub flag_taken : after s ≡ false → flag_word after (word_of_flag s) ≡ bit_and old (all_but s)
-  flag_taken cleared = by_flags after (s / 64) (bit_and old (2 ^ 64 - 1 - 2 ^ (s % 64))) (and_lt 64 old (2 ^ 64 - 1 - 2 ^ (s % 64)) (flag_word-lt before (s / 64)) (omega arith)) each
+  flag_taken cleared =
+      by_flags after (s / 64) (bit_and old (2 ^ 64 - 1 - 2 ^ (s % 64)))
+      (and_lt 64 old (2 ^ 64 - 1 - 2 ^ (s % 64)) (flag_word-lt before (s / 64)) (omega arith)) each
     where
       each : (i : ℕ) → i < 64 → bit_at (bit_and old (2 ^ 64 - 1 - 2 ^ (s % 64))) i ≡ digit (after (64 * (s / 64) + i))
       each i low =
@@ -145,9 +162,12 @@ module _ (before after : ℕ → Bool) (s : ℕ) (others : (t : ℕ) → t ≢ s
           ∙ ap (min (bit_at old i)) (bit_at_not w64 (2 ^ (s % 64)) i (pow_below (s % 64) 64 (low_bit s)) low)
           ∙ ⊎_elim
           (λ (here : i ≡ s % 64).
-          ap (λ (d : ℕ). min (bit_at old i) (1 - d)) (ap (bit_at (2 ^ (s % 64))) here ∙ bit_at-pow_same (s % 64)) ∙ and_with_zero (bit_at old i) ∙ sym (ap digit (own_bit i here ∙ cleared)))
+          ap (λ (d : ℕ). min (bit_at old i) (1 - d)) (ap (bit_at (2 ^ (s % 64))) here ∙ bit_at-pow_same (s % 64))
+          ∙ and_with_zero (bit_at old i) ∙ sym (ap digit (own_bit i here ∙ cleared)))
           (λ (ne : i ≢ s % 64).
-          ap (λ (d : ℕ). min (bit_at old i) (1 - d)) (bit_at-pow_other (s % 64) i ne) ∙ and_with_one (bit_at old i) (bit_at-lt old i) ∙ bit_at-flag_word before (s / 64) i low ∙ ap digit (sym (other_bit i low ne)))
+          ap (λ (d : ℕ). min (bit_at old i) (1 - d)) (bit_at-pow_other (s % 64) i ne)
+          ∙ and_with_one (bit_at old i) (bit_at-lt old i) ∙ bit_at-flag_word before (s / 64) i low
+          ∙ ap digit (sym (other_bit i low ne)))
           (cases_eq i (s % 64))
 
 -- ---- all flags
@@ -173,15 +193,21 @@ digit_of_no a b more = go (nat_lt a b) (grind (arith, nat_tests))
 -- a word all of whose slots are there
 pub full_word : (slots number : ℕ) → 64 ≤ slots - 64 * number → flag_word (λ s. nat_lt s slots) number ≡ 2 ^ 64 - 1
 full_word slots number all =
-    by_flags (λ s. nat_lt s slots) number (2 ^ 64 - 1) (omega arith) (λ i low. bit_at_ones 64 i low ∙ sym (ap digit (below slots number i) ∙ digit_of_test i (slots - 64 * number) (omega arith)))
+    by_flags (λ s. nat_lt s slots) number (2 ^ 64 - 1) (omega arith)
+    (λ i low. bit_at_ones 64 i low
+    ∙ sym (ap digit (below slots number i) ∙ digit_of_test i (slots - 64 * number) (omega arith)))
 
 -- and the last, where there are fewer
-pub last_word : (slots number : ℕ) → slots - 64 * number < 64 → flag_word (λ s. nat_lt s slots) number ≡ 2 ^ (slots - 64 * number) - 1
+pub last_word : (slots number : ℕ) → slots - 64 * number < 64 →
+    flag_word (λ s. nat_lt s slots) number ≡ 2 ^ (slots - 64 * number) - 1
 last_word slots number few =
-    by_flags (λ s. nat_lt s slots) number (2 ^ (slots - 64 * number) - 1) (let small = pow_below (slots - 64 * number) 64 few in omega arith) (λ i low.
+    by_flags (λ s. nat_lt s slots) number (2 ^ (slots - 64 * number) - 1)
+    (let small = pow_below (slots - 64 * number) 64 few in omega arith) (λ i low.
     ⊎_elim
-    (λ (there : i < slots - 64 * number). bit_at_ones (slots - 64 * number) i there ∙ sym (digit_of_test i (slots - 64 * number) there))
-    (λ (past : slots - 64 * number ≤ i). bit_at_ones_above (slots - 64 * number) i past ∙ sym (digit_of_no i (slots - 64 * number) past))
+    (λ (there : i < slots - 64 * number).
+    bit_at_ones (slots - 64 * number) i there ∙ sym (digit_of_test i (slots - 64 * number) there))
+    (λ (past : slots - 64 * number ≤ i).
+    bit_at_ones_above (slots - 64 * number) i past ∙ sym (digit_of_no i (slots - 64 * number) past))
     (cases_lt i (slots - 64 * number))
     ∙ sym (ap digit (below slots number i)))
 
@@ -204,7 +230,8 @@ unfolding has_flag
 one_flag word s one = ap (λ (d : ℕ). d == 1) one
 
 -- where a word has flags, the lowest is the next; where it has none, the next slot is in the next word
-pub next_is : (word slot zeros : ℕ) → word < 2 ^ 64 → zeros ≡ trailing_zeros w64 word → IsNextFlag word slot (slot / 64 * 64 + zeros)
+pub next_is : (word slot zeros : ℕ) → word < 2 ^ 64 → zeros ≡ trailing_zeros w64 word →
+    IsNextFlag word slot (slot / 64 * 64 + zeros)
 next_is word slot zeros low is = ⊎_elim some none (cases_lt 0 word)
   where
     some : 0 < word → IsNextFlag word slot (slot / 64 * 64 + zeros)
@@ -214,7 +241,10 @@ next_is word slot zeros low is = ⊎_elim some none (cases_lt 0 word)
         let bit : (slot / 64 * 64 + zeros) % 64 ≡ zeros = omega arith in
         record {
           before = λ s same less. no_flag word s (lowest.2 (s % 64) (omega (arith, is, same, less)));
-          place = inl (omega (arith, small), one_flag word (slot / 64 * 64 + zeros) (ap (bit_at word) (bit ∙ is) ∙ lowest.1));
+          place = inl (
+            omega (arith, small),
+            one_flag word (slot / 64 * 64 + zeros) (ap (bit_at word) (bit ∙ is) ∙ lowest.1),
+          );
         }
 
     none : word ≤ 0 → IsNextFlag word slot (slot / 64 * 64 + zeros)

@@ -1,15 +1,19 @@
 -- A place can be told from its index.
-use Rattle.std.proofs.Common.{◌≡◌, ℕ, ◌+◌, ◌-◌, ◌*◌, ◌/◌, ◌%◌, ◌<◌, ◌≤◌, ◌==◌, nat_lt, Bool, true, false, if◌then◌else◌, refl, sym, subst, ap, ◌∙◌, arith}
+use Rattle.std.proofs.Common.{◌≡◌, ℕ, ◌+◌, ◌-◌, ◌*◌, ◌/◌, ◌%◌, ◌<◌, ◌≤◌, ◌==◌, nat_lt, Bool, true, false, if◌then◌else◌}
+use Rattle.std.proofs.Common.{refl, sym, subst, ap, ◌∙◌, arith}
 use Rattle.std.proofs.lemmas.Bool.Decides.{nat_tests}
 use Rattle.vbr_words.specs.Dimensions.{Dimensions}
 use Rattle.vbr_words.specs.Flags.{flag_words}
 use Rattle.vbr_words.specs.Places.{IsIn, index_of, node_words, slots_index, flags_index, words_in}
 use Rattle.vbr_words.specs.declared.place.Place.{Place}
-use Rattle.vbr_words.specs.declared.place.Place.TheVariants.{Epoch, ShapeWord, Head, LinkOf, Birth, Stamp, Key, Value, Flags}
+use Rattle.vbr_words.specs.declared.place.Place.TheVariants.{Epoch, ShapeWord, Head, LinkOf, Birth, Stamp, Key, Value}
+use Rattle.vbr_words.specs.declared.place.Place.TheVariants.{Flags}
 
 -- the word of a slot with this number among its own
 word_at : ℕ → ℕ → Place
-word_at slot field = if field == 0 then LinkOf slot else (if field == 1 then Birth slot else (if field == 2 then Stamp slot else (if field == 3 then Key slot else Value slot)))
+word_at slot field = if field == 0 then LinkOf slot
+    else (if field == 1 then Birth slot
+    else (if field == 2 then Stamp slot else (if field == 3 then Key slot else Value slot)))
 
 -- the place with an index, where the words of slots begin and end at these indices, and each slot has so many
 place_from : ℕ → ℕ → ℕ → ℕ → Place
@@ -31,16 +35,19 @@ abbrev words_with : Bool → ℕ
 words_with values = if values then 5 else 4
 
 -- a slot, and the number of a word, told apart again
-slot_of : (values : Bool) (slot field : ℕ) → field < words_with values → (words_with values * slot + field) / words_with values ≡ slot
+slot_of : (values : Bool) (slot field : ℕ) → field < words_with values →
+    (words_with values * slot + field) / words_with values ≡ slot
 slot_of true slot field small = omega arith
 slot_of false slot field small = omega arith
 
-field_of : (values : Bool) (slot field : ℕ) → field < words_with values → (words_with values * slot + field) % words_with values ≡ field
+field_of : (values : Bool) (slot field : ℕ) → field < words_with values →
+    (words_with values * slot + field) % words_with values ≡ field
 field_of true slot field small = omega arith
 field_of false slot field small = omega arith
 
 -- the words of a slot end before those of all slots
-before_end : (values : Bool) (base slot slots field : ℕ) → slot < slots → field < words_with values → base + words_with values * slot + field < base + words_with values * slots
+before_end : (values : Bool) (base slot slots field : ℕ) → slot < slots → field < words_with values →
+    base + words_with values * slot + field < base + words_with values * slots
 before_end true base slot slots field low small = omega arith
 before_end false base slot slots field low small = omega arith
 
@@ -61,11 +68,13 @@ five false is = absurd (cc)
 
 -- ---- places
 
-in_slots : (base end words index : ℕ) → 2 ≤ base → base ≤ index → index < end → place_from base end words index ≡ word_at ((index - base) / words) ((index - base) % words)
+in_slots : (base end words index : ℕ) → 2 ≤ base → base ≤ index → index < end →
+    place_from base end words index ≡ word_at ((index - base) / words) ((index - base) % words)
 unfolding place_from
 in_slots base end words index two low high = grind (arith, nat_tests)
 
-in_flags : (base end words index : ℕ) → 2 ≤ base → base ≤ end → end ≤ index → place_from base end words index ≡ Flags (index - end)
+in_flags : (base end words index : ℕ) → 2 ≤ base → base ≤ end → end ≤ index →
+    place_from base end words index ≡ Flags (index - end)
 unfolding place_from
 in_flags base end words index two low high = grind (arith, nat_tests)
 
@@ -89,11 +98,17 @@ module _ (shape : Dimensions) where
   two : 2 ≤ slots_index shape
   two = omega arith
 
-  of_slot : (slot field : ℕ) → slot < shape.slots → field < node_words shape → place_at shape (slots_index shape + node_words shape * slot + field) ≡ word_at slot field
+  of_slot : (slot field : ℕ) → slot < shape.slots → field < node_words shape →
+      place_at shape (slots_index shape + node_words shape * slot + field) ≡ word_at slot field
   of_slot slot field low small =
-      in_slots (slots_index shape) (flags_index shape) (node_words shape) (slots_index shape + node_words shape * slot + field) two (no_less (slots_index shape) (node_words shape * slot) field) (before_end shape.values (slots_index shape) slot shape.slots field low small)
-      ∙ ap (λ i. word_at (i / node_words shape) (i % node_words shape)) (behind_base (slots_index shape) (node_words shape * slot) field)
-      ∙ ap (λ s. word_at s ((node_words shape * slot + field) % node_words shape)) (slot_of shape.values slot field small)
+      in_slots (slots_index shape) (flags_index shape) (node_words shape)
+      (slots_index shape + node_words shape * slot + field) two
+      (no_less (slots_index shape) (node_words shape * slot) field)
+      (before_end shape.values (slots_index shape) slot shape.slots field low small)
+      ∙ ap (λ i. word_at (i / node_words shape) (i % node_words shape))
+      (behind_base (slots_index shape) (node_words shape * slot) field)
+      ∙ ap (λ s. word_at s ((node_words shape * slot + field) % node_words shape))
+      (slot_of shape.values slot field small)
       ∙ ap (word_at slot) (field_of shape.values slot field small)
 
   -- the first word of a slot
@@ -104,14 +119,17 @@ module _ (shape : Dimensions) where
   unfolding place_from word_at
   place_at-index_of Epoch is = refl
   place_at-index_of ShapeWord is = refl
-  place_at-index_of (Head bucket) is = in_heads (slots_index shape) (flags_index shape) (node_words shape) bucket (omega arith)
-  place_at-index_of (LinkOf slot) is = ap (place_at shape) (plus_none (slots_index shape + node_words shape * slot)) ∙ of_slot slot 0 is (four shape.values 0 (omega arith))
+  place_at-index_of (Head bucket) is =
+      in_heads (slots_index shape) (flags_index shape) (node_words shape) bucket (omega arith)
+  place_at-index_of (LinkOf slot) is = ap (place_at shape) (plus_none (slots_index shape + node_words shape * slot))
+      ∙ of_slot slot 0 is (four shape.values 0 (omega arith))
   place_at-index_of (Birth slot) is = of_slot slot 1 is (four shape.values 1 (omega arith))
   place_at-index_of (Stamp slot) is = of_slot slot 2 is (four shape.values 2 (omega arith))
   place_at-index_of (Key slot) is = of_slot slot 3 is (four shape.values 3 (omega arith))
   place_at-index_of (Value slot) is = of_slot slot 4 is.0 (five shape.values is.1)
   place_at-index_of (Flags number) is =
-      in_flags (slots_index shape) (flags_index shape) (node_words shape) (flags_index shape + number) two (end_on (slots_index shape) (node_words shape * shape.slots)) (end_on (flags_index shape) number)
+      in_flags (slots_index shape) (flags_index shape) (node_words shape) (flags_index shape + number) two
+      (end_on (slots_index shape) (node_words shape * shape.slots)) (end_on (flags_index shape) number)
       ∙ ap Flags (behind_end (flags_index shape) number)
 
   -- places with one index are one place
@@ -122,8 +140,11 @@ module _ (shape : Dimensions) where
   before_flags : (i : ℕ) → i < flags_index shape → i < words_in shape
   before_flags i low = lt_more i (flags_index shape) (flag_words shape.slots) low
 
-  of_slot-lt : (slot field : ℕ) → slot < shape.slots → field < node_words shape → slots_index shape + node_words shape * slot + field < words_in shape
-  of_slot-lt slot field low small = before_flags (slots_index shape + node_words shape * slot + field) (before_end shape.values (slots_index shape) slot shape.slots field low small)
+  of_slot-lt : (slot field : ℕ) → slot < shape.slots → field < node_words shape →
+      slots_index shape + node_words shape * slot + field < words_in shape
+  of_slot-lt slot field low small =
+      before_flags (slots_index shape + node_words shape * slot + field)
+      (before_end shape.values (slots_index shape) slot shape.slots field low small)
 
   of_head-lt : (i : ℕ) → i < slots_index shape → i < words_in shape
   of_head-lt i low = before_flags i (lt_more i (slots_index shape) (node_words shape * shape.slots) low)
@@ -133,7 +154,10 @@ module _ (shape : Dimensions) where
   index_of-lt Epoch is = of_head-lt 0 (omega arith)
   index_of-lt ShapeWord is = of_head-lt 1 (omega arith)
   index_of-lt (Head bucket) is = of_head-lt (2 + bucket) (omega arith)
-  index_of-lt (LinkOf slot) is = let P : ℕ → Type 0 = λ i. i < words_in shape in subst P (sym (plus_none (slots_index shape + node_words shape * slot))) (of_slot-lt slot 0 is (four shape.values 0 (omega arith)))
+  index_of-lt (LinkOf slot) is =
+      let P : ℕ → Type 0 = λ i. i < words_in shape in
+      subst P (sym (plus_none (slots_index shape + node_words shape * slot)))
+      (of_slot-lt slot 0 is (four shape.values 0 (omega arith)))
   index_of-lt (Birth slot) is = of_slot-lt slot 1 is (four shape.values 1 (omega arith))
   index_of-lt (Stamp slot) is = of_slot-lt slot 2 is (four shape.values 2 (omega arith))
   index_of-lt (Key slot) is = of_slot-lt slot 3 is (four shape.values 3 (omega arith))

@@ -1,5 +1,6 @@
 -- A link and its word determine each other.
-use Rattle.std.proofs.Common.{◌≡◌, ℕ, zero, suc, ◌+◌, ◌-◌, ◌*◌, ◌/◌, ◌%◌, ◌^◌, ◌<◌, ◌≤◌, ◌==◌, Bool, true, false, Option, Some, None, refl, sym, ap, ◌∙◌, subst, arith}
+use Rattle.std.proofs.Common.{◌≡◌, ℕ, zero, suc, ◌+◌, ◌-◌, ◌*◌, ◌/◌, ◌%◌, ◌^◌, ◌<◌, ◌≤◌, ◌==◌, Bool, true, false}
+use Rattle.std.proofs.Common.{Option, Some, None, refl, sym, ap, ◌∙◌, subst, arith}
 use Rattle.std.specs.Prelude.{bit_or, IfSome}
 use Rattle.std.specs.Option.{SomeIff}
 use Rattle.std.specs.Int.Bits.{or_zero_r}
@@ -58,17 +59,21 @@ slot_field-small (Some slot) h = omega arith
 
 pub word_of-link_of : (word : ℕ) → word_of (link_of word) ≡ word
 unfolding word_of link_of
-word_of-link_of word = rw (slot_field-slot_in (word % MARK), mark_field-is (word / MARK % 2) (omega arith)) (omega arith)
+word_of-link_of word =
+    rw (slot_field-slot_in (word % MARK), mark_field-is (word / MARK % 2) (omega arith)) (omega arith)
 
 -- ---- the link of a link's word is that link
 
-low : (field digit version : ℕ) → field < MARK → digit < 2 → (field + digit * MARK + version * VERSION_UNIT) % MARK ≡ field
+low : (field digit version : ℕ) → field < MARK → digit < 2 →
+    (field + digit * MARK + version * VERSION_UNIT) % MARK ≡ field
 low field digit version f d = omega arith
 
-middle : (field digit version : ℕ) → field < MARK → digit < 2 → (field + digit * MARK + version * VERSION_UNIT) / MARK % 2 ≡ digit
+middle : (field digit version : ℕ) → field < MARK → digit < 2 →
+    (field + digit * MARK + version * VERSION_UNIT) / MARK % 2 ≡ digit
 middle field digit version f d = omega arith
 
-high : (field digit version : ℕ) → field < MARK → digit < 2 → (field + digit * MARK + version * VERSION_UNIT) / VERSION_UNIT ≡ version
+high : (field digit version : ℕ) → field < MARK → digit < 2 →
+    (field + digit * MARK + version * VERSION_UNIT) / VERSION_UNIT ≡ version
 high field digit version f d = omega arith
 
 pub link_of-word_of : (link : Link) → IsLink link → link_of (word_of link) ≡ link
@@ -76,7 +81,14 @@ unfolding word_of link_of
 link_of-word_of link is =
     let small = slot_field-small link.slot is.slot in
     let bit = digit-small link.mark in
-    rw (mark_field-digit link.mark, low (slot_field link.slot) (digit_of link.mark) link.version small bit, middle (slot_field link.slot) (digit_of link.mark) link.version small bit, high (slot_field link.slot) (digit_of link.mark) link.version small bit, slot_in-slot_field link.slot, digit-test link.mark) refl
+    rw (
+      mark_field-digit link.mark,
+      low (slot_field link.slot) (digit_of link.mark) link.version small bit,
+      middle (slot_field link.slot) (digit_of link.mark) link.version small bit,
+      high (slot_field link.slot) (digit_of link.mark) link.version small bit,
+      slot_in-slot_field link.slot,
+      digit-test link.mark,
+    ) refl
 
 -- ---- each u64 is the word of one link
 
@@ -90,7 +102,10 @@ IsLink-link_of word fits = record { slot = slot (word % MARK) (omega arith); ver
 
 pub word_of-lt : (link : Link) → IsLink link → word_of link < 2 ^ 64
 unfolding word_of
-word_of-lt link is = let small = slot_field-small link.slot is.slot in let bit = digit-small link.mark in rw (mark_field-digit link.mark) (omega (arith, is.version))
+word_of-lt link is =
+    let small = slot_field-small link.slot is.slot in
+    let bit = digit-small link.mark in
+    rw (mark_field-digit link.mark) (omega (arith, is.version))
 
 -- links with one word are one link
 pub same_link : (a b : Link) → IsLink a → IsLink b → word_of a ≡ word_of b → a ≡ b
@@ -103,7 +118,9 @@ same_word a b same = sym (word_of-link_of a) ∙ ap word_of same ∙ word_of-lin
 -- ---- the mark
 
 or_one : (n : ℕ) → bit_or n 1 ≡ n / 2 * 2 + 1
-or_one n = subst (λ (x : ℕ). bit_or x 1 ≡ n / 2 * 2 + 1) {x = n / 2 * 2 ^ 1 + n % 2} (omega arith) (or_block 1 (n / 2) 0 (n % 2) 1 (omega arith) (omega arith) ∙ rw (or_zero_r (n / 2), last (n % 2) (omega arith)) refl)
+or_one n = subst (λ (x : ℕ). bit_or x 1 ≡ n / 2 * 2 + 1) {x = n / 2 * 2 ^ 1 + n % 2} (omega arith)
+    (or_block 1 (n / 2) 0 (n % 2) 1 (omega arith) (omega arith)
+    ∙ rw (or_zero_r (n / 2), last (n % 2) (omega arith)) refl)
   where
     last : (digit : ℕ) → digit < 2 → bit_or digit 1 ≡ 1
     last zero small = refl
@@ -111,11 +128,20 @@ or_one n = subst (λ (x : ℕ). bit_or x 1 ≡ n / 2 * 2 + 1) {x = n / 2 * 2 ^ 1
     last (suc (suc d)) small = absurd (omega arith)
 
 or_mark : (word : ℕ) → bit_or word MARK ≡ word % MARK + 1 * MARK + word / VERSION_UNIT * VERSION_UNIT
-or_mark word = subst (λ (x : ℕ). bit_or x MARK ≡ word % MARK + 1 * MARK + word / VERSION_UNIT * VERSION_UNIT) {x = word / MARK * 2 ^ SLOT_BITS + word % MARK} (omega arith) (or_block SLOT_BITS (word / MARK) 1 (word % MARK) 0 (omega arith) (omega arith) ∙ rw (or_zero_r (word % MARK), or_one (word / MARK)) (omega arith))
+or_mark word =
+    subst (λ (x : ℕ). bit_or x MARK ≡ word % MARK + 1 * MARK + word / VERSION_UNIT * VERSION_UNIT)
+    {x = word / MARK * 2 ^ SLOT_BITS + word % MARK} (omega arith)
+    (or_block SLOT_BITS (word / MARK) 1 (word % MARK) 0 (omega arith) (omega arith)
+    ∙ rw (or_zero_r (word % MARK), or_one (word / MARK)) (omega arith))
 
 -- a word with its mark set has the link with its mark set
 pub link_of-with_mark : (word : ℕ) → link_of (bit_or word MARK) ≡ record (link_of word) { mark = true }
 unfolding link_of
 link_of-with_mark word =
     let small : word % MARK < MARK = omega arith in
-    rw (or_mark word, low (word % MARK) 1 (word / VERSION_UNIT) small (omega arith), middle (word % MARK) 1 (word / VERSION_UNIT) small (omega arith), high (word % MARK) 1 (word / VERSION_UNIT) small (omega arith)) refl
+    rw (
+      or_mark word,
+      low (word % MARK) 1 (word / VERSION_UNIT) small (omega arith),
+      middle (word % MARK) 1 (word / VERSION_UNIT) small (omega arith),
+      high (word % MARK) 1 (word / VERSION_UNIT) small (omega arith),
+    ) refl

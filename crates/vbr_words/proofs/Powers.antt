@@ -18,7 +18,10 @@ no_digit (suc d) n le none =
     omega (arith, step)
 
 one_digit : (d n : ℕ) → n ≤ d → count_ones n ≡ 1 → (k : ℕ) × (n ≡ 2 ^ k)
-one_digit zero n le one = let none : n ≡ 0 = omega arith in let no : 0 ≡ 1 = sym count_ones-zero ∙ ap count_ones (sym none) ∙ one in absurd (omega (arith, no))
+one_digit zero n le one =
+    let none : n ≡ 0 = omega arith in
+    let no : 0 ≡ 1 = sym count_ones-zero ∙ ap count_ones (sym none) ∙ one in
+    absurd (omega (arith, no))
 one_digit (suc d) n le one = elim (cases_lt (n % 2) 1) [
   | inl even ↦
       let step = ones_step n in

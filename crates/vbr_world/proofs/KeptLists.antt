@@ -1,5 +1,6 @@
 -- Lists as total functions, and what holds of each element of a list.
-use Rattle.std.proofs.Common.{◌≡◌, ◌≢◌, ℕ, zero, suc, ◌<◌, ◌≤◌, List, [], ◌∷◌, length, get_or, set, replicate, ◌⊎◌, inl, inr, refl, sym, ap, ◌∙◌, arith}
+use Rattle.std.proofs.Common.{◌≡◌, ◌≢◌, ℕ, zero, suc, ◌<◌, ◌≤◌, List, [], ◌∷◌, length, get_or, set, replicate, ◌⊎◌, inl}
+use Rattle.std.proofs.Common.{inr, refl, sym, ap, ◌∙◌, arith}
 use Rattle.std.proofs.lemmas.Bool.{cases_eq, cases_lt, eq-eqb, ne_eqb}
 use Rattle.std.proofs.lemmas.List.{get_or-set_same, get_or-set_other, get_or_past, get_or-replicate, length-replicate}
 use Rattle.std.specs.List.{AllByRecursion}
@@ -22,7 +23,8 @@ put_here {A} f i x e = λ k j. at j (cases_eq j i) k
     at j (inr ne) = put_other f i j x ne
 
 -- a write to a list is a write to the function that reads it
-pub read_set : {A B : Type 0} (f : A → B) (xs : List A) (i : ℕ) (x d : A) (y : B) → i < length xs → f x ≡ y → ◌≡◌ {A = ℕ → B} (λ s. f (get_or (set xs i x) s d)) (put (λ s. f (get_or xs s d)) i y)
+pub read_set : {A B : Type 0} (f : A → B) (xs : List A) (i : ℕ) (x d : A) (y : B) → i < length xs → f x ≡ y →
+    ◌≡◌ {A = ℕ → B} (λ s. f (get_or (set xs i x) s d)) (put (λ s. f (get_or xs s d)) i y)
 read_set {A} {B} f xs i x d y lt e = λ k s. at s (cases_eq s i) k
   where
     at : (s : ℕ) → (s ≡ i) ⊎ (s ≢ i) → f (get_or (set xs i x) s d) ≡ put (λ s. f (get_or xs s d)) i y s
@@ -30,7 +32,8 @@ read_set {A} {B} f xs i x d y lt e = λ k s. at s (cases_eq s i) k
     at s (inr ne) = rw (get_or-set_other xs i s x d ne) (sym (put_other (λ s. f (get_or xs s d)) i s y ne))
 
 -- a list of one value is one value everywhere, where the value past its end is the same
-pub read_replicate : {A B : Type 0} (f : A → B) (n : ℕ) (x d : A) (y : B) → f x ≡ y → f d ≡ y → ◌≡◌ {A = ℕ → B} (λ s. f (get_or (replicate n x) s d)) (λ s. y)
+pub read_replicate : {A B : Type 0} (f : A → B) (n : ℕ) (x d : A) (y : B) → f x ≡ y → f d ≡ y →
+    ◌≡◌ {A = ℕ → B} (λ s. f (get_or (replicate n x) s d)) (λ s. y)
 read_replicate {A} {B} f n x d y e past = λ k s. at s (cases_lt s n) k
   where
     at : (s : ℕ) → (s < n) ⊎ (n ≤ s) → f (get_or (replicate n x) s d) ≡ y
@@ -38,7 +41,8 @@ read_replicate {A} {B} f n x d y e past = λ k s. at s (cases_lt s n) k
     at s (inr ge) = rw (get_or_past (replicate n x) s d (omega (arith, length-replicate n x))) past
 
 -- what holds of each element holds of the one at an index
-pub all_at : {A : Type 0} (P : A → Type 0) (xs : List A) (i : ℕ) (d : A) → AllByRecursion P xs → i < length xs → P (get_or xs i d)
+pub all_at : {A : Type 0} (P : A → Type 0) (xs : List A) (i : ℕ) (d : A) → AllByRecursion P xs → i < length xs →
+    P (get_or xs i d)
 all_at P [] i d all lt = absurd (omega arith)
 all_at P (x ∷ xs) zero d all lt = all.0
 all_at P (x ∷ xs) (suc i) d all lt = all_at P xs i d all.1 (omega arith)

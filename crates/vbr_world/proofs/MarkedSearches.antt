@@ -1,5 +1,6 @@
 -- A search along the checked marked links, turn by turn.
-use Rattle.std.proofs.Common.{◌≡◌, ℕ, zero, suc, ◌+◌, ◌<◌, ◌≤◌, true, List, Option, Some, None, refl, arith, sym, subst, ap, ◌∙◌, inl, inr}
+use Rattle.std.proofs.Common.{◌≡◌, ℕ, zero, suc, ◌+◌, ◌<◌, ◌≤◌, true, List, Option, Some, None, refl, arith, sym, subst}
+use Rattle.std.proofs.Common.{ap, ◌∙◌, inl, inr}
 use Rattle.std.specs.Prelude.{◌⊎◌, nat_eq}
 use Rattle.std.specs.Option.{option_eq}
 use Rattle.std.proofs.lemmas.Bool.{cases_lt, eqb-true}
@@ -14,21 +15,27 @@ same_slot (Some s) None e = absurd (cc)
 same_slot (Some s) (Some t) e = ap Some (eqb-true s t e)
 
 -- the premise: the search has come here in so many turns
-module _ (P : Option ℕ → Type 0) (reads : List Read) (next here : Option ℕ) (n : ℕ) (come : here ≡ after_turns reads n next) where
+module _ (P : Option ℕ → Type 0) (reads : List Read) (next here : Option ℕ) (n : ℕ)
+    (come : here ≡ after_turns reads n next) where
   -- what is asked for is here
   pub reached : (most : ℕ) → n ≤ most → P here → (turns : ℕ) × (turns ≤ most) × P (after_turns reads turns next)
   reached most le h = (n, le, subst P come h)
 
   -- it is here, if it is reached in no more turns, and in no fewer
-  pub reached_here : ((turns : ℕ) → turns < n → ¬ (P (after_turns reads turns next))) → (turns : ℕ) → turns ≤ n → P (after_turns reads turns next) → P here
+  pub reached_here : ((turns : ℕ) → turns < n → ¬ (P (after_turns reads turns next))) → (turns : ℕ) → turns ≤ n →
+      P (after_turns reads turns next) → P here
   reached_here none turns le h = go (cases_lt turns n)
     where
       go : (turns < n) ⊎ (n ≤ turns) → P here
       go (inl lt) = absurd (none turns lt h)
-      go (inr ge) = let e : turns ≡ n = omega arith in let Q : ℕ → Type 0 = λ i. P (after_turns reads i next) in subst P (sym come) (subst Q e h)
+      go (inr ge) =
+          let e : turns ≡ n = omega arith in
+          let Q : ℕ → Type 0 = λ i. P (after_turns reads i next) in
+          subst P (sym come) (subst Q e h)
 
   -- it isn't here, nor was it before
-  pub none_yet : ¬ (P here) → ((turns : ℕ) → turns < n → ¬ (P (after_turns reads turns next))) → (turns : ℕ) → turns < n + 1 → ¬ (P (after_turns reads turns next))
+  pub none_yet : ¬ (P here) → ((turns : ℕ) → turns < n → ¬ (P (after_turns reads turns next))) → (turns : ℕ) →
+      turns < n + 1 → ¬ (P (after_turns reads turns next))
   none_yet not none turns lt h = not (reached_here none turns (omega arith) h)
 
   -- one turn more
@@ -37,16 +44,22 @@ module _ (P : Option ℕ → Type 0) (reads : List Read) (next here : Option ℕ
 
   -- ---- where a turn leads nowhere else, no later turn does
   module _ (still : past_marked reads here ≡ here) where
-    stays_on : (turns : ℕ) → (n ≤ turns → after_turns reads turns next ≡ here) → (turns < n) ⊎ (n ≤ turns) → n ≤ suc turns → after_turns reads (suc turns) next ≡ here
-    stays_on turns before (inl lt) le = let e : n ≡ suc turns = omega arith in let Q : ℕ → Type 0 = λ i. here ≡ after_turns reads i next in sym (subst Q e come)
+    stays_on : (turns : ℕ) → (n ≤ turns → after_turns reads turns next ≡ here) → (turns < n) ⊎ (n ≤ turns) →
+        n ≤ suc turns → after_turns reads (suc turns) next ≡ here
+    stays_on turns before (inl lt) le =
+        let e : n ≡ suc turns = omega arith in
+        let Q : ℕ → Type 0 = λ i. here ≡ after_turns reads i next in
+        sym (subst Q e come)
     stays_on turns before (inr ge) le = ap (past_marked reads) (before ge) ∙ still
 
     stays : (turns : ℕ) → n ≤ turns → after_turns reads turns next ≡ here
-    stays zero le = let e : n ≡ 0 = omega arith in let Q : ℕ → Type 0 = λ i. here ≡ after_turns reads i next in sym (subst Q e come)
+    stays zero le =
+        let e : n ≡ 0 = omega arith in let Q : ℕ → Type 0 = λ i. here ≡ after_turns reads i next in sym (subst Q e come)
     stays (suc turns) le = stays_on turns (stays turns) (cases_lt turns n) le
 
     -- so what was never reached isn't reached later
-    pub never : ¬ (P here) → ((turns : ℕ) → turns < n → ¬ (P (after_turns reads turns next))) → (turns : ℕ) → ¬ (P (after_turns reads turns next))
+    pub never : ¬ (P here) → ((turns : ℕ) → turns < n → ¬ (P (after_turns reads turns next))) → (turns : ℕ) →
+        ¬ (P (after_turns reads turns next))
     never not none turns h = go (cases_lt turns n)
       where
         go : (turns < n) ⊎ (n ≤ turns) → ⊥

@@ -4,7 +4,9 @@ use Rattle.std.proofs.lemmas.Bool.Decides.{nat_tests}
 use Rattle.vbr_machine.specs.Start.{Start}
 use Rattle.vbr_machine.specs.Keys.{Keys}
 use Rattle.vbr_machine.specs.Incarnations.{Incarnations, IsLate}
-use Rattle.vbr_machine.specs.Chronicles.{Happening, Advances, GivesUp, Bears, Keyed, Valued, Inserts, Removes, Replaces, Unlinks, Stamps, AtHead, AtNode, Entry, Allowed, becomes, incarnations_from, IsLawful}
+use Rattle.vbr_machine.specs.Chronicles.{Happening, Advances, GivesUp, Bears, Keyed, Valued, Inserts, Removes, Replaces}
+use Rattle.vbr_machine.specs.Chronicles.{Unlinks, Stamps, AtHead, AtNode, Entry, Allowed, becomes, incarnations_from}
+use Rattle.vbr_machine.specs.Chronicles.{IsLawful}
 use Rattle.vbr_machine.specs.Sound.{IsInserted, IsRemoved, Sound, Grows}
 use Rattle.vbr_machine.proofs.chronicles.Slots.{late_inserted, inserted_late}
 use Rattle.vbr_machine.proofs.chronicles.SoundAfter.{sound_kept}
@@ -19,7 +21,8 @@ module _ (start : Start) (keys : Keys) (a : Incarnations) (pass : ℕ) where
   May what = Allowed start keys a pass what
 
   -- what was late stays late
-  late_on : (what : Happening) → Sound start a → May what → (i e : ℕ) → e ≤ a.epoch → IsLate (a.state i) e → IsLate ((after what).state i) e
+  late_on : (what : Happening) → Sound start a → May what → (i e : ℕ) → e ≤ a.epoch → IsLate (a.state i) e →
+      IsLate ((after what).state i) e
   late_on (GivesUp c) s h i e le l = grind (arith, nat_tests)
   late_on (Bears v birth) s h i e le l = let z = s.slots.unborn a.count (omega arith) in grind (arith, nat_tests)
   late_on (Inserts c behind) s h i e le l = let z = h.in_hand in grind (arith, nat_tests)
@@ -30,7 +33,8 @@ module _ (start : Start) (keys : Keys) (a : Incarnations) (pass : ℕ) where
   late_on _ s h i e le l = l
 
   -- what was removed stays so, and keeps its successor
-  removed_on : (what : Happening) → Sound start a → May what → (i : ℕ) → IsRemoved (a.state i) → IsRemoved ((after what).state i) × ((after what).next i ≡ a.next i)
+  removed_on : (what : Happening) → Sound start a → May what → (i : ℕ) → IsRemoved (a.state i) →
+      IsRemoved ((after what).state i) × ((after what).next i ≡ a.next i)
   removed_on (GivesUp c) s h i g = grind (arith, nat_tests)
   removed_on (Bears v birth) s h i g = let z = s.slots.unborn a.count (omega arith) in grind (arith, nat_tests)
   removed_on (Inserts c (AtHead b)) s h i g = let z = h.in_hand in grind (arith, nat_tests)
@@ -43,13 +47,16 @@ module _ (start : Start) (keys : Keys) (a : Incarnations) (pass : ℕ) where
   removed_on _ s h i g = (g, refl)
 
   -- what was born keeps its slot and its birth
-  born_on : (what : Happening) → (i : ℕ) → i < a.count → ((after what).slot i ≡ a.slot i) × ((after what).birth i ≡ a.birth i)
+  born_on : (what : Happening) → (i : ℕ) → i < a.count →
+      ((after what).slot i ≡ a.slot i) × ((after what).birth i ≡ a.birth i)
   born_on (Bears v birth) i l = (grind (arith, nat_tests), grind (arith, nat_tests))
   born_on _ i l = (refl, refl)
 
   -- and what was inserted its key, its value and its rank
-  kept_on : (what : Happening) → Sound start a → May what → (i : ℕ) → IsInserted (a.state i) → ((after what).key i ≡ a.key i) × ((after what).value i ≡ a.value i) × ((after what).rank i ≡ a.rank i)
-  kept_on (Bears v birth) s h i l = let z = s.slots.unborn a.count (omega arith) in (grind (arith, nat_tests), grind (arith, nat_tests), refl)
+  kept_on : (what : Happening) → Sound start a → May what → (i : ℕ) → IsInserted (a.state i) →
+      ((after what).key i ≡ a.key i) × ((after what).value i ≡ a.value i) × ((after what).rank i ≡ a.rank i)
+  kept_on (Bears v birth) s h i l =
+      let z = s.slots.unborn a.count (omega arith) in (grind (arith, nat_tests), grind (arith, nat_tests), refl)
   kept_on (Keyed c key) s h i l = (grind (arith, nat_tests), refl, refl)
   kept_on (Valued c value) s h i l = let z = h.0 in (refl, grind (arith, nat_tests), refl)
   kept_on (Replaces old c) s h i l = let z = h.in_hand in (refl, refl, grind (arith, nat_tests))
@@ -60,7 +67,8 @@ module _ (start : Start) (keys : Keys) (a : Incarnations) (pass : ℕ) where
   counts_on Advances = (omega arith, omega arith)
   counts_on _ = (omega arith, omega arith)
 
-pub grows : (start : Start) (keys : Keys) (a : Incarnations) (pass : ℕ) (what : Happening) → Sound start a → Allowed start keys a pass what → Grows a (becomes start a pass what)
+pub grows : (start : Start) (keys : Keys) (a : Incarnations) (pass : ℕ) (what : Happening) → Sound start a →
+    Allowed start keys a pass what → Grows a (becomes start a pass what)
 grows start keys a pass what s h = record {
   epoch = (counts_on start keys a pass what).0;
   count = (counts_on start keys a pass what).1;
@@ -104,7 +112,10 @@ grows_on {a} {b} {c} g h = record {
   removed = λ i l. let u = g.removed i l in let v = h.removed i u.0 in (v.0, v.1 ∙ u.1);
 }
 
-pub grows_after : (start : Start) (keys : Keys) (a : Incarnations) (entries : List Entry) → Sound start a → IsLawful start keys a entries → Grows a (incarnations_from start a entries)
+pub grows_after : (start : Start) (keys : Keys) (a : Incarnations) (entries : List Entry) → Sound start a →
+    IsLawful start keys a entries → Grows a (incarnations_from start a entries)
 grows_after start keys a [] s l = grows_same a
 grows_after start keys a (entry ∷ entries) s l =
-    grows_on (grows start keys a entry.pass entry.what s l.0) (grows_after start keys (becomes start a entry.pass entry.what) entries (sound_kept start keys a entry.pass entry.what s l.0) l.1)
+    grows_on (grows start keys a entry.pass entry.what s l.0)
+    (grows_after start keys (becomes start a entry.pass entry.what) entries
+    (sound_kept start keys a entry.pass entry.what s l.0) l.1)

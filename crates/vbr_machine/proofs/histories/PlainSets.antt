@@ -20,10 +20,14 @@ contains_is [] q = refl
 contains_is (k ∷ ks) q = rw (at_is_eq q k, contains_is ks q) refl
 
 -- what an update of an ordered set leaves, in the words of `Keys`
-put_at : (old new : List ℕ) (key : ℕ) (present : Bool) → ((q : ℕ) → list_any (is_at (nat_cmp q)) new ≡ cond (is_at (nat_cmp key) q) present (list_any (is_at (nat_cmp q)) old)) → (q : ℕ) → keys_of new q ≡ put (keys_of old) key present q
+put_at : (old new : List ℕ) (key : ℕ) (present : Bool) →
+    ((q : ℕ) → list_any (is_at (nat_cmp q)) new
+    ≡ cond (is_at (nat_cmp key) q) present (list_any (is_at (nat_cmp q)) old)) → (q : ℕ) →
+    keys_of new q ≡ put (keys_of old) key present q
 put_at old new key present updates q = sym (contains_is new q) ∙ updates q ∙ rest (at_is_eq key q) (contains_is old q)
   where
-    rest : is_at (nat_cmp key) q ≡ nat_eq key q → list_any (is_at (nat_cmp q)) old ≡ keys_of old q → cond (is_at (nat_cmp key) q) present (list_any (is_at (nat_cmp q)) old) ≡ put (keys_of old) key present q
+    rest : is_at (nat_cmp key) q ≡ nat_eq key q → list_any (is_at (nat_cmp q)) old ≡ keys_of old q →
+        cond (is_at (nat_cmp key) q) present (list_any (is_at (nat_cmp q)) old) ≡ put (keys_of old) key present q
     rest e f = rw (e, f) (grind (arith, nat_tests))
 
 -- where the key already was as it is put, nothing changes
@@ -31,18 +35,37 @@ put_same : (keys : ℕ → Bool) (key : ℕ) (present : Bool) → keys key ≡ p
 put_same keys key present e q = grind (arith, nat_tests)
 
 -- the set that an insert leaves
-insert_leaves : (old new : List ℕ) (key : ℕ) (added : Bool) → added ≡ not (list_any (is_at (nat_cmp key)) old) → ((q : ℕ) → list_any (is_at (nat_cmp q)) new ≡ cond (is_at (nat_cmp key) q) true (list_any (is_at (nat_cmp q)) old)) → (q : ℕ) → keys_of new q ≡ keys_after (keys_of old) Insert key added q
+insert_leaves : (old new : List ℕ) (key : ℕ) (added : Bool) → added ≡ not (list_any (is_at (nat_cmp key)) old) →
+    ((q : ℕ) → list_any (is_at (nat_cmp q)) new
+    ≡ cond (is_at (nat_cmp key) q) true (list_any (is_at (nat_cmp q)) old)) → (q : ℕ) →
+    keys_of new q ≡ keys_after (keys_of old) Insert key added q
 insert_leaves old new key true e updates q = put_at old new key true updates q
-insert_leaves old new key false e updates q = put_at old new key true updates q ∙ put_same (keys_of old) key true (let f : not (keys_of old key) ≡ false = sym (e ∙ ap not (contains_is old key)) in grind arith) q
+insert_leaves old new key false e updates q = put_at old new key true updates q
+    ∙ put_same (keys_of old) key true
+    (let f : not (keys_of old key) ≡ false = sym (e ∙ ap not (contains_is old key)) in grind arith) q
 
 -- the set that a remove leaves
-remove_leaves : (old new : List ℕ) (key : ℕ) (removed : Bool) → removed ≡ list_any (is_at (nat_cmp key)) old → ((q : ℕ) → list_any (is_at (nat_cmp q)) new ≡ cond (is_at (nat_cmp key) q) false (list_any (is_at (nat_cmp q)) old)) → (q : ℕ) → keys_of new q ≡ keys_after (keys_of old) Remove key removed q
+remove_leaves : (old new : List ℕ) (key : ℕ) (removed : Bool) → removed ≡ list_any (is_at (nat_cmp key)) old →
+    ((q : ℕ) → list_any (is_at (nat_cmp q)) new
+    ≡ cond (is_at (nat_cmp key) q) false (list_any (is_at (nat_cmp q)) old)) → (q : ℕ) →
+    keys_of new q ≡ keys_after (keys_of old) Remove key removed q
 remove_leaves old new key true e updates q = put_at old new key false updates q
-remove_leaves old new key false e updates q = put_at old new key false updates q ∙ put_same (keys_of old) key false (sym (e ∙ contains_is old key)) q
+remove_leaves old new key false e updates q =
+    put_at old new key false updates q ∙ put_same (keys_of old) key false (sym (e ∙ contains_is old key)) q
 
 -- the same, where the operation and the list before are known by an equation
-pub after_insert : (op : Op) (seen old new : List ℕ) (key : ℕ) (added : Bool) → op ≡ Insert → old ≡ seen → added ≡ not (list_any (is_at (nat_cmp key)) old) → ((q : ℕ) → list_any (is_at (nat_cmp q)) new ≡ cond (is_at (nat_cmp key) q) true (list_any (is_at (nat_cmp q)) old)) → (q : ℕ) → keys_of new q ≡ keys_after (keys_of seen) op key added q
-after_insert op seen old new key added is same e updates q = rw (is, ← same) (insert_leaves old new key added e updates q)
+pub after_insert : (op : Op) (seen old new : List ℕ) (key : ℕ) (added : Bool) → op ≡ Insert → old ≡ seen →
+    added ≡ not (list_any (is_at (nat_cmp key)) old) →
+    ((q : ℕ) → list_any (is_at (nat_cmp q)) new
+    ≡ cond (is_at (nat_cmp key) q) true (list_any (is_at (nat_cmp q)) old)) → (q : ℕ) →
+    keys_of new q ≡ keys_after (keys_of seen) op key added q
+after_insert op seen old new key added is same e updates q =
+    rw (is, ← same) (insert_leaves old new key added e updates q)
 
-pub after_remove : (op : Op) (seen old new : List ℕ) (key : ℕ) (removed : Bool) → op ≡ Remove → old ≡ seen → removed ≡ list_any (is_at (nat_cmp key)) old → ((q : ℕ) → list_any (is_at (nat_cmp q)) new ≡ cond (is_at (nat_cmp key) q) false (list_any (is_at (nat_cmp q)) old)) → (q : ℕ) → keys_of new q ≡ keys_after (keys_of seen) op key removed q
-after_remove op seen old new key removed is same e updates q = rw (is, ← same) (remove_leaves old new key removed e updates q)
+pub after_remove : (op : Op) (seen old new : List ℕ) (key : ℕ) (removed : Bool) → op ≡ Remove → old ≡ seen →
+    removed ≡ list_any (is_at (nat_cmp key)) old →
+    ((q : ℕ) → list_any (is_at (nat_cmp q)) new
+    ≡ cond (is_at (nat_cmp key) q) false (list_any (is_at (nat_cmp q)) old)) → (q : ℕ) →
+    keys_of new q ≡ keys_after (keys_of seen) op key removed q
+after_remove op seen old new key removed is same e updates q =
+    rw (is, ← same) (remove_leaves old new key removed e updates q)

@@ -1,7 +1,9 @@
 -- Behind a place of a list stands one node more than behind its successor, counted by slots.
-use Rattle.std.proofs.Common.{◌≡◌, ◌≢◌, ℕ, zero, suc, ◌<◌, ◌≤◌, Bool, true, false, Option, Some, None, refl, sym, ap, ◌∙◌, subst, inl, inr, arith}
+use Rattle.std.proofs.Common.{◌≡◌, ◌≢◌, ℕ, zero, suc, ◌<◌, ◌≤◌, Bool, true, false, Option, Some, None, refl, sym, ap}
+use Rattle.std.proofs.Common.{◌∙◌, subst, inl, inr, arith}
 use Rattle.std.specs.Prelude.{◌==◌, ◌&&◌, ◌⊎◌, if◌then◌else◌}
-use Rattle.std.proofs.lemmas.Bool.{and_parts, and_from, and_left, cases_Bool, cases_eq, cases_lt, cases_order, eq-eqb, eqb-true, le-ltb, lt-ltb, ne_eqb}
+use Rattle.std.proofs.lemmas.Bool.{and_parts, and_from, and_left, cases_Bool, cases_eq, cases_lt, cases_order, eq-eqb}
+use Rattle.std.proofs.lemmas.Bool.{eqb-true, le-ltb, lt-ltb, ne_eqb}
 use Rattle.vbr_machine.specs.Start.{Start}
 use Rattle.vbr_words.specs.declared.place.At.{At}
 use Rattle.vbr_words.specs.declared.place.At.TheVariants.{Head, Slot}
@@ -9,14 +11,17 @@ use Rattle.vbr_words.specs.Buckets.{bucket_of}
 use Rattle.vbr_words.specs.declared.link.Link.{Link}
 use Rattle.vbr_machine.specs.Agreement.{Fits, IsPair, IsGoodLink}
 use Rattle.vbr_machine.specs.Images.{key_shown, link_in_state, link_shown, link_shown_at}
-use Rattle.vbr_machine.specs.Incarnations.{State, Unborn, InHand, GivenUp, Linked, Marked, Unlinked, Stamped, Incarnations}
+use Rattle.vbr_machine.specs.Incarnations.{State, Unborn, InHand, GivenUp, Linked, Marked, Unlinked, Stamped}
+use Rattle.vbr_machine.specs.Incarnations.{Incarnations}
 use Rattle.vbr_machine.specs.Put.{put}
 use Rattle.vbr_machine.specs.Keys.{Keys}
-use Rattle.vbr_machine.specs.Chronicles.{Before, GivesUp, Bears, Stamps, Unlinks, Allowed, IsDead, MayBeBornIn, MayStamp, becomes, unlinked_at}
+use Rattle.vbr_machine.specs.Chronicles.{Before, GivesUp, Bears, Stamps, Unlinks, Allowed, IsDead, MayBeBornIn}
+use Rattle.vbr_machine.specs.Chronicles.{MayStamp, becomes, unlinked_at}
 use Rattle.vbr_machine.specs.Notes.{before_at}
 use Rattle.vbr_machine.specs.declared.knowledge.SlotPlace.{SlotPlace}
 use Rattle.vbr_machine.specs.declared.knowledge.SlotPlace.TheVariants.{Shared, Own, Hand, Listed}
-use Rattle.vbr_machine.specs.Nodes.{state_shown, state_in, is_listed, key_in_slot, rank_shown, rank_in_slot, is_lower, is_in_list, is_there, is_above, is_behind, count_below, behind, Stands, InList}
+use Rattle.vbr_machine.specs.Nodes.{state_shown, state_in, is_listed, key_in_slot, rank_shown, rank_in_slot, is_lower}
+use Rattle.vbr_machine.specs.Nodes.{is_in_list, is_there, is_above, is_behind, count_below, behind, Stands, InList}
 use Rattle.vbr_machine.specs.Sound.{IsListed, IsOrderedBefore, IsApart, IsFrom, Sound}
 use Rattle.vbr_machine.proofs.words.Puts.{put_here, put_other}
 use Rattle.vbr_machine.proofs.chronicles.Lists.{next_listed, places_differ}
@@ -30,18 +35,23 @@ if_same b c m n e r = (λ i. if e i then suc (r i) else r i)
 
 pub count_same : (f g : ℕ → Bool) (n : ℕ) → ((s : ℕ) → s < n → f s ≡ g s) → count_below f n ≡ count_below g n
 count_same f g zero e = refl
-count_same f g (suc n) e = if_same (f n) (g n) (count_below f n) (count_below g n) (e n (omega arith)) (count_same f g n (λ s l. e s (omega arith)))
+count_same f g (suc n) e =
+    if_same (f n) (g n) (count_below f n) (count_below g n) (e n (omega arith))
+    (count_same f g n (λ s l. e s (omega arith)))
 
 both_fall : (b : Bool) (m n : ℕ) → m ≡ suc n → (if b then suc m else m) ≡ suc (if b then suc n else n)
 both_fall true m n r = ap suc r
 both_fall false m n r = r
 
 -- a test that fails on one slot more passes one fewer
-pub count_falls : (f g : ℕ → Bool) (n k : ℕ) → k < n → f k ≡ true → g k ≡ false → ((s : ℕ) → s < n → s ≢ k → f s ≡ g s) → count_below f n ≡ suc (count_below g n)
+pub count_falls : (f g : ℕ → Bool) (n k : ℕ) → k < n → f k ≡ true → g k ≡ false →
+    ((s : ℕ) → s < n → s ≢ k → f s ≡ g s) → count_below f n ≡ suc (count_below g n)
 count_falls f g zero k l t u e = absurd (omega arith)
-count_falls f g (suc n) k l t u e = go (cases_Bool (k == n)) (λ m. count_falls f g n k m t u (λ s m w. e s (omega arith) w))
+count_falls f g (suc n) k l t u e =
+    go (cases_Bool (k == n)) (λ m. count_falls f g n k m t u (λ s m w. e s (omega arith) w))
   where
-    go : ((k == n) ≡ true) ⊎ ((k == n) ≡ false) → (k < n → count_below f n ≡ suc (count_below g n)) → count_below f (suc n) ≡ suc (count_below g (suc n))
+    go : ((k == n) ≡ true) ⊎ ((k == n) ≡ false) → (k < n → count_below f n ≡ suc (count_below g n)) →
+        count_below f (suc n) ≡ suc (count_below g (suc n))
     go (inl q) rec =
         let is : k ≡ n = eqb-true k n q in
         let r : count_below f n ≡ count_below g n = count_same f g n (λ s m. e s (omega arith) (λ w. omega arith)) in
@@ -50,7 +60,8 @@ count_falls f g (suc n) k l t u e = go (cases_Bool (k == n)) (λ m. count_falls 
         rw (tn, un) (ap suc r)
     go (inr q) rec =
         let ne : k ≢ n = (λ w. let z : (k == n) ≡ true = eq-eqb k n w in grind arith) in
-        ap (λ (b : Bool). if b then suc (count_below f n) else count_below f n) (e n (omega arith) (λ w. ne (sym w))) ∙ both_fall (g n) (count_below f n) (count_below g n) (rec (omega arith))
+        ap (λ (b : Bool). if b then suc (count_below f n) else count_below f n) (e n (omega arith) (λ w. ne (sym w)))
+        ∙ both_fall (g n) (count_below f n) (count_below g n) (rec (omega arith))
 
 -- ---- nodes
 
@@ -77,21 +88,34 @@ pub stands_rank : {a : Incarnations} {s c : ℕ} → Stands a s c → rank_in_sl
 stands_rank {a} n = ap (rank_shown a) n.last
 
 -- a node in a list stands in its slot
-pub stands_there : {start : Start} {a : Incarnations} → Sound start a → Fits start a → (n : ℕ) → IsListed (a.state n) → (a.slot n < start.shape.slots) × Stands a (a.slot n) n
-stands_there {start} {a} sound fits n l = (fits.slot n (late_born sound.slots n 0 (listed_late (a.state n) 0 l)), record { last = listed_last sound.slots n l; listed = l })
+pub stands_there : {start : Start} {a : Incarnations} → Sound start a → Fits start a → (n : ℕ) → IsListed (a.state n) →
+    (a.slot n < start.shape.slots) × Stands a (a.slot n) n
+stands_there {start} {a} sound fits n l = (
+  fits.slot n (late_born sound.slots n 0 (listed_late (a.state n) 0 l)),
+  record { last = listed_last sound.slots n l; listed = l },
+)
 
-pub in_list_from : (start : Start) (a : Incarnations) (bucket s : ℕ) → is_in_list start a bucket s ≡ true → (c : ℕ) × InList start a bucket s c
+pub in_list_from : (start : Start) (a : Incarnations) (bucket s : ℕ) → is_in_list start a bucket s ≡ true →
+    (c : ℕ) × InList start a bucket s c
 in_list_from start a bucket s e =
     let parts = and_parts _ _ e in
-    let node = stands_in a s parts.0 in
-    (node.0, record { stands = node.1; of_bucket = ap (bucket_of start.shape) (sym (stands_key node.1)) ∙ eqb-true _ _ parts.1 })
+    let node = stands_in a s parts.0 in (
+      node.0,
+      record {
+        stands = node.1;
+        of_bucket = ap (bucket_of start.shape) (sym (stands_key node.1)) ∙ eqb-true _ _ parts.1;
+      },
+    )
 
-pub in_list_is : {start : Start} {a : Incarnations} {bucket s c : ℕ} → InList start a bucket s c → is_in_list start a bucket s ≡ true
-in_list_is {start} n = and_from _ _ (stands_listed n.stands) (eq-eqb _ _ (ap (bucket_of start.shape) (stands_key n.stands) ∙ n.of_bucket))
+pub in_list_is : {start : Start} {a : Incarnations} {bucket s c : ℕ} → InList start a bucket s c →
+    is_in_list start a bucket s ≡ true
+in_list_is {start} n =
+    and_from _ _ (stands_listed n.stands) (eq-eqb _ _ (ap (bucket_of start.shape) (stands_key n.stands) ∙ n.of_bucket))
 
 -- a node stands in one slot
 pub slot_is_one : {start : Start} {a : Incarnations} → Sound start a → (s t c : ℕ) → Stands a s c → Stands a t c → s ≡ t
-slot_is_one sound s t c here there = sym ((sound.slots.last_born s c here.last).1) ∙ (sound.slots.last_born t c there.last).1
+slot_is_one sound s t c here there =
+    sym ((sound.slots.last_born s c here.last).1) ∙ (sound.slots.last_born t c there.last).1
 
 -- ---- from a place to its successor
 
@@ -105,32 +129,45 @@ pub record IsNextOf (start : Start) (a : Incarnations) (bucket : ℕ) (at : At) 
   pub listed : IsListed (a.state n)
   pub of_bucket : bucket_of start.shape (a.key n) ≡ bucket
   pub above : is_above a at (a.key n) (a.rank n) ≡ true
-  pub others : (d : ℕ) → IsListed (a.state d) → bucket_of start.shape (a.key d) ≡ bucket → d ≢ n → is_above a at (a.key d) (a.rank d) ≡ is_lower (a.key n) (a.rank n) (a.key d) (a.rank d)
+  pub others : (d : ℕ) → IsListed (a.state d) → bucket_of start.shape (a.key d) ≡ bucket → d ≢ n →
+      is_above a at (a.key d) (a.rank d) ≡ is_lower (a.key n) (a.rank n) (a.key d) (a.rank d)
 
 -- an incarnation doesn't stand ahead of another
 abbrev pub NotOrderedBefore : (ℕ → ℕ) → (ℕ → ℕ) → ℕ → ℕ → Type 0
 NotOrderedBefore key rank c d = (key d < key c) ⊎ ((key d ≡ key c) × (rank d ≤ rank c))
 
 -- the test tells whether it does
-pub lower_is : (key rank : ℕ → ℕ) (c d : ℕ) → IsOrderedBefore key rank c d → is_lower (key c) (rank c) (key d) (rank d) ≡ true
+pub lower_is : (key rank : ℕ → ℕ) (c d : ℕ) → IsOrderedBefore key rank c d →
+    is_lower (key c) (rank c) (key d) (rank d) ≡ true
 lower_is key rank c d (inl l) = rw (lt-ltb (key c) (key d) l) refl
-lower_is key rank c d (inr l) = rw (le-ltb (key c) (key d) (let e = l.0 in omega arith), eq-eqb (key c) (key d) l.0, lt-ltb (rank c) (rank d) l.1) refl
+lower_is key rank c d (inr l) =
+    rw (le-ltb (key c) (key d) (let e = l.0 in omega arith), eq-eqb (key c) (key d) l.0, lt-ltb (rank c) (rank d) l.1)
+    refl
 
-pub lower_not : (key rank : ℕ → ℕ) (c d : ℕ) → NotOrderedBefore key rank c d → is_lower (key c) (rank c) (key d) (rank d) ≡ false
-lower_not key rank c d (inl l) = rw (le-ltb (key c) (key d) (omega arith), ne_eqb (key c) (key d) (λ e. omega arith)) refl
-lower_not key rank c d (inr l) = rw (le-ltb (key c) (key d) (let e = l.0 in omega arith), eq-eqb (key c) (key d) (sym l.0), le-ltb (rank c) (rank d) l.1) refl
+pub lower_not : (key rank : ℕ → ℕ) (c d : ℕ) → NotOrderedBefore key rank c d →
+    is_lower (key c) (rank c) (key d) (rank d) ≡ false
+lower_not key rank c d (inl l) =
+    rw (le-ltb (key c) (key d) (omega arith), ne_eqb (key c) (key d) (λ e. omega arith)) refl
+lower_not key rank c d (inr l) =
+    rw (
+      le-ltb (key c) (key d) (let e = l.0 in omega arith),
+      eq-eqb (key c) (key d) (sym l.0),
+      le-ltb (rank c) (rank d) l.1,
+    ) refl
 
 ahead_or_not : (key rank : ℕ → ℕ) (c d : ℕ) → IsOrderedBefore key rank c d ⊎ NotOrderedBefore key rank c d
 ahead_or_not key rank c d = go (cases_order (key c) (key d)) (cases_lt (rank c) (rank d))
   where
-    go : (key c ≡ key d) ⊎ ((key c < key d) ⊎ (key d < key c)) → (rank c < rank d) ⊎ (rank d ≤ rank c) → IsOrderedBefore key rank c d ⊎ NotOrderedBefore key rank c d
+    go : (key c ≡ key d) ⊎ ((key c < key d) ⊎ (key d < key c)) → (rank c < rank d) ⊎ (rank d ≤ rank c) →
+        IsOrderedBefore key rank c d ⊎ NotOrderedBefore key rank c d
     go (inl e) (inl l) = inl (inr (e, l))
     go (inl e) (inr l) = inr (inr (sym e, l))
     go (inr (inl l)) r = inl (inl l)
     go (inr (inr l)) r = inr (inl l)
 
 -- and where it does, the one is ordered before the other
-pub lower_from : (key rank : ℕ → ℕ) (c d : ℕ) → is_lower (key c) (rank c) (key d) (rank d) ≡ true → IsOrderedBefore key rank c d
+pub lower_from : (key rank : ℕ → ℕ) (c d : ℕ) → is_lower (key c) (rank c) (key d) (rank d) ≡ true →
+    IsOrderedBefore key rank c d
 lower_from key rank c d e = go (ahead_or_not key rank c d)
   where
     go : IsOrderedBefore key rank c d ⊎ NotOrderedBefore key rank c d → IsOrderedBefore key rank c d
@@ -138,7 +175,9 @@ lower_from key rank c d e = go (ahead_or_not key rank c d)
     go (inr n) = absurd (let z : true ≡ false = sym e ∙ lower_not key rank c d n in cc)
 
 -- against a listed node and its successor, another is behind the one where it is behind the other
-others_above : (key rank : ℕ → ℕ) (c n d : ℕ) (next : Option ℕ) → next ≡ Some n → IsOrderedBefore key rank c n → (key n ≡ key d → rank n ≡ rank d → ⊥) → IsApart key rank c next d → is_lower (key c) (rank c) (key d) (rank d) ≡ is_lower (key n) (rank n) (key d) (rank d)
+others_above : (key rank : ℕ → ℕ) (c n d : ℕ) (next : Option ℕ) → next ≡ Some n → IsOrderedBefore key rank c n →
+    (key n ≡ key d → rank n ≡ rank d → ⊥) → IsApart key rank c next d →
+    is_lower (key c) (rank c) (key d) (rank d) ≡ is_lower (key n) (rank n) (key d) (rank d)
 others_above key rank c n d next q up ne apart = go (ahead_or_not key rank n d)
   where
     on : IsOrderedBefore key rank n d → IsOrderedBefore key rank c d
@@ -157,18 +196,22 @@ others_above key rank c n d next q up ne apart = go (ahead_or_not key rank n d)
         same : (key n < key d) ⊎ ((key n ≡ key d) × (rank n ≤ rank d)) → NotOrderedBefore key rank n d → ⊥
         same u v = grind arith
 
-    go : IsOrderedBefore key rank n d ⊎ NotOrderedBefore key rank n d → is_lower (key c) (rank c) (key d) (rank d) ≡ is_lower (key n) (rank n) (key d) (rank d)
+    go : IsOrderedBefore key rank n d ⊎ NotOrderedBefore key rank n d →
+        is_lower (key c) (rank c) (key d) (rank d) ≡ is_lower (key n) (rank n) (key d) (rank d)
     go (inl h) = lower_is key rank c d (on h) ∙ sym (lower_is key rank n d h)
     go (inr h) = lower_not key rank c d (back h apart) ∙ sym (lower_not key rank n d h)
 
-none_before : (key rank : ℕ → ℕ) (n d : ℕ) (first : Option ℕ) → first ≡ Some n → (key n ≡ key d → rank n ≡ rank d → ⊥) → IsFrom key rank first d → true ≡ is_lower (key n) (rank n) (key d) (rank d)
-none_before key rank n d first q ne (m, e, from) = let is : m ≡ n = cc in sym (lower_is key rank n d (ahead (rw is at from)))
+none_before : (key rank : ℕ → ℕ) (n d : ℕ) (first : Option ℕ) → first ≡ Some n → (key n ≡ key d → rank n ≡ rank d → ⊥) →
+    IsFrom key rank first d → true ≡ is_lower (key n) (rank n) (key d) (rank d)
+none_before key rank n d first q ne (m, e, from) =
+    let is : m ≡ n = cc in sym (lower_is key rank n d (ahead (rw is at from)))
   where
     ahead : (key n < key d) ⊎ ((key n ≡ key d) × (rank n ≤ rank d)) → IsOrderedBefore key rank n d
     ahead (inl l) = inl l
     ahead (inr l) = inr (l.0, (let u = l.1 in let v = ne l.0 in grind arith))
 
--- this incarnation is in a list, the last of the slot at the place, and has that successor; at a head, that one is the first of the bucket
+-- this incarnation is in a list, the last of the slot at the place, and has that successor; at a head, that one is
+-- the first of the bucket
 abbrev pub IsFollowed : Incarnations → At → Option ℕ → Option ℕ → Type 0
 IsFollowed a (Head b) of next = (of ≡ None) × (a.first b ≡ next)
 IsFollowed a (Slot s) of next = (c : ℕ) × (of ≡ Some c) × (a.last s ≡ Some c) × IsListed (a.state c) × (a.next c ≡ next)
@@ -187,11 +230,15 @@ version_of_listed a c (Unlinked p u) l = absurd l
 version_of_listed a c (Stamped u r) l = absurd l
 
 -- a checked link that stands there again, of a node that is in a list, stands for what it was checked with
-pub same_followed : {start : Start} {a : Incarnations} → Sound start a → (e : ℕ) (at : At) (link : Link) (of names : Option ℕ) → IsGoodLink a e at link of names → (link.mark ≡ false) ⊎ (is_there a at ≡ true) → link_shown_at a at ≡ link → IsFollowed a at of names
-same_followed {start} {a} sound e at link of names g (inl unmarked) shown = pair_followed a at of names (same_pair sound e at link of names g unmarked shown)
+pub same_followed : {start : Start} {a : Incarnations} → Sound start a →
+    (e : ℕ) (at : At) (link : Link) (of names : Option ℕ) → IsGoodLink a e at link of names →
+    (link.mark ≡ false) ⊎ (is_there a at ≡ true) → link_shown_at a at ≡ link → IsFollowed a at of names
+same_followed {start} {a} sound e at link of names g (inl unmarked) shown =
+    pair_followed a at of names (same_pair sound e at link of names g unmarked shown)
 same_followed {start} {a} sound e at link of names g (inr there) shown = either (cases_Bool link.mark)
   where
-    marked_one : (at : At) (of : Option ℕ) → IsGoodLink a e at link of names → is_there a at ≡ true → link_shown_at a at ≡ link → link.mark ≡ true → IsFollowed a at of names
+    marked_one : (at : At) (of : Option ℕ) → IsGoodLink a e at link of names → is_there a at ≡ true →
+        link_shown_at a at ≡ link → link.mark ≡ true → IsFollowed a at of names
     marked_one (Head b) None g there shown m = absurd (g.frozen m)
     marked_one (Head b) (Some c) g there shown m = absurd g.place
     marked_one (Slot v) None g there shown m = absurd g.place
@@ -204,7 +251,9 @@ same_followed {start} {a} sound e at link of names g (inr there) shown = either 
         let y = ap (λ (l : Link). l.version) is in
         let z = g.version in
         omega (arith, x, y, z)) in
-        let same : d ≡ c = one_late sound.slots d c e ((sound.slots.last_born v d node.1.last).1 ∙ sym g.place.slot) (listed_late (a.state d) e node.1.listed) g.place.late low g.place.birth in
+        let same : d ≡ c =
+        one_late sound.slots d c e ((sound.slots.last_born v d node.1.last).1 ∙ sym g.place.slot)
+        (listed_late (a.state d) e node.1.listed) g.place.late low g.place.birth in
         let P : ℕ → Type 0 = λ n. IsListed (a.state n) in
         (c, refl, node.1.last ∙ ap Some same, subst P same node.1.listed, (g.frozen m).1)
 
@@ -212,15 +261,19 @@ same_followed {start} {a} sound e at link of names g (inr there) shown = either 
     either (inl m) = marked_one at of g there shown m
     either (inr unmarked) = pair_followed a at of names (same_pair sound e at link of names g unmarked shown)
 
-pub next_of_followed : {start : Start} {a : Incarnations} → Sound start a → (bucket : ℕ) (at : At) (of : Option ℕ) (n : ℕ) → IsFollowed a at of (Some n) → IsPlaceOf start a at bucket → IsNextOf start a bucket at n
+pub next_of_followed : {start : Start} {a : Incarnations} → Sound start a →
+    (bucket : ℕ) (at : At) (of : Option ℕ) (n : ℕ) → IsFollowed a at of (Some n) → IsPlaceOf start a at bucket →
+    IsNextOf start a bucket at n
 next_of_followed {start} {a} sound bucket (Head b) of n p is =
     let f = sound.lists.first_in b n p.1 in
     record {
       listed = f.0;
       of_bucket = f.1 ∙ is;
       above = refl;
-      others = λ d l e ne. none_before a.key a.rank n d (a.first b) p.1 (λ w r. ne (sym (places_differ sound n d f.0 l w r)))
-          (let P : ℕ → Type 0 = λ v. IsFrom a.key a.rank (a.first v) d in subst P (e ∙ sym is) (sound.lists.behind_head d l));
+      others = λ d l e ne.
+          none_before a.key a.rank n d (a.first b) p.1 (λ w r. ne (sym (places_differ sound n d f.0 l w r)))
+          (let P : ℕ → Type 0 = λ v. IsFrom a.key a.rank (a.first v) d in
+          subst P (e ∙ sym is) (sound.lists.behind_head d l));
     }
 next_of_followed {start} {a} sound bucket (Slot t) of n p is =
     let c = p.0 in
@@ -235,46 +288,59 @@ next_of_followed {start} {a} sound bucket (Slot t) of n p is =
       of_bucket = sym o.0 ∙ bc;
       above = (λ i. is_lower (k i) (r i) (a.key n) (a.rank n)) ∙ lower_is a.key a.rank c n o.1;
       others = λ d l e ne. (λ i. is_lower (k i) (r i) (a.key d) (a.rank d))
-          ∙ others_above a.key a.rank c n d (a.next c) p.4 o.1 (λ w r. ne (sym (places_differ sound n d ln l w r))) (sound.lists.apart c d lc l (bc ∙ sym e));
+          ∙ others_above a.key a.rank c n d (a.next c) p.4 o.1 (λ w r. ne (sym (places_differ sound n d ln l w r)))
+          (sound.lists.apart c d lc l (bc ∙ sym e));
     }
 
 not_below_itself : (k r : ℕ) → is_lower k r k r ≡ false
 not_below_itself k r = lower_not (λ s. k) (λ s. r) 0 0 (inr (refl, omega arith))
 
 -- behind the next there is one node fewer
-pub one_fewer : {start : Start} {a : Incarnations} → Sound start a → Fits start a → (bucket : ℕ) (at : At) (n : ℕ) → IsNextOf start a bucket at n → behind start a bucket at ≡ suc (behind start a bucket (Slot (a.slot n)))
+pub one_fewer : {start : Start} {a : Incarnations} → Sound start a → Fits start a → (bucket : ℕ) (at : At) (n : ℕ) →
+    IsNextOf start a bucket at n → behind start a bucket at ≡ suc (behind start a bucket (Slot (a.slot n)))
 one_fewer {start} {a} sound fits bucket at n next =
     let there = stands_there sound fits n next.listed in
-    count_falls (is_behind start a bucket at) (is_behind start a bucket (Slot (a.slot n))) start.shape.slots (a.slot n) there.0 (passes there.1) (fails there.1) (λ s l ne. others s ne there.1)
+    count_falls (is_behind start a bucket at) (is_behind start a bucket (Slot (a.slot n))) start.shape.slots (a.slot n)
+    there.0 (passes there.1) (fails there.1) (λ s l ne. others s ne there.1)
   where
     passes : Stands a (a.slot n) n → is_behind start a bucket at (a.slot n) ≡ true
-    passes st = and_from _ _ (in_list_is {start = start} (record { stands = st; of_bucket = next.of_bucket })) ((λ i. is_above a at (stands_key st i) (stands_rank st i)) ∙ next.above)
+    passes st = and_from _ _ (in_list_is {start = start} (record { stands = st; of_bucket = next.of_bucket }))
+        ((λ i. is_above a at (stands_key st i) (stands_rank st i)) ∙ next.above)
 
     fails : Stands a (a.slot n) n → is_behind start a bucket (Slot (a.slot n)) (a.slot n) ≡ false
-    fails st = ap (λ b. is_in_list start a bucket (a.slot n) && b) (not_below_itself (key_in_slot a (a.slot n)) (rank_in_slot a (a.slot n))) ∙ right (is_in_list start a bucket (a.slot n))
+    fails st = ap (λ b. is_in_list start a bucket (a.slot n) && b)
+        (not_below_itself (key_in_slot a (a.slot n)) (rank_in_slot a (a.slot n)))
+        ∙ right (is_in_list start a bucket (a.slot n))
       where
         right : (b : Bool) → (b && false) ≡ false
         right true = refl
         right false = refl
 
-    others : (s : ℕ) → s ≢ a.slot n → Stands a (a.slot n) n → is_behind start a bucket at s ≡ is_behind start a bucket (Slot (a.slot n)) s
+    others : (s : ℕ) → s ≢ a.slot n → Stands a (a.slot n) n →
+        is_behind start a bucket at s ≡ is_behind start a bucket (Slot (a.slot n)) s
     others s ne st = go (cases_Bool (is_in_list start a bucket s))
       where
-        go : (is_in_list start a bucket s ≡ true) ⊎ (is_in_list start a bucket s ≡ false) → is_behind start a bucket at s ≡ is_behind start a bucket (Slot (a.slot n)) s
+        go : (is_in_list start a bucket s ≡ true) ⊎ (is_in_list start a bucket s ≡ false) →
+            is_behind start a bucket at s ≡ is_behind start a bucket (Slot (a.slot n)) s
         go (inr outside) = and_left _ _ outside ∙ sym (and_left _ _ outside)
         go (inl inside) =
             let node = in_list_from start a bucket s inside in
-            let other : node.0 ≢ n = λ e. ne (slot_is_one sound s (a.slot n) n (subst (λ (d : ℕ). Stands a s d) e node.1.stands) st) in
+            let other : node.0 ≢ n =
+            λ e. ne (slot_is_one sound s (a.slot n) n (subst (λ (d : ℕ). Stands a s d) e node.1.stands) st) in
             ap (λ b. is_in_list start a bucket s && b)
             ((λ i. is_above a at (stands_key node.1.stands i) (stands_rank node.1.stands i))
             ∙ next.others node.0 node.1.stands.listed node.1.of_bucket other
-            ∙ (λ i. is_lower (sym (stands_key st) i) (sym (stands_rank st) i) (sym (stands_key node.1.stands) i) (sym (stands_rank node.1.stands) i)))
+            ∙ (λ i. is_lower (sym (stands_key st) i) (sym (stands_rank st) i) (sym (stands_key node.1.stands) i)
+            (sym (stands_rank node.1.stands) i)))
 
 -- ---- where a node is unlinked, and where none is
 
 -- nodes that are in lists as before stand behind a place as before
-pub behind_same : (start : Start) (a b : Incarnations) (bucket : ℕ) (at : At) → ((s : ℕ) → is_listed (state_in b s) ≡ is_listed (state_in a s)) → b.key ≡ a.key → b.rank ≡ a.rank → b.last ≡ a.last → behind start b bucket at ≡ behind start a bucket at
-behind_same start a b bucket at listed key rank last = count_same (is_behind start b bucket at) (is_behind start a bucket at) start.shape.slots (λ s l. same s)
+pub behind_same : (start : Start) (a b : Incarnations) (bucket : ℕ) (at : At) →
+    ((s : ℕ) → is_listed (state_in b s) ≡ is_listed (state_in a s)) → b.key ≡ a.key → b.rank ≡ a.rank →
+    b.last ≡ a.last → behind start b bucket at ≡ behind start a bucket at
+behind_same start a b bucket at listed key rank last =
+    count_same (is_behind start b bucket at) (is_behind start a bucket at) start.shape.slots (λ s l. same s)
   where
     keys : (s : ℕ) → key_in_slot b s ≡ key_in_slot a s
     keys s = (λ i. key_shown (record a { key = key i }) (last i s))
@@ -287,36 +353,47 @@ behind_same start a b bucket at listed key rank last = count_same (is_behind sta
     above (Slot t) key low = (λ i. is_lower (keys t i) (ranks t i) key low)
 
     same : (s : ℕ) → is_behind start b bucket at s ≡ is_behind start a bucket at s
-    same s = (λ i. (listed s i && (bucket_of start.shape (keys s i) == bucket)) && is_above b at (keys s i) (ranks s i)) ∙ ap (λ c. is_in_list start a bucket s && c) (above at (key_in_slot a s) (rank_in_slot a s))
+    same s = (λ i. (listed s i && (bucket_of start.shape (keys s i) == bucket)) && is_above b at (keys s i) (ranks s i))
+        ∙ ap (λ c. is_in_list start a bucket s && c) (above at (key_in_slot a s) (rank_in_slot a s))
 
 -- one that is in no list comes into another state in which it is in none
-put_unlisted : (state : ℕ → State) (c : ℕ) (st : State) (j : ℕ) → is_listed (state c) ≡ false → is_listed st ≡ false → is_listed (put state c st j) ≡ is_listed (state j)
+put_unlisted : (state : ℕ → State) (c : ℕ) (st : State) (j : ℕ) → is_listed (state c) ≡ false → is_listed st ≡ false →
+    is_listed (put state c st j) ≡ is_listed (state j)
 put_unlisted state c st j x y = go (cases_eq j c)
   where
     go : (j ≡ c) ⊎ (j ≢ c) → is_listed (put state c st j) ≡ is_listed (state j)
     go (inl e) = rw (e, put_here state c st) (y ∙ sym x)
     go (inr ne) = ap is_listed (put_other state c st j ne)
 
-unlisted_shown : (a b : Incarnations) (c : ℕ) (st : State) (l : Option ℕ) → b.state ≡ put a.state c st → is_listed (a.state c) ≡ false → is_listed st ≡ false → is_listed (state_shown b l) ≡ is_listed (state_shown a l)
+unlisted_shown : (a b : Incarnations) (c : ℕ) (st : State) (l : Option ℕ) → b.state ≡ put a.state c st →
+    is_listed (a.state c) ≡ false → is_listed st ≡ false → is_listed (state_shown b l) ≡ is_listed (state_shown a l)
 unlisted_shown a b c st None e x y = refl
 unlisted_shown a b c st (Some d) e x y = ap (λ f. is_listed (f d)) e ∙ put_unlisted a.state c st d x y
 
 -- a stamping leaves the lists as they were
-pub stamps_none : (start : Start) (keys : Keys) (a : Incarnations) (pass c stamp bucket : ℕ) (at : At) → Allowed start keys a pass (Stamps c stamp) → behind start (becomes start a pass (Stamps c stamp)) bucket at ≡ behind start a bucket at
+pub stamps_none : (start : Start) (keys : Keys) (a : Incarnations) (pass c stamp bucket : ℕ) (at : At) →
+    Allowed start keys a pass (Stamps c stamp) →
+    behind start (becomes start a pass (Stamps c stamp)) bucket at ≡ behind start a bucket at
 stamps_none start keys a pass c stamp bucket at h =
     let b = becomes start a pass (Stamps c stamp) in
-    behind_same start a b bucket at (λ s. unlisted_shown a b c (Stamped (unlinked_at (a.state c)) stamp) (a.last s) refl (not_listed (a.state c) h) refl) refl refl refl
+    behind_same start a b bucket at
+    (λ s. unlisted_shown a b c (Stamped (unlinked_at (a.state c)) stamp) (a.last s) refl (not_listed (a.state c) h)
+    refl) refl refl refl
   where
     not_listed : (st : State) → MayStamp st pass stamp a.epoch → is_listed st ≡ false
     not_listed st h = grind arith
 
 -- behind each place that a node lies behind one node fewer stands once it is unlinked
-pub unlinks_one : {start : Start} {a : Incarnations} → Sound start a → Fits start a → (pass bucket c : ℕ) (at from : At) (of : Option ℕ) → IsFollowed a at of (Some c) → IsPlaceOf start a at bucket → is_above a from (a.key c) (a.rank c) ≡ true → behind start a bucket from ≡ suc (behind start (becomes start a pass (Unlinks c (before_at a at))) bucket from)
+pub unlinks_one : {start : Start} {a : Incarnations} → Sound start a → Fits start a →
+    (pass bucket c : ℕ) (at from : At) (of : Option ℕ) → IsFollowed a at of (Some c) → IsPlaceOf start a at bucket →
+    is_above a from (a.key c) (a.rank c) ≡ true →
+    behind start a bucket from ≡ suc (behind start (becomes start a pass (Unlinks c (before_at a at))) bucket from)
 unlinks_one {start} {a} sound fits pass bucket c at from of followed is higher =
     let next = next_of_followed sound bucket at of c followed is in
     let there = stands_there sound fits c next.listed in
     count_falls (is_behind start a bucket from) (is_behind start b bucket from) start.shape.slots (a.slot c) there.0
-    (and_from _ _ (in_list_is {start = start} (record { stands = there.1; of_bucket = next.of_bucket })) ((λ i. is_above a from (stands_key there.1 i) (stands_rank there.1 i)) ∙ higher))
+    (and_from _ _ (in_list_is {start = start} (record { stands = there.1; of_bucket = next.of_bucket }))
+    ((λ i. is_above a from (stands_key there.1 i) (stands_rank there.1 i)) ∙ higher))
     (fails there.1)
     (λ s l ne. sym (others s ne))
   where
@@ -324,14 +401,19 @@ unlinks_one {start} {a} sound fits pass bucket c at from of followed is higher =
     b = becomes start a pass (Unlinks c (before_at a at))
 
     fails : Stands a (a.slot c) c → is_behind start b bucket from (a.slot c) ≡ false
-    fails st = and_left _ _ (and_left _ _ (ap (λ l. is_listed (state_shown b l)) st.last ∙ ap is_listed (put_here a.state c (Unlinked pass a.epoch))))
+    fails st = and_left _ _
+        (and_left _ _
+        (ap (λ l. is_listed (state_shown b l)) st.last ∙ ap is_listed (put_here a.state c (Unlinked pass a.epoch))))
 
     others : (s : ℕ) → s ≢ a.slot c → is_behind start b bucket from s ≡ is_behind start a bucket from s
-    others s ne = ap (λ x. (is_listed x && (bucket_of start.shape (key_in_slot a s) == bucket)) && is_above a from (key_in_slot a s) (rank_in_slot a s)) (go (a.last s) refl)
+    others s ne =
+        ap (λ x. (is_listed x && (bucket_of start.shape (key_in_slot a s) == bucket))
+        && is_above a from (key_in_slot a s) (rank_in_slot a s)) (go (a.last s) refl)
       where
         go : (l : Option ℕ) → a.last s ≡ l → state_shown b l ≡ state_shown a l
         go None e = refl
-        go (Some d) e = put_other a.state c (Unlinked pass a.epoch) d (λ x. ne (sym (sound.slots.last_born s d e).1 ∙ ap a.slot x))
+        go (Some d) e =
+            put_other a.state c (Unlinked pass a.epoch) d (λ x. ne (sym (sound.slots.last_born s d e).1 ∙ ap a.slot x))
 
 -- ---- no more than before
 
@@ -346,8 +428,10 @@ count_le f g (suc n) h = le_if (f n) (g n) (count_below f n) (count_below g n) (
     le_if false false m n h l = l
 
 -- an unlinking adds none to what stands behind a place
-pub unlinks_add_none : (start : Start) (a : Incarnations) (pass bucket c : ℕ) (before : Before) (at : At) → behind start (becomes start a pass (Unlinks c before)) bucket at ≤ behind start a bucket at
-unlinks_add_none start a pass bucket c before at = count_le (is_behind start b bucket at) (is_behind start a bucket at) start.shape.slots was
+pub unlinks_add_none : (start : Start) (a : Incarnations) (pass bucket c : ℕ) (before : Before) (at : At) →
+    behind start (becomes start a pass (Unlinks c before)) bucket at ≤ behind start a bucket at
+unlinks_add_none start a pass bucket c before at =
+    count_le (is_behind start b bucket at) (is_behind start a bucket at) start.shape.slots was
   where
     b : Incarnations
     b = becomes start a pass (Unlinks c before)
@@ -357,7 +441,9 @@ unlinks_add_none start a pass bucket c before at = count_le (is_behind start b b
     still (Some d) e = go (cases_eq d c)
       where
         go : (d ≡ c) ⊎ (d ≢ c) → is_listed (a.state d) ≡ true
-        go (inl is) = absurd (let z : is_listed (Unlinked pass a.epoch) ≡ true = rw (is, put_here a.state c (Unlinked pass a.epoch)) at e in cc)
+        go (inl is) =
+            absurd (let z : is_listed (Unlinked pass a.epoch) ≡ true =
+            rw (is, put_here a.state c (Unlinked pass a.epoch)) at e in cc)
         go (inr ne) = ap is_listed (sym (put_other a.state c (Unlinked pass a.epoch) d ne)) ∙ e
 
     was : (s : ℕ) → is_behind start b bucket at s ≡ true → is_behind start a bucket at s ≡ true
@@ -373,11 +459,14 @@ unlinks_add_none start a pass bucket c before at = count_le (is_behind start b b
 -- ---- links
 
 -- a stamping leaves the links that are shown
-pub stamps_links : (start : Start) (keys : Keys) (a : Incarnations) (pass c stamp : ℕ) (at : At) → Allowed start keys a pass (Stamps c stamp) → link_shown_at (becomes start a pass (Stamps c stamp)) at ≡ link_shown_at a at
+pub stamps_links : (start : Start) (keys : Keys) (a : Incarnations) (pass c stamp : ℕ) (at : At) →
+    Allowed start keys a pass (Stamps c stamp) →
+    link_shown_at (becomes start a pass (Stamps c stamp)) at ≡ link_shown_at a at
 stamps_links start keys a pass c stamp (Head h) al = refl
 stamps_links start keys a pass c stamp (Slot s) al = shown (a.last s)
   where
-    stamped_link : (st : State) (x y : ℕ) → MayStamp st pass stamp a.epoch → link_in_state a c (Stamped x y) ≡ link_in_state a c st
+    stamped_link : (st : State) (x y : ℕ) → MayStamp st pass stamp a.epoch →
+        link_in_state a c (Stamped x y) ≡ link_in_state a c st
     stamped_link (Unlinked by at) x y m = refl
     stamped_link Unborn x y m = absurd m
     stamped_link (InHand by) x y m = absurd m
@@ -390,12 +479,17 @@ stamps_links start keys a pass c stamp (Slot s) al = shown (a.last s)
     shown None = refl
     shown (Some d) = go (cases_eq d c)
       where
-        go : (d ≡ c) ⊎ (d ≢ c) → link_in_state a d (put a.state c (Stamped (unlinked_at (a.state c)) stamp) d) ≡ link_in_state a d (a.state d)
-        go (inl e) = rw (e, put_here a.state c (Stamped (unlinked_at (a.state c)) stamp)) (stamped_link (a.state c) (unlinked_at (a.state c)) stamp al)
+        go : (d ≡ c) ⊎ (d ≢ c) →
+            link_in_state a d (put a.state c (Stamped (unlinked_at (a.state c)) stamp) d)
+            ≡ link_in_state a d (a.state d)
+        go (inl e) =
+            rw (e, put_here a.state c (Stamped (unlinked_at (a.state c)) stamp))
+            (stamped_link (a.state c) (unlinked_at (a.state c)) stamp al)
         go (inr ne) = ap (link_in_state a d) (put_other a.state c (Stamped (unlinked_at (a.state c)) stamp) d ne)
 
 -- and so does the giving up of an incarnation
-pub gives_up_links : (start : Start) (keys : Keys) (a : Incarnations) (pass c : ℕ) (at : At) → Allowed start keys a pass (GivesUp c) → link_shown_at (becomes start a pass (GivesUp c)) at ≡ link_shown_at a at
+pub gives_up_links : (start : Start) (keys : Keys) (a : Incarnations) (pass c : ℕ) (at : At) →
+    Allowed start keys a pass (GivesUp c) → link_shown_at (becomes start a pass (GivesUp c)) at ≡ link_shown_at a at
 gives_up_links start keys a pass c (Head h) al = refl
 gives_up_links start keys a pass c (Slot s) al = shown (a.last s)
   where
@@ -410,13 +504,17 @@ gives_up_links start keys a pass c (Slot s) al = shown (a.last s)
 -- ---- what a birth leaves
 
 -- an incarnation that is given up was in no list
-pub gives_up_none : (start : Start) (keys : Keys) (a : Incarnations) (pass c bucket : ℕ) (at : At) → Allowed start keys a pass (GivesUp c) → behind start (becomes start a pass (GivesUp c)) bucket at ≡ behind start a bucket at
+pub gives_up_none : (start : Start) (keys : Keys) (a : Incarnations) (pass c bucket : ℕ) (at : At) →
+    Allowed start keys a pass (GivesUp c) →
+    behind start (becomes start a pass (GivesUp c)) bucket at ≡ behind start a bucket at
 gives_up_none start keys a pass c bucket at h =
     let b = becomes start a pass (GivesUp c) in
-    behind_same start a b bucket at (λ s. unlisted_shown a b c GivenUp (a.last s) refl (ap is_listed h) refl) refl refl refl
+    behind_same start a b bucket at (λ s. unlisted_shown a b c GivenUp (a.last s) refl (ap is_listed h) refl) refl refl
+    refl
 
 -- a slot that may be born in shows no node of a list
-free_unlisted : (a : Incarnations) (pass s : ℕ) (place : SlotPlace) (l : Option ℕ) → a.last s ≡ l → MayBeBornIn a pass s place → is_listed (state_shown a l) ≡ false
+free_unlisted : (a : Incarnations) (pass s : ℕ) (place : SlotPlace) (l : Option ℕ) → a.last s ≡ l →
+    MayBeBornIn a pass s place → is_listed (state_shown a l) ≡ false
 free_unlisted a pass s (Own p) None e m = refl
 free_unlisted a pass s (Own p) (Some c) e m = dead (a.state c) (rw e at m.1)
   where
@@ -428,23 +526,31 @@ free_unlisted a pass s Shared l e m = absurd m
 free_unlisted a pass s (Listed h) l e m = absurd m
 
 -- a birth adds no node to a list, and takes none away
-pub bears_none : (start : Start) (keys : Keys) (a : Incarnations) (pass s birth bucket h : ℕ) → Sound start a → Allowed start keys a pass (Bears s birth) → behind start (becomes start a pass (Bears s birth)) bucket (Head h) ≡ behind start a bucket (Head h)
-bears_none start keys a pass s birth bucket h sound al = count_same (is_behind start b bucket (Head h)) (is_behind start a bucket (Head h)) start.shape.slots (λ t l. same t)
+pub bears_none : (start : Start) (keys : Keys) (a : Incarnations) (pass s birth bucket h : ℕ) → Sound start a →
+    Allowed start keys a pass (Bears s birth) →
+    behind start (becomes start a pass (Bears s birth)) bucket (Head h) ≡ behind start a bucket (Head h)
+bears_none start keys a pass s birth bucket h sound al =
+    count_same (is_behind start b bucket (Head h)) (is_behind start a bucket (Head h)) start.shape.slots (λ t l. same t)
   where
     b : Incarnations
     b = becomes start a pass (Bears s birth)
 
-    other : (t : ℕ) (l : Option ℕ) → a.last t ≡ l → (is_listed (state_shown b l) ≡ is_listed (state_shown a l)) × (key_shown b l ≡ key_shown a l)
+    other : (t : ℕ) (l : Option ℕ) → a.last t ≡ l →
+        (is_listed (state_shown b l) ≡ is_listed (state_shown a l)) × (key_shown b l ≡ key_shown a l)
     other t None e = (refl, refl)
     other t (Some d) e =
         let low = (sound.slots.last_born t d e).0 in
-        let ne : d ≢ a.count = (λ q. omega arith) in
-        (ap is_listed (put_other a.state a.count (InHand pass) d ne), put_other a.key a.count (key_shown a (a.last s)) d ne)
+        let ne : d ≢ a.count = (λ q. omega arith) in (
+          ap is_listed (put_other a.state a.count (InHand pass) d ne),
+          put_other a.key a.count (key_shown a (a.last s)) d ne,
+        )
 
-    listed_key : (x y : Bool) (k j : ℕ) → x ≡ y → k ≡ j → ((x && (bucket_of start.shape k == bucket)) && true) ≡ ((y && (bucket_of start.shape j == bucket)) && true)
+    listed_key : (x y : Bool) (k j : ℕ) → x ≡ y → k ≡ j →
+        ((x && (bucket_of start.shape k == bucket)) && true) ≡ ((y && (bucket_of start.shape j == bucket)) && true)
     listed_key x y k j e f = (λ i. (e i && (bucket_of start.shape (f i) == bucket)) && true)
 
-    none : (x y : Bool) (k j : ℕ) → x ≡ false → y ≡ false → ((x && (bucket_of start.shape k == bucket)) && true) ≡ ((y && (bucket_of start.shape j == bucket)) && true)
+    none : (x y : Bool) (k j : ℕ) → x ≡ false → y ≡ false →
+        ((x && (bucket_of start.shape k == bucket)) && true) ≡ ((y && (bucket_of start.shape j == bucket)) && true)
     none x y k j e f = and_left _ _ (and_left _ _ e) ∙ sym (and_left _ _ (and_left _ _ f))
 
     same : (t : ℕ) → is_behind start b bucket (Head h) t ≡ is_behind start a bucket (Head h) t
@@ -452,9 +558,12 @@ bears_none start keys a pass s birth bucket h sound al = count_same (is_behind s
       where
         go : (t ≡ s) ⊎ (t ≢ s) → is_behind start b bucket (Head h) t ≡ is_behind start a bucket (Head h) t
         go (inl e) = none (is_listed (state_in b t)) (is_listed (state_in a t)) (key_in_slot b t) (key_in_slot a t)
-            (ap (λ l. is_listed (state_shown b l)) (ap (put a.last s (Some a.count)) e ∙ put_here a.last s (Some a.count)) ∙ ap is_listed (put_here a.state a.count (InHand pass)))
+            (ap (λ l. is_listed (state_shown b l))
+            (ap (put a.last s (Some a.count)) e ∙ put_here a.last s (Some a.count))
+            ∙ ap is_listed (put_here a.state a.count (InHand pass)))
             (ap (λ v. is_listed (state_in a v)) e ∙ free_unlisted a pass s (a.place s) (a.last s) refl al.0)
         go (inr ne) =
             let l = put_other a.last s (Some a.count) t ne in
             let o = other t (a.last t) refl in
-            listed_key (is_listed (state_in b t)) (is_listed (state_in a t)) (key_in_slot b t) (key_in_slot a t) (ap (λ m. is_listed (state_shown b m)) l ∙ o.0) (ap (key_shown b) l ∙ o.1)
+            listed_key (is_listed (state_in b t)) (is_listed (state_in a t)) (key_in_slot b t) (key_in_slot a t)
+            (ap (λ m. is_listed (state_shown b m)) l ∙ o.0) (ap (key_shown b) l ∙ o.1)

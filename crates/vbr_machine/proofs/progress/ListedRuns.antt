@@ -1,5 +1,6 @@
 -- How many nodes stand behind a held place after a step, while its checked link still stands.
-use Rattle.std.proofs.Common.{◌≡◌, ℕ, suc, true, false, List, [], ◌∷◌, ◌++◌, Option, Some, None, refl, sym, ap, ◌∙◌, subst, inl, eq-eqb}
+use Rattle.std.proofs.Common.{◌≡◌, ℕ, suc, true, false, List, [], ◌∷◌, ◌++◌, Option, Some, None, refl, sym, ap, ◌∙◌}
+use Rattle.std.proofs.Common.{subst, inl, eq-eqb}
 use Rattle.std.specs.Prelude.{◌==◌, ◌⊎◌, if◌then◌else◌}
 use Rattle.vbr_machine.specs.Start.{Start, IsStart}
 use Rattle.vbr_words.specs.Words.{link_of}
@@ -14,7 +15,8 @@ use Rattle.vbr_machine.specs.Opened.{opening_keys}
 use Rattle.vbr_machine.specs.Runs.{IsRun, world_after, know_after}
 use Rattle.vbr_machine.specs.Incarnations.{Incarnations, last_in}
 use Rattle.vbr_machine.specs.Images.{link_shown_at, key_shown}
-use Rattle.vbr_machine.specs.Chronicles.{Happening, GivesUp, Raises, Bears, Removes, Unlinks, Allowed, becomes, incarnations_from, IsLawful, next_of}
+use Rattle.vbr_machine.specs.Chronicles.{Happening, GivesUp, Raises, Bears, Removes, Unlinks, Allowed, becomes}
+use Rattle.vbr_machine.specs.Chronicles.{incarnations_from, IsLawful, next_of}
 use Rattle.vbr_machine.specs.Accounts.{incarnations_after, happens, notes_after, just, after_giving_up}
 use Rattle.vbr_machine.specs.Agreement.{IsHeldAt, IsHeldNext, Agrees}
 use Rattle.vbr_machine.specs.Notes.{before_at}
@@ -30,7 +32,9 @@ use Rattle.vbr_machine.proofs.reads.KnownReads.{good_link}
 use Rattle.vbr_machine.proofs.runs.EveryRun.{incarnations_after-snoc, run_agrees, step_agrees}
 use Rattle.vbr_machine.proofs.moments.Removals.{marked_out}
 use Rattle.vbr_machine.proofs.moments.RunForms as forms
-use Rattle.vbr_machine.proofs.progress.ListedNodes.{IsFollowed, IsNextOf, IsPlaceOf, next_of_followed, same_followed, stands_listed, stands_there, one_fewer, stamps_none, stamps_links, unlinks_one, bears_none, gives_up_none, gives_up_links}
+use Rattle.vbr_machine.proofs.progress.ListedNodes.{IsFollowed, IsNextOf, IsPlaceOf, next_of_followed, same_followed}
+use Rattle.vbr_machine.proofs.progress.ListedNodes.{stands_listed, stands_there, one_fewer, stamps_none, stamps_links}
+use Rattle.vbr_machine.proofs.progress.ListedNodes.{unlinks_one, bears_none, gives_up_none, gives_up_links}
 use Rattle.vbr_machine.proofs.chronicles.SoundAfter.{sound_kept}
 use Rattle.vbr_machine.specs.declared.knowledge.Holding.{Holding}
 use Rattle.vbr_machine.specs.declared.knowledge.Holding.TheVariants.{Free, Unlinked, InHand}
@@ -45,7 +49,8 @@ pub record StandsIn (start : Start) (a : Incarnations) (epoch bucket : ℕ) (at 
   pub next : IsHeldNext a epoch link.slot names
   pub place : IsPlaceOf start a at bucket
 
-place_of_bucket : (start : Start) (a : Incarnations) (epoch bucket : ℕ) (at : At) (of names : Option ℕ) → IsFollowed a at of names → IsHeldAt a epoch at of → IsOfBucket start a epoch at bucket → IsPlaceOf start a at bucket
+place_of_bucket : (start : Start) (a : Incarnations) (epoch bucket : ℕ) (at : At) (of names : Option ℕ) →
+    IsFollowed a at of names → IsHeldAt a epoch at of → IsOfBucket start a epoch at bucket → IsPlaceOf start a at bucket
 place_of_bucket start a epoch bucket (Head b) of names pair held is = is
 place_of_bucket start a epoch bucket (Slot t) None names pair held is = absurd held
 place_of_bucket start a epoch bucket (Slot t) (Some c) names pair held is =
@@ -53,13 +58,18 @@ place_of_bucket start a epoch bucket (Slot t) (Some c) names pair held is =
     ap (bucket_of start.shape) (ap (key_shown a) pair.2 ∙ ap a.key (sym e)) ∙ is c held
 
 -- the link names the slot of the successor
-named_next : (a : Incarnations) (epoch s : ℕ) (slot names : Option ℕ) → slot ≡ Some s → IsHeldNext a epoch slot names → (n : ℕ) × (names ≡ Some n) × (a.slot n ≡ s)
+named_next : (a : Incarnations) (epoch s : ℕ) (slot names : Option ℕ) → slot ≡ Some s → IsHeldNext a epoch slot names →
+    (n : ℕ) × (names ≡ Some n) × (a.slot n ≡ s)
 named_next a epoch s None names q h = absurd (cc)
 named_next a epoch s (Some t) None q h = absurd h
 named_next a epoch s (Some t) (Some n) q h = (n, refl, h.slot ∙ (let e : t ≡ s = cc in e))
 
-module _ (start : Start) (passes : ℕ) (run : List Event) (is : IsStart start) (ok : IsRun start passes run) (p : ℕ) (bucket : ℕ) (at : At) (link : Link)
-    (known : Knows (know_after start run p) (LinkAt at link)) (there : (link.mark ≡ false) ⊎ (is_there (incarnations_after start run) at ≡ true)) (shown : link_shown_at (incarnations_after start run) at ≡ link) (inside : HeldIn (know_after start run p) at bucket) where
+module _ (start : Start) (passes : ℕ) (run : List Event) (is : IsStart start) (ok : IsRun start passes run) (p : ℕ)
+    (bucket : ℕ) (at : At) (link : Link)
+    (known : Knows (know_after start run p) (LinkAt at link))
+    (there : (link.mark ≡ false) ⊎ (is_there (incarnations_after start run) at ≡ true))
+    (shown : link_shown_at (incarnations_after start run) at ≡ link)
+    (inside : HeldIn (know_after start run p) at bucket) where
   abbrev a : Incarnations
   a = incarnations_after start run
 
@@ -76,11 +86,15 @@ module _ (start : Start) (passes : ℕ) (run : List Event) (is : IsStart start) 
         names = g.1;
         followed = followed;
         next = g.2.next;
-        place = place_of_bucket start a e bucket at g.0 g.1 followed g.2.place (place_in_bucket agrees.sound (agrees.knows p) (forms.ordered start passes run is ok p) at bucket inside);
+        place = place_of_bucket start a e bucket at g.0 g.1 followed g.2.place
+            (place_in_bucket agrees.sound (agrees.knows p) (forms.ordered start passes run is ok p) at bucket inside);
       }
 
   -- the incarnation in the slot that the link names is the next behind the place
-  next_named : (s : ℕ) (q : link.slot ≡ Some s) → IsNextOf start (incarnations_after start run) bucket at (named_next (incarnations_after start run) (know_after start run p).epoch s link.slot stands_in_bucket.names q stands_in_bucket.next).0
+  next_named : (s : ℕ) (q : link.slot ≡ Some s) →
+      IsNextOf start (incarnations_after start run) bucket at
+      (named_next (incarnations_after start run) (know_after start run p).epoch s link.slot stands_in_bucket.names q
+      stands_in_bucket.next).0
   next_named s q =
       let x = stands_in_bucket in
       let n = named_next a (know_after start run p).epoch s link.slot x.names q x.next in
@@ -88,46 +102,67 @@ module _ (start : Start) (passes : ℕ) (run : List Event) (is : IsStart start) 
       next_of_followed agrees.sound bucket at x.of n.0 (subst P n.1 x.followed) x.place
 
   -- a law: behind the slot that the link names stands one node fewer than behind the place
-  pub one_fewer_behind : (s : ℕ) → link.slot ≡ Some s → behind start (incarnations_after start run) bucket at ≡ suc (behind start (incarnations_after start run) bucket (Slot s))
+  pub one_fewer_behind : (s : ℕ) → link.slot ≡ Some s →
+      behind start (incarnations_after start run) bucket at
+      ≡ suc (behind start (incarnations_after start run) bucket (Slot s))
   one_fewer_behind s q =
       let x = stands_in_bucket in
       let n = named_next a (know_after start run p).epoch s link.slot x.names q x.next in
-      one_fewer agrees.sound agrees.fits bucket at n.0 (next_named s q) ∙ ap (λ t. suc (behind start a bucket (Slot t))) n.2
+      one_fewer agrees.sound agrees.fits bucket at n.0 (next_named s q)
+      ∙ ap (λ t. suc (behind start a bucket (Slot t))) n.2
 
   -- a law: the slot that the link names is in a list
   pub named_there : (s : ℕ) → link.slot ≡ Some s → is_there (incarnations_after start run) (Slot s) ≡ true
   named_there s q =
       let n = named_next a (know_after start run p).epoch s link.slot stands_in_bucket.names q stands_in_bucket.next in
-      ap (λ t. is_listed (state_in a t)) (sym n.2) ∙ stands_listed (stands_there agrees.sound agrees.fits n.0 (next_named s q).listed).1
+      ap (λ t. is_listed (state_in a t)) (sym n.2)
+      ∙ stands_listed (stands_there agrees.sound agrees.fits n.0 (next_named s q).listed).1
 
 -- ---- what is given up
 
--- an incarnation in hand that is given up was in no list: where what comes then leaves as many nodes behind a place, both do
-pub given_up_leaves : (start : Start) (a : Incarnations) (p s : ℕ) (what : Happening) (bucket : ℕ) (at : At) (holding : Option Holding) →
-    ((b : Incarnations) → Sound start b → Allowed start (opening_keys start) b p what → behind start (becomes start b p what) bucket at ≡ behind start b bucket at) →
-    Sound start a → IsLawful start (opening_keys start) a (after_giving_up a p s what holding) → behind start (incarnations_from start a (after_giving_up a p s what holding)) bucket at ≡ behind start a bucket at
+-- an incarnation in hand that is given up was in no list: where what comes then leaves as many nodes behind a
+-- place, both do
+pub given_up_leaves : (start : Start) (a : Incarnations) (p s : ℕ) (what : Happening) (bucket : ℕ) (at : At)
+    (holding : Option Holding) →
+    ((b : Incarnations) → Sound start b → Allowed start (opening_keys start) b p what →
+    behind start (becomes start b p what) bucket at ≡ behind start b bucket at) →
+    Sound start a → IsLawful start (opening_keys start) a (after_giving_up a p s what holding) →
+    behind start (incarnations_from start a (after_giving_up a p s what holding)) bucket at ≡ behind start a bucket at
 given_up_leaves start a p s what bucket at None same sound l = same a sound l.0
 given_up_leaves start a p s what bucket at (Some (Free stamp)) same sound l = same a sound l.0
 given_up_leaves start a p s what bucket at (Some (Unlinked reread)) same sound l = same a sound l.0
 given_up_leaves start a p s what bucket at (Some (InHand known)) same sound l =
-    same (becomes start a p (GivesUp (last_in a s))) (sound_kept start (opening_keys start) a p (GivesUp (last_in a s)) sound l.0) l.1.0
+    same (becomes start a p (GivesUp (last_in a s)))
+    (sound_kept start (opening_keys start) a p (GivesUp (last_in a s)) sound l.0) l.1.0
     ∙ gives_up_none start (opening_keys start) a p (last_in a s) bucket at l.0
 
 -- a birth leaves as many nodes in each list
-pub birth_leaves : (start : Start) (a : Incarnations) (p s birth bucket h : ℕ) (holding : Option Holding) → Sound start a → IsLawful start (opening_keys start) a (after_giving_up a p s (Bears s birth) holding) → behind start (incarnations_from start a (after_giving_up a p s (Bears s birth) holding)) bucket (Head h) ≡ behind start a bucket (Head h)
-birth_leaves start a p s birth bucket h holding sound l = given_up_leaves start a p s (Bears s birth) bucket (Head h) holding (λ b sound al. bears_none start (opening_keys start) b p s birth bucket h sound al) sound l
+pub birth_leaves : (start : Start) (a : Incarnations) (p s birth bucket h : ℕ) (holding : Option Holding) →
+    Sound start a → IsLawful start (opening_keys start) a (after_giving_up a p s (Bears s birth) holding) →
+    behind start (incarnations_from start a (after_giving_up a p s (Bears s birth) holding)) bucket (Head h)
+    ≡ behind start a bucket (Head h)
+birth_leaves start a p s birth bucket h holding sound l =
+    given_up_leaves start a p s (Bears s birth) bucket (Head h) holding
+    (λ b sound al. bears_none start (opening_keys start) b p s birth bucket h sound al) sound l
 
 -- a raise leaves as many nodes behind each place, and the links that are shown
-pub raised_none : (start : Start) (a : Incarnations) (p s bucket : ℕ) (at : At) (holding : Option Holding) → Sound start a → IsLawful start (opening_keys start) a (after_giving_up a p s (Raises s) holding) → behind start (incarnations_from start a (after_giving_up a p s (Raises s) holding)) bucket at ≡ behind start a bucket at
-raised_none start a p s bucket at holding sound l = given_up_leaves start a p s (Raises s) bucket at holding (λ b sound al. refl) sound l
+pub raised_none : (start : Start) (a : Incarnations) (p s bucket : ℕ) (at : At) (holding : Option Holding) →
+    Sound start a → IsLawful start (opening_keys start) a (after_giving_up a p s (Raises s) holding) →
+    behind start (incarnations_from start a (after_giving_up a p s (Raises s) holding)) bucket at
+    ≡ behind start a bucket at
+raised_none start a p s bucket at holding sound l =
+    given_up_leaves start a p s (Raises s) bucket at holding (λ b sound al. refl) sound l
 
-raised_links : (start : Start) (a : Incarnations) (p s : ℕ) (at : At) (holding : Option Holding) → IsLawful start (opening_keys start) a (after_giving_up a p s (Raises s) holding) → link_shown_at (incarnations_from start a (after_giving_up a p s (Raises s) holding)) at ≡ link_shown_at a at
+raised_links : (start : Start) (a : Incarnations) (p s : ℕ) (at : At) (holding : Option Holding) →
+    IsLawful start (opening_keys start) a (after_giving_up a p s (Raises s) holding) →
+    link_shown_at (incarnations_from start a (after_giving_up a p s (Raises s) holding)) at ≡ link_shown_at a at
 raised_links start a p s at None l = refl
 raised_links start a p s at (Some (Free stamp)) l = refl
 raised_links start a p s at (Some (Unlinked reread)) l = refl
 raised_links start a p s at (Some (InHand known)) l = gives_up_links start (opening_keys start) a p (last_in a s) at l.0
 
-raised_epoch : (start : Start) (a : Incarnations) (p s : ℕ) (holding : Option Holding) → (incarnations_from start a (after_giving_up a p s (Raises s) holding)).epoch ≡ a.epoch
+raised_epoch : (start : Start) (a : Incarnations) (p s : ℕ) (holding : Option Holding) →
+    (incarnations_from start a (after_giving_up a p s (Raises s) holding)).epoch ≡ a.epoch
 raised_epoch start a p s None = refl
 raised_epoch start a p s (Some (Free stamp)) = refl
 raised_epoch start a p s (Some (Unlinked reread)) = refl
@@ -136,98 +171,165 @@ raised_epoch start a p s (Some (InHand known)) = refl
 -- ---- one more step
 
 -- a step that only reads leaves the incarnations as they were
-pub read_leaves : (start : Start) (run : List Event) (p : ℕ) (step : Step) → happens start (world_after start run) (incarnations_after start run) p step ≡ [] → incarnations_after start (run ++ (record { pass = p; step = step }) ∷ []) ≡ incarnations_after start run
-read_leaves start run p step none = incarnations_after-snoc start run (record { pass = p; step = step }) ∙ ap (incarnations_from start (incarnations_after start run)) none
+pub read_leaves : (start : Start) (run : List Event) (p : ℕ) (step : Step) →
+    happens start (world_after start run) (incarnations_after start run) p step ≡ [] →
+    incarnations_after start (run ++ (record { pass = p; step = step }) ∷ []) ≡ incarnations_after start run
+read_leaves start run p step none = incarnations_after-snoc start run (record { pass = p; step = step })
+    ∙ ap (incarnations_from start (incarnations_after start run)) none
 
 -- what happens by an exchange that finds its word
 if_found : {A : Type 0} (n expected : ℕ) (x y : A) → n ≡ expected → (if n == expected then x else y) ≡ x
 if_found n expected x y e = let t : (n == expected) ≡ true = eq-eqb n expected e in rw t refl
 
 -- what follows the place is the successor there
-followed_by : (a : Incarnations) (at : At) (of names : Option ℕ) (c : ℕ) → IsFollowed a at of names → next_of a (before_at a at) ≡ Some c → IsFollowed a at of (Some c)
+followed_by : (a : Incarnations) (at : At) (of names : Option ℕ) (c : ℕ) → IsFollowed a at of names →
+    next_of a (before_at a at) ≡ Some c → IsFollowed a at of (Some c)
 followed_by a (Head b) of names c p q = (p.0, q)
 followed_by a (Slot t) of names c p q =
     let e : last_in a t ≡ p.0 = rw p.2 refl in
     (p.0, p.1, p.2, p.3, ap a.next (sym e) ∙ q)
 
-module _ (start : Start) (passes : ℕ) (run : List Event) (is : IsStart start) (ok : IsRun start passes run) (p : ℕ) where
+module _ (start : Start) (passes : ℕ) (run : List Event) (is : IsStart start) (ok : IsRun start passes run)
+    (p : ℕ) where
   abbrev b : Incarnations
   b = incarnations_after start run
 
-  lawful : (step : Step) → Accepts start (know_after start run p) step → IsLawful start (opening_keys start) (incarnations_after start run) (happens start (world_after start run) (incarnations_after start run) p step)
-  lawful step accepts = (step_agrees start (world_after start run) b (notes_after start run) p step (run_agrees start passes run is ok) accepts).0
+  lawful : (step : Step) → Accepts start (know_after start run p) step →
+      IsLawful start (opening_keys start) (incarnations_after start run)
+      (happens start (world_after start run) (incarnations_after start run) p step)
+  lawful step accepts =
+      (step_agrees start (world_after start run) b (notes_after start run) p step (run_agrees start passes run is ok)
+      accepts).0
 
   -- a stamp leaves as many nodes behind each place
-  pub stamp_leaves : (s stamp bucket : ℕ) (at : At) → Accepts start (know_after start run p) (StoreStamp s stamp) → behind start (incarnations_after start (run ++ (record { pass = p; step = StoreStamp s stamp }) ∷ [])) bucket at ≡ behind start (incarnations_after start run) bucket at
+  pub stamp_leaves : (s stamp bucket : ℕ) (at : At) → Accepts start (know_after start run p) (StoreStamp s stamp) →
+      behind start (incarnations_after start (run ++ (record { pass = p; step = StoreStamp s stamp }) ∷ [])) bucket at
+      ≡ behind start (incarnations_after start run) bucket at
   stamp_leaves s stamp bucket at accepts =
-      ap (λ a. behind start a bucket at) (incarnations_after-snoc start run (record { pass = p; step = StoreStamp s stamp }))
+      ap (λ a. behind start a bucket at)
+      (incarnations_after-snoc start run (record { pass = p; step = StoreStamp s stamp }))
       ∙ stamps_none start (opening_keys start) b p (last_in b s) stamp bucket at (lawful (StoreStamp s stamp) accepts).0
 
   -- and so does the return of a slot to the shared pool
-  pub raise_leaves : (s bucket : ℕ) (at : At) → Accepts start (know_after start run p) (Raise s) → behind start (incarnations_after start (run ++ (record { pass = p; step = Raise s }) ∷ [])) bucket at ≡ behind start (incarnations_after start run) bucket at
+  pub raise_leaves : (s bucket : ℕ) (at : At) → Accepts start (know_after start run p) (Raise s) →
+      behind start (incarnations_after start (run ++ (record { pass = p; step = Raise s }) ∷ [])) bucket at
+      ≡ behind start (incarnations_after start run) bucket at
   raise_leaves s bucket at accepts =
       ap (λ a. behind start a bucket at) (incarnations_after-snoc start run (record { pass = p; step = Raise s }))
-      ∙ raised_none start b p s bucket at ((know_after start run p).own s) (run_agrees start passes run is ok).sound (lawful (Raise s) accepts)
+      ∙ raised_none start b p s bucket at ((know_after start run p).own s) (run_agrees start passes run is ok).sound
+      (lawful (Raise s) accepts)
 
   -- a won unlinking leaves one node fewer behind each place that the node lies behind
-  unlink_takes : (bucket : ℕ) (pred from : At) (expected s : ℕ) → Accepts start (know_after start run p) (Unlink pred expected s) → found start (world_after start run) (Unlink pred expected s) ≡ expected →
-      Knows (know_after start run p) (LinkAt pred (link_of expected)) → (link_of expected).mark ≡ false → link_shown_at (incarnations_after start run) pred ≡ link_of expected → HeldIn (know_after start run p) pred bucket →
-      ((of : Option ℕ) → IsFollowed (incarnations_after start run) pred of (Some (last_in (incarnations_after start run) s)) → IsPlaceOf start (incarnations_after start run) pred bucket → is_above (incarnations_after start run) from ((incarnations_after start run).key (last_in (incarnations_after start run) s)) ((incarnations_after start run).rank (last_in (incarnations_after start run) s)) ≡ true) →
-      behind start (incarnations_after start run) bucket from ≡ suc (behind start (incarnations_after start (run ++ (record { pass = p; step = Unlink pred expected s }) ∷ [])) bucket from)
+  unlink_takes : (bucket : ℕ) (pred from : At) (expected s : ℕ) →
+      Accepts start (know_after start run p) (Unlink pred expected s) →
+      found start (world_after start run) (Unlink pred expected s) ≡ expected →
+      Knows (know_after start run p) (LinkAt pred (link_of expected)) → (link_of expected).mark ≡ false →
+      link_shown_at (incarnations_after start run) pred ≡ link_of expected →
+      HeldIn (know_after start run p) pred bucket →
+      ((of : Option ℕ) →
+      IsFollowed (incarnations_after start run) pred of (Some (last_in (incarnations_after start run) s)) →
+      IsPlaceOf start (incarnations_after start run) pred bucket →
+      is_above (incarnations_after start run) from
+      ((incarnations_after start run).key (last_in (incarnations_after start run) s))
+      ((incarnations_after start run).rank (last_in (incarnations_after start run) s)) ≡ true) →
+      behind start (incarnations_after start run) bucket from
+      ≡ suc (behind start (incarnations_after start (run ++ (record { pass = p; step = Unlink pred expected s }) ∷ []))
+      bucket from)
   unlink_takes bucket pred from expected s accepts won known unmarked shown inside above =
       let step = Unlink pred expected s in
       let w = world_after start run in
       let g = run_agrees start passes run is ok in
-      let x = stands_in_bucket start passes run is ok p bucket pred (link_of expected) known (inl unmarked) shown inside in
-      let adds : happens start w b p step ≡ just p (Unlinks (last_in b s) (before_at b pred)) = if_found (found start w step) expected (just p (Unlinks (last_in b s) (before_at b pred))) [] won in
+      let x = stands_in_bucket start passes run is ok p bucket pred (link_of expected) known (inl unmarked) shown
+      inside in
+      let adds : happens start w b p step ≡ just p (Unlinks (last_in b s) (before_at b pred)) =
+      if_found (found start w step) expected (just p (Unlinks (last_in b s) (before_at b pred))) [] won in
       let allowed = (rw adds at (lawful step accepts)).0 in
       let followed = followed_by b pred x.of x.names (last_in b s) x.followed allowed.2 in
       unlinks_one g.sound g.fits p bucket (last_in b s) pred from x.of followed x.place (above x.of followed x.place)
-      ∙ ap (λ a. suc (behind start a bucket from)) (sym (incarnations_after-snoc start run (record { pass = p; step = step }) ∙ ap (incarnations_from start b) adds))
+      ∙ ap (λ a. suc (behind start a bucket from))
+      (sym (incarnations_after-snoc start run (record { pass = p; step = step }) ∙ ap (incarnations_from start b) adds))
 
   -- a law: so it does behind the place
-  pub unlink_takes_one : (bucket : ℕ) (pred : At) (expected s : ℕ) → Accepts start (know_after start run p) (Unlink pred expected s) → found start (world_after start run) (Unlink pred expected s) ≡ expected →
-      Knows (know_after start run p) (LinkAt pred (link_of expected)) → (link_of expected).mark ≡ false → link_shown_at (incarnations_after start run) pred ≡ link_of expected → HeldIn (know_after start run p) pred bucket →
-      behind start (incarnations_after start run) bucket pred ≡ suc (behind start (incarnations_after start (run ++ (record { pass = p; step = Unlink pred expected s }) ∷ [])) bucket pred)
+  pub unlink_takes_one : (bucket : ℕ) (pred : At) (expected s : ℕ) →
+      Accepts start (know_after start run p) (Unlink pred expected s) →
+      found start (world_after start run) (Unlink pred expected s) ≡ expected →
+      Knows (know_after start run p) (LinkAt pred (link_of expected)) → (link_of expected).mark ≡ false →
+      link_shown_at (incarnations_after start run) pred ≡ link_of expected →
+      HeldIn (know_after start run p) pred bucket →
+      behind start (incarnations_after start run) bucket pred
+      ≡ suc (behind start (incarnations_after start (run ++ (record { pass = p; step = Unlink pred expected s }) ∷ []))
+      bucket pred)
   unlink_takes_one bucket pred expected s accepts won known unmarked shown inside =
-      unlink_takes bucket pred pred expected s accepts won known unmarked shown inside (λ of followed place. (next_of_followed (run_agrees start passes run is ok).sound bucket pred of (last_in b s) followed place).above)
+      unlink_takes bucket pred pred expected s accepts won known unmarked shown inside
+      (λ of followed place.
+      (next_of_followed (run_agrees start passes run is ok).sound bucket pred of (last_in b s) followed place).above)
 
   -- a law: and in the list
-  pub unlink_takes_listed : (bucket : ℕ) (pred : At) (expected s : ℕ) → Accepts start (know_after start run p) (Unlink pred expected s) → found start (world_after start run) (Unlink pred expected s) ≡ expected →
-      Knows (know_after start run p) (LinkAt pred (link_of expected)) → (link_of expected).mark ≡ false → link_shown_at (incarnations_after start run) pred ≡ link_of expected → HeldIn (know_after start run p) pred bucket → (h : ℕ) →
-      behind start (incarnations_after start run) bucket (Head h) ≡ suc (behind start (incarnations_after start (run ++ (record { pass = p; step = Unlink pred expected s }) ∷ [])) bucket (Head h))
-  unlink_takes_listed bucket pred expected s accepts won known unmarked shown inside h = unlink_takes bucket pred (Head h) expected s accepts won known unmarked shown inside (λ of followed place. refl)
+  pub unlink_takes_listed : (bucket : ℕ) (pred : At) (expected s : ℕ) →
+      Accepts start (know_after start run p) (Unlink pred expected s) →
+      found start (world_after start run) (Unlink pred expected s) ≡ expected →
+      Knows (know_after start run p) (LinkAt pred (link_of expected)) → (link_of expected).mark ≡ false →
+      link_shown_at (incarnations_after start run) pred ≡ link_of expected →
+      HeldIn (know_after start run p) pred bucket → (h : ℕ) →
+      behind start (incarnations_after start run) bucket (Head h)
+      ≡ suc (behind start (incarnations_after start (run ++ (record { pass = p; step = Unlink pred expected s }) ∷ []))
+      bucket (Head h))
+  unlink_takes_listed bucket pred expected s accepts won known unmarked shown inside h =
+      unlink_takes bucket pred (Head h) expected s accepts won known unmarked shown inside (λ of followed place. refl)
 
   -- what a won unlinking makes of the incarnations
-  pub unlink_makes : (pred : At) (expected s : ℕ) → found start (world_after start run) (Unlink pred expected s) ≡ expected →
-      incarnations_after start (run ++ (record { pass = p; step = Unlink pred expected s }) ∷ []) ≡ becomes start (incarnations_after start run) p (Unlinks (last_in (incarnations_after start run) s) (before_at (incarnations_after start run) pred))
+  pub unlink_makes : (pred : At) (expected s : ℕ) →
+      found start (world_after start run) (Unlink pred expected s) ≡ expected →
+      incarnations_after start (run ++ (record { pass = p; step = Unlink pred expected s }) ∷ [])
+      ≡ becomes start (incarnations_after start run) p
+      (Unlinks (last_in (incarnations_after start run) s) (before_at (incarnations_after start run) pred))
   unlink_makes pred expected s won =
       let step = Unlink pred expected s in
       incarnations_after-snoc start run (record { pass = p; step = step })
-      ∙ ap (incarnations_from start b) (if_found (found start (world_after start run) step) expected (just p (Unlinks (last_in b s) (before_at b pred))) [] won)
+      ∙ ap (incarnations_from start b)
+      (if_found (found start (world_after start run) step) expected (just p (Unlinks (last_in b s) (before_at b pred)))
+      [] won)
 
   -- a law: a node that is marked is taken out
-  pub mark_out : (s expected : ℕ) → Accepts start (know_after start run p) (Mark s expected) → found start (world_after start run) (Mark s expected) ≡ expected → IsTakenOut (incarnations_after start (run ++ (record { pass = p; step = Mark s expected }) ∷ [])) (know_after start run p).epoch s
+  pub mark_out : (s expected : ℕ) → Accepts start (know_after start run p) (Mark s expected) →
+      found start (world_after start run) (Mark s expected) ≡ expected →
+      IsTakenOut (incarnations_after start (run ++ (record { pass = p; step = Mark s expected }) ∷ []))
+      (know_after start run p).epoch s
   mark_out s expected accepts won =
       let step = Mark s expected in
       let P : Incarnations → Type 0 = λ i. IsTakenOut i (know_after start run p).epoch s in
-      subst P (sym (incarnations_after-snoc start run (record { pass = p; step = step }) ∙ ap (incarnations_from start b) (if_found (found start (world_after start run) step) expected (just p (Removes (last_in b s))) [] won)))
+      subst P (sym
+      (incarnations_after-snoc start run (record { pass = p; step = step })
+      ∙ ap (incarnations_from start b)
+      (if_found (found start (world_after start run) step) expected (just p (Removes (last_in b s))) [] won)))
       (marked_out p s expected (run_agrees start passes run is ok) accepts won)
 
   -- a stamp and the return of a slot leave the epoch
-  pub stamp_epoch : (s stamp : ℕ) → (incarnations_after start (run ++ (record { pass = p; step = StoreStamp s stamp }) ∷ [])).epoch ≡ (incarnations_after start run).epoch
-  stamp_epoch s stamp = ap (λ (a : Incarnations). a.epoch) (incarnations_after-snoc start run (record { pass = p; step = StoreStamp s stamp }))
+  pub stamp_epoch : (s stamp : ℕ) →
+      (incarnations_after start (run ++ (record { pass = p; step = StoreStamp s stamp }) ∷ [])).epoch
+      ≡ (incarnations_after start run).epoch
+  stamp_epoch s stamp =
+      ap (λ (a : Incarnations). a.epoch)
+      (incarnations_after-snoc start run (record { pass = p; step = StoreStamp s stamp }))
 
-  pub raise_epoch : (s : ℕ) → (incarnations_after start (run ++ (record { pass = p; step = Raise s }) ∷ [])).epoch ≡ (incarnations_after start run).epoch
-  raise_epoch s = ap (λ (a : Incarnations). a.epoch) (incarnations_after-snoc start run (record { pass = p; step = Raise s })) ∙ raised_epoch start b p s ((know_after start run p).own s)
+  pub raise_epoch : (s : ℕ) →
+      (incarnations_after start (run ++ (record { pass = p; step = Raise s }) ∷ [])).epoch
+      ≡ (incarnations_after start run).epoch
+  raise_epoch s =
+      ap (λ (a : Incarnations). a.epoch) (incarnations_after-snoc start run (record { pass = p; step = Raise s }))
+      ∙ raised_epoch start b p s ((know_after start run p).own s)
 
   -- and the links that are shown
-  pub stamp_links : (s stamp : ℕ) (at : At) → Accepts start (know_after start run p) (StoreStamp s stamp) → link_shown_at (incarnations_after start (run ++ (record { pass = p; step = StoreStamp s stamp }) ∷ [])) at ≡ link_shown_at (incarnations_after start run) at
+  pub stamp_links : (s stamp : ℕ) (at : At) → Accepts start (know_after start run p) (StoreStamp s stamp) →
+      link_shown_at (incarnations_after start (run ++ (record { pass = p; step = StoreStamp s stamp }) ∷ [])) at
+      ≡ link_shown_at (incarnations_after start run) at
   stamp_links s stamp at accepts =
       ap (λ a. link_shown_at a at) (incarnations_after-snoc start run (record { pass = p; step = StoreStamp s stamp }))
       ∙ stamps_links start (opening_keys start) b p (last_in b s) stamp at (lawful (StoreStamp s stamp) accepts).0
 
-  pub raise_links : (s : ℕ) (at : At) → Accepts start (know_after start run p) (Raise s) → link_shown_at (incarnations_after start (run ++ (record { pass = p; step = Raise s }) ∷ [])) at ≡ link_shown_at (incarnations_after start run) at
+  pub raise_links : (s : ℕ) (at : At) → Accepts start (know_after start run p) (Raise s) →
+      link_shown_at (incarnations_after start (run ++ (record { pass = p; step = Raise s }) ∷ [])) at
+      ≡ link_shown_at (incarnations_after start run) at
   raise_links s at accepts =
       ap (λ a. link_shown_at a at) (incarnations_after-snoc start run (record { pass = p; step = Raise s }))
       ∙ raised_links start b p s at ((know_after start run p).own s) (lawful (Raise s) accepts)

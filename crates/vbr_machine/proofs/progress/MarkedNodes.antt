@@ -48,7 +48,8 @@ module _ {start : Start} {a : Incarnations} (sound : Sound start a) (fits : Fits
   last c e = let there = stands_there sound fits c (marked_listed (a.state c) e) in (there.0, there.1.last)
 
   no_more : marked_births a ≤ count_below slots start.shape.slots
-  no_more = count_taken births slots a.slot a.count start.shape.slots (λ c l e. ((last c e).0, ap (λ o. is_marked (state_shown a o)) (last c e).1 ∙ e)) one
+  no_more = count_taken births slots a.slot a.count start.shape.slots
+      (λ c l e. ((last c e).0, ap (λ o. is_marked (state_shown a o)) (last c e).1 ∙ e)) one
     where
       one : (c d : ℕ) → c < a.count → d < a.count → births c ≡ true → births d ≡ true → a.slot c ≡ a.slot d → c ≡ d
       one c d l k e f q = let z : Some c ≡ Some d = sym (last c e).1 ∙ ap a.last q ∙ (last d f).1 in cc
@@ -56,22 +57,26 @@ module _ {start : Start} {a : Incarnations} (sound : Sound start a) (fits : Fits
   no_fewer : count_below slots start.shape.slots ≤ marked_births a
   no_fewer = count_taken slots births (λ s. born_last (a.last s)) start.shape.slots a.count into one
     where
-      into : (s : ℕ) → s < start.shape.slots → slots s ≡ true → (born_last (a.last s) < a.count) × (births (born_last (a.last s)) ≡ true)
+      into : (s : ℕ) → s < start.shape.slots → slots s ≡ true →
+          (born_last (a.last s) < a.count) × (births (born_last (a.last s)) ≡ true)
       into s l e =
           let node = marked_in a s e in
           let P : Option ℕ → Type 0 = λ o. (born_last o < a.count) × (births (born_last o) ≡ true) in
           subst P (sym node.1.last) ((sound.slots.last_born s node.0 node.1.last).0, node.1.marked)
 
-      one : (s t : ℕ) → s < start.shape.slots → t < start.shape.slots → slots s ≡ true → slots t ≡ true → born_last (a.last s) ≡ born_last (a.last t) → s ≡ t
+      one : (s t : ℕ) → s < start.shape.slots → t < start.shape.slots → slots s ≡ true → slots t ≡ true →
+          born_last (a.last s) ≡ born_last (a.last t) → s ≡ t
       one s t l k e f q =
           let here = marked_in a s e in
           let there = marked_in a t f in
           let same : here.0 ≡ there.0 = sym (ap born_last here.1.last) ∙ q ∙ ap born_last there.1.last in
-          sym (sound.slots.last_born s here.0 here.1.last).1 ∙ ap a.slot same ∙ (sound.slots.last_born t there.0 there.1.last).1
+          sym (sound.slots.last_born s here.0 here.1.last).1 ∙ ap a.slot same
+          ∙ (sound.slots.last_born t there.0 there.1.last).1
 
   as_many : marked_births a ≡ count_below slots start.shape.slots
   as_many = let x = no_more in let y = no_fewer in omega (arith, x, y)
 
 -- a law: after a run they are as many
-pub marked_once : (start : Start) (passes : ℕ) (run : List Event) → IsStart start → IsRun start passes run → marked_births (incarnations_after start run) ≡ marked_after start run
+pub marked_once : (start : Start) (passes : ℕ) (run : List Event) → IsStart start → IsRun start passes run →
+    marked_births (incarnations_after start run) ≡ marked_after start run
 marked_once start passes run is ok = let good = run_agrees start passes run is ok in as_many good.sound good.fits

@@ -1,5 +1,6 @@
 -- What a search finds is among the reads, and where a read is among them, a search finds one.
-use Rattle.std.proofs.Common.{◌≡◌, ℕ, Bool, true, false, List, [], ◌∷◌, Option, Some, None, refl, arith, sym, subst, ap, ◌∙◌, inl, inr, ⊎_elim}
+use Rattle.std.proofs.Common.{◌≡◌, ℕ, Bool, true, false, List, [], ◌∷◌, Option, Some, None, refl, arith, sym, subst, ap}
+use Rattle.std.proofs.Common.{◌∙◌, inl, inr, ⊎_elim}
 use Rattle.std.specs.Prelude.{◌⊎◌, ◌==◌, ◌&&◌, if◌then◌else◌, IsSome}
 use Rattle.std.specs.List.{Contains}
 use Rattle.std.proofs.lemmas.Bool.Decides.{nat_tests}
@@ -62,7 +63,8 @@ same_mark_refl true = refl
 same_mark_refl false = refl
 
 same_link_refl : (link : Link) → same_link link link ≡ true
-same_link_refl link = rw (same_slot_refl link.slot, same_mark_refl link.mark, eq-eqb link.version link.version refl) refl
+same_link_refl link =
+    rw (same_slot_refl link.slot, same_mark_refl link.mark, eq-eqb link.version link.version refl) refl
 
 same_at_refl : (at : At) → same_at at at ≡ true
 same_at_refl (Head b) = eq-eqb b b refl
@@ -70,10 +72,14 @@ same_at_refl (Slot s) = eq-eqb s s refl
 
 -- ---- what is found is among the reads
 
-pub link_among : (reads : List Read) (at : At) (link : Link) → knows_link reads at link ≡ true → Contains reads (LinkAt at link)
+pub link_among : (reads : List Read) (at : At) (link : Link) → knows_link reads at link ≡ true →
+    Contains reads (LinkAt at link)
 link_among [] at link q = absurd (cc)
 link_among (LinkAt at2 seen ∷ reads) at link q = elim (cases_Bool (same_at at2 at && same_link seen link)) [
-  | inl k ↦ let u = and_parts (same_at at2 at) (same_link seen link) k in let e = same_at_true at2 at u.0 in let f = same_link_true seen link u.1 in here (LinkAt at2 seen) (LinkAt at link) reads (λ i. LinkAt (e i) (f i))
+  | inl k ↦ let u = and_parts (same_at at2 at) (same_link seen link) k in
+      let e = same_at_true at2 at u.0 in
+      let f = same_link_true seen link u.1 in
+      here (LinkAt at2 seen) (LinkAt at link) reads (λ i. LinkAt (e i) (f i))
   | inr k ↦ there (LinkAt at2 seen) (LinkAt at link) reads (link_among reads at link (rw k at q))
 ]
 link_among (read ∷ reads) at link q = there read (LinkAt at link) reads (link_among reads at link q)
@@ -97,43 +103,57 @@ word_in Key = key_in
 word_in Value = value_in
 
 -- a search finds the first read of its slot, or what it finds behind
-word_here : (of : ℕ → ℕ → Read) (reads : List Read) (v d s b : ℕ) (rest : Option ℕ) → (if v == s then Some d else rest) ≡ Some b → (rest ≡ Some b → Contains reads (of s b)) → Contains (of v d ∷ reads) (of s b)
+word_here : (of : ℕ → ℕ → Read) (reads : List Read) (v d s b : ℕ) (rest : Option ℕ) →
+    (if v == s then Some d else rest) ≡ Some b → (rest ≡ Some b → Contains reads (of s b)) →
+    Contains (of v d ∷ reads) (of s b)
 word_here of reads v d s b rest q later = elim (cases_eq v s) [
-  | inl k ↦ let r : Some d ≡ Some b = rw (eq-eqb v s k) at q in let e : d ≡ b = cc in here (of v d) (of s b) reads (λ i. of (k i) (e i))
+  | inl k ↦ let r : Some d ≡ Some b = rw (eq-eqb v s k) at q in
+      let e : d ≡ b = cc in
+      here (of v d) (of s b) reads (λ i. of (k i) (e i))
   | inr k ↦ there (of v d) (of s b) reads (later (rw (ne_eqb v s k) at q))
 ]
 
-pub word_among : (word : NodeWord) (reads : List Read) (s b : ℕ) → word_in word reads s ≡ Some b → Contains reads (read_of word s b)
-word_among Birth (BirthOf v d ∷ reads) s b q = word_here BirthOf reads v d s b (birth_in reads s) q (word_among Birth reads s b)
+pub word_among : (word : NodeWord) (reads : List Read) (s b : ℕ) → word_in word reads s ≡ Some b →
+    Contains reads (read_of word s b)
+word_among Birth (BirthOf v d ∷ reads) s b q =
+    word_here BirthOf reads v d s b (birth_in reads s) q (word_among Birth reads s b)
 word_among Key (KeyOf v d ∷ reads) s b q = word_here KeyOf reads v d s b (key_in reads s) q (word_among Key reads s b)
-word_among Value (ValueOf v d ∷ reads) s b q = word_here ValueOf reads v d s b (value_in reads s) q (word_among Value reads s b)
+word_among Value (ValueOf v d ∷ reads) s b q =
+    word_here ValueOf reads v d s b (value_in reads s) q (word_among Value reads s b)
 word_among word (read ∷ reads) s b q = there read (read_of word s b) reads (word_among word reads s b q)
 word_among Birth [] s b q = absurd (cc)
 word_among Key [] s b q = absurd (cc)
 word_among Value [] s b q = absurd (cc)
 
-pub marked_among : (reads : List Read) (s : ℕ) (link : Link) → marked_in reads s ≡ Some link → Contains reads (LinkAt (Slot s) link) × (link.mark ≡ true)
+pub marked_among : (reads : List Read) (s : ℕ) (link : Link) → marked_in reads s ≡ Some link →
+    Contains reads (LinkAt (Slot s) link) × (link.mark ≡ true)
 marked_among [] s link q = absurd (cc)
 marked_among (LinkAt at seen ∷ reads) s link q = elim (cases_Bool (same_at at (Slot s) && seen.mark)) [
   | inl k ↦
       let u = and_parts (same_at at (Slot s)) seen.mark k in
       let r : Some seen ≡ Some link = rw k at q in
       let e : at ≡ Slot s = same_at_true at (Slot s) u.0 in
-      let f : seen ≡ link = cc in
-      (here (LinkAt at seen) (LinkAt (Slot s) link) reads (λ i. LinkAt (e i) (f i)), sym (ap (λ (l : Link). l.mark) f) ∙ u.1)
-  | inr k ↦ let x = marked_among reads s link (rw k at q) in (there (LinkAt at seen) (LinkAt (Slot s) link) reads x.0, x.1)
+      let f : seen ≡ link = cc in (
+        here (LinkAt at seen) (LinkAt (Slot s) link) reads (λ i. LinkAt (e i) (f i)),
+        sym (ap (λ (l : Link). l.mark) f) ∙ u.1,
+      )
+  | inr k ↦ let x = marked_among reads s link (rw k at q) in
+      (there (LinkAt at seen) (LinkAt (Slot s) link) reads x.0, x.1)
 ]
-marked_among (read ∷ reads) s link q = let x = marked_among reads s link q in (there read (LinkAt (Slot s) link) reads x.0, x.1)
+marked_among (read ∷ reads) s link q =
+    let x = marked_among reads s link q in (there read (LinkAt (Slot s) link) reads x.0, x.1)
 
 named : (v : Option ℕ) (s : ℕ) → names v s ≡ true → v ≡ Some s
 named None s q = absurd (cc)
 named (Some t) s q = ap Some (eqb-true t s q)
 
-pub holds_among : (reads : List Read) (s : ℕ) → holds reads s ≡ true → (at : At) × (link : Link) × Contains reads (LinkAt at link) × (link.slot ≡ Some s)
+pub holds_among : (reads : List Read) (s : ℕ) → holds reads s ≡ true →
+    (at : At) × (link : Link) × Contains reads (LinkAt at link) × (link.slot ≡ Some s)
 holds_among [] s q = absurd (cc)
 holds_among (LinkAt at link ∷ reads) s q = elim (cases_Bool (names link.slot s)) [
   | inl k ↦ (at, link, here (LinkAt at link) (LinkAt at link) reads refl, named link.slot s k)
-  | inr k ↦ let x = holds_among reads s (rw k at q) in (x.0, x.1, there (LinkAt at link) (LinkAt x.0 x.1) reads x.2, x.3)
+  | inr k ↦ let x = holds_among reads s (rw k at q) in
+      (x.0, x.1, there (LinkAt at link) (LinkAt x.0 x.1) reads x.2, x.3)
 ]
 holds_among (read ∷ reads) s q = let x = holds_among reads s q in (x.0, x.1, there read (LinkAt x.0 x.1) reads x.2, x.3)
 
@@ -152,42 +172,58 @@ some_now : {X : Type 0} (test : Bool) (x : X) (o : Option X) → test ≡ true �
 some_now test x o q = rw q refl
 
 -- what holds at a read, and goes on as one more read is passed, holds wherever the read is among them
-found_past : (P : List Read → Type 0) (read : Read) → ((reads : List Read) → P (read ∷ reads)) → ((other : Read) (reads : List Read) → P reads → P (other ∷ reads)) → (reads : List Read) → Contains reads read → P reads
+found_past : (P : List Read → Type 0) (read : Read) → ((reads : List Read) → P (read ∷ reads)) →
+    ((other : Read) (reads : List Read) → P reads → P (other ∷ reads)) → (reads : List Read) → Contains reads read →
+    P reads
 found_past P read now later [] m = absurd (none_in read m)
 found_past P read now later (other ∷ reads) m =
     let Q : Read → Type 0 = λ r. P (r ∷ reads) in
-    ⊎_elim (λ q. subst Q (sym q) (now reads)) (λ n. later other reads (found_past P read now later reads n)) (first_or_later other read reads m)
+    ⊎_elim (λ q. subst Q (sym q) (now reads)) (λ n. later other reads (found_past P read now later reads n))
+    (first_or_later other read reads m)
 
-pub link_there : (reads : List Read) (at : At) (link : Link) → Contains reads (LinkAt at link) → knows_link reads at link ≡ true
-link_there reads at link m = found_past (λ l. knows_link l at link ≡ true) (LinkAt at link) (λ l. rw (same_at_refl at, same_link_refl link) refl) later reads m
+pub link_there : (reads : List Read) (at : At) (link : Link) → Contains reads (LinkAt at link) →
+    knows_link reads at link ≡ true
+link_there reads at link m =
+    found_past (λ l. knows_link l at link ≡ true) (LinkAt at link) (λ l. rw (same_at_refl at, same_link_refl link) refl)
+    later reads m
   where
     later : (other : Read) (l : List Read) → knows_link l at link ≡ true → knows_link (other ∷ l) at link ≡ true
     later (LinkAt at2 seen) l h = found_more (same_at at2 at && same_link seen link) (knows_link l at link) h
     later _ l h = h
 
-pub word_there : (word : NodeWord) (reads : List Read) (s b : ℕ) → Contains reads (read_of word s b) → IsSome (word_in word reads s)
-word_there word reads s b m = found_past (λ l. IsSome (word_in word l s)) (read_of word s b) (now word) (later word) reads m
+pub word_there : (word : NodeWord) (reads : List Read) (s b : ℕ) → Contains reads (read_of word s b) →
+    IsSome (word_in word reads s)
+word_there word reads s b m =
+    found_past (λ l. IsSome (word_in word l s)) (read_of word s b) (now word) (later word) reads m
   where
     now : (word : NodeWord) (l : List Read) → IsSome (word_in word (read_of word s b ∷ l) s)
     now Birth l = some_now (s == s) b (birth_in l s) (eq-eqb s s refl)
     now Key l = some_now (s == s) b (key_in l s) (eq-eqb s s refl)
     now Value l = some_now (s == s) b (value_in l s) (eq-eqb s s refl)
 
-    later : (word : NodeWord) (other : Read) (l : List Read) → IsSome (word_in word l s) → IsSome (word_in word (other ∷ l) s)
+    later : (word : NodeWord) (other : Read) (l : List Read) → IsSome (word_in word l s) →
+        IsSome (word_in word (other ∷ l) s)
     later Birth (BirthOf v d) l h = some_more (v == s) d (birth_in l s) h
     later Key (KeyOf v d) l h = some_more (v == s) d (key_in l s) h
     later Value (ValueOf v d) l h = some_more (v == s) d (value_in l s) h
     later _ _ l h = h
 
-pub marked_there : (reads : List Read) (s : ℕ) (link : Link) → Contains reads (LinkAt (Slot s) link) → link.mark ≡ true → IsSome (marked_in reads s)
-marked_there reads s link m t = found_past (λ l. IsSome (marked_in l s)) (LinkAt (Slot s) link) (λ l. some_now (same_at (Slot s) (Slot s) && link.mark) link (marked_in l s) (rw (same_at_refl (Slot s), t) refl)) later reads m
+pub marked_there : (reads : List Read) (s : ℕ) (link : Link) → Contains reads (LinkAt (Slot s) link) →
+    link.mark ≡ true → IsSome (marked_in reads s)
+marked_there reads s link m t =
+    found_past (λ l. IsSome (marked_in l s)) (LinkAt (Slot s) link)
+    (λ l. some_now (same_at (Slot s) (Slot s) && link.mark) link (marked_in l s) (rw (same_at_refl (Slot s), t) refl))
+    later reads m
   where
     later : (other : Read) (l : List Read) → IsSome (marked_in l s) → IsSome (marked_in (other ∷ l) s)
     later (LinkAt at seen) l h = some_more (same_at at (Slot s) && seen.mark) seen (marked_in l s) h
     later _ l h = h
 
-pub holds_there : (reads : List Read) (s : ℕ) (at : At) (link : Link) → Contains reads (LinkAt at link) → link.slot ≡ Some s → holds reads s ≡ true
-holds_there reads s at link m t = found_past (λ l. holds l s ≡ true) (LinkAt at link) (λ l. rw (ap (λ v. names v s) t ∙ eq-eqb s s refl) refl) later reads m
+pub holds_there : (reads : List Read) (s : ℕ) (at : At) (link : Link) → Contains reads (LinkAt at link) →
+    link.slot ≡ Some s → holds reads s ≡ true
+holds_there reads s at link m t =
+    found_past (λ l. holds l s ≡ true) (LinkAt at link) (λ l. rw (ap (λ v. names v s) t ∙ eq-eqb s s refl) refl) later
+    reads m
   where
     later : (other : Read) (l : List Read) → holds l s ≡ true → holds (other ∷ l) s ≡ true
     later (LinkAt at2 seen) l h = found_more (names seen.slot s) (holds l s) h

@@ -14,7 +14,8 @@ use Rattle.vbr_machine.specs.Knowledge.{Know, same_at, knows_link, names, holds,
 use Rattle.vbr_machine.specs.Acceptance.{Accepts}
 use Rattle.vbr_machine.specs.Learning.{read_epoch, with_pending, with_checked, reads_won, learn, value_in_hand}
 use Rattle.vbr_machine.specs.declared.event.Step.{Step}
-use Rattle.vbr_machine.specs.declared.event.Step.TheVariants.{ReadEpoch, TakeFlag, LoadLink, LoadBirth, LoadKey, Publish, Mark, Replace, Unlink, LoadValue}
+use Rattle.vbr_machine.specs.declared.event.Step.TheVariants.{ReadEpoch, TakeFlag, LoadLink, LoadBirth, LoadKey}
+use Rattle.vbr_machine.specs.declared.event.Step.TheVariants.{Publish, Mark, Replace, Unlink, LoadValue}
 use Rattle.vbr_machine.specs.declared.knowledge.Read.{Read}
 use Rattle.vbr_machine.specs.declared.knowledge.Read.TheVariants.{LinkAt, BirthOf, KeyOf, ValueOf}
 use Rattle.vbr_machine.proofs.reads.FoundReads.{same_at_true}
@@ -64,37 +65,49 @@ of_held_more xs ys (BirthOf s birth) h = held_more xs ys s h
 of_held_more xs ys (KeyOf s key) h = held_more xs ys s h
 of_held_more xs ys (ValueOf s key) h = held_more xs ys s h
 
-all_more : (xs ys reads : List Read) → AllByRecursion (IsOfHeldPlace xs) reads → AllByRecursion (IsOfHeldPlace (xs ++ ys)) reads
+all_more : (xs ys reads : List Read) → AllByRecursion (IsOfHeldPlace xs) reads →
+    AllByRecursion (IsOfHeldPlace (xs ++ ys)) reads
 all_more xs ys [] h = tt
 all_more xs ys (read ∷ reads) h = (of_held_more xs ys read h.0, all_more xs ys reads h.1)
 
-all_append : (P : Read → Type 0) (xs ys : List Read) → AllByRecursion P xs → AllByRecursion P ys → AllByRecursion P (xs ++ ys)
+all_append : (P : Read → Type 0) (xs ys : List Read) → AllByRecursion P xs → AllByRecursion P ys →
+    AllByRecursion P (xs ++ ys)
 all_append P [] ys g h = h
 all_append P (x ∷ xs) ys g h = (g.0, all_append P xs ys g.1 h)
 
 -- more reads are checked, each of a place that is then held
-checked_more : (know : Know) (reads : List Read) → ReadsHeldPlaces know → AllByRecursion (IsOfHeldPlace (know.checked ++ reads)) reads → ReadsHeldPlaces (with_checked know reads)
+checked_more : (know : Know) (reads : List Read) → ReadsHeldPlaces know →
+    AllByRecursion (IsOfHeldPlace (know.checked ++ reads)) reads → ReadsHeldPlaces (with_checked know reads)
 checked_more know reads r h = record {
-  checked = all_append (IsOfHeldPlace (know.checked ++ reads)) know.checked reads (all_more know.checked reads know.checked r.checked) h;
+  checked = all_append (IsOfHeldPlace (know.checked ++ reads)) know.checked reads
+      (all_more know.checked reads know.checked r.checked) h;
   pending = all_more know.checked reads know.pending r.pending;
 }
 
 -- one more read is pending
-pending_more : (know : Know) (read : Read) → ReadsHeldPlaces know → IsOfHeldPlace know.checked read → ReadsHeldPlaces (with_pending know read)
-pending_more know read r h = record { checked = r.checked; pending = all_append (IsOfHeldPlace know.checked) know.pending (read ∷ []) r.pending (h, tt) }
+pending_more : (know : Know) (read : Read) → ReadsHeldPlaces know → IsOfHeldPlace know.checked read →
+    ReadsHeldPlaces (with_pending know read)
+pending_more know read r h =
+    record {
+      checked = r.checked;
+      pending = all_append (IsOfHeldPlace know.checked) know.pending (read ∷ []) r.pending (h, tt);
+    }
 
 -- the epoch is read
 epoch_read : (know : Know) (epoch : ℕ) → ReadsHeldPlaces know → ReadsHeldPlaces (read_epoch know epoch)
 epoch_read know epoch r = elim (cases_Bool (epoch == know.epoch)) [
   | inl k ↦ rw k (record {
-    checked = all_append (IsOfHeldPlace (know.checked ++ know.pending)) know.checked know.pending (all_more know.checked know.pending know.checked r.checked) (all_more know.checked know.pending know.pending r.pending);
+    checked = all_append (IsOfHeldPlace (know.checked ++ know.pending)) know.checked know.pending
+        (all_more know.checked know.pending know.checked r.checked)
+        (all_more know.checked know.pending know.pending r.pending);
     pending = tt;
   })
   | inr k ↦ rw k (record { checked = tt; pending = tt })
 ]
 
 -- where a link at a place is checked, the place is held
-pub link_held : (held reads : List Read) (at : At) (link : Link) → AllByRecursion (IsOfHeldPlace held) reads → knows_link reads at link ≡ true → holds_at held at ≡ true
+pub link_held : (held reads : List Read) (at : At) (link : Link) → AllByRecursion (IsOfHeldPlace held) reads →
+    knows_link reads at link ≡ true → holds_at held at ≡ true
 link_held held [] at link r h = absurd (cc)
 link_held held (LinkAt here seen ∷ reads) at link r h = elim (cases_Bool (same_at here at && same_link seen link)) [
   | inl k ↦ let u = and_parts (same_at here at) (same_link seen link) k in rw (← same_at_true here at u.0) r.0
@@ -105,7 +118,8 @@ link_held held (_ ∷ reads) at link r h = link_held held reads at link r.1 h
 -- ---- steps
 
 -- what a pass learns by an accepted step leaves all of its reads of held places
-pub held_learned : (start : Start) (know : Know) (step : Step) (found stamp : ℕ) → ReadsHeldPlaces know → Accepts start know step → ReadsHeldPlaces (learn step found stamp know)
+pub held_learned : (start : Start) (know : Know) (step : Step) (found stamp : ℕ) → ReadsHeldPlaces know →
+    Accepts start know step → ReadsHeldPlaces (learn step found stamp know)
 held_learned start know ReadEpoch found stamp r ok = epoch_read know found r
 held_learned start know (TakeFlag s) found stamp r ok = elim (cases_Bool (has_flag found s)) [
   | inl k ↦ rw k (record { checked = r.checked; pending = r.pending })
@@ -119,28 +133,62 @@ held_learned start know (Publish pred expected s) found stamp r ok = elim (cases
   | inl k ↦
       let reads = reads_won know (Publish pred expected s) in
       let new : holds (know.checked ++ reads) s ≡ true = held_later know.checked reads s (rw (eq-eqb s s refl) refl) in
-      let more = checked_more know reads r (held_at_more know.checked reads pred (link_held know.checked know.checked pred (link_of expected) r.checked ok.held.0), (new, (new, (new, of_value (IsOfHeldPlace (know.checked ++ reads)) s (value_in_hand (know.own s)) (λ x _. new))))) in
+      let more = checked_more know reads r (
+        held_at_more know.checked reads pred
+            (link_held know.checked know.checked pred (link_of expected) r.checked ok.held.0),
+        (
+          new,
+          (
+            new,
+            (
+              new,
+              of_value (IsOfHeldPlace (know.checked ++ reads)) s (value_in_hand (know.own s)) (λ x _. new),
+            ),
+          ),
+        ),
+      ) in
       rw k (record { checked = more.checked; pending = more.pending })
   | inr k ↦ rw k r
 ]
 held_learned start know (Mark s expected) found stamp r ok = elim (cases_Bool (found == expected)) [
   | inl k ↦
       let reads = reads_won know (Mark s expected) in
-      rw k (checked_more know reads r (held_at_more know.checked reads (Slot s) (link_held know.checked know.checked (Slot s) (link_of expected) r.checked ok.held.0), tt))
+      rw k (checked_more know reads r (
+        held_at_more know.checked reads (Slot s)
+            (link_held know.checked know.checked (Slot s) (link_of expected) r.checked ok.held.0),
+        tt,
+      ))
   | inr k ↦ rw k r
 ]
 held_learned start know (Replace s expected t) found stamp r ok = elim (cases_Bool (found == expected)) [
   | inl k ↦
       let reads = reads_won know (Replace s expected t) in
       let new : holds (know.checked ++ reads) t ≡ true = held_later know.checked reads t (rw (eq-eqb t t refl) refl) in
-      let more = checked_more know reads r (held_at_more know.checked reads (Slot s) (link_held know.checked know.checked (Slot s) (link_of expected) r.checked ok.held.0), (new, (new, (new, of_value (IsOfHeldPlace (know.checked ++ reads)) t (value_in_hand (know.own t)) (λ x _. new))))) in
+      let more = checked_more know reads r (
+        held_at_more know.checked reads (Slot s)
+            (link_held know.checked know.checked (Slot s) (link_of expected) r.checked ok.held.0),
+        (
+          new,
+          (
+            new,
+            (
+              new,
+              of_value (IsOfHeldPlace (know.checked ++ reads)) t (value_in_hand (know.own t)) (λ x _. new),
+            ),
+          ),
+        ),
+      ) in
       rw k (record { checked = more.checked; pending = more.pending })
   | inr k ↦ rw k r
 ]
 held_learned start know (Unlink pred expected s) found stamp r ok = elim (cases_Bool (found == expected)) [
   | inl k ↦
       let reads = reads_won know (Unlink pred expected s) in
-      let more = checked_more know reads r (held_at_more know.checked reads pred (link_held know.checked know.checked pred (link_of expected) r.checked ok.held.0), tt) in
+      let more = checked_more know reads r (
+        held_at_more know.checked reads pred
+            (link_held know.checked know.checked pred (link_of expected) r.checked ok.held.0),
+        tt,
+      ) in
       rw k (record { checked = more.checked; pending = more.pending })
   | inr k ↦ rw k r
 ]

@@ -1,6 +1,7 @@
 -- Known marked links lead where a walk along the checked ones does, in no more turns than slots.
 -- For the nodes that they pass ascend by key and rank.
-use Rattle.std.proofs.Common.{◌≡◌, ◌≢◌, ℕ, zero, suc, ◌<◌, ◌≤◌, true, false, List, [], ◌∷◌, length, Option, Some, None, refl, arith, sym, subst, ap, ◌∙◌, inl, inr}
+use Rattle.std.proofs.Common.{◌≡◌, ◌≢◌, ℕ, zero, suc, ◌<◌, ◌≤◌, true, false, List, [], ◌∷◌, length, Option, Some, None}
+use Rattle.std.proofs.Common.{refl, arith, sym, subst, ap, ◌∙◌, inl, inr}
 use Rattle.std.specs.Prelude.{◌⊎◌, nat_eq, IsSome}
 use Rattle.std.specs.List.{AllByRecursion, IsDistinct, list_any}
 use Rattle.std.proofs.lemmas.Bool.{cases_Bool, ne_eqb, eqb-true}
@@ -28,7 +29,8 @@ pub record LedTo (know : Know) (link : Link) (next : Option ℕ) : Type 0 where
   pub leads : LeadsTo know link last
   pub names : last.slot ≡ next
 
-led_on : (know : Know) (link : Link) (next : Option ℕ) → LedTo know link next → LedTo know link (past_marked know.checked next)
+led_on : (know : Know) (link : Link) (next : Option ℕ) → LedTo know link next →
+    LedTo know link (past_marked know.checked next)
 led_on know link None led = led
 led_on know link (Some s) led = go (marked_in know.checked s) refl
   where
@@ -36,7 +38,11 @@ led_on know link (Some s) led = go (marked_in know.checked s) refl
     go None q = led
     go (Some next) q =
         let m = marked_among know.checked s next q in
-        record { last = next; leads = onward led.last s next led.leads led.names (record { among = m.0 }) m.1; names = refl }
+        record {
+          last = next;
+          leads = onward led.last s next led.leads led.names (record { among = m.0 }) m.1;
+          names = refl;
+        }
 
 -- where the checked marked links lead in some turns, known marked links lead
 pub walk_led : (know : Know) (link : Link) (turns : ℕ) → LedTo know link (after_turns know.checked turns link.slot)
@@ -51,7 +57,8 @@ pub record IsBelow (a : Incarnations) (epoch : ℕ) (next : Option ℕ) (s : ℕ
   pub held : IsHeldIncarnation a epoch s node
   pub ahead : (t d : ℕ) → next ≡ Some t → IsHeldIncarnation a epoch t d → IsOrderedBefore a.key a.rank node d
 
--- the slots that were passed on the way to a link: as many as turns were made, of the shape, and no two the same, since they ascend
+-- the slots that were passed on the way to a link: as many as turns were made, of the shape, and no two the same,
+-- since they ascend
 pub record Passed (start : Start) (a : Incarnations) (know : Know) (link last : Link) : Type 0 where
   pub slots : List ℕ
   pub comes : after_turns know.checked (length slots) link.slot ≡ last.slot
@@ -60,13 +67,15 @@ pub record Passed (start : Start) (a : Incarnations) (know : Know) (link last : 
   pub below : AllByRecursion (IsBelow a know.epoch last.slot) slots
 
 -- what stands ahead of one that stands ahead of another stands ahead of that
-ahead_on : (key rank : ℕ → ℕ) (b c d : ℕ) → IsOrderedBefore key rank b c → IsOrderedBefore key rank c d → IsOrderedBefore key rank b d
+ahead_on : (key rank : ℕ → ℕ) (b c d : ℕ) → IsOrderedBefore key rank b c → IsOrderedBefore key rank c d →
+    IsOrderedBefore key rank b d
 ahead_on key rank b c d (inl x) (inl y) = inl (omega arith)
 ahead_on key rank b c d (inl x) (inr y) = inl (let e = y.0 in omega arith)
 ahead_on key rank b c d (inr x) (inl y) = inl (let e = x.0 in omega arith)
 ahead_on key rank b c d (inr x) (inr y) = inr (x.0 ∙ y.0, (let u = x.1 in let v = y.1 in omega arith))
 
-all_low : (n : ℕ) (slots : List ℕ) → AllByRecursion (λ s. s < n) slots → (q : ℕ) → list_any (nat_eq q) slots ≡ true → q < n
+all_low : (n : ℕ) (slots : List ℕ) → AllByRecursion (λ s. s < n) slots → (q : ℕ) → list_any (nat_eq q) slots ≡ true →
+    q < n
 all_low n [] h q e = absurd (cc)
 all_low n (s ∷ slots) h q e = go (cases_Bool (nat_eq q s)) (all_low n slots h.1 q)
   where
@@ -74,25 +83,35 @@ all_low n (s ∷ slots) h q e = go (cases_Bool (nat_eq q s)) (all_low n slots h.
     go (inl t) later = let x = eqb-true q s t in let y = h.0 in omega arith
     go (inr f) later = later (rw f at e)
 
-module _ {start : Start} {a : Incarnations} {know : Know} {notes : Notes} (sound : Sound start a) (fits : Fits start a) (noted : FitsNotes a know notes) where
+module _ {start : Start} {a : Incarnations} {know : Know} {notes : Notes} (sound : Sound start a) (fits : Fits start a)
+    (noted : FitsNotes a know notes) where
   -- a walk passes a slot to what any of its known marked links names
-  past_known : (s : ℕ) (next : Link) → Knows know (LinkAt (Slot s) next) → next.mark ≡ true → past_marked know.checked (Some s) ≡ next.slot
+  past_known : (s : ℕ) (next : Link) → Knows know (LinkAt (Slot s) next) → next.mark ≡ true →
+      past_marked know.checked (Some s) ≡ next.slot
   past_known s next k m = go (marked_in know.checked s) refl (marked_there know.checked s next k.among m)
     where
       go : (o : Option Link) → marked_in know.checked s ≡ o → IsSome o → past_slot s o ≡ next.slot
       go None q h = absurd (cc)
-      go (Some x) q h = let y = marked_among know.checked s x q in one_mark sound noted s x next (record { among = y.0 }) k y.1 m
+      go (Some x) q h =
+          let y = marked_among know.checked s x q in one_mark sound noted s x next (record { among = y.0 }) k y.1 m
 
   -- what is below a slot is below what follows it
-  below_on : (s c : ℕ) (v w : Option ℕ) → v ≡ Some s → IsHeldIncarnation a know.epoch s c → ((t d : ℕ) → w ≡ Some t → IsHeldIncarnation a know.epoch t d → IsOrderedBefore a.key a.rank c d) → (slots : List ℕ) → AllByRecursion (IsBelow a know.epoch v) slots → AllByRecursion (IsBelow a know.epoch w) slots
+  below_on : (s c : ℕ) (v w : Option ℕ) → v ≡ Some s → IsHeldIncarnation a know.epoch s c →
+      ((t d : ℕ) → w ≡ Some t → IsHeldIncarnation a know.epoch t d → IsOrderedBefore a.key a.rank c d) →
+      (slots : List ℕ) → AllByRecursion (IsBelow a know.epoch v) slots → AllByRecursion (IsBelow a know.epoch w) slots
   below_on s c v w q h up [] b = tt
   below_on s c v w q h up (_ ∷ slots) b = (
-    record { node = b.0.node; held = b.0.held; ahead = λ t d r i. ahead_on a.key a.rank b.0.node c d (b.0.ahead s c q h) (up t d r i) },
+    record {
+      node = b.0.node;
+      held = b.0.held;
+      ahead = λ t d r i. ahead_on a.key a.rank b.0.node c d (b.0.ahead s c q h) (up t d r i);
+    },
     below_on s c v w q h up slots b.1,
   )
 
   -- what is below a slot is in another slot
-  apart : (s c : ℕ) (v : Option ℕ) → v ≡ Some s → IsHeldIncarnation a know.epoch s c → (slots : List ℕ) → AllByRecursion (IsBelow a know.epoch v) slots → AllByRecursion (λ t. nat_eq s t ≡ false) slots
+  apart : (s c : ℕ) (v : Option ℕ) → v ≡ Some s → IsHeldIncarnation a know.epoch s c → (slots : List ℕ) →
+      AllByRecursion (IsBelow a know.epoch v) slots → AllByRecursion (λ t. nat_eq s t ≡ false) slots
   apart s c v q h [] b = tt
   apart s c v q h (t ∷ slots) b = (ne_eqb s t differs, apart s c v q h slots b.1)
     where
@@ -102,7 +121,8 @@ module _ {start : Start} {a : Incarnations} {know : Know} {notes : Notes} (sound
           let x = b.0.ahead s b.0.node q (subst P (sym e) b.0.held) in
           grind arith
 
-  one_more : (link last : Link) (s : ℕ) (next : Link) → Passed start a know link last → last.slot ≡ Some s → Knows know (LinkAt (Slot s) next) → next.mark ≡ true → Passed start a know link next
+  one_more : (link last : Link) (s : ℕ) (next : Link) → Passed start a know link last → last.slot ≡ Some s →
+      Knows know (LinkAt (Slot s) next) → next.mark ≡ true → Passed start a know link next
   unfolding IsDistinct
   one_more link last s next p q k m = let g = good_link noted (Slot s) next k in go g.0 g.1 g.2
     where
@@ -113,10 +133,14 @@ module _ {start : Start} {a : Incarnations} {know : Know} {notes : Notes} (sound
         comes = ap (past_marked know.checked) (p.comes ∙ q) ∙ past_known s next k m;
         distinct = (apart s c last.slot q g.place p.slots p.below, p.distinct);
         low = (rw (← g.place.slot) (fits.slot c (late_born sound.slots c know.epoch g.place.late)), p.low);
-        below = (record { node = c; held = g.place; ahead = above }, below_on s c last.slot next.slot q g.place above p.slots p.below);
+        below = (
+          record { node = c; held = g.place; ahead = above },
+          below_on s c last.slot next.slot q g.place above p.slots p.below,
+        );
       }
         where
-          follows : (t d : ℕ) (v n : Option ℕ) → IsHeldNext a know.epoch v n → v ≡ Some t → IsHeldIncarnation a know.epoch t d → n ≡ Some d
+          follows : (t d : ℕ) (v n : Option ℕ) → IsHeldNext a know.epoch v n → v ≡ Some t →
+              IsHeldIncarnation a know.epoch t d → n ≡ Some d
           follows t d None n h r i = absurd (cc)
           follows t d (Some v) None h r i = absurd h
           follows t d (Some v) (Some n) h r i =
@@ -133,5 +157,11 @@ module _ {start : Start} {a : Incarnations} {know : Know} {notes : Notes} (sound
   passed link _ (onward last s next leads q k m) = one_more link last s next (passed link last leads) q k m
 
   -- where known marked links lead, the checked ones lead in no more turns than there are slots
-  pub led_walk : (link last : Link) → LeadsTo know link last → (turns : ℕ) × (turns ≤ start.shape.slots) × (after_turns know.checked turns link.slot ≡ last.slot)
-  led_walk link last leads = let p = passed link last leads in (length p.slots, length-le_from_distinct_below p.slots start.shape.slots p.distinct (all_low start.shape.slots p.slots p.low), p.comes)
+  pub led_walk : (link last : Link) → LeadsTo know link last →
+      (turns : ℕ) × (turns ≤ start.shape.slots) × (after_turns know.checked turns link.slot ≡ last.slot)
+  led_walk link last leads =
+      let p = passed link last leads in (
+        length p.slots,
+        length-le_from_distinct_below p.slots start.shape.slots p.distinct (all_low start.shape.slots p.slots p.low),
+        p.comes,
+      )

@@ -9,12 +9,18 @@ use Rattle.vbr_machine.specs.declared.history.Op.{Op}
 use Rattle.vbr_machine.specs.declared.history.Op.TheVariants.{Insert}
 use Rattle.vbr_machine.specs.declared.event.Step.TheVariants.{ConfirmAbsent}
 
-pub between_accepted : (start : Start) (know : Know) (op : Op) (key : ℕ) (at : At) (expected : ℕ) → IsAtIn start at → IsOpIn start op → op ≢ Insert → IsBetween start know.checked key at (link_of expected) →
+pub between_accepted : (start : Start) (know : Know) (op : Op) (key : ℕ) (at : At) (expected : ℕ) → IsAtIn start at →
+    IsOpIn start op → op ≢ Insert → IsBetween start know.checked key at (link_of expected) →
     Accepts start know (ConfirmAbsent op key at expected)
 between_accepted start know op key at expected inside asked not between = record {
   in_shape = (inside, asked);
   owned = tt;
   held = (between.known, between.here, record { turns = 0; within = omega arith; known = between.there });
-  in_range = (between.unmarked, not, between.behind, record { turns = 0; within = omega arith; before = between.before });
+  in_range = (
+    between.unmarked,
+    not,
+    between.behind,
+    record { turns = 0; within = omega arith; before = between.before },
+  );
   below_last = tt;
 }

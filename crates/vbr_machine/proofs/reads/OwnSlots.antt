@@ -26,14 +26,36 @@ pub record IsUntouched (a b : Incarnations) (c : ℕ) : Type 0 where
   pub is_aimed : b.is_aimed c ≡ a.is_aimed c
 
 pub untouched_here : (a : Incarnations) (c : ℕ) → IsUntouched a a c
-untouched_here a c = record { state = refl; birth = refl; key = refl; is_keyed = refl; value = refl; is_valued = refl; link = refl; is_aimed = refl }
+untouched_here a c =
+    record {
+      state = refl;
+      birth = refl;
+      key = refl;
+      is_keyed = refl;
+      value = refl;
+      is_valued = refl;
+      link = refl;
+      is_aimed = refl;
+    }
 
 -- what is known of a slot stays where its last incarnation is untouched
-pub own_kept : (a b : Incarnations) (pass e f : ℕ) (holding : Option Holding) (place : SlotPlace) (last : Option ℕ) (stamp : ℕ) → e ≤ f → ((c : ℕ) → last ≡ Some c → IsUntouched a b c) → OwnFits a pass e holding place last stamp → OwnFits b pass f holding place last stamp
+pub own_kept : (a b : Incarnations) (pass e f : ℕ) (holding : Option Holding) (place : SlotPlace) (last : Option ℕ)
+    (stamp : ℕ) → e ≤ f → ((c : ℕ) → last ≡ Some c → IsUntouched a b c) → OwnFits a pass e holding place last stamp →
+    OwnFits b pass f holding place last stamp
 own_kept a b pass e f None place last stamp le k h = h
 own_kept a b pass e f (Some (Free known)) place None stamp le k h = h
 own_kept a b pass e f (Some (Free known)) place (Some c) stamp le k h = (h.0, rw ((k c refl).state) h.1, h.2)
-own_kept a b pass e f (Some (Unlinked reread)) place last stamp le k h = let x = h.1 in (h.0, record { node = x.node; last_is = x.last_is; at = x.at; state = (k x.node x.last_is).state ∙ x.state; seen = λ t. let u = x.seen t in omega arith })
+own_kept a b pass e f (Some (Unlinked reread)) place last stamp le k h =
+    let x = h.1 in (
+      h.0,
+      record {
+        node = x.node;
+        last_is = x.last_is;
+        at = x.at;
+        state = (k x.node x.last_is).state ∙ x.state;
+        seen = λ t. let u = x.seen t in omega arith;
+      },
+    )
 own_kept a b pass e f (Some (InHand known)) place last stamp le k h =
     let x = h.1 in
     let u = k x.node x.last_is in (
@@ -52,11 +74,15 @@ own_kept a b pass e f (Some (InHand known)) place last stamp le k h =
     )
 
 -- a pass knows nothing of a slot that is not its own
-pub not_owned : (a : Incarnations) (pass e : ℕ) (holding : Option Holding) (place : SlotPlace) (last : Option ℕ) (stamp : ℕ) → OwnFits a pass e holding place last stamp → IsNotOf pass place → holding ≡ None
+pub not_owned : (a : Incarnations) (pass e : ℕ) (holding : Option Holding) (place : SlotPlace) (last : Option ℕ)
+    (stamp : ℕ) → OwnFits a pass e holding place last stamp → IsNotOf pass place → holding ≡ None
 not_owned a pass e None place last stamp h n = refl
-not_owned a pass e (Some (Free known)) place last stamp h n = absurd (let u = h.0 in let m : IsNotOf pass (Own pass) = rw u at n in m refl)
-not_owned a pass e (Some (Unlinked reread)) place last stamp h n = absurd (let u = h.0 in let m : IsNotOf pass (Own pass) = rw u at n in m refl)
-not_owned a pass e (Some (InHand known)) place last stamp h n = absurd (let u = h.0 in let m : IsNotOf pass (Hand pass) = rw u at n in m refl)
+not_owned a pass e (Some (Free known)) place last stamp h n =
+    absurd (let u = h.0 in let m : IsNotOf pass (Own pass) = rw u at n in m refl)
+not_owned a pass e (Some (Unlinked reread)) place last stamp h n =
+    absurd (let u = h.0 in let m : IsNotOf pass (Own pass) = rw u at n in m refl)
+not_owned a pass e (Some (InHand known)) place last stamp h n =
+    absurd (let u = h.0 in let m : IsNotOf pass (Hand pass) = rw u at n in m refl)
 
 -- the place, the last incarnation and the stamp of a slot are as before, and the incarnation is untouched
 pub record IsSlotKept (a b : Incarnations) (v : ℕ) : Type 0 where
@@ -65,39 +91,58 @@ pub record IsSlotKept (a b : Incarnations) (v : ℕ) : Type 0 where
   pub stamp : b.stamp v ≡ a.stamp v
   pub untouched : (c : ℕ) → a.last v ≡ Some c → IsUntouched a b c
 
-pub slot_kept : (a b : Incarnations) (q e f v : ℕ) (holding : Option Holding) → e ≤ f → IsSlotKept a b v → OwnFits a q e holding (a.place v) (a.last v) (a.stamp v) → OwnFits b q f holding (b.place v) (b.last v) (b.stamp v)
-slot_kept a b q e f v holding le k h = rw (k.place, k.last, k.stamp) (own_kept a b q e f holding (a.place v) (a.last v) (a.stamp v) le k.untouched h)
+pub slot_kept : (a b : Incarnations) (q e f v : ℕ) (holding : Option Holding) → e ≤ f → IsSlotKept a b v →
+    OwnFits a q e holding (a.place v) (a.last v) (a.stamp v) → OwnFits b q f holding (b.place v) (b.last v) (b.stamp v)
+slot_kept a b q e f v holding le k h =
+    rw (k.place, k.last, k.stamp) (own_kept a b q e f holding (a.place v) (a.last v) (a.stamp v) le k.untouched h)
 
 -- nothing that is known of slots has changed
 pub owns_kept : (a b : Incarnations) (know : ℕ → Know) → ((v : ℕ) → IsSlotKept a b v) → Owns a know → Owns b know
-owns_kept a b know k o = λ q v. slot_kept a b q (know q).epoch (know q).epoch v ((know q).own v) (omega arith) (k v) (o q v)
+owns_kept a b know k o =
+    λ q v. slot_kept a b q (know q).epoch (know q).epoch v ((know q).own v) (omega arith) (k v) (o q v)
 
 -- only what a pass has read has changed
-pub owns_beside : (a : Incarnations) (know : ℕ → Know) (p : ℕ) (x : Know) → x.epoch ≡ (know p).epoch → ((v : ℕ) → x.own v ≡ (know p).own v) → Owns a know → Owns a (put know p x)
+pub owns_beside : (a : Incarnations) (know : ℕ → Know) (p : ℕ) (x : Know) → x.epoch ≡ (know p).epoch →
+    ((v : ℕ) → x.own v ≡ (know p).own v) → Owns a know → Owns a (put know p x)
 owns_beside a know p x e k o = λ q v. go q v (cases_eq q p)
   where
-    go : (q v : ℕ) → (q ≡ p) ⊎ (q ≢ p) → OwnFits a q (put know p x q).epoch ((put know p x q).own v) (a.place v) (a.last v) (a.stamp v)
+    go : (q v : ℕ) → (q ≡ p) ⊎ (q ≢ p) →
+        OwnFits a q (put know p x q).epoch ((put know p x q).own v) (a.place v) (a.last v) (a.stamp v)
     go q v (inl i) = rw (i, put_here know p x, e, k v) (o p v)
     go q v (inr ne) = rw (put_other know p x q ne) (o q v)
 
 -- a slot of which no other pass knows has changed, and what one pass knows of it
-pub owns_moved : (a b : Incarnations) (know : ℕ → Know) (p s : ℕ) (x : Know) → x.epoch ≡ (know p).epoch → ((v : ℕ) → v ≢ s → x.own v ≡ (know p).own v) →
-    ((q : ℕ) → q ≢ p → (know q).own s ≡ None) → ((q : ℕ) → q ≢ p → IsNotOf q (b.place s)) → ((v : ℕ) → v ≢ s → IsSlotKept a b v) → OwnFits b p x.epoch (x.own s) (b.place s) (b.last s) (b.stamp s) →
-    ((q v : ℕ) → v ≢ s → OwnFits a q (know q).epoch ((know q).own v) (a.place v) (a.last v) (a.stamp v)) → Owns b (put know p x)
+pub owns_moved : (a b : Incarnations) (know : ℕ → Know) (p s : ℕ) (x : Know) → x.epoch ≡ (know p).epoch →
+    ((v : ℕ) → v ≢ s → x.own v ≡ (know p).own v) →
+    ((q : ℕ) → q ≢ p → (know q).own s ≡ None) → ((q : ℕ) → q ≢ p → IsNotOf q (b.place s)) →
+    ((v : ℕ) → v ≢ s → IsSlotKept a b v) → OwnFits b p x.epoch (x.own s) (b.place s) (b.last s) (b.stamp s) →
+    ((q v : ℕ) → v ≢ s → OwnFits a q (know q).epoch ((know q).own v) (a.place v) (a.last v) (a.stamp v)) →
+    Owns b (put know p x)
 owns_moved a b know p s x e k was now kept here o = λ q v. go q v (cases_eq q p) (cases_eq v s)
   where
-    go : (q v : ℕ) → (q ≡ p) ⊎ (q ≢ p) → (v ≡ s) ⊎ (v ≢ s) → OwnFits b q (put know p x q).epoch ((put know p x q).own v) (b.place v) (b.last v) (b.stamp v)
+    go : (q v : ℕ) → (q ≡ p) ⊎ (q ≢ p) → (v ≡ s) ⊎ (v ≢ s) →
+        OwnFits b q (put know p x q).epoch ((put know p x q).own v) (b.place v) (b.last v) (b.stamp v)
     go q v (inl i) (inl j) = rw (i, j, put_here know p x) here
-    go q v (inl i) (inr nv) = rw (i, put_here know p x, k v nv) (slot_kept a b p (know p).epoch x.epoch v ((know p).own v) (omega (arith, e)) (kept v nv) (o p v nv))
+    go q v (inl i) (inr nv) =
+        rw (i, put_here know p x, k v nv)
+        (slot_kept a b p (know p).epoch x.epoch v ((know p).own v) (omega (arith, e)) (kept v nv) (o p v nv))
     go q v (inr ne) (inl j) = rw (j, put_other know p x q ne, was q ne) (now q ne)
-    go q v (inr ne) (inr nv) = rw (put_other know p x q ne) (slot_kept a b q (know q).epoch (know q).epoch v ((know q).own v) (omega arith) (kept v nv) (o q v nv))
+    go q v (inr ne) (inr nv) =
+        rw (put_other know p x q ne)
+        (slot_kept a b q (know q).epoch (know q).epoch v ((know q).own v) (omega arith) (kept v nv) (o q v nv))
 
 -- a slot that was no other pass's and is no other's now has changed, and what the pass knows of it
-pub owns_changed : (a b : Incarnations) (know : ℕ → Know) (p s : ℕ) (x : Know) → x.epoch ≡ (know p).epoch → ((v : ℕ) → v ≢ s → x.own v ≡ (know p).own v) →
-    ((q : ℕ) → q ≢ p → IsNotOf q (a.place s)) → ((q : ℕ) → q ≢ p → IsNotOf q (b.place s)) → ((v : ℕ) → v ≢ s → IsSlotKept a b v) → OwnFits b p x.epoch (x.own s) (b.place s) (b.last s) (b.stamp s) → Owns a know → Owns b (put know p x)
+pub owns_changed : (a b : Incarnations) (know : ℕ → Know) (p s : ℕ) (x : Know) → x.epoch ≡ (know p).epoch →
+    ((v : ℕ) → v ≢ s → x.own v ≡ (know p).own v) →
+    ((q : ℕ) → q ≢ p → IsNotOf q (a.place s)) → ((q : ℕ) → q ≢ p → IsNotOf q (b.place s)) →
+    ((v : ℕ) → v ≢ s → IsSlotKept a b v) → OwnFits b p x.epoch (x.own s) (b.place s) (b.last s) (b.stamp s) →
+    Owns a know → Owns b (put know p x)
 owns_changed a b know p s x e k was now kept here o =
-    owns_moved a b know p s x e k (λ q ne. not_owned a q (know q).epoch ((know q).own s) (a.place s) (a.last s) (a.stamp s) (o q s) (was q ne)) now kept here (λ q v _. o q v)
+    owns_moved a b know p s x e k
+    (λ q ne. not_owned a q (know q).epoch ((know q).own s) (a.place s) (a.last s) (a.stamp s) (o q s) (was q ne)) now
+    kept here (λ q v _. o q v)
 
 -- the last incarnations of two slots differ
-pub lasts_differ : {start : Start} {a : Incarnations} → SlotsSound start a → (v s c d : ℕ) → v ≢ s → a.last s ≡ Some c → a.last v ≡ Some d → d ≢ c
+pub lasts_differ : {start : Start} {a : Incarnations} → SlotsSound start a → (v s c d : ℕ) → v ≢ s → a.last s ≡ Some c →
+    a.last v ≡ Some d → d ≢ c
 lasts_differ {start} {a} snd v s c d ne e f q = ne (sym (snd.last_born v d f).1 ∙ ap a.slot q ∙ (snd.last_born s c e).1)

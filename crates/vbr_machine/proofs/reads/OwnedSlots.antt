@@ -26,12 +26,16 @@ raised pass (Hand q) flag = absurd (cc)
 raised pass (Listed b) flag = tt
 
 -- a slot in the shared pool is no pass's own
-pub taken_unowned : (start : Start) (w : World) (a : Incarnations) (notes : ℕ → Notes) (p s : ℕ) → Agrees start w a notes → is_shared (w.place s) ≡ true → (w.know p).own s ≡ None
+pub taken_unowned : (start : Start) (w : World) (a : Incarnations) (notes : ℕ → Notes) (p s : ℕ) →
+    Agrees start w a notes → is_shared (w.place s) ≡ true → (w.know p).own s ≡ None
 taken_unowned start w a notes p s g flag =
-    not_owned a p (w.know p).epoch ((w.know p).own s) (a.place s) (a.last s) (a.stamp s) (g.owns p s) (raised p (a.place s) (ap is_shared (sym (g.image.place s)) ∙ flag))
+    not_owned a p (w.know p).epoch ((w.know p).own s) (a.place s) (a.last s) (a.stamp s) (g.owns p s)
+    (raised p (a.place s) (ap is_shared (sym (g.image.place s)) ∙ flag))
 
 -- nor is one that a pass unlinks
-pub unlinked_unowned : (start : Start) (w : World) (a : Incarnations) (notes : ℕ → Notes) (p : ℕ) (pred : At) (expected s : ℕ) → Agrees start w a notes → Accepts start (w.know p) (Unlink pred expected s) → word_of (link_at w pred) ≡ expected → (w.know p).own s ≡ None
+pub unlinked_unowned : (start : Start) (w : World) (a : Incarnations) (notes : ℕ → Notes) (p : ℕ) (pred : At)
+    (expected s : ℕ) → Agrees start w a notes → Accepts start (w.know p) (Unlink pred expected s) →
+    word_of (link_at w pred) ≡ expected → (w.know p).own s ≡ None
 unlinked_unowned start w a notes p pred expected s g ok found =
     let m = link_stands start w a notes p g pred expected ok.held.0 ok.in_range.0 found in
     let r = facts start w a notes p pred expected s g ok m in
@@ -39,12 +43,15 @@ unlinked_unowned start w a notes p pred expected s g ok found =
     not_owned a p (w.know p).epoch ((w.know p).own s) (a.place s) (a.last s) (a.stamp s) (g.owns p s)
     (listed_not_of start (a.place s) (a.state c) (a.key c) (g.sound.slots.placed c s r.last) (rw r.state tt) p)
 
-stamp_fits : (a : Incarnations) (pass epoch : ℕ) (holding : Option Holding) (place : SlotPlace) (last : Option ℕ) (stamp : ℕ) → OwnFits a pass epoch holding place last stamp → MayBear holding → stamp ≡ stamp_in holding
+stamp_fits : (a : Incarnations) (pass epoch : ℕ) (holding : Option Holding) (place : SlotPlace) (last : Option ℕ)
+    (stamp : ℕ) → OwnFits a pass epoch holding place last stamp → MayBear holding → stamp ≡ stamp_in holding
 stamp_fits a pass epoch None place last stamp fits may = absurd may
 stamp_fits a pass epoch (Some (Free known)) place last stamp fits may = fits.2
 stamp_fits a pass epoch (Some (Unlinked reread)) place last stamp fits may = absurd may
 stamp_fits a pass epoch (Some (InHand known)) place last stamp fits may = fits.2
 
 -- the stamp that a pass knows of a slot that it may bear in is the stamp that stands there
-pub stamp_known : (start : Start) (w : World) (a : Incarnations) (notes : ℕ → Notes) (p s : ℕ) → Agrees start w a notes → MayBear ((w.know p).own s) → w.stamp s ≡ stamp_in ((w.know p).own s)
-stamp_known start w a notes p s g may = g.image.stamp s ∙ stamp_fits a p (w.know p).epoch ((w.know p).own s) (a.place s) (a.last s) (a.stamp s) (g.owns p s) may
+pub stamp_known : (start : Start) (w : World) (a : Incarnations) (notes : ℕ → Notes) (p s : ℕ) →
+    Agrees start w a notes → MayBear ((w.know p).own s) → w.stamp s ≡ stamp_in ((w.know p).own s)
+stamp_known start w a notes p s g may = g.image.stamp s
+    ∙ stamp_fits a p (w.know p).epoch ((w.know p).own s) (a.place s) (a.last s) (a.stamp s) (g.owns p s) may

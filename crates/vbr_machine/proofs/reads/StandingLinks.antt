@@ -34,7 +34,8 @@ abbrev pub birth_there : Incarnations → At → ℕ
 birth_there a (Head b) = 0
 birth_there a (Slot s) = a.birth (last_in a s)
 
-pub record LinkStands (start : Start) (a : Incarnations) (e : ℕ) (reads : List Read) (at : At) (link : Link) : Type 0 where
+pub record LinkStands (start : Start) (a : Incarnations) (e : ℕ) (reads : List Read) (at : At) (link : Link) :
+    Type 0 where
   pub held : IsHeldAt a e at (node_at a at)
   pub last : last_at a at ≡ node_at a at
   pub is_open : IsOpen a (before_at a at)
@@ -42,16 +43,24 @@ pub record LinkStands (start : Start) (a : Incarnations) (e : ℕ) (reads : List
   pub listed : (m : ℕ) → next_of a (before_at a at) ≡ Some m → IsListed (a.state m)
   pub version : link.version ≤ e
   pub birth : IsSome (birth_at reads at) → unwrap_or (birth_at reads at) 0 ≡ birth_there a at
-  pub behind : (key : ℕ) → KnowsKeyAt reads at → IsBehind start reads at key → BelongsBehind start a (before_at a at) key
-  pub before : (key : ℕ) → KnowsKeyOf reads link.slot → IsBefore reads key link.slot → BelongsBefore a key (next_of a (before_at a at))
+  pub behind : (key : ℕ) → KnowsKeyAt reads at → IsBehind start reads at key →
+      BelongsBehind start a (before_at a at) key
+  pub before : (key : ℕ) → KnowsKeyOf reads link.slot → IsBefore reads key link.slot →
+      BelongsBefore a key (next_of a (before_at a at))
 
-before_is : {start : Start} {a : Incarnations} → Sound start a → (e : ℕ) (notes : List Note) (reads : List Read) → reads ≡ reads_of notes → AllByRecursion (IsGood a e) notes → (v n : Option ℕ) → IsHeldNext a e v n → (key : ℕ) → KnowsKeyOf reads v → IsBefore reads key v → BelongsBefore a key n
+before_is : {start : Start} {a : Incarnations} → Sound start a → (e : ℕ) (notes : List Note) (reads : List Read) →
+    reads ≡ reads_of notes → AllByRecursion (IsGood a e) notes → (v n : Option ℕ) → IsHeldNext a e v n → (key : ℕ) →
+    KnowsKeyOf reads v → IsBefore reads key v → BelongsBefore a key n
 before_is snd e notes reads q al None None h key y b = tt
 before_is snd e notes reads q al None (Some c) h key y b = absurd h
 before_is snd e notes reads q al (Some s) None h key y b = tt
-before_is snd e notes reads q al (Some s) (Some c) h key y b = let z = key_is snd.slots e notes reads s c q al h y in omega arith
+before_is snd e notes reads q al (Some s) (Some c) h key y b =
+    let z = key_is snd.slots e notes reads s c q al h y in omega arith
 
-pub stands_by_notes : {start : Start} {a : Incarnations} → Sound start a → (e : ℕ) (notes : List Note) (reads : List Read) → reads ≡ reads_of notes → AllByRecursion (IsGood a e) notes → (at : At) (link : Link) → knows_link reads at link ≡ true → link.mark ≡ false → link_shown_at a at ≡ link → LinkStands start a e reads at link
+pub stands_by_notes : {start : Start} {a : Incarnations} → Sound start a →
+    (e : ℕ) (notes : List Note) (reads : List Read) → reads ≡ reads_of notes → AllByRecursion (IsGood a e) notes →
+    (at : At) (link : Link) → knows_link reads at link ≡ true → link.mark ≡ false → link_shown_at a at ≡ link →
+    LinkStands start a e reads at link
 stands_by_notes {start} {a} snd e notes reads q al (Head b) link k m w =
     let f = link_found a e notes (Head b) link (rw q at k) al in
     let p : IsPair a (Head b) f.0 f.1 = same_pair snd e (Head b) link f.0 f.1 f.2 m w in
@@ -82,10 +91,17 @@ stands_by_notes {start} {a} snd e notes reads q al (Slot s) link k m w =
       listed = λ i r. next_listed snd (last_in a s) i r (rw (c, p.3) tt);
       version = f.2.version;
       birth = λ z. birth_is snd.slots e notes reads s (last_in a s) q al h z;
-      behind = λ key y z. let u = key_is snd.slots e notes reads s (last_in a s) q al h y in (z.0 ∙ ap (bucket_of start.shape) u, (let v = z.1 in omega arith));
+      behind = λ key y z.
+          let u = key_is snd.slots e notes reads s (last_in a s) q al h y in
+          (z.0 ∙ ap (bucket_of start.shape) u, (let v = z.1 in omega arith));
       before = before_is snd e notes reads q al link.slot (a.next (last_in a s)) n;
     }
 
 -- the word that stands at a place now is the expected one
-pub link_stands : (start : Start) (w : World) (a : Incarnations) (notes : ℕ → Notes) (p : ℕ) → Agrees start w a notes → (at : At) (expected : ℕ) → knows_link (w.know p).checked at (link_of expected) ≡ true → (link_of expected).mark ≡ false → word_of (machine.link_at w at) ≡ expected → LinkStands start a (w.know p).epoch (w.know p).checked at (link_of expected)
-link_stands start w a notes p g at expected k m e = stands_by_notes g.sound (w.know p).epoch (notes p).checked (w.know p).checked (g.knows p).checked_reads (g.knows p).checked at (link_of expected) k m (sym (link_read g at) ∙ ap link_of e)
+pub link_stands : (start : Start) (w : World) (a : Incarnations) (notes : ℕ → Notes) (p : ℕ) → Agrees start w a notes →
+    (at : At) (expected : ℕ) → knows_link (w.know p).checked at (link_of expected) ≡ true →
+    (link_of expected).mark ≡ false → word_of (machine.link_at w at) ≡ expected →
+    LinkStands start a (w.know p).epoch (w.know p).checked at (link_of expected)
+link_stands start w a notes p g at expected k m e =
+    stands_by_notes g.sound (w.know p).epoch (notes p).checked (w.know p).checked (g.knows p).checked_reads
+    (g.knows p).checked at (link_of expected) k m (sym (link_read g at) ∙ ap link_of e)

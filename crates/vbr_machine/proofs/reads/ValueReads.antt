@@ -9,23 +9,27 @@ use Rattle.vbr_machine.specs.declared.knowledge.Read.{Read}
 use Rattle.vbr_machine.specs.declared.knowledge.Read.TheVariants.{ValueOf}
 
 -- what is so of the read of a value, if there is one
-pub of_value : (P : Read → Type 0) (s : ℕ) (v : Option ℕ) → ((x : ℕ) → v ≡ Some x → P (ValueOf s x)) → AllByRecursion P (value_read s v)
+pub of_value : (P : Read → Type 0) (s : ℕ) (v : Option ℕ) → ((x : ℕ) → v ≡ Some x → P (ValueOf s x)) →
+    AllByRecursion P (value_read s v)
 of_value P s None h = tt
 of_value P s (Some x) h = (h x refl, tt)
 
 -- a value that was stored is the one that is known
-pub stored_is : (b : Bool) (value : ℕ) (known : Option ℕ) → IsStored b value known → (x : ℕ) → known ≡ Some x → value ≡ x
+pub stored_is : (b : Bool) (value : ℕ) (known : Option ℕ) → IsStored b value known → (x : ℕ) → known ≡ Some x →
+    value ≡ x
 stored_is b value None s x e = absurd (cc)
 stored_is b value (Some y) s x e = let f : y ≡ x = cc in s.1 ∙ f
 
 -- where nodes have values, one that is known was stored
-pub stored_there : (t b : Bool) (value : ℕ) (known : Option ℕ) → HasValue t known → IsStored b value known → t ≡ true → b ≡ true
+pub stored_there : (t b : Bool) (value : ℕ) (known : Option ℕ) → HasValue t known → IsStored b value known → t ≡ true →
+    b ≡ true
 stored_there true b value (Some x) h s e = s.0
 stored_there true b value None h s e = absurd (cc)
 stored_there false b value known h s e = absurd (cc)
 
 -- and it is that of the incarnation
-pub stored_kept : (t b : Bool) (value : ℕ) (known : Option ℕ) → HasValue t known → IsStored b value known → (if t then known else None) ≡ (if t then Some value else None)
+pub stored_kept : (t b : Bool) (value : ℕ) (known : Option ℕ) → HasValue t known → IsStored b value known →
+    (if t then known else None) ≡ (if t then Some value else None)
 stored_kept true b value (Some x) h s = ap Some (sym s.1)
 stored_kept true b value None h s = absurd (cc)
 stored_kept false b value known h s = refl
@@ -41,6 +45,7 @@ has_value true known h = h
 has_value false known h = tt
 
 -- where nodes have values, the one that is known
-pub known_kept : (t : Bool) (known : Option ℕ) (x : ℕ) → HasValue t known → (IsSome known → unwrap_or known 0 ≡ x) → (if t then known else None) ≡ (if t then Some x else None)
+pub known_kept : (t : Bool) (known : Option ℕ) (x : ℕ) → HasValue t known → (IsSome known → unwrap_or known 0 ≡ x) →
+    (if t then known else None) ≡ (if t then Some x else None)
 known_kept true known x h e = some_value known x h (e h)
 known_kept false known x h e = refl

@@ -1,6 +1,7 @@
 -- A won exchange of a link is right.
 -- It names the last incarnations of their slots, and what it adds is lawful.
-use Rattle.std.proofs.Common.{◌≡◌, ◌≢◌, ℕ, Bool, true, false, cond, List, [], ◌∷◌, Option, Some, None, refl, sym, ap, ◌∙◌, inl, inr}
+use Rattle.std.proofs.Common.{◌≡◌, ◌≢◌, ℕ, Bool, true, false, cond, List, [], ◌∷◌, Option, Some, None, refl, sym, ap}
+use Rattle.std.proofs.Common.{◌∙◌, inl, inr}
 use Rattle.std.specs.Prelude.{◌==◌, ◌&&◌}
 use Rattle.std.proofs.lemmas.Bool.{cases_Bool, eq-eqb, eqb-true, and_parts}
 use Rattle.vbr_machine.specs.Start.{Start}
@@ -39,7 +40,8 @@ won true n e = refl
 won false n e = absurd (cc)
 
 -- what a checked link names is held
-link_names : (reads : List Read) (at : At) (link : Link) (t : ℕ) → knows_link reads at link ≡ true → link.slot ≡ Some t → holds reads t ≡ true
+link_names : (reads : List Read) (at : At) (link : Link) (t : ℕ) → knows_link reads at link ≡ true →
+    link.slot ≡ Some t → holds reads t ≡ true
 link_names [] at link t h e = absurd (cc)
 link_names (BirthOf v b ∷ reads) at link t h e = link_names reads at link t h e
 link_names (KeyOf v b ∷ reads) at link t h e = link_names reads at link t h e
@@ -55,21 +57,32 @@ link_names (LinkAt here seen ∷ reads) at link t h e = elim (cases_Bool (names 
   ])
 ]
 
-module _ (start : Start) (w : World) (a : Incarnations) (notes : ℕ → Notes) (p : ℕ) (g : Agrees start w a notes) (r : ReadsHeldPlaces (w.know p)) where
+module _ (start : Start) (w : World) (a : Incarnations) (notes : ℕ → Notes) (p : ℕ) (g : Agrees start w a notes)
+    (r : ReadsHeldPlaces (w.know p)) where
   -- the incarnation that the pass holds at a slot is the slot's last
-  holds_last : (s : ℕ) → holds (w.know p).checked s ≡ true → IsHeldIncarnation a (w.know p).epoch s (last_in a s) → a.last s ≡ Some (last_in a s) → HoldsLast a (notes p).checked s
-  holds_last s q h l = (last_in a s, holds_just g.sound (w.know p).epoch (notes p).checked (g.knows p).checked s (last_in a s) (rw (g.knows p).checked_reads at q) h, l)
+  holds_last : (s : ℕ) → holds (w.know p).checked s ≡ true → IsHeldIncarnation a (w.know p).epoch s (last_in a s) →
+      a.last s ≡ Some (last_in a s) → HoldsLast a (notes p).checked s
+  holds_last s q h l = (
+    last_in a s,
+    holds_just g.sound (w.know p).epoch (notes p).checked (g.knows p).checked s (last_in a s)
+        (rw (g.knows p).checked_reads at q) h,
+    l,
+  )
 
   -- behind which the exchange is made
-  last_behind : (at : At) (link : Link) → knows_link (w.know p).checked at link ≡ true → LinkStands start a (w.know p).epoch (w.know p).checked at link → HoldsLastAt a (notes p).checked at
+  last_behind : (at : At) (link : Link) → knows_link (w.know p).checked at link ≡ true →
+      LinkStands start a (w.know p).epoch (w.know p).checked at link → HoldsLastAt a (notes p).checked at
   last_behind (Head b) link k m = tt
-  last_behind (Slot s) link k m = holds_last s (link_held (w.know p).checked (w.know p).checked (Slot s) link r.checked k) m.held m.last
+  last_behind (Slot s) link k m =
+      holds_last s (link_held (w.know p).checked (w.know p).checked (Slot s) link r.checked k) m.held m.last
 
   -- and which the link names
-  last_named : (at : At) (link : Link) → knows_link (w.know p).checked at link ≡ true → LinkStands start a (w.know p).epoch (w.know p).checked at link → HoldsLastNext a (notes p).checked link.slot
+  last_named : (at : At) (link : Link) → knows_link (w.know p).checked at link ≡ true →
+      LinkStands start a (w.know p).epoch (w.know p).checked at link → HoldsLastNext a (notes p).checked link.slot
   last_named at link k m = go link.slot refl (next_of a (before_at a at)) refl m.next
     where
-      go : (o : Option ℕ) → link.slot ≡ o → (n : Option ℕ) → next_of a (before_at a at) ≡ n → IsHeldNext a (w.know p).epoch o n → HoldsLastNext a (notes p).checked o
+      go : (o : Option ℕ) → link.slot ≡ o → (n : Option ℕ) → next_of a (before_at a at) ≡ n →
+          IsHeldNext a (w.know p).epoch o n → HoldsLastNext a (notes p).checked o
       go None e n f h = tt
       go (Some t) e None f h = absurd h
       go (Some t) e (Some c) f h =
@@ -78,60 +91,103 @@ module _ (start : Start) (w : World) (a : Incarnations) (notes : ℕ → Notes) 
           holds_last t (link_names (w.know p).checked at link t k e) (rw d h) (l ∙ ap Some (sym d))
 
   -- what the link names is the successor
-  next_held : (at : At) (link : Link) → knows_link (w.know p).checked at link ≡ true → LinkStands start a (w.know p).epoch (w.know p).checked at link → HoldsNext (notes p).checked link.slot (next_of a (before_at a at))
+  next_held : (at : At) (link : Link) → knows_link (w.know p).checked at link ≡ true →
+      LinkStands start a (w.know p).epoch (w.know p).checked at link →
+      HoldsNext (notes p).checked link.slot (next_of a (before_at a at))
   next_held at link k m = go link.slot refl (next_of a (before_at a at)) m.next
     where
-      go : (o : Option ℕ) → link.slot ≡ o → (n : Option ℕ) → IsHeldNext a (w.know p).epoch o n → HoldsNext (notes p).checked o n
+      go : (o : Option ℕ) → link.slot ≡ o → (n : Option ℕ) → IsHeldNext a (w.know p).epoch o n →
+          HoldsNext (notes p).checked o n
       go None e None h = refl
       go None e (Some c) h = absurd h
       go (Some t) e None h = absurd h
-      go (Some t) e (Some c) h = (c, holds_just g.sound (w.know p).epoch (notes p).checked (g.knows p).checked t c (rw (g.knows p).checked_reads at (link_names (w.know p).checked at link t k e)) h, refl)
+      go (Some t) e (Some c) h = (
+        c,
+        holds_just g.sound (w.know p).epoch (notes p).checked (g.knows p).checked t c
+            (rw (g.knows p).checked_reads at (link_names (w.know p).checked at link t k e)) h,
+        refl,
+      )
 
   -- which a publication gives its incarnation
-  publication_next : (pred : At) (expected s : ℕ) → knows_link (w.know p).checked pred (link_of expected) ≡ true → LinkStands start a (w.know p).epoch (w.know p).checked pred (link_of expected) → a.state (last_in a s) ≡ state.InHand p → TakesHeldNext start w a (notes p) p (Publish pred expected s)
-  publication_next (Head b) expected s k m i = rw (put_here a.next (last_in a s) (a.first b)) (next_held (Head b) (link_of expected) k m)
+  publication_next : (pred : At) (expected s : ℕ) → knows_link (w.know p).checked pred (link_of expected) ≡ true →
+      LinkStands start a (w.know p).epoch (w.know p).checked pred (link_of expected) →
+      a.state (last_in a s) ≡ state.InHand p → TakesHeldNext start w a (notes p) p (Publish pred expected s)
+  publication_next (Head b) expected s k m i =
+      rw (put_here a.next (last_in a s) (a.first b)) (next_held (Head b) (link_of expected) k m)
   publication_next (Slot q) expected s k m i =
-      let ne : last_in a s ≢ last_in a q = λ e. (let x : state.InHand p ≡ state.Linked = sym i ∙ ap a.state e ∙ m.is_open in cc) in
-      rw (put_other (put a.next (last_in a s) (a.next (last_in a q))) (last_in a q) (Some (last_in a s)) (last_in a s) ne ∙ put_here a.next (last_in a s) (a.next (last_in a q))) (next_held (Slot q) (link_of expected) k m)
+      let ne : last_in a s ≢ last_in a q =
+      λ e. (let x : state.InHand p ≡ state.Linked = sym i ∙ ap a.state e ∙ m.is_open in cc) in
+      rw (put_other (put a.next (last_in a s) (a.next (last_in a q))) (last_in a q) (Some (last_in a s)) (last_in a s)
+      ne ∙ put_here a.next (last_in a s) (a.next (last_in a q))) (next_held (Slot q) (link_of expected) k m)
 
   -- and so does a replacement
-  replacement_next : (s expected t : ℕ) → knows_link (w.know p).checked (Slot s) (link_of expected) ≡ true → LinkStands start a (w.know p).epoch (w.know p).checked (Slot s) (link_of expected) → a.state (last_in a t) ≡ state.InHand p → TakesHeldNext start w a (notes p) p (Replace s expected t)
+  replacement_next : (s expected t : ℕ) → knows_link (w.know p).checked (Slot s) (link_of expected) ≡ true →
+      LinkStands start a (w.know p).epoch (w.know p).checked (Slot s) (link_of expected) →
+      a.state (last_in a t) ≡ state.InHand p → TakesHeldNext start w a (notes p) p (Replace s expected t)
   replacement_next s expected t k m i =
-      let ne : last_in a t ≢ last_in a s = λ e. (let x : state.InHand p ≡ state.Linked = sym i ∙ ap a.state e ∙ m.is_open in cc) in
-      rw (put_other (put a.next (last_in a t) (a.next (last_in a s))) (last_in a s) (Some (last_in a t)) (last_in a t) ne ∙ put_here a.next (last_in a t) (a.next (last_in a s))) (next_held (Slot s) (link_of expected) k m)
+      let ne : last_in a t ≢ last_in a s =
+      λ e. (let x : state.InHand p ≡ state.Linked = sym i ∙ ap a.state e ∙ m.is_open in cc) in
+      rw (put_other (put a.next (last_in a t) (a.next (last_in a s))) (last_in a s) (Some (last_in a t)) (last_in a t)
+      ne ∙ put_here a.next (last_in a t) (a.next (last_in a s))) (next_held (Slot s) (link_of expected) k m)
 
-  pub right_exchange : (step : Step) → Accepts start (w.know p) step → ExchangesLink step → effect_of step (found start w step) ≡ Won → IsRightExchange start w a (notes p) p step
+  pub right_exchange : (step : Step) → Accepts start (w.know p) step → ExchangesLink step →
+      effect_of step (found start w step) ≡ Won → IsRightExchange start w a (notes p) p step
   right_exchange (Publish (Head b) expected s) ok x e =
       let t = won (word_of (w.head b) == expected) _ e in
-      let m = link_stands start w a notes p g (Head b) expected ok.held.0 ok.in_range.0 (eqb-true (word_of (w.head b)) expected t) in
+      let m = link_stands start w a notes p g (Head b) expected ok.held.0 ok.in_range.0
+      (eqb-true (word_of (w.head b)) expected t) in
       let l = (step_agrees start w a notes p (Publish (Head b) expected s) g ok).0 in
       let lawful = (rw t at l) in
-      record { names = (tt, last_named (Head b) (link_of expected) ok.held.0 m); lawful = lawful; successor = publication_next (Head b) expected s ok.held.0 m lawful.0.in_hand }
+      record {
+        names = (tt, last_named (Head b) (link_of expected) ok.held.0 m);
+        lawful = lawful;
+        successor = publication_next (Head b) expected s ok.held.0 m lawful.0.in_hand;
+      }
   right_exchange (Publish (Slot q) expected s) ok x e =
       let t = won (word_of (w.link q) == expected) _ e in
-      let m = link_stands start w a notes p g (Slot q) expected ok.held.0 ok.in_range.0 (eqb-true (word_of (w.link q)) expected t) in
+      let m = link_stands start w a notes p g (Slot q) expected ok.held.0 ok.in_range.0
+      (eqb-true (word_of (w.link q)) expected t) in
       let l = (step_agrees start w a notes p (Publish (Slot q) expected s) g ok).0 in
       let lawful = (rw t at l) in
-      record { names = (last_behind (Slot q) (link_of expected) ok.held.0 m, last_named (Slot q) (link_of expected) ok.held.0 m); lawful = lawful; successor = publication_next (Slot q) expected s ok.held.0 m lawful.0.in_hand }
+      record {
+        names =
+            (last_behind (Slot q) (link_of expected) ok.held.0 m, last_named (Slot q) (link_of expected) ok.held.0 m);
+        lawful = lawful;
+        successor = publication_next (Slot q) expected s ok.held.0 m lawful.0.in_hand;
+      }
   right_exchange (Mark s expected) ok x e =
       let t = won (word_of (w.link s) == expected) _ e in
-      let m = link_stands start w a notes p g (Slot s) expected ok.held.0 ok.in_range (eqb-true (word_of (w.link s)) expected t) in
+      let m = link_stands start w a notes p g (Slot s) expected ok.held.0 ok.in_range
+      (eqb-true (word_of (w.link s)) expected t) in
       let l = (step_agrees start w a notes p (Mark s expected) g ok).0 in
       record { names = last_behind (Slot s) (link_of expected) ok.held.0 m; lawful = rw t at l; successor = tt }
   right_exchange (Replace s expected t) ok x e =
       let y = won (word_of (w.link s) == expected) _ e in
-      let m = link_stands start w a notes p g (Slot s) expected ok.held.0 ok.in_range.0 (eqb-true (word_of (w.link s)) expected y) in
+      let m = link_stands start w a notes p g (Slot s) expected ok.held.0 ok.in_range.0
+      (eqb-true (word_of (w.link s)) expected y) in
       let l = (step_agrees start w a notes p (Replace s expected t) g ok).0 in
       let lawful = (rw y at l) in
-      record { names = (last_behind (Slot s) (link_of expected) ok.held.0 m, last_named (Slot s) (link_of expected) ok.held.0 m); lawful = lawful; successor = replacement_next s expected t ok.held.0 m lawful.0.in_hand }
+      record {
+        names =
+            (last_behind (Slot s) (link_of expected) ok.held.0 m, last_named (Slot s) (link_of expected) ok.held.0 m);
+        lawful = lawful;
+        successor = replacement_next s expected t ok.held.0 m lawful.0.in_hand;
+      }
   right_exchange (Unlink (Head b) expected s) ok x e =
       let t = won (word_of (w.head b) == expected) _ e in
-      let m = link_stands start w a notes p g (Head b) expected ok.held.0 ok.in_range.0 (eqb-true (word_of (w.head b)) expected t) in
+      let m = link_stands start w a notes p g (Head b) expected ok.held.0 ok.in_range.0
+      (eqb-true (word_of (w.head b)) expected t) in
       let l = (step_agrees start w a notes p (Unlink (Head b) expected s) g ok).0 in
       record { names = (tt, last_named (Head b) (link_of expected) ok.held.0 m); lawful = rw t at l; successor = tt }
   right_exchange (Unlink (Slot q) expected s) ok x e =
       let t = won (word_of (w.link q) == expected) _ e in
-      let m = link_stands start w a notes p g (Slot q) expected ok.held.0 ok.in_range.0 (eqb-true (word_of (w.link q)) expected t) in
+      let m = link_stands start w a notes p g (Slot q) expected ok.held.0 ok.in_range.0
+      (eqb-true (word_of (w.link q)) expected t) in
       let l = (step_agrees start w a notes p (Unlink (Slot q) expected s) g ok).0 in
-      record { names = (last_behind (Slot q) (link_of expected) ok.held.0 m, last_named (Slot q) (link_of expected) ok.held.0 m); lawful = rw t at l; successor = tt }
+      record {
+        names =
+            (last_behind (Slot q) (link_of expected) ok.held.0 m, last_named (Slot q) (link_of expected) ok.held.0 m);
+        lawful = rw t at l;
+        successor = tt;
+      }
   right_exchange step ok x e = absurd x

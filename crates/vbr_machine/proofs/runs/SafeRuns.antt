@@ -1,5 +1,6 @@
 -- Every run is safe.
-use Rattle.std.proofs.Common.{◌≡◌, ◌≢◌, ℕ, Bool, List, [], ◌∷◌, ◌++◌, Option, Some, None, refl, arith, sym, subst, ap, ◌∙◌, inl, inr}
+use Rattle.std.proofs.Common.{◌≡◌, ◌≢◌, ℕ, Bool, List, [], ◌∷◌, ◌++◌, Option, Some, None, refl, arith, sym, subst, ap}
+use Rattle.std.proofs.Common.{◌∙◌, inl, inr}
 use Rattle.std.specs.Prelude.{◌⊎◌}
 use Rattle.std.proofs.lemmas.Bool.{cases_eq}
 use Rattle.vbr_machine.specs.Start.{Start, IsStart}
@@ -17,7 +18,10 @@ use Rattle.vbr_machine.specs.Agreement.{IsNotOf, IsStored, OwnFits, Agrees}
 use Rattle.vbr_machine.specs.Safety.{IsWordOf, IsOwnerRight, IsOver, IsLastOver, BearsAfter, IsSafe}
 use Rattle.vbr_machine.specs.declared.event.Event.{Event}
 use Rattle.vbr_machine.specs.declared.event.Step.{Step}
-use Rattle.vbr_machine.specs.declared.event.Step.TheVariants.{ReadEpoch, Advance, LoadStamp, StoreStamp, Raise, TakeFlag, StoreBirth, StoreKey, StoreLink, LoadLink, LoadBirth, LoadKey, Publish, Mark, Replace, Unlink, ConfirmPresent, ConfirmAbsent, StoreValue, LoadValue}
+use Rattle.vbr_machine.specs.declared.event.Step.TheVariants.{ReadEpoch, Advance, LoadStamp, StoreStamp, Raise}
+use Rattle.vbr_machine.specs.declared.event.Step.TheVariants.{TakeFlag, StoreBirth, StoreKey, StoreLink, LoadLink}
+use Rattle.vbr_machine.specs.declared.event.Step.TheVariants.{LoadBirth, LoadKey, Publish, Mark, Replace, Unlink}
+use Rattle.vbr_machine.specs.declared.event.Step.TheVariants.{ConfirmPresent, ConfirmAbsent, StoreValue, LoadValue}
 use Rattle.vbr_machine.specs.declared.knowledge.Holding.{Holding}
 use Rattle.vbr_machine.specs.declared.knowledge.Holding.TheVariants.{Free, Unlinked, InHand}
 use Rattle.vbr_machine.specs.declared.knowledge.SlotPlace.{SlotPlace}
@@ -31,31 +35,45 @@ use Rattle.vbr_machine.proofs.runs.RightExchanges.{right_exchange}
 
 -- ---- reads are of held places
 
-reads_on : (start : Start) (passes : ℕ) (w : World) (events : List Event) → ((p : ℕ) → ReadsHeldPlaces (w.know p)) → AreAccepted start passes w events → (p : ℕ) → ReadsHeldPlaces ((world_from start w events).know p)
+reads_on : (start : Start) (passes : ℕ) (w : World) (events : List Event) → ((p : ℕ) → ReadsHeldPlaces (w.know p)) →
+    AreAccepted start passes w events → (p : ℕ) → ReadsHeldPlaces ((world_from start w events).know p)
 reads_on start passes w [] r ok p = r p
-reads_on start passes w (event ∷ events) r ok p = reads_on start passes (after start w event.pass event.step) events next ok.1 p
+reads_on start passes w (event ∷ events) r ok p =
+    reads_on start passes (after start w event.pass event.step) events next ok.1 p
   where
     own : ReadsHeldPlaces ((after start w event.pass event.step).know event.pass)
-    own = let P : Know → Type 0 = ReadsHeldPlaces in subst P (sym (know_own start w event.pass event.step)) (held_learned start (w.know event.pass) event.step (found start w event.step) (stamp_shown w event.step) (r event.pass) ok.0.1)
+    own =
+        let P : Know → Type 0 = ReadsHeldPlaces in
+        subst P (sym (know_own start w event.pass event.step))
+        (held_learned start (w.know event.pass) event.step (found start w event.step) (stamp_shown w event.step)
+        (r event.pass) ok.0.1)
 
     next : (q : ℕ) → ReadsHeldPlaces ((after start w event.pass event.step).know q)
     next q = go (cases_eq q event.pass)
       where
         go : (q ≡ event.pass) ⊎ (q ≢ event.pass) → ReadsHeldPlaces ((after start w event.pass event.step).know q)
-        go (inl e) = let P : ℕ → Type 0 = λ i. ReadsHeldPlaces ((after start w event.pass event.step).know i) in subst P (sym e) own
-        go (inr ne) = let P : Know → Type 0 = ReadsHeldPlaces in subst P (sym (know_other start w q event.pass event.step ne)) (r q)
+        go (inl e) =
+            let P : ℕ → Type 0 = λ i. ReadsHeldPlaces ((after start w event.pass event.step).know i) in
+            subst P (sym e) own
+        go (inr ne) =
+            let P : Know → Type 0 = ReadsHeldPlaces in
+            subst P (sym (know_other start w q event.pass event.step ne)) (r q)
 
 -- after a run all reads of a pass are of places that it holds
-pub run_reads : (start : Start) (passes : ℕ) (run : List Event) → IsRun start passes run → (p : ℕ) → ReadsHeldPlaces ((world_after start run).know p)
-run_reads start passes run ok = reads_on start passes (opening start) run (λ p. record { checked = tt; pending = tt }) ok
+pub run_reads : (start : Start) (passes : ℕ) (run : List Event) → IsRun start passes run → (p : ℕ) →
+    ReadsHeldPlaces ((world_after start run).know p)
+run_reads start passes run ok =
+    reads_on start passes (opening start) run (λ p. record { checked = tt; pending = tt }) ok
 
 -- ---- what an owner knows
 
-word_of_stored : {A : Type 0} (b : Bool) (value word : A) (known : Option A) → word ≡ value → IsStored b value known → IsWordOf word known
+word_of_stored : {A : Type 0} (b : Bool) (value word : A) (known : Option A) → word ≡ value → IsStored b value known →
+    IsWordOf word known
 word_of_stored b value word None e s = tt
 word_of_stored b value word (Some k) e s = e ∙ s.1
 
-owner_right : (w : World) (a : Incarnations) (p e s : ℕ) (holding : Option Holding) → IsImage w a → OwnFits a p e holding (a.place s) (a.last s) (a.stamp s) → IsOwnerRight w p s holding
+owner_right : (w : World) (a : Incarnations) (p e s : ℕ) (holding : Option Holding) → IsImage w a →
+    OwnFits a p e holding (a.place s) (a.last s) (a.stamp s) → IsOwnerRight w p s holding
 owner_right w a p e s None i o = let P : SlotPlace → Type 0 = IsNotOf p in subst P (sym (i.place s)) o
 owner_right w a p e s (Some (Free stamp)) i o = (i.place s ∙ o.0, i.stamp s ∙ o.2)
 owner_right w a p e s (Some (Unlinked reread)) i o = i.place s ∙ o.0
@@ -82,7 +100,8 @@ owner_right w a p e s (Some (InHand known)) i o =
 dead_over : (st : State) (p : ℕ) → IsDead st → IsOver st p
 dead_over st p r = grind arith
 
-last_over : (a : Incarnations) (p e s : ℕ) (holding : Option Holding) → MayBear holding → OwnFits a p e holding (a.place s) (a.last s) (a.stamp s) → IsLastOver a p (a.last s)
+last_over : (a : Incarnations) (p e s : ℕ) (holding : Option Holding) → MayBear holding →
+    OwnFits a p e holding (a.place s) (a.last s) (a.stamp s) → IsLastOver a p (a.last s)
 last_over a p e s None m o = absurd m
 last_over a p e s (Some (Unlinked reread)) m o = absurd m
 last_over a p e s (Some (Free stamp)) m o = go (a.last s) o.1
@@ -92,8 +111,12 @@ last_over a p e s (Some (Free stamp)) m o = go (a.last s) o.1
     go (Some c) r = dead_over (a.state c) p r
 last_over a p e s (Some (InHand known)) m o = let x = o.1 in rw (x.last_is, x.state) refl
 
-bears_after : (start : Start) (run : List Event) (p : ℕ) (step : Step) → Agrees start (world_after start run) (incarnations_after start run) (notes_after start run) → Accepts start ((world_after start run).know p) step → BearsAfter start run p step
-bears_after start run p (StoreBirth s birth) g ok = last_over (incarnations_after start run) p ((world_after start run).know p).epoch s (((world_after start run).know p).own s) ok.owned (g.owns p s)
+bears_after : (start : Start) (run : List Event) (p : ℕ) (step : Step) →
+    Agrees start (world_after start run) (incarnations_after start run) (notes_after start run) →
+    Accepts start ((world_after start run).know p) step → BearsAfter start run p step
+bears_after start run p (StoreBirth s birth) g ok =
+    last_over (incarnations_after start run) p ((world_after start run).know p).epoch s
+    (((world_after start run).know p).own s) ok.owned (g.owns p s)
 bears_after start run p ReadEpoch g ok = tt
 bears_after start run p (Advance from) g ok = tt
 bears_after start run p (LoadStamp s) g ok = tt
@@ -117,14 +140,17 @@ bears_after start run p (ConfirmAbsent op key at expected) g ok = tt
 -- ---- one event of a run
 
 -- an event of a run is accepted after the run before it
-accepted_there : (start : Start) (passes : ℕ) (run before later : List Event) (event : Event) → IsRun start passes run → run ≡ before ++ event ∷ later → IsRun start passes before × IsAccepted start passes (world_after start before) event
+accepted_there : (start : Start) (passes : ℕ) (run before later : List Event) (event : Event) → IsRun start passes run →
+    run ≡ before ++ event ∷ later → IsRun start passes before × IsAccepted start passes (world_after start before) event
 accepted_there start passes run before later event ok e =
-    let all : IsRun start passes (before ++ event ∷ later) = (let P : List Event → Type 0 = IsRun start passes in subst P e ok) in
+    let all : IsRun start passes (before ++ event ∷ later) =
+    (let P : List Event → Type 0 = IsRun start passes in subst P e ok) in
     (is_run_before start passes before (event ∷ later) all, (is_run_after start passes before (event ∷ later) all).0)
 
 -- ---- the theorem
 
-pub every_run : (start : Start) (passes : ℕ) (run : List Event) → IsStart start → IsRun start passes run → IsSafe start run
+pub every_run : (start : Start) (passes : ℕ) (run : List Event) → IsStart start → IsRun start passes run →
+    IsSafe start run
 every_run start passes run is ok =
     let w = world_after start run in
     let a = incarnations_after start run in
@@ -137,14 +163,17 @@ every_run start passes run is ok =
       values = rw g.calls g.tells.values;
       births = g.births;
       epoch = rw g.image.epoch g.fits.epoch;
-      links = λ at. (let P : Link → Type 0 = IsLink in subst P (sym (stands w a at g.image)) (image_fits g.sound g.fits at));
+      links = λ at.
+          (let P : Link → Type 0 = IsLink in subst P (sym (stands w a at g.image)) (image_fits g.sound g.fits at));
       knows = λ p. record {
         epoch = rw g.image.epoch (g.knows p).epoch;
         pending = (g.knows p).pending_reads;
         checked = (g.knows p).checked_reads;
         late = holds_held a (w.know p).epoch (notes_after start run p).checked (g.knows p).checked;
         one = holds_one g.sound (w.know p).epoch (notes_after start run p).checked (g.knows p).checked;
-        some = λ s h. holds_only g.sound (w.know p).epoch (notes_after start run p).checked (g.knows p).checked s (rw (g.knows p).checked_reads at h);
+        some = λ s h.
+            holds_only g.sound (w.know p).epoch (notes_after start run p).checked (g.knows p).checked s
+            (rw (g.knows p).checked_reads at h);
         reads = right_reads g.sound (w.know p) (notes_after start run p) (g.knows p) (run_reads start passes run ok p);
         own = λ s. owner_right w a p (w.know p).epoch s ((w.know p).own s) g.image (g.owns p s);
         last = g.owns p;
@@ -152,7 +181,9 @@ every_run start passes run is ok =
       slots = λ some ok_too. are_placed start some run is ok_too;
       exchanges = λ before later event e.
           let at = accepted_there start passes run before later event ok e in
-          right_exchange start (world_after start before) (incarnations_after start before) (notes_after start before) event.pass (run_agrees start passes before is at.0) (run_reads start passes before at.0 event.pass) event.step at.1.1;
+          right_exchange start (world_after start before) (incarnations_after start before) (notes_after start before)
+          event.pass (run_agrees start passes before is at.0) (run_reads start passes before at.0 event.pass) event.step
+          at.1.1;
       births_over = λ before later event e.
           let at = accepted_there start passes run before later event ok e in
           bears_after start before event.pass event.step (run_agrees start passes before is at.0) at.1.1;

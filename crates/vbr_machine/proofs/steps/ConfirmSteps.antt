@@ -1,5 +1,6 @@
 -- The confirming loads keep the agreement, and answer as the set is at that moment.
-use Rattle.std.proofs.Common.{◌≡◌, ◌≢◌, ℕ, Bool, true, false, [], ◌∷◌, ◌++◌, refl, sym, ap, ◌∙◌, inl, inr, Option, None, IsSome, Some}
+use Rattle.std.proofs.Common.{◌≡◌, ◌≢◌, ℕ, Bool, true, false, [], ◌∷◌, ◌++◌, refl, sym, ap, ◌∙◌, inl, inr, Option, None}
+use Rattle.std.proofs.Common.{IsSome, Some}
 use Rattle.std.specs.Prelude.{◌⊎◌, ◌==◌, not, unwrap_or}
 use Rattle.std.proofs.lemmas.Bool.{cases_Bool, eqb-true, cond-true}
 use Rattle.vbr_machine.specs.Start.{Start}
@@ -34,19 +35,40 @@ pub use Rattle.vbr_machine.proofs.moments.AtLoads.{found_at}
 use Rattle.vbr_machine.proofs.moments.MarkedChains.{confirmed_absent}
 
 -- a call that changes nothing
-answer_allowed : (start : Start) (w : World) (a : Incarnations) (notes : ℕ → Notes) (p : ℕ) (call : Call) → Agrees start w a notes → Allowed start (opening_keys start) a p (Confirms call) →
+answer_allowed : (start : Start) (w : World) (a : Incarnations) (notes : ℕ → Notes) (p : ℕ) (call : Call) →
+    Agrees start w a notes → Allowed start (opening_keys start) a p (Confirms call) →
     Agrees start (record w { calls = w.calls ++ call ∷ [] }) (becomes start a p (Confirms call)) (put notes p (notes p))
 answer_allowed start w a notes p call g al =
     let b = becomes start a p (Confirms call) in
     let v = record w { calls = w.calls ++ call ∷ [] } in
     agrees_next start w v a notes (put notes p (notes p)) p (Confirms call) g al
     (fits_kept a b refl refl refl refl g.fits)
-    (image_kept v w a b g.image.epoch refl refl refl refl refl refl g.image.place refl refl refl refl refl refl refl refl refl refl g.image)
-    (knows_same b w.know notes p (knows_on g.sound (grows start (opening_keys start) a p (Confirms call) g.sound al) w.know notes g.knows))
-    (owns_kept a b w.know (λ v. record { place = refl; last = refl; stamp = refl; untouched = λ c _. record { state = refl; birth = refl; key = refl; is_keyed = refl; value = refl; is_valued = refl; link = refl; is_aimed = refl } }) g.owns)
+    (image_kept v w a b g.image.epoch refl refl refl refl refl refl g.image.place refl refl refl refl refl refl refl
+    refl refl refl g.image)
+    (knows_same b w.know notes p
+    (knows_on g.sound (grows start (opening_keys start) a p (Confirms call) g.sound al) w.know notes g.knows))
+    (owns_kept a b w.know
+    (λ v. record {
+      place = refl;
+      last = refl;
+      stamp = refl;
+      untouched = λ c _.
+          record {
+            state = refl;
+            birth = refl;
+            key = refl;
+            is_keyed = refl;
+            value = refl;
+            is_valued = refl;
+            link = refl;
+            is_aimed = refl;
+          };
+    }) g.owns)
     (ap (λ l. l ++ call ∷ []) g.calls) g.births
 
-pub step_confirm_present : (start : Start) (w : World) (a : Incarnations) (notes : ℕ → Notes) (p : ℕ) (op : Op) (s expected : ℕ) → Agrees start w a notes → Accepts start (w.know p) (ConfirmPresent op s expected) → StepAgrees start w a notes p (ConfirmPresent op s expected)
+pub step_confirm_present : (start : Start) (w : World) (a : Incarnations) (notes : ℕ → Notes) (p : ℕ) (op : Op)
+    (s expected : ℕ) → Agrees start w a notes → Accepts start (w.know p) (ConfirmPresent op s expected) →
+    StepAgrees start w a notes p (ConfirmPresent op s expected)
 step_confirm_present start w a notes p op s expected g ok = go (cases_Bool (word_of (w.link s) == expected))
   where
     nothing : (o : Op) → o ≢ Remove → ChangesNothing o (present_reply o)
@@ -62,25 +84,50 @@ step_confirm_present start w a notes p op s expected g ok = go (cases_Bool (word
     reply Get keys k n e = sym e
 
     -- the value of a present key is given to a get
-    gives : (o : Op) (payloads : Payloads) (k x : ℕ) (v : Option ℕ) → o ≢ Remove → IsOpIn start o → HasValueFor o v → (IsSome v → unwrap_or v 0 ≡ x) → payloads k ≡ payload_kept start (Some x) → GivesValue payloads o k (present_reply o) (present_value o v)
+    gives : (o : Op) (payloads : Payloads) (k x : ℕ) (v : Option ℕ) → o ≢ Remove → IsOpIn start o → HasValueFor o v →
+        (IsSome v → unwrap_or v 0 ≡ x) → payloads k ≡ payload_kept start (Some x) →
+        GivesValue payloads o k (present_reply o) (present_value o v)
     gives Insert payloads k x v n i h e f = refl
     gives Remove payloads k x v n i h e f = absurd (n refl)
     gives Has payloads k x v n i h e f = refl
     gives Get payloads k x v n i h e f = some_value v x h (e h) ∙ sym (f ∙ cond-true start.shape.values (Some x) None i)
 
-    go : ((word_of (w.link s) == expected) ≡ true) ⊎ ((word_of (w.link s) == expected) ≡ false) → StepAgrees start w a notes p (ConfirmPresent op s expected)
+    go : ((word_of (w.link s) == expected) ≡ true) ⊎ ((word_of (w.link s) == expected) ≡ false) →
+        StepAgrees start w a notes p (ConfirmPresent op s expected)
     go (inr f) = rw f (tt, agrees_still start w a notes p g)
     go (inl t) =
-        let m = link_stands start w a notes p g (Slot s) expected ok.held.0 ok.in_range.0 (eqb-true (word_of (w.link s)) expected t) in
+        let m = link_stands start w a notes p g (Slot s) expected ok.held.0 ok.in_range.0
+        (eqb-true (word_of (w.link s)) expected t) in
         let key = unwrap_or (key_in (w.know p).checked s) 0 in
-        let k : key ≡ a.key (last_in a s) = key_is g.sound.slots (w.know p).epoch (notes p).checked (w.know p).checked s (last_in a s) (g.knows p).checked_reads (g.knows p).checked m.held ok.held.1 in
-        let v = value_is g.sound.slots (w.know p).epoch (notes p).checked (w.know p).checked s (last_in a s) (g.knows p).checked_reads (g.knows p).checked m.held in
-        let call : Call = record { who = p; op = op; key = key; reply = present_reply op; value = present_value op (value_in (w.know p).checked s) } in
-        let al : Allowed start (opening_keys start) a p (Confirms call) = (refl, nothing op ok.in_range.1, reply op (set_after (opening_keys start) a.calls) key ok.in_range.1 (rw k (g.tells.there (last_in a s) m.is_open)), gives op (values_after (opening_payloads start) a.calls) key (a.value (last_in a s)) (value_in (w.know p).checked s) ok.in_range.1 ok.in_shape.1 ok.held.2 v (rw k (g.tells.stored (last_in a s) m.is_open))) in
+        let k : key ≡ a.key (last_in a s) =
+        key_is g.sound.slots (w.know p).epoch (notes p).checked (w.know p).checked s (last_in a s)
+        (g.knows p).checked_reads (g.knows p).checked m.held ok.held.1 in
+        let v = value_is g.sound.slots (w.know p).epoch (notes p).checked (w.know p).checked s (last_in a s)
+        (g.knows p).checked_reads (g.knows p).checked m.held in
+        let call : Call =
+        record {
+          who = p;
+          op = op;
+          key = key;
+          reply = present_reply op;
+          value = present_value op (value_in (w.know p).checked s);
+        } in
+        let al : Allowed start (opening_keys start) a p (Confirms call) = (
+          refl,
+          nothing op ok.in_range.1,
+          reply op (set_after (opening_keys start) a.calls) key ok.in_range.1
+              (rw k (g.tells.there (last_in a s) m.is_open)),
+          gives op (values_after (opening_payloads start) a.calls) key (a.value (last_in a s))
+              (value_in (w.know p).checked s) ok.in_range.1 ok.in_shape.1 ok.held.2 v
+              (rw k (g.tells.stored (last_in a s) m.is_open)),
+        ) in
         rw t ((al, tt), answer_allowed start w a notes p call g al)
 
-pub step_confirm_absent : (start : Start) (w : World) (a : Incarnations) (notes : ℕ → Notes) (p : ℕ) (op : Op) (key : ℕ) (at : At) (expected : ℕ) → Agrees start w a notes → Accepts start (w.know p) (ConfirmAbsent op key at expected) → StepAgrees start w a notes p (ConfirmAbsent op key at expected)
-step_confirm_absent start w a notes p op key at expected g ok = go (cases_Bool (word_of (machine.link_at w at) == expected))
+pub step_confirm_absent : (start : Start) (w : World) (a : Incarnations) (notes : ℕ → Notes) (p : ℕ) (op : Op) (key : ℕ)
+    (at : At) (expected : ℕ) → Agrees start w a notes → Accepts start (w.know p) (ConfirmAbsent op key at expected) →
+    StepAgrees start w a notes p (ConfirmAbsent op key at expected)
+step_confirm_absent start w a notes p op key at expected g ok =
+    go (cases_Bool (word_of (machine.link_at w at) == expected))
   where
     nothing : (o : Op) → ChangesNothing o false
     nothing Insert = refl
@@ -100,11 +147,21 @@ step_confirm_absent start w a notes p op key at expected g ok = go (cases_Bool (
     gives Has payloads k = refl
     gives Get payloads k = refl
 
-    go : ((word_of (machine.link_at w at) == expected) ≡ true) ⊎ ((word_of (machine.link_at w at) == expected) ≡ false) → StepAgrees start w a notes p (ConfirmAbsent op key at expected)
+    go : ((word_of (machine.link_at w at) == expected) ≡ true) ⊎
+        ((word_of (machine.link_at w at) == expected) ≡ false) →
+        StepAgrees start w a notes p (ConfirmAbsent op key at expected)
     go (inr f) = rw (found_at start w at, f) (tt, agrees_still start w a notes p g)
     go (inl t) =
-        let q : machine.found start w (ConfirmAbsent op key at expected) ≡ expected = found_at start w at ∙ eqb-true (word_of (machine.link_at w at)) expected t in
-        let ab : set_after (opening_keys start) a.calls key ≡ false = sym (ap (λ calls. set_after (opening_keys start) calls key) g.calls) ∙ confirmed_absent g p op key at expected ok q in
+        let q : machine.found start w (ConfirmAbsent op key at expected) ≡ expected =
+        found_at start w at ∙ eqb-true (word_of (machine.link_at w at)) expected t in
+        let ab : set_after (opening_keys start) a.calls key ≡ false =
+        sym (ap (λ calls. set_after (opening_keys start) calls key) g.calls)
+        ∙ confirmed_absent g p op key at expected ok q in
         let call : Call = record { who = p; op = op; key = key; reply = false; value = None } in
-        let al : Allowed start (opening_keys start) a p (Confirms call) = (refl, nothing op, reply op (set_after (opening_keys start) a.calls) key ok.in_range.1 ab, gives op (values_after (opening_payloads start) a.calls) key) in
+        let al : Allowed start (opening_keys start) a p (Confirms call) = (
+          refl,
+          nothing op,
+          reply op (set_after (opening_keys start) a.calls) key ok.in_range.1 ab,
+          gives op (values_after (opening_payloads start) a.calls) key,
+        ) in
         rw (found_at start w at, t) ((al, tt), answer_allowed start w a notes p call g al)

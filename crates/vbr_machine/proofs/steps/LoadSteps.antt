@@ -27,14 +27,20 @@ use Rattle.vbr_machine.proofs.chronicles.Shown.{image_kept, image_fits, stands}
 use Rattle.vbr_machine.proofs.steps.Steps.{StepAgrees}
 
 -- a read of what the incarnations show
-loaded : (start : Start) (w : World) (a : Incarnations) (notes : ℕ → Notes) (p : ℕ) (read : Read) → Agrees start w a notes → read ≡ shown_at a read → (a.epoch ≡ (w.know p).epoch → IsGood a (w.know p).epoch (note_of a read)) →
-    Agrees start (record w { know = put w.know p (with_pending (w.know p) read) }) a (put notes p (record (notes p) { pending = (notes p).pending ++ note_of a read ∷ [] }))
+loaded : (start : Start) (w : World) (a : Incarnations) (notes : ℕ → Notes) (p : ℕ) (read : Read) →
+    Agrees start w a notes → read ≡ shown_at a read →
+    (a.epoch ≡ (w.know p).epoch → IsGood a (w.know p).epoch (note_of a read)) →
+    Agrees start (record w { know = put w.know p (with_pending (w.know p) read) }) a
+    (put notes p (record (notes p) { pending = (notes p).pending ++ note_of a read ∷ [] }))
 loaded start w a notes p read g is good = record {
   sound = g.sound;
   tells = g.tells;
   fits = g.fits;
-  image = image_kept (record w { know = put w.know p (with_pending (w.know p) read) }) w a a g.image.epoch refl refl refl refl refl refl g.image.place refl refl refl refl refl refl refl refl refl refl g.image;
-  knows = knows_put a w.know notes p (with_pending (w.know p) read) (record (notes p) { pending = (notes p).pending ++ note_of a read ∷ [] }) g.knows (noted_pending a (w.know p) (notes p) (note_of a read) (g.knows p) is good);
+  image = image_kept (record w { know = put w.know p (with_pending (w.know p) read) }) w a a g.image.epoch refl refl
+      refl refl refl refl g.image.place refl refl refl refl refl refl refl refl refl refl g.image;
+  knows = knows_put a w.know notes p (with_pending (w.know p) read)
+      (record (notes p) { pending = (notes p).pending ++ note_of a read ∷ [] }) g.knows
+      (noted_pending a (w.know p) (notes p) (note_of a read) (g.knows p) is good);
   owns = owns_beside a w.know p (with_pending (w.know p) read) refl (λ v. refl) g.owns;
   calls = g.calls;
   births = g.births;
@@ -44,54 +50,76 @@ held_at_epoch : (a : Incarnations) (e f s c : ℕ) → e ≡ f → IsHeldIncarna
 held_at_epoch a e f s c q h = let P : ℕ → Type 0 = λ i. IsHeldIncarnation a i s c in subst P q h
 
 -- the last incarnation of a slot that a pass holds is the one it holds, where the epoch is its own
-held_now : (start : Start) (w : World) (a : Incarnations) (notes : ℕ → Notes) (p s : ℕ) → Agrees start w a notes → holds (w.know p).checked s ≡ true → a.epoch ≡ (w.know p).epoch → IsHeldIncarnation a a.epoch s (last_in a s) × (a.last s ≡ Some (last_in a s))
+held_now : (start : Start) (w : World) (a : Incarnations) (notes : ℕ → Notes) (p s : ℕ) → Agrees start w a notes →
+    holds (w.know p).checked s ≡ true → a.epoch ≡ (w.know p).epoch →
+    IsHeldIncarnation a a.epoch s (last_in a s) × (a.last s ≡ Some (last_in a s))
 held_now start w a notes p s g h e =
-    let x = held_found a (w.know p).epoch (notes p).checked s (rw ((g.knows p).checked_reads) at h) (g.knows p).checked in
+    let x = held_found a (w.know p).epoch (notes p).checked s (rw ((g.knows p).checked_reads) at h)
+    (g.knows p).checked in
     let y : IsHeldIncarnation a a.epoch s x.0 = held_at_epoch a (w.know p).epoch a.epoch s x.0 (sym e) x.1 in
     let l = held_last g.sound s x.0 y in
     let c : last_in a s ≡ x.0 = rw l refl in
     (rw c y, l ∙ ap Some (sym c))
 
-good_as : (a : Incarnations) (at : At) (e f : ℕ) (l m : Link) (of off names : Option ℕ) → e ≡ f → l ≡ m → of ≡ off → IsGoodLink a f at m off names → IsGoodLink a e at l of names
+good_as : (a : Incarnations) (at : At) (e f : ℕ) (l m : Link) (of off names : Option ℕ) → e ≡ f → l ≡ m → of ≡ off →
+    IsGoodLink a f at m off names → IsGoodLink a e at l of names
 good_as a at e f l m of off names q r o h = rw (q, r, o) h
 
-one_as : (a : Incarnations) (s e f : ℕ) (values : ℕ → ℕ) (value c : ℕ) (of : Option ℕ) → e ≡ f → of ≡ Some c → IsHeldIncarnation a f s c → values c ≡ value → IsOfHeldOne a e s values value of
+one_as : (a : Incarnations) (s e f : ℕ) (values : ℕ → ℕ) (value c : ℕ) (of : Option ℕ) → e ≡ f → of ≡ Some c →
+    IsHeldIncarnation a f s c → values c ≡ value → IsOfHeldOne a e s values value of
 one_as a s e f values value c of q o h v = rw (q, o) (h, v)
 
-pub step_load_birth : (start : Start) (w : World) (a : Incarnations) (notes : ℕ → Notes) (p s : ℕ) → Agrees start w a notes → Accepts start (w.know p) (LoadBirth s) → StepAgrees start w a notes p (LoadBirth s)
+pub step_load_birth : (start : Start) (w : World) (a : Incarnations) (notes : ℕ → Notes) (p s : ℕ) →
+    Agrees start w a notes → Accepts start (w.know p) (LoadBirth s) → StepAgrees start w a notes p (LoadBirth s)
 step_load_birth start w a notes p s g ok = (
   tt,
   loaded start w a notes p (BirthOf s (w.birth s)) g (ap (BirthOf s) (g.image.birth s))
-      (λ e. let h = held_now start w a notes p s g ok.held e in one_as a s (w.know p).epoch a.epoch a.birth (w.birth s) (last_in a s) (a.last s) (sym e) h.1 h.0 (sym (g.image.birth s ∙ ap (birth_shown a) h.1))),
+      (λ e. let h = held_now start w a notes p s g ok.held e in
+      one_as a s (w.know p).epoch a.epoch a.birth (w.birth s) (last_in a s) (a.last s) (sym e) h.1 h.0
+      (sym (g.image.birth s ∙ ap (birth_shown a) h.1))),
 )
 
-pub step_load_key : (start : Start) (w : World) (a : Incarnations) (notes : ℕ → Notes) (p s : ℕ) → Agrees start w a notes → Accepts start (w.know p) (LoadKey s) → StepAgrees start w a notes p (LoadKey s)
+pub step_load_key : (start : Start) (w : World) (a : Incarnations) (notes : ℕ → Notes) (p s : ℕ) →
+    Agrees start w a notes → Accepts start (w.know p) (LoadKey s) → StepAgrees start w a notes p (LoadKey s)
 step_load_key start w a notes p s g ok = (
   tt,
   loaded start w a notes p (KeyOf s (w.key s)) g (ap (KeyOf s) (g.image.key s))
-      (λ e. let h = held_now start w a notes p s g ok.held e in one_as a s (w.know p).epoch a.epoch a.key (w.key s) (last_in a s) (a.last s) (sym e) h.1 h.0 (sym (g.image.key s ∙ ap (key_shown a) h.1))),
+      (λ e. let h = held_now start w a notes p s g ok.held e in
+      one_as a s (w.know p).epoch a.epoch a.key (w.key s) (last_in a s) (a.last s) (sym e) h.1 h.0
+      (sym (g.image.key s ∙ ap (key_shown a) h.1))),
 )
 
-pub step_load_value : (start : Start) (w : World) (a : Incarnations) (notes : ℕ → Notes) (p s : ℕ) → Agrees start w a notes → Accepts start (w.know p) (LoadValue s) → StepAgrees start w a notes p (LoadValue s)
+pub step_load_value : (start : Start) (w : World) (a : Incarnations) (notes : ℕ → Notes) (p s : ℕ) →
+    Agrees start w a notes → Accepts start (w.know p) (LoadValue s) → StepAgrees start w a notes p (LoadValue s)
 step_load_value start w a notes p s g ok = (
   tt,
   loaded start w a notes p (ValueOf s (w.value s)) g (ap (ValueOf s) (g.image.value s))
-      (λ e. let h = held_now start w a notes p s g ok.held e in one_as a s (w.know p).epoch a.epoch a.value (w.value s) (last_in a s) (a.last s) (sym e) h.1 h.0 (sym (g.image.value s ∙ ap (value_shown a) h.1))),
+      (λ e. let h = held_now start w a notes p s g ok.held e in
+      one_as a s (w.know p).epoch a.epoch a.value (w.value s) (last_in a s) (a.last s) (sym e) h.1 h.0
+      (sym (g.image.value s ∙ ap (value_shown a) h.1))),
 )
 
 -- the link of the word that stands at a place is that of the image
-pub link_read : {start : Start} {w : World} {a : Incarnations} {notes : ℕ → Notes} → Agrees start w a notes → (at : At) → link_of (word_of (machine.link_at w at)) ≡ link_shown_at a at
-link_read {start} {w} {a} g at = ap (λ l. link_of (word_of l)) (stands w a at g.image) ∙ link_of-word_of (link_shown_at a at) (image_fits g.sound g.fits at)
+pub link_read : {start : Start} {w : World} {a : Incarnations} {notes : ℕ → Notes} → Agrees start w a notes →
+    (at : At) → link_of (word_of (machine.link_at w at)) ≡ link_shown_at a at
+link_read {start} {w} {a} g at = ap (λ l. link_of (word_of l)) (stands w a at g.image)
+    ∙ link_of-word_of (link_shown_at a at) (image_fits g.sound g.fits at)
 
-pub step_load_link : (start : Start) (w : World) (a : Incarnations) (notes : ℕ → Notes) (p : ℕ) (at : At) → Agrees start w a notes → Accepts start (w.know p) (LoadLink at) → StepAgrees start w a notes p (LoadLink at)
+pub step_load_link : (start : Start) (w : World) (a : Incarnations) (notes : ℕ → Notes) (p : ℕ) (at : At) →
+    Agrees start w a notes → Accepts start (w.know p) (LoadLink at) → StepAgrees start w a notes p (LoadLink at)
 step_load_link start w a notes p (Head b) g ok = (
   tt,
-  loaded start w a notes p (LinkAt (Head b) (link_of (word_of (w.head b)))) g (ap (LinkAt (Head b)) (link_read g (Head b)))
-      (λ e. good_as a (Head b) (w.know p).epoch a.epoch (link_of (word_of (w.head b))) (link_shown_at a (Head b)) None None (a.first b) (sym e) (link_read g (Head b)) refl (load_head g.sound b)),
+  loaded start w a notes p (LinkAt (Head b) (link_of (word_of (w.head b)))) g
+      (ap (LinkAt (Head b)) (link_read g (Head b)))
+      (λ e. good_as a (Head b) (w.know p).epoch a.epoch (link_of (word_of (w.head b))) (link_shown_at a (Head b)) None
+      None (a.first b) (sym e) (link_read g (Head b)) refl (load_head g.sound b)),
 )
 step_load_link start w a notes p (Slot s) g ok = (
   tt,
-  loaded start w a notes p (LinkAt (Slot s) (link_of (word_of (w.link s)))) g (ap (LinkAt (Slot s)) (link_read g (Slot s)))
+  loaded start w a notes p (LinkAt (Slot s) (link_of (word_of (w.link s)))) g
+      (ap (LinkAt (Slot s)) (link_read g (Slot s)))
       (λ e. let h = held_now start w a notes p s g ok.held e in
-      good_as a (Slot s) (w.know p).epoch a.epoch (link_of (word_of (w.link s))) (link_shown_at a (Slot s)) (a.last s) (Some (last_in a s)) (a.next (last_in a s)) (sym e) (link_read g (Slot s)) h.1 (load_slot g.sound s (last_in a s) h.0)),
+      good_as a (Slot s) (w.know p).epoch a.epoch (link_of (word_of (w.link s))) (link_shown_at a (Slot s)) (a.last s)
+      (Some (last_in a s)) (a.next (last_in a s)) (sym e) (link_read g (Slot s)) h.1
+      (load_slot g.sound s (last_in a s) h.0)),
 )

@@ -44,19 +44,27 @@ next_low a e (Some v) None h = absurd h
 next_low a e (Some v) (Some n) h = h.birth
 
 -- a link that names a slot by its checked birth is the one to the incarnation that is held there
-pub aims_at : {start : Start} {a : Incarnations} → SlotsSound start a → (e : ℕ) (notes : List Note) (reads : List Read) (c : ℕ) (v n : Option ℕ) → reads ≡ reads_of notes → AllByRecursion (IsGood a e) notes → IsHeldNext a e v n → IsSome (birth_of reads v) → a.link c ≡ link_to v (a.birth c) (unwrap_or (birth_of reads v) 0) → a.link c ≡ link_to_next a (a.birth c) n
+pub aims_at : {start : Start} {a : Incarnations} → SlotsSound start a →
+    (e : ℕ) (notes : List Note) (reads : List Read) (c : ℕ) (v n : Option ℕ) → reads ≡ reads_of notes →
+    AllByRecursion (IsGood a e) notes → IsHeldNext a e v n → IsSome (birth_of reads v) →
+    a.link c ≡ link_to v (a.birth c) (unwrap_or (birth_of reads v) 0) → a.link c ≡ link_to_next a (a.birth c) n
 aims_at {start} {a} snd e notes reads c v n q al h known is =
     let sl = slot_of_is a e v n h in
     let nb = birth_of_is snd e notes reads v n q al h known in
     is ∙ (λ i. record { slot = sl i; mark = false; version = max (a.birth c) (nb i) })
 
-module _ (start : Start) (w : World) (a : Incarnations) (notes : ℕ → Notes) (p : ℕ) (pred : At) (expected s : ℕ) (g : Agrees start w a notes) (ok : Accepts start (w.know p) (Publish pred expected s)) (m : LinkStands start a (w.know p).epoch (w.know p).checked pred (link_of expected)) where
+module _ (start : Start) (w : World) (a : Incarnations) (notes : ℕ → Notes) (p : ℕ) (pred : At) (expected s : ℕ)
+    (g : Agrees start w a notes) (ok : Accepts start (w.know p) (Publish pred expected s))
+    (m : LinkStands start a (w.know p).epoch (w.know p).checked pred (link_of expected)) where
   pub ready : ReadyFacts start a p s (w.know p).epoch (w.know p).checked pred (link_of expected) ((w.know p).own s)
-  ready = ready_facts start a p s (w.know p).epoch (w.know p).checked pred (link_of expected) ((w.know p).own s) (g.owns p s) ok.in_range.1
+  ready = ready_facts start a p s (w.know p).epoch (w.know p).checked pred (link_of expected) ((w.know p).own s)
+      (g.owns p s) ok.in_range.1
 
   -- the link in hand is the one that the incarnation must have
   pub own_link : a.link (last_in a s) ≡ link_to_next a (a.birth (last_in a s)) (next_of a (before_at a pred))
-  own_link = aims_at g.sound.slots (w.know p).epoch (notes p).checked (w.know p).checked (last_in a s) (link_of expected).slot (next_of a (before_at a pred)) (g.knows p).checked_reads (g.knows p).checked m.next ok.held.2.0 ready.link_ready
+  own_link = aims_at g.sound.slots (w.know p).epoch (notes p).checked (w.know p).checked (last_in a s)
+      (link_of expected).slot (next_of a (before_at a pred)) (g.knows p).checked_reads (g.knows p).checked m.next
+      ok.held.2.0 ready.link_ready
 
   -- what the step adds to the chronicle is allowed
   pub may_insert : MayInsert start a p (last_in a s) (before_at a pred)
@@ -75,18 +83,22 @@ module _ (start : Start) (w : World) (a : Incarnations) (notes : ℕ → Notes) 
   slot_is = (g.sound.slots.last_born s (last_in a s) ready.last).1
 
   -- the link that the step writes is that of the image after it
-  pub new_link : link_shown_at (becomes start a p (Inserts (last_in a s) (before_at a pred))) pred ≡ link_written (w.know p) (Publish pred expected s)
+  pub new_link : link_shown_at (becomes start a p (Inserts (last_in a s) (before_at a pred))) pred
+      ≡ link_written (w.know p) (Publish pred expected s)
   new_link =
       let pb = m.birth ok.held.1.0 in
       let ob = ready.birth_is in
-      inserted_here p (last_in a s) pred m.last may_insert ∙ (λ i. record { slot = Some (slot_is i); mark = false; version = max (sym pb i) (sym ob i) })
+      inserted_here p (last_in a s) pred m.last may_insert
+      ∙ (λ i. record { slot = Some (slot_is i); mark = false; version = max (sym pb i) (sym ob i) })
 
   -- and elsewhere no link changes
-  pub old_links : (at : At) → at ≢ pred → link_shown_at (becomes start a p (Inserts (last_in a s) (before_at a pred))) at ≡ link_shown_at a at
+  pub old_links : (at : At) → at ≢ pred →
+      link_shown_at (becomes start a p (Inserts (last_in a s) (before_at a pred))) at ≡ link_shown_at a at
   old_links = inserted_there g.sound p (last_in a s) pred m.last may_insert
 
   pub gr : Grows a (becomes start a p (Inserts (last_in a s) (before_at a pred)))
   gr = grows start (opening_keys start) a p (Inserts (last_in a s) (before_at a pred)) g.sound may_insert
 
-  pub held_new : IsHeldIncarnation (becomes start a p (Inserts (last_in a s) (before_at a pred))) (w.know p).epoch s (last_in a s)
+  pub held_new : IsHeldIncarnation (becomes start a p (Inserts (last_in a s) (before_at a pred))) (w.know p).epoch s
+      (last_in a s)
   held_new = record { slot = slot_is; birth = ready.born; late = rw (put_here a.state (last_in a s) Linked) tt }

@@ -21,30 +21,43 @@ use Rattle.vbr_machine.proofs.words.Puts.{put_here, put_other}
 use Rattle.vbr_machine.proofs.reads.HeldReads.{stays_at, stays_next}
 use Rattle.vbr_machine.proofs.reads.ValueReads.{of_value}
 use Rattle.vbr_machine.proofs.reads.StandingLinks.{LinkStands, node_at}
-use Rattle.vbr_machine.proofs.steps.PublishSteps.{ready, own_link, new_link, old_links, gr, held_new, birth_there_low, next_low}
+use Rattle.vbr_machine.proofs.steps.PublishSteps.{ready, own_link, new_link, old_links, gr, held_new, birth_there_low}
+use Rattle.vbr_machine.proofs.steps.PublishSteps.{next_low}
 
-pub pair_as : (a : Incarnations) (at : At) (e : ℕ) (l : Link) (of off names named : Option ℕ) → of ≡ off → names ≡ named → IsGoodLink a e at l off named → IsGoodLink a e at l of names
+pub pair_as : (a : Incarnations) (at : At) (e : ℕ) (l : Link) (of off names named : Option ℕ) → of ≡ off →
+    names ≡ named → IsGoodLink a e at l off named → IsGoodLink a e at l of names
 pair_as a at e l of off names named o n h = rw (o, n) h
 
-pub one_as : (a : Incarnations) (s e : ℕ) (values : ℕ → ℕ) (value c : ℕ) (of : Option ℕ) → of ≡ Some c → IsHeldIncarnation a e s c → values c ≡ value → IsOfHeldOne a e s values value of
+pub one_as : (a : Incarnations) (s e : ℕ) (values : ℕ → ℕ) (value c : ℕ) (of : Option ℕ) → of ≡ Some c →
+    IsHeldIncarnation a e s c → values c ≡ value → IsOfHeldOne a e s values value of
 one_as a s e values value c of o h v = rw o (h, v)
 
-last_after : (start : Start) (a : Incarnations) (p c : ℕ) (at : At) → last_at a at ≡ node_at a at → last_at (becomes start a p (Inserts c (before_at a at))) at ≡ node_at a at
+last_after : (start : Start) (a : Incarnations) (p c : ℕ) (at : At) → last_at a at ≡ node_at a at →
+    last_at (becomes start a p (Inserts c (before_at a at))) at ≡ node_at a at
 last_after start a p c (Head h) l = refl
 last_after start a p c (Slot q) l = l
 
-next_after : (start : Start) (a : Incarnations) (p c : ℕ) (at : At) → next_of (becomes start a p (Inserts c (before_at a at))) (before_at (becomes start a p (Inserts c (before_at a at))) at) ≡ Some c
+next_after : (start : Start) (a : Incarnations) (p c : ℕ) (at : At) →
+    next_of (becomes start a p (Inserts c (before_at a at)))
+    (before_at (becomes start a p (Inserts c (before_at a at))) at) ≡ Some c
 next_after start a p c (Head h) = put_here a.first h (Some c)
 next_after start a p c (Slot q) = put_here (put a.next c (a.next (last_in a q))) (last_in a q) (Some c)
 
-next_new : (start : Start) (a : Incarnations) (p c q : ℕ) (at : At) → a.state c ≡ InHand q → IsOpen a (before_at a at) → (becomes start a p (Inserts c (before_at a at))).next c ≡ next_of a (before_at a at)
+next_new : (start : Start) (a : Incarnations) (p c q : ℕ) (at : At) → a.state c ≡ InHand q → IsOpen a (before_at a at) →
+    (becomes start a p (Inserts c (before_at a at))).next c ≡ next_of a (before_at a at)
 next_new start a p c q (Head h) st o = put_here a.next c (a.first h)
 next_new start a p c q (Slot v) st o =
     let ne : c ≢ last_in a v = λ e. let y : a.state c ≡ Linked = rw e o in cc in
-    put_other (put a.next c (a.next (last_in a v))) (last_in a v) (Some c) c ne ∙ put_here a.next c (a.next (last_in a v))
+    put_other (put a.next c (a.next (last_in a v))) (last_in a v) (Some c) c ne
+    ∙ put_here a.next c (a.next (last_in a v))
 
-module _ (start : Start) (w : World) (a : Incarnations) (notes : ℕ → Notes) (p : ℕ) (pred : At) (expected s : ℕ) (g : Agrees start w a notes) (ok : Accepts start (w.know p) (Publish pred expected s)) (m : LinkStands start a (w.know p).epoch (w.know p).checked pred (link_of expected)) where
-  pub goods : AllByRecursion (λ read. IsGood (becomes start a p (Inserts (last_in a s) (before_at a pred))) (w.know p).epoch (note_of (becomes start a p (Inserts (last_in a s) (before_at a pred))) read)) (reads_won (w.know p) (Publish pred expected s))
+module _ (start : Start) (w : World) (a : Incarnations) (notes : ℕ → Notes) (p : ℕ) (pred : At) (expected s : ℕ)
+    (g : Agrees start w a notes) (ok : Accepts start (w.know p) (Publish pred expected s))
+    (m : LinkStands start a (w.know p).epoch (w.know p).checked pred (link_of expected)) where
+  pub goods : AllByRecursion
+      (λ read. IsGood (becomes start a p (Inserts (last_in a s) (before_at a pred))) (w.know p).epoch
+      (note_of (becomes start a p (Inserts (last_in a s) (before_at a pred))) read))
+      (reads_won (w.know p) (Publish pred expected s))
   goods =
       let c = last_in a s in
       let b = becomes start a p (Inserts c (before_at a pred)) in
@@ -55,9 +68,14 @@ module _ (start : Start) (w : World) (a : Incarnations) (notes : ℕ → Notes) 
       let grow = gr start w a notes p pred expected s g ok m in
       let le = (g.knows p).epoch in
       let own_is : link_in_hand own ≡ a.link c = r.link_is in (
-        pair_as b pred e (link_written (w.know p) (Publish pred expected s)) (last_at b pred) (node_at a pred) (next_of b (before_at b pred)) (Some c) (last_after start a p c pred m.last) (next_after start a p c pred)
+        pair_as b pred e (link_written (w.know p) (Publish pred expected s)) (last_at b pred) (node_at a pred)
+            (next_of b (before_at b pred)) (Some c) (last_after start a p c pred m.last) (next_after start a p c pred)
             (record {
-              version = (let i = m.birth ok.held.1.0 in let j = r.birth_is in let k = r.born in let l = birth_there_low a e pred m.held in omega arith);
+              version = (let i = m.birth ok.held.1.0 in
+                  let j = r.birth_is in
+                  let k = r.born in
+                  let l = birth_there_low a e pred m.held in
+                  omega arith);
               place = stays_at g.sound grow e pred (node_at a pred) le m.held;
               next = h;
               frozen = λ z. absurd (cc);
@@ -67,33 +85,48 @@ module _ (start : Start) (w : World) (a : Incarnations) (notes : ℕ → Notes) 
           (
             one_as b s e a.key (key_in_hand own) c (a.last s) r.last h (sym r.key_is),
             (
-              pair_as b (Slot s) e (link_in_hand own) (a.last s) (Some c) (b.next c) (next_of a (before_at a pred)) r.last (next_new start a p c p pred r.state m.is_open)
+              pair_as b (Slot s) e (link_in_hand own) (a.last s) (Some c) (b.next c) (next_of a (before_at a pred))
+                  r.last (next_new start a p c p pred r.state m.is_open)
                   (record {
-                    version = rw (own_is ∙ own_link start w a notes p pred expected s g ok m) (let k = r.born in let l = next_low a e (link_of expected).slot (next_of a (before_at a pred)) m.next in omega arith);
+                    version = rw (own_is ∙ own_link start w a notes p pred expected s g ok m)
+                        (let k = r.born in
+                        let l = next_low a e (link_of expected).slot (next_of a (before_at a pred)) m.next in
+                        omega arith);
                     place = h;
-                    next = rw (own_is ∙ r.link_ready) (stays_next g.sound grow e (link_of expected).slot (next_of a (before_at a pred)) le m.next);
+                    next = rw (own_is ∙ r.link_ready)
+                        (stays_next g.sound grow e (link_of expected).slot (next_of a (before_at a pred)) le m.next);
                     frozen = λ z. let y = ap (λ (i : Link). i.mark) (own_is ∙ r.link_ready) in absurd (cc);
                   }),
-              of_value (λ read. IsGood b e (note_of b read)) s (value_in_hand own) (λ x q. one_as b s e a.value x c (a.last s) r.last h (r.value_is x q)),
+              of_value (λ read. IsGood b e (note_of b read)) s (value_in_hand own)
+                  (λ x q. one_as b s e a.value x c (a.last s) r.last h (r.value_is x q)),
             ),
           ),
         ),
       )
 
-  pub shown : AllByRecursion (λ read. read ≡ shown_at (becomes start a p (Inserts (last_in a s) (before_at a pred))) read) (reads_won (w.know p) (Publish pred expected s))
+  pub shown : AllByRecursion
+      (λ read. read ≡ shown_at (becomes start a p (Inserts (last_in a s) (before_at a pred))) read)
+      (reads_won (w.know p) (Publish pred expected s))
   shown =
       let c = last_in a s in
       let b = becomes start a p (Inserts c (before_at a pred)) in
       let r = ready start w a notes p pred expected s g ok m in
-      let other : Slot s ≢ pred = λ e. let P : At → Type 0 = λ i. IsOpen a (before_at a i) in let o : IsOpen a (before_at a (Slot s)) = subst P (sym e) m.is_open in let y = r.state in cc in (
+      let other : Slot s ≢ pred =
+      λ e. let P : At → Type 0 = λ i. IsOpen a (before_at a i) in
+      let o : IsOpen a (before_at a (Slot s)) = subst P (sym e) m.is_open in
+      let y = r.state in
+      cc in (
         ap (LinkAt pred) (sym (new_link start w a notes p pred expected s g ok m)),
         (
           ap (BirthOf s) (r.birth_is ∙ sym (ap (birth_shown b) r.last)),
           (
             ap (KeyOf s) (r.key_is ∙ sym (ap (key_shown b) r.last)),
             (
-              ap (LinkAt (Slot s)) (r.link_is ∙ sym (ap (link_in_state a c) r.state) ∙ sym (ap (link_shown a) r.last) ∙ sym (old_links start w a notes p pred expected s g ok m (Slot s) other)),
-              of_value (λ read. read ≡ shown_at b read) s (value_in_hand ((w.know p).own s)) (λ x q. ap (ValueOf s) (sym (r.value_is x q) ∙ sym (ap (value_shown b) r.last))),
+              ap (LinkAt (Slot s))
+                  (r.link_is ∙ sym (ap (link_in_state a c) r.state) ∙ sym (ap (link_shown a) r.last)
+                  ∙ sym (old_links start w a notes p pred expected s g ok m (Slot s) other)),
+              of_value (λ read. read ≡ shown_at b read) s (value_in_hand ((w.know p).own s))
+                  (λ x q. ap (ValueOf s) (sym (r.value_is x q) ∙ sym (ap (value_shown b) r.last))),
             ),
           ),
         ),

@@ -1,5 +1,6 @@
 -- The step that replaces a node keeps the agreement.
-use Rattle.std.proofs.Common.{◌≡◌, ◌≢◌, ℕ, Bool, true, [], ◌∷◌, ◌++◌, append_assoc, None, refl, arith, sym, ap, ◌∙◌, inl, inr}
+use Rattle.std.proofs.Common.{◌≡◌, ◌≢◌, ℕ, Bool, true, [], ◌∷◌, ◌++◌, append_assoc, None, refl, arith, sym, ap, ◌∙◌}
+use Rattle.std.proofs.Common.{inl, inr}
 use Rattle.std.specs.Prelude.{◌⊎◌, ◌==◌, unwrap_or}
 use Rattle.std.proofs.lemmas.Bool.{cases_eq, eqb-true}
 use Rattle.vbr_machine.specs.Start.{Start}
@@ -31,26 +32,52 @@ use Rattle.vbr_machine.proofs.steps.ReplacedNotes.{goods, shown}
 use Rattle.vbr_machine.proofs.steps.Steps.{StepAgrees, agrees_won, leaves, puts_same, hand_not_of}
 
 -- a slot that is no pass's has changed
-owns_beside_none : (a b : Incarnations) (know : ℕ → Know) (s : ℕ) → ((q : ℕ) → IsNotOf q (a.place s)) → b.place s ≡ a.place s → ((v : ℕ) → v ≢ s → IsSlotKept a b v) → Owns a know → Owns b know
+owns_beside_none : (a b : Incarnations) (know : ℕ → Know) (s : ℕ) → ((q : ℕ) → IsNotOf q (a.place s)) →
+    b.place s ≡ a.place s → ((v : ℕ) → v ≢ s → IsSlotKept a b v) → Owns a know → Owns b know
 owns_beside_none a b know s away same kept o = λ q v. go q v (cases_eq v s)
   where
     go : (q v : ℕ) → (v ≡ s) ⊎ (v ≢ s) → OwnFits b q (know q).epoch ((know q).own v) (b.place v) (b.last v) (b.stamp v)
-    go q v (inl e) = rw (e, not_owned a q (know q).epoch ((know q).own s) (a.place s) (a.last s) (a.stamp s) (o q s) (away q), same) (away q)
+    go q v (inl e) =
+        rw (e, not_owned a q (know q).epoch ((know q).own s) (a.place s) (a.last s) (a.stamp s) (o q s) (away q), same)
+        (away q)
     go q v (inr ne) = slot_kept a b q (know q).epoch (know q).epoch v ((know q).own v) (omega arith) (kept v ne) (o q v)
 
 -- the calls of a replacement, by what its pass knows
 abbrev out : Start → World → ℕ → ℕ → Call
-out start w p s = record { who = p; op = Remove; key = unwrap_or (key_in (w.know p).checked s) 0; reply = true; value = payload_kept start (value_in (w.know p).checked s) }
+out start w p s =
+    record {
+      who = p;
+      op = Remove;
+      key = unwrap_or (key_in (w.know p).checked s) 0;
+      reply = true;
+      value = payload_kept start (value_in (w.know p).checked s);
+    }
 
 abbrev into : Start → World → ℕ → ℕ → Call
-into start w p t = record { who = p; op = Insert; key = key_in_hand ((w.know p).own t); reply = true; value = payload_kept start (value_in_hand ((w.know p).own t)) }
+into start w p t =
+    record {
+      who = p;
+      op = Insert;
+      key = key_in_hand ((w.know p).own t);
+      reply = true;
+      value = payload_kept start (value_in_hand ((w.know p).own t));
+    }
 
 -- the world after a replacement
 abbrev replaced_world : Start → World → ℕ → ℕ → ℕ → ℕ → Bool → World
-replaced_world start w p s expected t = exchanged_world w p (Slot s) (Replace s expected t) t None (put w.place t (Listed (bucket_of start.shape (key_in_hand ((w.know p).own t))))) ((w.calls ++ out start w p s ∷ []) ++ into start w p t ∷ [])
+replaced_world start w p s expected t =
+    exchanged_world w p (Slot s) (Replace s expected t) t None
+    (put w.place t (Listed (bucket_of start.shape (key_in_hand ((w.know p).own t)))))
+    ((w.calls ++ out start w p s ∷ []) ++ into start w p t ∷ [])
 
-made : (start : Start) (w : World) (a : Incarnations) (notes : ℕ → Notes) (p s expected t : ℕ) (g : Agrees start w a notes) (ok : Accepts start (w.know p) (Replace s expected t)) → word_of (w.link s) ≡ expected →
-    Allowed start (opening_keys start) a p (Replaces (last_in a s) (last_in a t)) × Agrees start (replaced_world start w p s expected t true) (becomes start a p (Replaces (last_in a s) (last_in a t))) (put notes p (with_won (becomes start a p (Replaces (last_in a s) (last_in a t))) (notes p) (reads_won (w.know p) (Replace s expected t))))
+made : (start : Start) (w : World) (a : Incarnations) (notes : ℕ → Notes) (p s expected t : ℕ)
+    (g : Agrees start w a notes) (ok : Accepts start (w.know p) (Replace s expected t)) →
+    word_of (w.link s) ≡ expected →
+    Allowed start (opening_keys start) a p (Replaces (last_in a s) (last_in a t)) ×
+    Agrees start (replaced_world start w p s expected t true) (becomes start a p (Replaces (last_in a s) (last_in a t)))
+    (put notes p
+    (with_won (becomes start a p (Replaces (last_in a s) (last_in a t))) (notes p)
+    (reads_won (w.know p) (Replace s expected t))))
 made start w a notes p s expected t g ok stands =
     let old = last_in a s in
     let c = last_in a t in
@@ -63,26 +90,76 @@ made start w a notes p s expected t g ok stands =
     let v = replaced_world start w p s expected t true in
     let ex = is_exchanged w v.know v.place v.calls (Slot s) (link_written (w.know p) (Replace s expected t)) in
     let listed = Listed (bucket_of start.shape (a.key c)) in
-    let place : (k : ℕ) → b.place k ≡ put a.place t listed k = λ k. ap (λ j. put a.place j listed k) (slot_is start w a notes p s expected t g ok m) in
-    let away = listed_not_of start (a.place s) (a.state old) (a.key old) (g.sound.slots.placed old s m.last) (rw al.linked tt) in
-    let owns_one : Owns one w.know = owns_beside_none a one w.know s away refl (λ k ne. record { place = refl; last = refl; stamp = refl; untouched = λ d e. record { state = put_other a.state old Marked d (lasts_differ g.sound.slots k s old d ne m.last e); birth = refl; key = refl; is_keyed = refl; value = refl; is_valued = refl; link = refl; is_aimed = refl } }) g.owns in (
+    let place : (k : ℕ) → b.place k ≡ put a.place t listed k =
+    λ k. ap (λ j. put a.place j listed k) (slot_is start w a notes p s expected t g ok m) in
+    let away = listed_not_of start (a.place s) (a.state old) (a.key old) (g.sound.slots.placed old s m.last)
+    (rw al.linked tt) in
+    let owns_one : Owns one w.know =
+    owns_beside_none a one w.know s away refl
+    (λ k ne. record {
+      place = refl;
+      last = refl;
+      stamp = refl;
+      untouched = λ d e.
+          record {
+            state = put_other a.state old Marked d (lasts_differ g.sound.slots k s old d ne m.last e);
+            birth = refl;
+            key = refl;
+            is_keyed = refl;
+            value = refl;
+            is_valued = refl;
+            link = refl;
+            is_aimed = refl;
+          };
+    }) g.owns in (
       al,
-      agrees_won start w v a notes p (Replaces old c) (reads_won (w.know p) (Replace s expected t)) t None g al (fits_kept a b refl refl refl refl g.fits)
-          (image_exchanged w v a b (Slot s) (link_written (w.know p) (Replace s expected t)) g.image ex (new_link start w a notes p s expected t g ok m) (old_links start w a notes p s expected t g ok m) refl refl refl refl refl refl
-          (λ k. ap (λ j. put w.place t (Listed (bucket_of start.shape j)) k) r.key_is ∙ puts_same w.place a.place t listed g.image.place k ∙ sym (place k)))
+      agrees_won start w v a notes p (Replaces old c) (reads_won (w.know p) (Replace s expected t)) t None g al
+          (fits_kept a b refl refl refl refl g.fits)
+          (image_exchanged w v a b (Slot s) (link_written (w.know p) (Replace s expected t)) g.image ex
+          (new_link start w a notes p s expected t g ok m) (old_links start w a notes p s expected t g ok m) refl refl
+          refl refl refl refl
+          (λ k. ap (λ j. put w.place t (Listed (bucket_of start.shape j)) k) r.key_is
+          ∙ puts_same w.place a.place t listed g.image.place k ∙ sym (place k)))
           (shown start w a notes p s expected t g ok m) (goods start w a notes p s expected t g ok m) refl
           (owns_changed one b w.know p t x refl (λ k ne. put_other (w.know p).own t None k ne)
           (hand_not_of p (a.place t) r.place)
           (λ q ne. rw (place t ∙ put_here a.place t listed) tt)
-          (λ k ne. record { place = place k ∙ put_other a.place t listed k ne; last = refl; stamp = refl; untouched = λ d e. record { state = put_other (put a.state old Marked) c Linked d (lasts_differ g.sound.slots k t c d ne r.last e); birth = refl; key = refl; is_keyed = refl; value = refl; is_valued = refl; link = refl; is_aimed = refl } })
+          (λ k ne. record {
+            place = place k ∙ put_other a.place t listed k ne;
+            last = refl;
+            stamp = refl;
+            untouched = λ d e.
+                record {
+                  state =
+                      put_other (put a.state old Marked) c Linked d (lasts_differ g.sound.slots k t c d ne r.last e);
+                  birth = refl;
+                  key = refl;
+                  is_keyed = refl;
+                  value = refl;
+                  is_valued = refl;
+                  link = refl;
+                  is_aimed = refl;
+                };
+          })
           (rw (put_here (w.know p).own t None, place t ∙ put_here a.place t listed) tt)
           owns_one)
           (ap (λ l. (l ++ out start w p s ∷ []) ++ into start w p t ∷ []) g.calls
           ∙ append_assoc a.calls (out start w p s ∷ []) (into start w p t ∷ [])
-          ∙ (λ i. a.calls ++ record { who = p; op = Remove; key = old_key start w a notes p s expected t g ok m i; reply = true; value = old_value start w a notes p s expected t g ok m i } ∷ record { who = p; op = Insert; key = r.key_is i; reply = true; value = r.payload i } ∷ []))
+          ∙ (λ i. a.calls
+          ++ record {
+            who = p;
+            op = Remove;
+            key = old_key start w a notes p s expected t g ok m i;
+            reply = true;
+            value = old_value start w a notes p s expected t g ok m i;
+          } ∷ record { who = p; op = Insert; key = r.key_is i; reply = true; value = r.payload i } ∷ []))
           g.births,
     )
 
-pub step_replace : (start : Start) (w : World) (a : Incarnations) (notes : ℕ → Notes) (p s expected t : ℕ) → Agrees start w a notes → Accepts start (w.know p) (Replace s expected t) → StepAgrees start w a notes p (Replace s expected t)
+pub step_replace : (start : Start) (w : World) (a : Incarnations) (notes : ℕ → Notes) (p s expected t : ℕ) →
+    Agrees start w a notes → Accepts start (w.know p) (Replace s expected t) →
+    StepAgrees start w a notes p (Replace s expected t)
 step_replace start w a notes p s expected t g ok =
-    leaves start w (replaced_world start w p s expected t) a notes p (Replaces (last_in a s) (last_in a t)) (reads_won (w.know p) (Replace s expected t)) (word_of (w.link s) == expected) g (λ y. made start w a notes p s expected t g ok (eqb-true (word_of (w.link s)) expected y))
+    leaves start w (replaced_world start w p s expected t) a notes p (Replaces (last_in a s) (last_in a t))
+    (reads_won (w.know p) (Replace s expected t)) (word_of (w.link s) == expected) g
+    (λ y. made start w a notes p s expected t g ok (eqb-true (word_of (w.link s)) expected y))

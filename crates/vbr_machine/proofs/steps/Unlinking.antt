@@ -33,12 +33,18 @@ use Rattle.vbr_machine.proofs.steps.MarkSteps.{listed_not_of}
 use Rattle.vbr_machine.proofs.steps.Exchanges.{exchanged_world, is_exchanged, link_leaves, image_exchanged}
 use Rattle.vbr_machine.proofs.steps.PublishSteps.{birth_there_low, next_low}
 use Rattle.vbr_machine.proofs.steps.PublishedNotes.{pair_as}
-use Rattle.vbr_machine.proofs.steps.UnlinkSteps.{last_behind, next_behind, facts, may_unlink, link_is, new_link, old_links, gr}
+use Rattle.vbr_machine.proofs.steps.UnlinkSteps.{last_behind, next_behind, facts, may_unlink, link_is, new_link}
+use Rattle.vbr_machine.proofs.steps.UnlinkSteps.{old_links, gr}
 use Rattle.vbr_machine.proofs.steps.Steps.{StepAgrees, agrees_won, leaves, puts_same, own_not_of}
 
-module _ (start : Start) (w : World) (a : Incarnations) (notes : ℕ → Notes) (p : ℕ) (pred : At) (expected s : ℕ) (g : Agrees start w a notes) (ok : Accepts start (w.know p) (Unlink pred expected s)) (m : LinkStands start a (w.know p).epoch (w.know p).checked pred (link_of expected)) where
+module _ (start : Start) (w : World) (a : Incarnations) (notes : ℕ → Notes) (p : ℕ) (pred : At) (expected s : ℕ)
+    (g : Agrees start w a notes) (ok : Accepts start (w.know p) (Unlink pred expected s))
+    (m : LinkStands start a (w.know p).epoch (w.know p).checked pred (link_of expected)) where
   -- what the pass has checked by unlinking the node is good
-  goods : AllByRecursion (λ read. IsGood (becomes start a p (Unlinks (last_in a s) (before_at a pred))) (w.know p).epoch (note_of (becomes start a p (Unlinks (last_in a s) (before_at a pred))) read)) (reads_won (w.know p) (Unlink pred expected s))
+  goods : AllByRecursion
+      (λ read. IsGood (becomes start a p (Unlinks (last_in a s) (before_at a pred))) (w.know p).epoch
+      (note_of (becomes start a p (Unlinks (last_in a s) (before_at a pred))) read))
+      (reads_won (w.know p) (Unlink pred expected s))
   goods =
       let c = last_in a s in
       let b = becomes start a p (Unlinks c (before_at a pred)) in
@@ -47,9 +53,14 @@ module _ (start : Start) (w : World) (a : Incarnations) (notes : ℕ → Notes) 
       let r = facts start w a notes p pred expected s g ok m in
       let grow = gr start w a notes p pred expected s g ok m in
       let le = (g.knows p).epoch in (
-        pair_as b pred e (link_written (w.know p) (Unlink pred expected s)) (last_at b pred) (node_at a pred) (next_of b (before_at b pred)) (a.next c) (last_behind start a p c pred m.last) (next_behind start a p c pred)
+        pair_as b pred e (link_written (w.know p) (Unlink pred expected s)) (last_at b pred) (node_at a pred)
+            (next_of b (before_at b pred)) (a.next c) (last_behind start a p c pred m.last)
+            (next_behind start a p c pred)
             (record {
-              version = (let j = ap (λ (i : Link). i.version) (link_is start w a notes p pred expected s g ok m) in let k = birth_there_low a e pred m.held in let l = next_low a e v (a.next c) r.next in omega arith);
+              version = (let j = ap (λ (i : Link). i.version) (link_is start w a notes p pred expected s g ok m) in
+                  let k = birth_there_low a e pred m.held in
+                  let l = next_low a e v (a.next c) r.next in
+                  omega arith);
               place = stays_at g.sound grow e pred (node_at a pred) le m.held;
               next = stays_next g.sound grow e v (a.next c) le r.next;
               frozen = λ z. absurd (cc);
@@ -58,22 +69,32 @@ module _ (start : Start) (w : World) (a : Incarnations) (notes : ℕ → Notes) 
       )
 
   -- and it is what the incarnations show
-  shown : AllByRecursion (λ read. read ≡ shown_at (becomes start a p (Unlinks (last_in a s) (before_at a pred))) read) (reads_won (w.know p) (Unlink pred expected s))
+  shown : AllByRecursion (λ read. read ≡ shown_at (becomes start a p (Unlinks (last_in a s) (before_at a pred))) read)
+      (reads_won (w.know p) (Unlink pred expected s))
   shown = (ap (LinkAt pred) (sym (new_link start w a notes p pred expected s g ok m)), tt)
 
 -- the world after an unlinking
 abbrev unlinked_world : Start → World → ℕ → At → ℕ → ℕ → Bool → World
-unlinked_world start w p pred expected s = exchanged_world w p pred (Unlink pred expected s) s (Some (Unlinked false)) (put w.place s (Own p)) w.calls
+unlinked_world start w p pred expected s =
+    exchanged_world w p pred (Unlink pred expected s) s (Some (Unlinked false)) (put w.place s (Own p)) w.calls
 
-made : (start : Start) (w : World) (a : Incarnations) (notes : ℕ → Notes) (p : ℕ) (pred : At) (expected s : ℕ) (g : Agrees start w a notes) (ok : Accepts start (w.know p) (Unlink pred expected s)) → word_of (machine.link_at w pred) ≡ expected →
-    Allowed start (opening_keys start) a p (Unlinks (last_in a s) (before_at a pred)) × Agrees start (unlinked_world start w p pred expected s true) (becomes start a p (Unlinks (last_in a s) (before_at a pred))) (put notes p (with_won (becomes start a p (Unlinks (last_in a s) (before_at a pred))) (notes p) (reads_won (w.know p) (Unlink pred expected s))))
+made : (start : Start) (w : World) (a : Incarnations) (notes : ℕ → Notes) (p : ℕ) (pred : At) (expected s : ℕ)
+    (g : Agrees start w a notes) (ok : Accepts start (w.know p) (Unlink pred expected s)) →
+    word_of (machine.link_at w pred) ≡ expected →
+    Allowed start (opening_keys start) a p (Unlinks (last_in a s) (before_at a pred)) ×
+    Agrees start (unlinked_world start w p pred expected s true)
+    (becomes start a p (Unlinks (last_in a s) (before_at a pred)))
+    (put notes p
+    (with_won (becomes start a p (Unlinks (last_in a s) (before_at a pred))) (notes p)
+    (reads_won (w.know p) (Unlink pred expected s))))
 made start w a notes p pred expected s g ok stands =
     let c = last_in a s in
     let b = becomes start a p (Unlinks c (before_at a pred)) in
     let m = link_stands start w a notes p g pred expected ok.held.0 ok.in_range.0 stands in
     let r = facts start w a notes p pred expected s g ok m in
     let al = may_unlink start w a notes p pred expected s g ok m in
-    let x = with_own (with_checked (w.know p) (reads_won (w.know p) (Unlink pred expected s))) s (Some (Unlinked false)) in
+    let x = with_own (with_checked (w.know p) (reads_won (w.know p) (Unlink pred expected s))) s
+    (Some (Unlinked false)) in
     let v = unlinked_world start w p pred expected s true in
     let new = link_written (w.know p) (Unlink pred expected s) in
     let ex = is_exchanged w (put w.know p x) (put w.place s (Own p)) w.calls pred new in
@@ -81,21 +102,57 @@ made start w a notes p pred expected s g ok stands =
     let place : (k : ℕ) → b.place k ≡ put a.place s (Own p) k = λ k. ap (λ j. put a.place j (Own p) k) r.held.slot in
     let owned : b.place s ≡ Own p = place s ∙ put_here a.place s (Own p) in (
       al,
-      agrees_won start w v a notes p (Unlinks c (before_at a pred)) (reads_won (w.know p) (Unlink pred expected s)) s (Some (Unlinked false)) g al (fits_kept a b refl refl refl refl g.fits)
-          (image_exchanged w v a b pred new g.image ex (new_link start w a notes p pred expected s g ok m) (old_links start w a notes p pred expected s g ok m) refl refl refl refl refl refl
+      agrees_won start w v a notes p (Unlinks c (before_at a pred)) (reads_won (w.know p) (Unlink pred expected s)) s
+          (Some (Unlinked false)) g al (fits_kept a b refl refl refl refl g.fits)
+          (image_exchanged w v a b pred new g.image ex (new_link start w a notes p pred expected s g ok m)
+          (old_links start w a notes p pred expected s g ok m) refl refl refl refl refl refl
           (λ k. ap (λ f. f k) left.1 ∙ puts_same w.place a.place s (Own p) g.image.place k ∙ sym (place k)))
           (shown start w a notes p pred expected s g ok m) (goods start w a notes p pred expected s g ok m) left.0
           (owns_changed a b w.know p s x refl (λ k ne. put_other (w.know p).own s (Some (Unlinked false)) k ne)
-          (λ q ne. listed_not_of start (a.place s) (a.state c) (a.key c) (g.sound.slots.placed c s r.last) (rw r.state tt) q)
+          (λ q ne. listed_not_of start (a.place s) (a.state c) (a.key c) (g.sound.slots.placed c s r.last)
+          (rw r.state tt) q)
           (own_not_of p (b.place s) owned)
-          (λ k ne. record { place = place k ∙ put_other a.place s (Own p) k ne; last = refl; stamp = refl; untouched = λ d e. record { state = put_other a.state c (state.Unlinked p a.epoch) d (lasts_differ g.sound.slots k s c d ne r.last e); birth = refl; key = refl; is_keyed = refl; value = refl; is_valued = refl; link = refl; is_aimed = refl } })
-          (rw (put_here (w.know p).own s (Some (Unlinked false))) (owned, record { node = c; last_is = r.last; at = a.epoch; state = put_here a.state c (state.Unlinked p a.epoch); seen = λ z. absurd (cc) }))
+          (λ k ne. record {
+            place = place k ∙ put_other a.place s (Own p) k ne;
+            last = refl;
+            stamp = refl;
+            untouched = λ d e.
+                record {
+                  state =
+                      put_other a.state c (state.Unlinked p a.epoch) d (lasts_differ g.sound.slots k s c d ne r.last e);
+                  birth = refl;
+                  key = refl;
+                  is_keyed = refl;
+                  value = refl;
+                  is_valued = refl;
+                  link = refl;
+                  is_aimed = refl;
+                };
+          })
+          (rw (put_here (w.know p).own s (Some (Unlinked false))) (
+            owned,
+            record {
+              node = c;
+              last_is = r.last;
+              at = a.epoch;
+              state = put_here a.state c (state.Unlinked p a.epoch);
+              seen = λ z. absurd (cc);
+            },
+          ))
           g.owns)
           (left.2 ∙ g.calls) (ex.births ∙ g.births),
     )
 
-pub step_unlink : (start : Start) (w : World) (a : Incarnations) (notes : ℕ → Notes) (p : ℕ) (pred : At) (expected s : ℕ) → Agrees start w a notes → Accepts start (w.know p) (Unlink pred expected s) → StepAgrees start w a notes p (Unlink pred expected s)
+pub step_unlink : (start : Start) (w : World) (a : Incarnations) (notes : ℕ → Notes) (p : ℕ) (pred : At)
+    (expected s : ℕ) → Agrees start w a notes → Accepts start (w.know p) (Unlink pred expected s) →
+    StepAgrees start w a notes p (Unlink pred expected s)
 step_unlink start w a notes p (Head h) expected s g ok =
-    leaves start w (unlinked_world start w p (Head h) expected s) a notes p (Unlinks (last_in a s) (before_at a (Head h))) (reads_won (w.know p) (Unlink (Head h) expected s)) (word_of (w.head h) == expected) g (λ t. made start w a notes p (Head h) expected s g ok (eqb-true (word_of (w.head h)) expected t))
+    leaves start w (unlinked_world start w p (Head h) expected s) a notes p
+    (Unlinks (last_in a s) (before_at a (Head h))) (reads_won (w.know p) (Unlink (Head h) expected s))
+    (word_of (w.head h) == expected) g
+    (λ t. made start w a notes p (Head h) expected s g ok (eqb-true (word_of (w.head h)) expected t))
 step_unlink start w a notes p (Slot q) expected s g ok =
-    leaves start w (unlinked_world start w p (Slot q) expected s) a notes p (Unlinks (last_in a s) (before_at a (Slot q))) (reads_won (w.know p) (Unlink (Slot q) expected s)) (word_of (w.link q) == expected) g (λ t. made start w a notes p (Slot q) expected s g ok (eqb-true (word_of (w.link q)) expected t))
+    leaves start w (unlinked_world start w p (Slot q) expected s) a notes p
+    (Unlinks (last_in a s) (before_at a (Slot q))) (reads_won (w.know p) (Unlink (Slot q) expected s))
+    (word_of (w.link q) == expected) g
+    (λ t. made start w a notes p (Slot q) expected s g ok (eqb-true (word_of (w.link q)) expected t))

@@ -1,10 +1,12 @@
 -- The numbers of slots that are somewhere add up to the number of slots.
-use Rattle.std.proofs.Common.{◌≡◌, ◌≢◌, ℕ, zero, suc, ◌+◌, ◌<◌, ◌≤◌, Bool, true, false, List, refl, arith, ap, ◌∙◌, inl, inr}
+use Rattle.std.proofs.Common.{◌≡◌, ◌≢◌, ℕ, zero, suc, ◌+◌, ◌<◌, ◌≤◌, Bool, true, false, List, refl, arith, ap, ◌∙◌, inl}
+use Rattle.std.proofs.Common.{inr}
 use Rattle.std.specs.Prelude.{◌⊎◌, if◌then◌else◌}
 use Rattle.std.proofs.lemmas.Bool.{cases_Bool, cases_eq, cases_order}
 use Rattle.vbr_machine.specs.Start.{Start}
 use Rattle.vbr_machine.specs.Nodes.{count_below}
-use Rattle.vbr_machine.specs.Whereabouts.{Whereabouts, InSharedPool, WithPass, InSet, MarkedInList, Unstamped, is_at, IsOfPasses, IsSomewhere, number_at, number_had, sum_of}
+use Rattle.vbr_machine.specs.Whereabouts.{Whereabouts, InSharedPool, WithPass, InSet, MarkedInList, Unstamped, is_at}
+use Rattle.vbr_machine.specs.Whereabouts.{IsOfPasses, IsSomewhere, number_at, number_had, sum_of}
 use Rattle.vbr_machine.specs.declared.event.Event.{Event}
 
 -- ---- sums
@@ -27,7 +29,8 @@ sum_none zero number z = refl
 sum_none (suc p) number z = let before = sum_none p number z in let now = z p in omega arith
 
 -- where one pass alone has a number, that is the sum
-sum_just : (passes : ℕ) (number : ℕ → ℕ) (q : ℕ) → q < passes → ((p : ℕ) → p ≢ q → number p ≡ 0) → sum_of passes number ≡ number q
+sum_just : (passes : ℕ) (number : ℕ → ℕ) (q : ℕ) → q < passes → ((p : ℕ) → p ≢ q → number p ≡ 0) →
+    sum_of passes number ≡ number q
 sum_just zero number q low z = absurd (omega arith)
 sum_just (suc p) number q low z = go (cases_eq p q) (λ l. sum_just p number q l z)
   where
@@ -40,10 +43,14 @@ sum_just (suc p) number q low z = go (cases_eq p q) (λ l. sum_just p number q l
     go (inr ne) on = let now = z p ne in let before = on (lower ne) in omega arith
       where
         lower : p ≢ q → q < p
-        lower ne = elim (cases_order p q) [ inl e ↦ absurd (ne e) | inr x ↦ elim x [ inl l ↦ absurd (omega arith) | inr l ↦ l ] ]
+        lower ne = elim (cases_order p q) [
+          | inl e ↦ absurd (ne e)
+          | inr x ↦ elim x [ inl l ↦ absurd (omega arith) | inr l ↦ l ]
+        ]
 
 -- the sum of what each has and of one more for each is the sum of both
-sum_both : (passes : ℕ) (f g h : ℕ → ℕ) → ((p : ℕ) → h p ≡ f p + g p) → sum_of passes h ≡ sum_of passes f + sum_of passes g
+sum_both : (passes : ℕ) (f g h : ℕ → ℕ) → ((p : ℕ) → h p ≡ f p + g p) →
+    sum_of passes h ≡ sum_of passes f + sum_of passes g
 sum_both zero f g h e = refl
 sum_both (suc p) f g h e = let before = sum_both p f g h e in let now = e p in omega arith
 
@@ -69,11 +76,15 @@ module _ (start : Start) (passes : ℕ) (run : List Event) (each : (s : ℕ) →
   abbrev had : ℕ → ℕ → ℕ
   had s p = here (WithPass p) s + here (Unstamped p) s
 
-  none_had : (s : ℕ) (v : Whereabouts) → (each s).whereabouts ≡ v → ((p : ℕ) → WithPass p ≢ v) → ((p : ℕ) → Unstamped p ≢ v) → sum_of passes (had s) ≡ 0
-  none_had s v e x y = sum_none passes (had s) (λ p. let a = not_here s v (WithPass p) e (x p) in let b = not_here s v (Unstamped p) e (y p) in omega arith)
+  none_had : (s : ℕ) (v : Whereabouts) → (each s).whereabouts ≡ v → ((p : ℕ) → WithPass p ≢ v) →
+      ((p : ℕ) → Unstamped p ≢ v) → sum_of passes (had s) ≡ 0
+  none_had s v e x y =
+      sum_none passes (had s)
+      (λ p. let a = not_here s v (WithPass p) e (x p) in let b = not_here s v (Unstamped p) e (y p) in omega arith)
 
   -- a slot is counted once
-  once : (s : ℕ) (v : Whereabouts) → (each s).whereabouts ≡ v → IsOfPasses passes v → here v s ≡ 1 → 1 ≡ here InSharedPool s + sum_of passes (had s) + here InSet s + here MarkedInList s
+  once : (s : ℕ) (v : Whereabouts) → (each s).whereabouts ≡ v → IsOfPasses passes v → here v s ≡ 1 →
+      1 ≡ here InSharedPool s + sum_of passes (had s) + here InSet s + here MarkedInList s
   once s InSharedPool e low y =
       let a = none_had s InSharedPool e (λ p n. cc) (λ p n. cc) in
       let b = not_here s InSharedPool InSet e (λ n. cc) in
@@ -90,14 +101,22 @@ module _ (start : Start) (passes : ℕ) (run : List Event) (each : (s : ℕ) →
       let c = not_here s MarkedInList InSet e (λ n. cc) in
       omega arith
   once s (WithPass q) e low y =
-      let others = sum_just passes (had s) q low (λ p ne. let a = not_here s (WithPass q) (WithPass p) e (λ n. ne (cc)) in let b = not_here s (WithPass q) (Unstamped p) e (λ n. cc) in omega arith) in
+      let others =
+      sum_just passes (had s) q low
+      (λ p ne. let a = not_here s (WithPass q) (WithPass p) e (λ n. ne (cc)) in
+      let b = not_here s (WithPass q) (Unstamped p) e (λ n. cc) in
+      omega arith) in
       let a = not_here s (WithPass q) (Unstamped q) e (λ n. cc) in
       let b = not_here s (WithPass q) InSharedPool e (λ n. cc) in
       let c = not_here s (WithPass q) InSet e (λ n. cc) in
       let d = not_here s (WithPass q) MarkedInList e (λ n. cc) in
       omega arith
   once s (Unstamped q) e low y =
-      let others = sum_just passes (had s) q low (λ p ne. let a = not_here s (Unstamped q) (WithPass p) e (λ n. cc) in let b = not_here s (Unstamped q) (Unstamped p) e (λ n. ne (cc)) in omega arith) in
+      let others =
+      sum_just passes (had s) q low
+      (λ p ne. let a = not_here s (Unstamped q) (WithPass p) e (λ n. cc) in
+      let b = not_here s (Unstamped q) (Unstamped p) e (λ n. ne (cc)) in
+      omega arith) in
       let a = not_here s (Unstamped q) (WithPass q) e (λ n. cc) in
       let b = not_here s (Unstamped q) InSharedPool e (λ n. cc) in
       let c = not_here s (Unstamped q) InSet e (λ n. cc) in
@@ -108,7 +127,9 @@ module _ (start : Start) (passes : ℕ) (run : List Event) (each : (s : ℕ) →
   adds_one s = once s (each s).whereabouts refl (each s).low (ap one (each s).there)
 
   -- the slots below a number
-  up_to : (n : ℕ) → n ≡ below InSharedPool n + sum_of passes (λ p. below (WithPass p) n + below (Unstamped p) n) + below InSet n + below MarkedInList n
+  up_to : (n : ℕ) →
+      n ≡ below InSharedPool n + sum_of passes (λ p. below (WithPass p) n + below (Unstamped p) n) + below InSet n
+      + below MarkedInList n
   up_to zero = let none = sum_none passes (λ p. 0) (λ p. refl) in omega arith
   up_to (suc n) =
       let before = up_to n in
@@ -116,10 +137,15 @@ module _ (start : Start) (passes : ℕ) (run : List Event) (each : (s : ℕ) →
       let a = count_more (is_at start run InSharedPool) n in
       let b = count_more (is_at start run InSet) n in
       let c = count_more (is_at start run MarkedInList) n in
-      let d = sum_both passes (λ p. below (WithPass p) n + below (Unstamped p) n) (had n) (λ p. below (WithPass p) (suc n) + below (Unstamped p) (suc n))
-      (λ p. let e = count_more (is_at start run (WithPass p)) n in let f = count_more (is_at start run (Unstamped p)) n in omega arith) in
+      let d = sum_both passes (λ p. below (WithPass p) n + below (Unstamped p) n) (had n)
+      (λ p. below (WithPass p) (suc n) + below (Unstamped p) (suc n))
+      (λ p. let e = count_more (is_at start run (WithPass p)) n in
+      let f = count_more (is_at start run (Unstamped p)) n in
+      omega arith) in
       omega arith
 
   -- all slots
-  pub add_up : start.shape.slots ≡ number_at start run InSharedPool + sum_of passes (number_had start run) + number_at start run InSet + number_at start run MarkedInList
+  pub add_up : start.shape.slots
+      ≡ number_at start run InSharedPool + sum_of passes (number_had start run) + number_at start run InSet
+      + number_at start run MarkedInList
   add_up = up_to start.shape.slots

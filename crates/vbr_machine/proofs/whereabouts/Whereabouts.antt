@@ -6,14 +6,16 @@ use Rattle.vbr_machine.specs.Start.{Start}
 use Rattle.vbr_machine.specs.Accounts.{incarnations_after}
 use Rattle.vbr_machine.specs.Agreement.{IsNotOf, OwnFits}
 use Rattle.vbr_machine.specs.Chronicles.{IsDead, IsLastDead}
-use Rattle.vbr_machine.specs.Incarnations.{State, Unborn, InHand, GivenUp, Linked, Marked, Unlinked, Stamped, Incarnations}
+use Rattle.vbr_machine.specs.Incarnations.{State, Unborn, InHand, GivenUp, Linked, Marked, Unlinked, Stamped}
+use Rattle.vbr_machine.specs.Incarnations.{Incarnations}
 use Rattle.vbr_machine.specs.Machine.{World, is_shared}
 use Rattle.vbr_machine.specs.Nodes.{is_linked, is_marked, state_in, state_shown}
 use Rattle.vbr_machine.specs.Runs.{IsRun, know_after, world_after}
 use Rattle.vbr_machine.specs.Safety.{IsSafe}
 use Rattle.vbr_machine.specs.AgreedPlaces.{WasUnlinkedBy, LiesInHand, IsOfList, FitsPlace}
 use Rattle.vbr_machine.specs.Sound.{IsListed}
-use Rattle.vbr_machine.specs.Whereabouts.{Whereabouts, InSharedPool, WithPass, InSet, MarkedInList, Unstamped, may_bear, is_unstamped, is_at, IsOfPasses, IsSomewhere}
+use Rattle.vbr_machine.specs.Whereabouts.{Whereabouts, InSharedPool, WithPass, InSet, MarkedInList, Unstamped, may_bear}
+use Rattle.vbr_machine.specs.Whereabouts.{is_unstamped, is_at, IsOfPasses, IsSomewhere}
 use Rattle.vbr_machine.specs.declared.event.Event.{Event}
 use Rattle.vbr_machine.specs.declared.knowledge.Holding.{Holding}
 use Rattle.vbr_machine.specs.declared.knowledge.Holding.TheVariants as holding
@@ -41,25 +43,32 @@ dead_with p Linked i = absurd i
 dead_with p Marked i = absurd i
 dead_with p (Unlinked q u) i = absurd i
 
-dead_own : (a : Incarnations) (p : ℕ) (last : Option ℕ) → IsLastDead a last → where_is (Own p) (state_shown a last) ≡ WithPass p
+dead_own : (a : Incarnations) (p : ℕ) (last : Option ℕ) → IsLastDead a last →
+    where_is (Own p) (state_shown a last) ≡ WithPass p
 dead_own a p None r = refl
 dead_own a p (Some c) r = dead_with p (a.state c) r
 
 -- a slot that a pass may give birth in is with it
-bears_with : (a : Incarnations) (p e : ℕ) (known : Option Holding) (place : SlotPlace) (last : Option ℕ) (stamp : ℕ) → OwnFits a p e known place last stamp → may_bear known ≡ true → where_is place (state_shown a last) ≡ WithPass p
+bears_with : (a : Incarnations) (p e : ℕ) (known : Option Holding) (place : SlotPlace) (last : Option ℕ) (stamp : ℕ) →
+    OwnFits a p e known place last stamp → may_bear known ≡ true → where_is place (state_shown a last) ≡ WithPass p
 bears_with a p e None place last stamp o m = absurd (false≢true m)
 bears_with a p e (Some (holding.Unlinked reread)) place last stamp o m = absurd (false≢true m)
-bears_with a p e (Some (holding.Free n)) place last stamp o m = ap (λ l. where_is l (state_shown a last)) o.0 ∙ dead_own a p last o.1
+bears_with a p e (Some (holding.Free n)) place last stamp o m =
+    ap (λ l. where_is l (state_shown a last)) o.0 ∙ dead_own a p last o.1
 bears_with a p e (Some (holding.InHand known)) place last stamp o m = ap (λ l. where_is l (state_shown a last)) o.0
 
 -- one that it unlinked and has not stamped is so
-unlinked_from : (a : Incarnations) (p e : ℕ) (known : Option Holding) (place : SlotPlace) (last : Option ℕ) (stamp : ℕ) → OwnFits a p e known place last stamp → is_unstamped known ≡ true → (at : ℕ) × (state_shown a last ≡ Unlinked p at)
+unlinked_from : (a : Incarnations) (p e : ℕ) (known : Option Holding) (place : SlotPlace) (last : Option ℕ)
+    (stamp : ℕ) → OwnFits a p e known place last stamp → is_unstamped known ≡ true →
+    (at : ℕ) × (state_shown a last ≡ Unlinked p at)
 unlinked_from a p e None place last stamp o m = absurd (false≢true m)
 unlinked_from a p e (Some (holding.Free n)) place last stamp o m = absurd (false≢true m)
 unlinked_from a p e (Some (holding.InHand known)) place last stamp o m = absurd (false≢true m)
-unlinked_from a p e (Some (holding.Unlinked reread)) place last stamp o m = let x = o.1 in (x.at, ap (state_shown a) x.last_is ∙ x.state)
+unlinked_from a p e (Some (holding.Unlinked reread)) place last stamp o m =
+    let x = o.1 in (x.at, ap (state_shown a) x.last_is ∙ x.state)
 
-unstamped_by : (a : Incarnations) (p e : ℕ) (known : Option Holding) (place : SlotPlace) (last : Option ℕ) (stamp : ℕ) → OwnFits a p e known place last stamp → is_unstamped known ≡ true → where_is place (state_shown a last) ≡ Unstamped p
+unstamped_by : (a : Incarnations) (p e : ℕ) (known : Option Holding) (place : SlotPlace) (last : Option ℕ) (stamp : ℕ) →
+    OwnFits a p e known place last stamp → is_unstamped known ≡ true → where_is place (state_shown a last) ≡ Unstamped p
 unstamped_by a p e None place last stamp o m = absurd (false≢true m)
 unstamped_by a p e (Some (holding.Free n)) place last stamp o m = absurd (false≢true m)
 unstamped_by a p e (Some (holding.InHand known)) place last stamp o m = absurd (false≢true m)
@@ -76,7 +85,8 @@ dead_unlisted : (st : State) → IsDead st → IsListed st → ⊥
 dead_unlisted st r l = grind arith
 
 -- a slot whose last incarnation is linked or marked is in a list
-listed_only : (start : Start) (passes : ℕ) (w : World) (a : Incarnations) (s : ℕ) (place : SlotPlace) → FitsPlace start passes w a s place → IsListed (state_in a s) → (b : ℕ) × (place ≡ Listed b)
+listed_only : (start : Start) (passes : ℕ) (w : World) (a : Incarnations) (s : ℕ) (place : SlotPlace) →
+    FitsPlace start passes w a s place → IsListed (state_in a s) → (b : ℕ) × (place ≡ Listed b)
 listed_only start passes w a s (Listed b) f l = (b, refl)
 listed_only start passes w a s Shared f l = absurd (go (a.last s) f l)
   where
@@ -104,7 +114,8 @@ marked_in b Marked e = (tt, refl)
 marked_in b _ e = absurd (false≢true e)
 
 -- the pass of a slot is one of so many
-low_in : (start : Start) (passes : ℕ) (w : World) (a : Incarnations) (s : ℕ) (place : SlotPlace) (st : State) → FitsPlace start passes w a s place → IsOfPasses passes (where_is place st)
+low_in : (start : Start) (passes : ℕ) (w : World) (a : Incarnations) (s : ℕ) (place : SlotPlace) (st : State) →
+    FitsPlace start passes w a s place → IsOfPasses passes (where_is place st)
 low_in start passes w a s Shared st f = tt
 low_in start passes w a s (Own p) (Unlinked q u) f = f.0
 low_in start passes w a s (Own p) Unborn f = f.0
@@ -138,10 +149,15 @@ module _ (start : Start) (passes : ℕ) (run : List Event) (safe : IsSafe start 
   fits : (s : ℕ) → FitsPlace start passes w a s (w.place s)
   fits s = (safe.slots passes ok).each s
 
-  knows : (p s : ℕ) → OwnFits a p (know_after start run p).epoch ((know_after start run p).own s) (w.place s) (a.last s) (a.stamp s)
-  knows p s = let P : SlotPlace → Type 0 = λ l. OwnFits a p (know_after start run p).epoch ((know_after start run p).own s) l (a.last s) (a.stamp s) in subst P (sym (safe.image.place s)) ((safe.knows p).last s)
+  knows : (p s : ℕ) →
+      OwnFits a p (know_after start run p).epoch ((know_after start run p).own s) (w.place s) (a.last s) (a.stamp s)
+  knows p s =
+      let P : SlotPlace → Type 0 =
+      λ l. OwnFits a p (know_after start run p).epoch ((know_after start run p).own s) l (a.last s) (a.stamp s) in
+      subst P (sym (safe.image.place s)) ((safe.knows p).last s)
 
-  listed_here : (s : ℕ) → (whereabouts : Whereabouts) → IsListed (state_in a s) → ((b : ℕ) → where_is (Listed b) (state_in a s) ≡ whereabouts) → here s ≡ whereabouts
+  listed_here : (s : ℕ) → (whereabouts : Whereabouts) → IsListed (state_in a s) →
+      ((b : ℕ) → where_is (Listed b) (state_in a s) ≡ whereabouts) → here s ≡ whereabouts
   listed_here s whereabouts l e =
       let x = listed_only start passes w a s (w.place s) (fits s) l in
       ap (λ (p : SlotPlace). where_is p (state_in a s)) x.1 ∙ e x.0
@@ -149,16 +165,21 @@ module _ (start : Start) (passes : ℕ) (run : List Event) (safe : IsSafe start 
   -- a slot is nowhere else
   nowhere_else : (s : ℕ) (other : Whereabouts) → is_at start run other s ≡ true → here s ≡ other
   nowhere_else s InSharedPool e = shared_in (w.place s) (state_in a s) e
-  nowhere_else s (WithPass p) e = bears_with a p _ ((know_after start run p).own s) (w.place s) (a.last s) (a.stamp s) (knows p s) e
-  nowhere_else s (Unstamped p) e = unstamped_by a p _ ((know_after start run p).own s) (w.place s) (a.last s) (a.stamp s) (knows p s) e
+  nowhere_else s (WithPass p) e =
+      bears_with a p _ ((know_after start run p).own s) (w.place s) (a.last s) (a.stamp s) (knows p s) e
+  nowhere_else s (Unstamped p) e =
+      unstamped_by a p _ ((know_after start run p).own s) (w.place s) (a.last s) (a.stamp s) (knows p s) e
   nowhere_else s InSet e = listed_here s InSet (linked_in 0 (state_in a s) e).0 (λ b. (linked_in b (state_in a s) e).1)
-  nowhere_else s MarkedInList e = listed_here s MarkedInList (marked_in 0 (state_in a s) e).0 (λ b. (marked_in b (state_in a s) e).1)
+  nowhere_else s MarkedInList e =
+      listed_here s MarkedInList (marked_in 0 (state_in a s) e).0 (λ b. (marked_in b (state_in a s) e).1)
 
   -- it is there if it is there by any name
   by_name : (s : ℕ) (other : Whereabouts) → is_at start run other s ≡ true → is_at start run (here s) s ≡ true
-  by_name s other e = let P : Whereabouts → Type 0 = λ v. is_at start run v s ≡ true in subst P (sym (nowhere_else s other e)) e
+  by_name s other e =
+      let P : Whereabouts → Type 0 = λ v. is_at start run v s ≡ true in subst P (sym (nowhere_else s other e)) e
 
-  of_pass : (p s : ℕ) (known : Option Holding) → (know_after start run p).own s ≡ known → (IsNotOf p (w.place s) → ⊥) → is_at start run (here s) s ≡ true
+  of_pass : (p s : ℕ) (known : Option Holding) → (know_after start run p).own s ≡ known → (IsNotOf p (w.place s) → ⊥) →
+      is_at start run (here s) s ≡ true
   of_pass p s None k of = absurd (of (rw k at (knows p s)))
   of_pass p s (Some (holding.Free n)) k of = by_name s (WithPass p) (ap may_bear k)
   of_pass p s (Some (holding.InHand known)) k of = by_name s (WithPass p) (ap may_bear k)
@@ -179,9 +200,12 @@ module _ (start : Start) (passes : ℕ) (run : List Event) (safe : IsSafe start 
 
   is_here : (s : ℕ) (place : SlotPlace) → w.place s ≡ place → is_at start run (here s) s ≡ true
   is_here s Shared e = by_name s InSharedPool (ap is_shared e)
-  is_here s (Own p) e = of_pass p s ((know_after start run p).own s) refl (λ n. (let m : IsNotOf p (Own p) = rw e at n in m refl))
-  is_here s (Hand p) e = of_pass p s ((know_after start run p).own s) refl (λ n. (let m : IsNotOf p (Hand p) = rw e at n in m refl))
-  is_here s (Listed b) e = of_list b s (a.last s) refl (let f : FitsPlace start passes w a s (Listed b) = rw e at (fits s) in f.1)
+  is_here s (Own p) e =
+      of_pass p s ((know_after start run p).own s) refl (λ n. (let m : IsNotOf p (Own p) = rw e at n in m refl))
+  is_here s (Hand p) e =
+      of_pass p s ((know_after start run p).own s) refl (λ n. (let m : IsNotOf p (Hand p) = rw e at n in m refl))
+  is_here s (Listed b) e =
+      of_list b s (a.last s) refl (let f : FitsPlace start passes w a s (Listed b) = rw e at (fits s) in f.1)
 
   -- each slot is somewhere
   pub somewhere : (s : ℕ) → IsSomewhere start passes run s
@@ -194,13 +218,15 @@ module _ (start : Start) (passes : ℕ) (run : List Event) (safe : IsSafe start 
 
   -- an unstamped slot is with the pass that unlinked what was born there last
   pub unlinked_by : (p s : ℕ) → is_at start run (Unstamped p) s ≡ true → (at : ℕ) × (state_in a s ≡ Unlinked p at)
-  unlinked_by p s e = unlinked_from a p _ ((know_after start run p).own s) (w.place s) (a.last s) (a.stamp s) (knows p s) e
+  unlinked_by p s e =
+      unlinked_from a p _ ((know_after start run p).own s) (w.place s) (a.last s) (a.stamp s) (knows p s) e
 
   not_dead : (p at : ℕ) (last : Option ℕ) → state_shown a last ≡ Unlinked p at → IsLastDead a last → ⊥
   not_dead p at None u r = absurd (cc)
   not_dead p at (Some c) u r = rw u at r
 
-  unlinked_in : (p at s : ℕ) (place : SlotPlace) (last : Option ℕ) → a.last s ≡ last → state_shown a last ≡ Unlinked p at → FitsPlace start passes w a s place → place ≡ Own p
+  unlinked_in : (p at s : ℕ) (place : SlotPlace) (last : Option ℕ) → a.last s ≡ last →
+      state_shown a last ≡ Unlinked p at → FitsPlace start passes w a s place → place ≡ Own p
   unlinked_in p at s Shared last e u f = absurd (not_dead p at last u (rw e at f))
   unlinked_in p at s (Own q) last e u f = go last u (rw e at f.1)
     where
@@ -220,7 +246,9 @@ module _ (start : Start) (passes : ℕ) (run : List Event) (safe : IsSafe start 
       go (Some c) u x = let y : IsListed (Unlinked p at) = rw u at x.0 in y
 
   pub unlinked_there : (p at s : ℕ) → state_in a s ≡ Unlinked p at → is_at start run (Unstamped p) s ≡ true
-  unlinked_there p at s u = subst P (λ i. where_is (unlinked_in p at s (w.place s) (a.last s) refl u (fits s) i) (u i)) (is_here s (w.place s) refl)
+  unlinked_there p at s u =
+      subst P (λ i. where_is (unlinked_in p at s (w.place s) (a.last s) refl u (fits s) i) (u i))
+      (is_here s (w.place s) refl)
     where
       P : Whereabouts → Type 0
       P v = is_at start run v s ≡ true

@@ -1,5 +1,6 @@
 -- The words after a step: the word at its place is that of its operation, and no other word changes.
-use Rattle.std.proofs.Common.{◌≡◌, ◌≢◌, ℕ, ◌+◌, Bool, true, false, Option, Some, None, cond, refl, sym, ap, ◌∙◌, inl, inr, arith}
+use Rattle.std.proofs.Common.{◌≡◌, ◌≢◌, ℕ, ◌+◌, Bool, true, false, Option, Some, None, cond, refl, sym, ap, ◌∙◌, inl}
+use Rattle.std.proofs.Common.{inr, arith}
 use Rattle.std.specs.Prelude.{◌⊎◌, ◌==◌, bit_and}
 use Rattle.std.proofs.lemmas.Bool.{cases_eq, eqb-true}
 use Rattle.vbr_machine.specs.Start.{Start}
@@ -14,14 +15,18 @@ use Rattle.vbr_words.specs.declared.place.Place.TheVariants as place
 use Rattle.vbr_machine.specs.Put.{put}
 use Rattle.vbr_machine.specs.Acceptance.{IsAtIn, IsInShape, MayBear, IsInHand, Accepts}
 use Rattle.vbr_machine.specs.Learning.{link_written}
-use Rattle.vbr_machine.specs.Machine.{World, link_at, is_shared, word_at, place_of_step, access_of, word_made, found, with_learning, after}
+use Rattle.vbr_machine.specs.Machine.{World, link_at, is_shared, word_at, place_of_step, access_of, word_made, found}
+use Rattle.vbr_machine.specs.Machine.{with_learning, after}
 use Rattle.vbr_machine.specs.Incarnations.{State, Incarnations}
 use Rattle.vbr_machine.specs.Chronicles.{next_of}
 use Rattle.vbr_machine.specs.Sound.{IsListed, PlaceFits}
 use Rattle.vbr_machine.specs.Notes.{Notes, before_at}
 use Rattle.vbr_machine.specs.Agreement.{IsHeldNext, OwnFits, Agrees}
 use Rattle.vbr_machine.specs.declared.event.Step.{Step}
-use Rattle.vbr_machine.specs.declared.event.Step.TheVariants.{ReadEpoch, Advance, LoadStamp, StoreStamp, Raise, TakeFlag, StoreBirth, StoreKey, StoreLink, LoadLink, LoadBirth, LoadKey, Publish, Mark, Replace, Unlink, ConfirmPresent, ConfirmAbsent, StoreValue, LoadValue}
+use Rattle.vbr_machine.specs.declared.event.Step.TheVariants.{ReadEpoch, Advance, LoadStamp, StoreStamp, Raise}
+use Rattle.vbr_machine.specs.declared.event.Step.TheVariants.{TakeFlag, StoreBirth, StoreKey, StoreLink, LoadLink}
+use Rattle.vbr_machine.specs.declared.event.Step.TheVariants.{LoadBirth, LoadKey, Publish, Mark, Replace, Unlink}
+use Rattle.vbr_machine.specs.declared.event.Step.TheVariants.{ConfirmPresent, ConfirmAbsent, StoreValue, LoadValue}
 use Rattle.vbr_machine.specs.declared.knowledge.Holding.{Holding}
 use Rattle.vbr_machine.specs.declared.knowledge.Holding.TheVariants.{Free, Unlinked, InHand}
 use Rattle.vbr_machine.specs.declared.knowledge.SlotPlace.{SlotPlace}
@@ -63,7 +68,8 @@ place_in start (ConfirmAbsent op key at expected) here = place_at_in start at he
 -- ---- the word at that place
 
 -- an exchange that wins leaves the new word, and one that is lost the word found
-left : (b : Bool) (f : World → ℕ) (x y : World) (new old : ℕ) → (b ≡ true → f x ≡ new) → f y ≡ old → f (cond b x y) ≡ cond b new old
+left : (b : Bool) (f : World → ℕ) (x y : World) (new old : ℕ) → (b ≡ true → f x ≡ new) → f y ≡ old →
+    f (cond b x y) ≡ cond b new old
 left true f x y new old won lost = won refl
 left false f x y new old won lost = lost
 
@@ -73,37 +79,60 @@ kept true f x y old won lost = won refl
 kept false f x y old won lost = lost
 
 -- and where each leaves it for a reason of its own
-either : (b : Bool) (f : World → ℕ) (x y : World) (new : ℕ) → (b ≡ true → f x ≡ new) → (b ≡ false → f y ≡ new) → f (cond b x y) ≡ new
+either : (b : Bool) (f : World → ℕ) (x y : World) (new : ℕ) → (b ≡ true → f x ≡ new) → (b ≡ false → f y ≡ new) →
+    f (cond b x y) ≡ new
 either true f x y new won lost = won refl
 either false f x y new won lost = lost refl
 
 -- the word at the place of a step is what its operation leaves there
-pub word_here : (start : Start) (w : World) (p : ℕ) (step : Step) → IsInShape start step → word_at start (after start w p step) (place_of_step step) ≡ word_made (access_of (w.know p) step) (found start w step)
+pub word_here : (start : Start) (w : World) (p : ℕ) (step : Step) → IsInShape start step →
+    word_at start (after start w p step) (place_of_step step)
+    ≡ word_made (access_of (w.know p) step) (found start w step)
 word_here start w p ReadEpoch here = refl
-word_here start w p (Advance from) here = left (w.epoch == from) (λ v. v.epoch) _ w (from + 1) w.epoch (λ t. ap (λ n. n + 1) (eqb-true w.epoch from t)) refl
+word_here start w p (Advance from) here =
+    left (w.epoch == from) (λ v. v.epoch) _ w (from + 1) w.epoch (λ t. ap (λ n. n + 1) (eqb-true w.epoch from t)) refl
 word_here start w p (LoadStamp s) here = refl
 word_here start w p (StoreStamp s stamp) here = put_here w.stamp s stamp
 word_here start w p (Raise s) here = raised_word start w (after start w p (Raise s)) s Shared refl here refl
 word_here start w p (TakeFlag s) here =
-    either (has_flag (found start w (TakeFlag s)) s) (λ v. word_at start v (place.Flags (word_of_flag s))) _ w (bit_and (found start w (TakeFlag s)) (all_but s)) (λ t. taken_word start w (record (with_learning start w p (TakeFlag s)) { place = put w.place s (Own p) }) s (Own p) refl refl) (λ f. missed_word start w s f)
+    either (has_flag (found start w (TakeFlag s)) s) (λ v. word_at start v (place.Flags (word_of_flag s))) _ w
+    (bit_and (found start w (TakeFlag s)) (all_but s))
+    (λ t. taken_word start w (record (with_learning start w p (TakeFlag s)) { place = put w.place s (Own p) }) s (Own p)
+    refl refl) (λ f. missed_word start w s f)
 word_here start w p (StoreBirth s birth) here = put_here w.birth s birth
 word_here start w p (StoreKey s key) here = put_here w.key s key
 word_here start w p (StoreValue s value) here = put_here w.value s value
-word_here start w p (StoreLink s next) here = ap word_of (put_here w.link s (link_written (w.know p) (StoreLink s next)))
+word_here start w p (StoreLink s next) here =
+    ap word_of (put_here w.link s (link_written (w.know p) (StoreLink s next)))
 word_here start w p (LoadLink (Head b)) here = refl
 word_here start w p (LoadLink (Slot t)) here = refl
 word_here start w p (LoadBirth s) here = refl
 word_here start w p (LoadKey s) here = refl
 word_here start w p (LoadValue s) here = refl
-word_here start w p (Publish (Head b) expected s) here = left (word_of (w.head b) == expected) (λ v. word_of (v.head b)) _ w _ (word_of (w.head b)) (λ t. ap word_of (put_here w.head b (link_written (w.know p) (Publish (Head b) expected s)))) refl
-word_here start w p (Publish (Slot t) expected s) here = left (word_of (w.link t) == expected) (λ v. word_of (v.link t)) _ w _ (word_of (w.link t)) (λ _. ap word_of (put_here w.link t (link_written (w.know p) (Publish (Slot t) expected s)))) refl
-word_here start w p (Mark s expected) here = left (word_of (w.link s) == expected) (λ v. word_of (v.link s)) _ w _ (word_of (w.link s)) (λ t. ap word_of (put_here w.link s (link_written (w.know p) (Mark s expected)))) refl
-word_here start w p (Replace s expected t) here = left (word_of (w.link s) == expected) (λ v. word_of (v.link s)) _ w _ (word_of (w.link s)) (λ _. ap word_of (put_here w.link s (link_written (w.know p) (Replace s expected t)))) refl
-word_here start w p (Unlink (Head b) expected s) here = left (word_of (w.head b) == expected) (λ v. word_of (v.head b)) _ w _ (word_of (w.head b)) (λ t. ap word_of (put_here w.head b (link_written (w.know p) (Unlink (Head b) expected s)))) refl
-word_here start w p (Unlink (Slot t) expected s) here = left (word_of (w.link t) == expected) (λ v. word_of (v.link t)) _ w _ (word_of (w.link t)) (λ _. ap word_of (put_here w.link t (link_written (w.know p) (Unlink (Slot t) expected s)))) refl
-word_here start w p (ConfirmPresent op s expected) here = kept (word_of (w.link s) == expected) (λ v. word_of (v.link s)) _ w (word_of (w.link s)) (λ t. refl) refl
-word_here start w p (ConfirmAbsent op key (Head b) expected) here = kept (word_of (w.head b) == expected) (λ v. word_of (v.head b)) _ w (word_of (w.head b)) (λ t. refl) refl
-word_here start w p (ConfirmAbsent op key (Slot s) expected) here = kept (word_of (w.link s) == expected) (λ v. word_of (v.link s)) _ w (word_of (w.link s)) (λ t. refl) refl
+word_here start w p (Publish (Head b) expected s) here =
+    left (word_of (w.head b) == expected) (λ v. word_of (v.head b)) _ w _ (word_of (w.head b))
+    (λ t. ap word_of (put_here w.head b (link_written (w.know p) (Publish (Head b) expected s)))) refl
+word_here start w p (Publish (Slot t) expected s) here =
+    left (word_of (w.link t) == expected) (λ v. word_of (v.link t)) _ w _ (word_of (w.link t))
+    (λ _. ap word_of (put_here w.link t (link_written (w.know p) (Publish (Slot t) expected s)))) refl
+word_here start w p (Mark s expected) here =
+    left (word_of (w.link s) == expected) (λ v. word_of (v.link s)) _ w _ (word_of (w.link s))
+    (λ t. ap word_of (put_here w.link s (link_written (w.know p) (Mark s expected)))) refl
+word_here start w p (Replace s expected t) here =
+    left (word_of (w.link s) == expected) (λ v. word_of (v.link s)) _ w _ (word_of (w.link s))
+    (λ _. ap word_of (put_here w.link s (link_written (w.know p) (Replace s expected t)))) refl
+word_here start w p (Unlink (Head b) expected s) here =
+    left (word_of (w.head b) == expected) (λ v. word_of (v.head b)) _ w _ (word_of (w.head b))
+    (λ t. ap word_of (put_here w.head b (link_written (w.know p) (Unlink (Head b) expected s)))) refl
+word_here start w p (Unlink (Slot t) expected s) here =
+    left (word_of (w.link t) == expected) (λ v. word_of (v.link t)) _ w _ (word_of (w.link t))
+    (λ _. ap word_of (put_here w.link t (link_written (w.know p) (Unlink (Slot t) expected s)))) refl
+word_here start w p (ConfirmPresent op s expected) here =
+    kept (word_of (w.link s) == expected) (λ v. word_of (v.link s)) _ w (word_of (w.link s)) (λ t. refl) refl
+word_here start w p (ConfirmAbsent op key (Head b) expected) here =
+    kept (word_of (w.head b) == expected) (λ v. word_of (v.head b)) _ w (word_of (w.head b)) (λ t. refl) refl
+word_here start w p (ConfirmAbsent op key (Slot s) expected) here =
+    kept (word_of (w.link s) == expected) (λ v. word_of (v.link s)) _ w (word_of (w.link s)) (λ t. refl) refl
 
 -- ---- the words elsewhere
 
@@ -126,7 +155,8 @@ record SameBut (here : Place) (v w : World) : Type 0 where
   value : (s : ℕ) → place.Value s ≢ here → v.value s ≡ w.value s
   flag : (s : ℕ) → place.Flags (word_of_flag s) ≢ here → is_shared (v.place s) ≡ is_shared (w.place s)
 
-word_but : (start : Start) (v w : World) (here q : Place) → SameBut here v w → q ≢ here → word_at start v q ≡ word_at start w q
+word_but : (start : Start) (v w : World) (here q : Place) → SameBut here v w → q ≢ here →
+    word_at start v q ≡ word_at start w q
 word_but start v w here place.Epoch same ne = same.epoch ne
 word_but start v w here place.ShapeWord same ne = refl
 word_but start v w here (place.Head b) same ne = ap word_of (same.head b ne)
@@ -135,9 +165,11 @@ word_but start v w here (place.Birth s) same ne = same.birth s ne
 word_but start v w here (place.Stamp s) same ne = same.stamp s ne
 word_but start v w here (place.Key s) same ne = same.key s ne
 word_but start v w here (place.Value s) same ne = same.value s ne
-word_but start v w here (place.Flags number) same ne = same_word start v w number (λ s is. same.flag s (λ e. ne (sym (ap place.Flags is) ∙ e)))
+word_but start v w here (place.Flags number) same ne =
+    same_word start v w number (λ s is. same.flag s (λ e. ne (sym (ap place.Flags is) ∙ e)))
 
-unchanged : (here : Place) (v w : World) → v.epoch ≡ w.epoch → v.head ≡ w.head → v.link ≡ w.link → v.birth ≡ w.birth → v.stamp ≡ w.stamp → v.key ≡ w.key → v.value ≡ w.value → v.place ≡ w.place → SameBut here v w
+unchanged : (here : Place) (v w : World) → v.epoch ≡ w.epoch → v.head ≡ w.head → v.link ≡ w.link → v.birth ≡ w.birth →
+    v.stamp ≡ w.stamp → v.key ≡ w.key → v.value ≡ w.value → v.place ≡ w.place → SameBut here v w
 unchanged here v w epoch head link birth stamp key value at = record {
   epoch = λ _. epoch;
   head = λ b _. ap (λ f. f b) head;
@@ -155,7 +187,8 @@ if_won true here x w won = won refl
 if_won false here x w won = unchanged here w w refl refl refl refl refl refl refl refl
 
 -- a slot that was not in the shared pool and isn't now keeps its flag
-flag_kept : (f : ℕ → SlotPlace) (s : ℕ) (new : SlotPlace) → is_shared (f s) ≡ is_shared new → (i : ℕ) → is_shared (put f s new i) ≡ is_shared (f i)
+flag_kept : (f : ℕ → SlotPlace) (s : ℕ) (new : SlotPlace) → is_shared (f s) ≡ is_shared new → (i : ℕ) →
+    is_shared (put f s new i) ≡ is_shared (f i)
 flag_kept f s new e i = go (cases_eq i s)
   where
     go : (i ≡ s) ⊎ (i ≢ s) → is_shared (put f s new i) ≡ is_shared (f i)
@@ -163,38 +196,194 @@ flag_kept f s new e i = go (cases_eq i s)
     go (inr ne) = ap is_shared (put_other f s new i ne)
 
 -- a step changes no word but that at its place
-same_but : (start : Start) (w : World) (p : ℕ) (step : Step) → MovesUnshared w step → SameBut (place_of_step step) (after start w p step) w
+same_but : (start : Start) (w : World) (p : ℕ) (step : Step) → MovesUnshared w step →
+    SameBut (place_of_step step) (after start w p step) w
 same_but start w p ReadEpoch moves = unchanged _ _ w refl refl refl refl refl refl refl refl
-same_but start w p (Advance from) moves = if_won (w.epoch == from) place.Epoch _ w (λ _. record { epoch = λ ne. absurd (ne refl); head = λ _ _. refl; link = λ _ _. refl; birth = λ _ _. refl; stamp = λ _ _. refl; key = λ _ _. refl; value = λ _ _. refl; flag = λ _ _. refl })
+same_but start w p (Advance from) moves =
+    if_won (w.epoch == from) place.Epoch _ w
+    (λ _. record {
+      epoch = λ ne. absurd (ne refl);
+      head = λ _ _. refl;
+      link = λ _ _. refl;
+      birth = λ _ _. refl;
+      stamp = λ _ _. refl;
+      key = λ _ _. refl;
+      value = λ _ _. refl;
+      flag = λ _ _. refl;
+    })
 same_but start w p (LoadStamp s) moves = unchanged _ _ w refl refl refl refl refl refl refl refl
-same_but start w p (StoreStamp s stamp) moves = record { epoch = λ _. refl; head = λ _ _. refl; link = λ _ _. refl; birth = λ _ _. refl; stamp = λ i ne. put_other w.stamp s stamp i (λ e. ne (ap place.Stamp e)); key = λ _ _. refl; value = λ _ _. refl; flag = λ _ _. refl }
-same_but start w p (Raise s) moves = record { epoch = λ _. refl; head = λ _ _. refl; link = λ _ _. refl; birth = λ _ _. refl; stamp = λ _ _. refl; key = λ _ _. refl; value = λ _ _. refl; flag = λ i ne. ap is_shared (put_other w.place s Shared i (λ e. ne (ap (λ t. place.Flags (word_of_flag t)) e))) }
-same_but start w p (TakeFlag s) moves = if_won (has_flag (found start w (TakeFlag s)) s) (place.Flags (word_of_flag s)) _ w (λ _. record { epoch = λ _. refl; head = λ _ _. refl; link = λ _ _. refl; birth = λ _ _. refl; stamp = λ _ _. refl; key = λ _ _. refl; value = λ _ _. refl; flag = λ i ne. ap is_shared (put_other w.place s (Own p) i (λ e. ne (ap (λ t. place.Flags (word_of_flag t)) e))) })
-same_but start w p (StoreBirth s birth) moves = record { epoch = λ _. refl; head = λ _ _. refl; link = λ _ _. refl; birth = λ i ne. put_other w.birth s birth i (λ e. ne (ap place.Birth e)); stamp = λ _ _. refl; key = λ _ _. refl; value = λ _ _. refl; flag = λ i _. flag_kept w.place s (Hand p) moves i }
-same_but start w p (StoreKey s key) moves = record { epoch = λ _. refl; head = λ _ _. refl; link = λ _ _. refl; birth = λ _ _. refl; stamp = λ _ _. refl; key = λ i ne. put_other w.key s key i (λ e. ne (ap place.Key e)); value = λ _ _. refl; flag = λ _ _. refl }
-same_but start w p (StoreValue s value) moves = record { epoch = λ _. refl; head = λ _ _. refl; link = λ _ _. refl; birth = λ _ _. refl; stamp = λ _ _. refl; key = λ _ _. refl; value = λ i ne. put_other w.value s value i (λ e. ne (ap place.Value e)); flag = λ _ _. refl }
-same_but start w p (StoreLink s next) moves = record { epoch = λ _. refl; head = λ _ _. refl; link = λ i ne. put_other w.link s _ i (λ e. ne (ap place.LinkOf e)); birth = λ _ _. refl; stamp = λ _ _. refl; key = λ _ _. refl; value = λ _ _. refl; flag = λ _ _. refl }
+same_but start w p (StoreStamp s stamp) moves =
+    record {
+      epoch = λ _. refl;
+      head = λ _ _. refl;
+      link = λ _ _. refl;
+      birth = λ _ _. refl;
+      stamp = λ i ne. put_other w.stamp s stamp i (λ e. ne (ap place.Stamp e));
+      key = λ _ _. refl;
+      value = λ _ _. refl;
+      flag = λ _ _. refl;
+    }
+same_but start w p (Raise s) moves =
+    record {
+      epoch = λ _. refl;
+      head = λ _ _. refl;
+      link = λ _ _. refl;
+      birth = λ _ _. refl;
+      stamp = λ _ _. refl;
+      key = λ _ _. refl;
+      value = λ _ _. refl;
+      flag = λ i ne. ap is_shared (put_other w.place s Shared i (λ e. ne (ap (λ t. place.Flags (word_of_flag t)) e)));
+    }
+same_but start w p (TakeFlag s) moves =
+    if_won (has_flag (found start w (TakeFlag s)) s) (place.Flags (word_of_flag s)) _ w
+    (λ _. record {
+      epoch = λ _. refl;
+      head = λ _ _. refl;
+      link = λ _ _. refl;
+      birth = λ _ _. refl;
+      stamp = λ _ _. refl;
+      key = λ _ _. refl;
+      value = λ _ _. refl;
+      flag = λ i ne. ap is_shared (put_other w.place s (Own p) i (λ e. ne (ap (λ t. place.Flags (word_of_flag t)) e)));
+    })
+same_but start w p (StoreBirth s birth) moves =
+    record {
+      epoch = λ _. refl;
+      head = λ _ _. refl;
+      link = λ _ _. refl;
+      birth = λ i ne. put_other w.birth s birth i (λ e. ne (ap place.Birth e));
+      stamp = λ _ _. refl;
+      key = λ _ _. refl;
+      value = λ _ _. refl;
+      flag = λ i _. flag_kept w.place s (Hand p) moves i;
+    }
+same_but start w p (StoreKey s key) moves =
+    record {
+      epoch = λ _. refl;
+      head = λ _ _. refl;
+      link = λ _ _. refl;
+      birth = λ _ _. refl;
+      stamp = λ _ _. refl;
+      key = λ i ne. put_other w.key s key i (λ e. ne (ap place.Key e));
+      value = λ _ _. refl;
+      flag = λ _ _. refl;
+    }
+same_but start w p (StoreValue s value) moves =
+    record {
+      epoch = λ _. refl;
+      head = λ _ _. refl;
+      link = λ _ _. refl;
+      birth = λ _ _. refl;
+      stamp = λ _ _. refl;
+      key = λ _ _. refl;
+      value = λ i ne. put_other w.value s value i (λ e. ne (ap place.Value e));
+      flag = λ _ _. refl;
+    }
+same_but start w p (StoreLink s next) moves =
+    record {
+      epoch = λ _. refl;
+      head = λ _ _. refl;
+      link = λ i ne. put_other w.link s _ i (λ e. ne (ap place.LinkOf e));
+      birth = λ _ _. refl;
+      stamp = λ _ _. refl;
+      key = λ _ _. refl;
+      value = λ _ _. refl;
+      flag = λ _ _. refl;
+    }
 same_but start w p (LoadLink at) moves = unchanged _ _ w refl refl refl refl refl refl refl refl
 same_but start w p (LoadBirth s) moves = unchanged _ _ w refl refl refl refl refl refl refl refl
 same_but start w p (LoadKey s) moves = unchanged _ _ w refl refl refl refl refl refl refl refl
 same_but start w p (LoadValue s) moves = unchanged _ _ w refl refl refl refl refl refl refl refl
-same_but start w p (Publish (Head b) expected s) moves = if_won (word_of (w.head b) == expected) (place.Head b) _ w (λ _. record { epoch = λ _. refl; head = λ i ne. put_other w.head b _ i (λ e. ne (ap place.Head e)); link = λ _ _. refl; birth = λ _ _. refl; stamp = λ _ _. refl; key = λ _ _. refl; value = λ _ _. refl; flag = λ i _. flag_kept w.place s (Listed _) moves i })
-same_but start w p (Publish (Slot t) expected s) moves = if_won (word_of (w.link t) == expected) (place.LinkOf t) _ w (λ _. record { epoch = λ _. refl; head = λ _ _. refl; link = λ i ne. put_other w.link t _ i (λ e. ne (ap place.LinkOf e)); birth = λ _ _. refl; stamp = λ _ _. refl; key = λ _ _. refl; value = λ _ _. refl; flag = λ i _. flag_kept w.place s (Listed _) moves i })
-same_but start w p (Mark s expected) moves = if_won (word_of (w.link s) == expected) (place.LinkOf s) _ w (λ _. record { epoch = λ _. refl; head = λ _ _. refl; link = λ i ne. put_other w.link s _ i (λ e. ne (ap place.LinkOf e)); birth = λ _ _. refl; stamp = λ _ _. refl; key = λ _ _. refl; value = λ _ _. refl; flag = λ _ _. refl })
-same_but start w p (Replace s expected t) moves = if_won (word_of (w.link s) == expected) (place.LinkOf s) _ w (λ _. record { epoch = λ _. refl; head = λ _ _. refl; link = λ i ne. put_other w.link s _ i (λ e. ne (ap place.LinkOf e)); birth = λ _ _. refl; stamp = λ _ _. refl; key = λ _ _. refl; value = λ _ _. refl; flag = λ i _. flag_kept w.place t (Listed _) moves i })
-same_but start w p (Unlink (Head b) expected s) moves = if_won (word_of (w.head b) == expected) (place.Head b) _ w (λ won. record { epoch = λ _. refl; head = λ i ne. put_other w.head b _ i (λ e. ne (ap place.Head e)); link = λ _ _. refl; birth = λ _ _. refl; stamp = λ _ _. refl; key = λ _ _. refl; value = λ _ _. refl; flag = λ i _. flag_kept w.place s (Own p) (moves (eqb-true (word_of (w.head b)) expected won)) i })
-same_but start w p (Unlink (Slot t) expected s) moves = if_won (word_of (w.link t) == expected) (place.LinkOf t) _ w (λ won. record { epoch = λ _. refl; head = λ _ _. refl; link = λ i ne. put_other w.link t _ i (λ e. ne (ap place.LinkOf e)); birth = λ _ _. refl; stamp = λ _ _. refl; key = λ _ _. refl; value = λ _ _. refl; flag = λ i _. flag_kept w.place s (Own p) (moves (eqb-true (word_of (w.link t)) expected won)) i })
-same_but start w p (ConfirmPresent op s expected) moves = if_won (word_of (w.link s) == expected) (place.LinkOf s) _ w (λ _. unchanged _ _ w refl refl refl refl refl refl refl refl)
-same_but start w p (ConfirmAbsent op key at expected) moves = if_won (found start w (ConfirmAbsent op key at expected) == expected) (places.place_of at) _ w (λ _. unchanged _ _ w refl refl refl refl refl refl refl refl)
+same_but start w p (Publish (Head b) expected s) moves =
+    if_won (word_of (w.head b) == expected) (place.Head b) _ w
+    (λ _. record {
+      epoch = λ _. refl;
+      head = λ i ne. put_other w.head b _ i (λ e. ne (ap place.Head e));
+      link = λ _ _. refl;
+      birth = λ _ _. refl;
+      stamp = λ _ _. refl;
+      key = λ _ _. refl;
+      value = λ _ _. refl;
+      flag = λ i _. flag_kept w.place s (Listed _) moves i;
+    })
+same_but start w p (Publish (Slot t) expected s) moves =
+    if_won (word_of (w.link t) == expected) (place.LinkOf t) _ w
+    (λ _. record {
+      epoch = λ _. refl;
+      head = λ _ _. refl;
+      link = λ i ne. put_other w.link t _ i (λ e. ne (ap place.LinkOf e));
+      birth = λ _ _. refl;
+      stamp = λ _ _. refl;
+      key = λ _ _. refl;
+      value = λ _ _. refl;
+      flag = λ i _. flag_kept w.place s (Listed _) moves i;
+    })
+same_but start w p (Mark s expected) moves =
+    if_won (word_of (w.link s) == expected) (place.LinkOf s) _ w
+    (λ _. record {
+      epoch = λ _. refl;
+      head = λ _ _. refl;
+      link = λ i ne. put_other w.link s _ i (λ e. ne (ap place.LinkOf e));
+      birth = λ _ _. refl;
+      stamp = λ _ _. refl;
+      key = λ _ _. refl;
+      value = λ _ _. refl;
+      flag = λ _ _. refl;
+    })
+same_but start w p (Replace s expected t) moves =
+    if_won (word_of (w.link s) == expected) (place.LinkOf s) _ w
+    (λ _. record {
+      epoch = λ _. refl;
+      head = λ _ _. refl;
+      link = λ i ne. put_other w.link s _ i (λ e. ne (ap place.LinkOf e));
+      birth = λ _ _. refl;
+      stamp = λ _ _. refl;
+      key = λ _ _. refl;
+      value = λ _ _. refl;
+      flag = λ i _. flag_kept w.place t (Listed _) moves i;
+    })
+same_but start w p (Unlink (Head b) expected s) moves =
+    if_won (word_of (w.head b) == expected) (place.Head b) _ w
+    (λ won. record {
+      epoch = λ _. refl;
+      head = λ i ne. put_other w.head b _ i (λ e. ne (ap place.Head e));
+      link = λ _ _. refl;
+      birth = λ _ _. refl;
+      stamp = λ _ _. refl;
+      key = λ _ _. refl;
+      value = λ _ _. refl;
+      flag = λ i _. flag_kept w.place s (Own p) (moves (eqb-true (word_of (w.head b)) expected won)) i;
+    })
+same_but start w p (Unlink (Slot t) expected s) moves =
+    if_won (word_of (w.link t) == expected) (place.LinkOf t) _ w
+    (λ won. record {
+      epoch = λ _. refl;
+      head = λ _ _. refl;
+      link = λ i ne. put_other w.link t _ i (λ e. ne (ap place.LinkOf e));
+      birth = λ _ _. refl;
+      stamp = λ _ _. refl;
+      key = λ _ _. refl;
+      value = λ _ _. refl;
+      flag = λ i _. flag_kept w.place s (Own p) (moves (eqb-true (word_of (w.link t)) expected won)) i;
+    })
+same_but start w p (ConfirmPresent op s expected) moves =
+    if_won (word_of (w.link s) == expected) (place.LinkOf s) _ w
+    (λ _. unchanged _ _ w refl refl refl refl refl refl refl refl)
+same_but start w p (ConfirmAbsent op key at expected) moves =
+    if_won (found start w (ConfirmAbsent op key at expected) == expected) (places.place_of at) _ w
+    (λ _. unchanged _ _ w refl refl refl refl refl refl refl refl)
 
 -- a step leaves the words elsewhere, if it moves no slot out of the shared pool but by its flag
-pub word_elsewhere_if : (start : Start) (w : World) (p : ℕ) (step : Step) (q : Place) → MovesUnshared w step → q ≢ place_of_step step → word_at start (after start w p step) q ≡ word_at start w q
-word_elsewhere_if start w p step q moves ne = word_but start (after start w p step) w (place_of_step step) q (same_but start w p step moves) ne
+pub word_elsewhere_if : (start : Start) (w : World) (p : ℕ) (step : Step) (q : Place) → MovesUnshared w step →
+    q ≢ place_of_step step → word_at start (after start w p step) q ≡ word_at start w q
+word_elsewhere_if start w p step q moves ne =
+    word_but start (after start w p step) w (place_of_step step) q (same_but start w p step moves) ne
 
 -- ---- what a step moves
 
 -- a slot that a pass may bear in is its own or in its hand
-bear_unshared : (a : Incarnations) (p epoch : ℕ) (holding : Option Holding) (at : SlotPlace) (last : Option ℕ) (stamp : ℕ) → OwnFits a p epoch holding at last stamp → MayBear holding → is_shared at ≡ false
+bear_unshared : (a : Incarnations) (p epoch : ℕ) (holding : Option Holding) (at : SlotPlace) (last : Option ℕ)
+    (stamp : ℕ) → OwnFits a p epoch holding at last stamp → MayBear holding → is_shared at ≡ false
 bear_unshared a p epoch None at last stamp h o = absurd o
 bear_unshared a p epoch (Some (Free known)) at last stamp h o = ap is_shared h.0
 bear_unshared a p epoch (Some (Unlinked reread)) at last stamp h o = absurd o
@@ -207,20 +396,25 @@ may_bear (Some (Unlinked reread)) o = absurd o
 may_bear (Some (InHand known)) o = tt
 
 -- the slot of a listed incarnation is in no pool
-listed_unshared : (start : Start) (at : SlotPlace) (st : State) (key : ℕ) → PlaceFits start at st key → IsListed st → is_shared at ≡ false
+listed_unshared : (start : Start) (at : SlotPlace) (st : State) (key : ℕ) → PlaceFits start at st key → IsListed st →
+    is_shared at ≡ false
 listed_unshared start Shared st key f l = absurd (grind arith)
 listed_unshared start (Own p) st key f l = refl
 listed_unshared start (Hand p) st key f l = refl
 listed_unshared start (Listed b) st key f l = refl
 
 -- a slot that is named by a checked link that stands there now is in no pool
-next_unshared : (start : Start) (w : World) (a : Incarnations) (notes : ℕ → Notes) (p : ℕ) (pred : At) (expected s : ℕ) → Agrees start w a notes → Accepts start (w.know p) (Unlink pred expected s) → word_of (link_at w pred) ≡ expected → is_shared (w.place s) ≡ false
-next_unshared start w a notes p pred expected s g ok e = ap is_shared (g.image.place s) ∙ go (next_of a (before_at a pred)) refl (rw ok.in_range.1 at m.next)
+next_unshared : (start : Start) (w : World) (a : Incarnations) (notes : ℕ → Notes) (p : ℕ) (pred : At)
+    (expected s : ℕ) → Agrees start w a notes → Accepts start (w.know p) (Unlink pred expected s) →
+    word_of (link_at w pred) ≡ expected → is_shared (w.place s) ≡ false
+next_unshared start w a notes p pred expected s g ok e =
+    ap is_shared (g.image.place s) ∙ go (next_of a (before_at a pred)) refl (rw ok.in_range.1 at m.next)
   where
     m : LinkStands start a (w.know p).epoch (w.know p).checked pred (link_of expected)
     m = link_stands start w a notes p g pred expected ok.held.0 ok.in_range.0 e
 
-    go : (n : Option ℕ) → next_of a (before_at a pred) ≡ n → IsHeldNext a (w.know p).epoch (Some s) n → is_shared (a.place s) ≡ false
+    go : (n : Option ℕ) → next_of a (before_at a pred) ≡ n → IsHeldNext a (w.know p).epoch (Some s) n →
+        is_shared (a.place s) ≡ false
     go None r h = absurd h
     go (Some c) r h =
         let li = m.listed c r in
@@ -228,13 +422,22 @@ next_unshared start w a notes p pred expected s g ok e = ap is_shared (g.image.p
         listed_unshared start (a.place s) (a.state c) (a.key c) (g.sound.slots.placed c s last) li
 
 -- an accepted step moves no slot out of the shared pool but by its flag
-pub moves_unshared : (start : Start) (w : World) (a : Incarnations) (notes : ℕ → Notes) (p : ℕ) (step : Step) → Agrees start w a notes → Accepts start (w.know p) step → MovesUnshared w step
-moves_unshared start w a notes p (StoreBirth s birth) g ok = ap is_shared (g.image.place s) ∙ bear_unshared a p (w.know p).epoch ((w.know p).own s) (a.place s) (a.last s) (a.stamp s) (g.owns p s) ok.owned
-moves_unshared start w a notes p (Publish pred expected s) g ok = ap is_shared (g.image.place s) ∙ bear_unshared a p (w.know p).epoch ((w.know p).own s) (a.place s) (a.last s) (a.stamp s) (g.owns p s) (may_bear ((w.know p).own s) ok.owned)
-moves_unshared start w a notes p (Replace s expected t) g ok = ap is_shared (g.image.place t) ∙ bear_unshared a p (w.know p).epoch ((w.know p).own t) (a.place t) (a.last t) (a.stamp t) (g.owns p t) (may_bear ((w.know p).own t) ok.owned)
+pub moves_unshared : (start : Start) (w : World) (a : Incarnations) (notes : ℕ → Notes) (p : ℕ) (step : Step) →
+    Agrees start w a notes → Accepts start (w.know p) step → MovesUnshared w step
+moves_unshared start w a notes p (StoreBirth s birth) g ok = ap is_shared (g.image.place s)
+    ∙ bear_unshared a p (w.know p).epoch ((w.know p).own s) (a.place s) (a.last s) (a.stamp s) (g.owns p s) ok.owned
+moves_unshared start w a notes p (Publish pred expected s) g ok = ap is_shared (g.image.place s)
+    ∙ bear_unshared a p (w.know p).epoch ((w.know p).own s) (a.place s) (a.last s) (a.stamp s) (g.owns p s)
+    (may_bear ((w.know p).own s) ok.owned)
+moves_unshared start w a notes p (Replace s expected t) g ok = ap is_shared (g.image.place t)
+    ∙ bear_unshared a p (w.know p).epoch ((w.know p).own t) (a.place t) (a.last t) (a.stamp t) (g.owns p t)
+    (may_bear ((w.know p).own t) ok.owned)
 moves_unshared start w a notes p (Unlink pred expected s) g ok = next_unshared start w a notes p pred expected s g ok
 moves_unshared start w a notes p _ g ok = tt
 
 -- an accepted step leaves the words elsewhere
-pub word_elsewhere : (start : Start) (w : World) (a : Incarnations) (notes : ℕ → Notes) (p : ℕ) (step : Step) (q : Place) → Agrees start w a notes → Accepts start (w.know p) step → q ≢ place_of_step step → word_at start (after start w p step) q ≡ word_at start w q
-word_elsewhere start w a notes p step q g ok ne = word_elsewhere_if start w p step q (moves_unshared start w a notes p step g ok) ne
+pub word_elsewhere : (start : Start) (w : World) (a : Incarnations) (notes : ℕ → Notes) (p : ℕ) (step : Step)
+    (q : Place) → Agrees start w a notes → Accepts start (w.know p) step → q ≢ place_of_step step →
+    word_at start (after start w p step) q ≡ word_at start w q
+word_elsewhere start w a notes p step q g ok ne =
+    word_elsewhere_if start w p step q (moves_unshared start w a notes p step g ok) ne

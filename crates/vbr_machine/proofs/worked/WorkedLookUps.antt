@@ -29,11 +29,14 @@ passes_a_marked_node = (
   },
 )
 
-pub answers_no : effect_of look (found shape_of_one (world_after shape_of_one (take 16 two_helpers)) look) ≡ Answered false
+pub answers_no : effect_of look (found shape_of_one (world_after shape_of_one (take 16 two_helpers)) look)
+    ≡ Answered false
 unfolding bucket_of link_of word_of has_flag first_bits flag_word
 answers_no = refl
 
 pub calls : (world_after shape_of_one (take 16 two_helpers ++ by 1 look ∷ [])).calls ≡
-    record { who = 0; op = Insert; key = 7; reply = true; value = None } ∷ record { who = 0; op = Remove; key = 7; reply = true; value = None } ∷ record { who = 1; op = Has; key = 7; reply = false; value = None } ∷ []
+    record { who = 0; op = Insert; key = 7; reply = true; value = None }
+    ∷ record { who = 0; op = Remove; key = 7; reply = true; value = None }
+    ∷ record { who = 1; op = Has; key = 7; reply = false; value = None } ∷ []
 unfolding bucket_of link_of word_of has_flag first_bits flag_word
 calls = refl

@@ -12,7 +12,9 @@ use Rattle.vbr_machine.specs.Machine.{opening, word_at}
 use Rattle.vbr_machine.specs.Runs.{Refuses, world_after}
 use Rattle.vbr_machine.specs.declared.history.Op.TheVariants.{Insert, Remove, Get}
 use Rattle.vbr_machine.specs.declared.event.Event.{Event}
-use Rattle.vbr_machine.specs.declared.event.Step.TheVariants.{ReadEpoch, TakeFlag, StoreBirth, StoreKey, StoreValue, StoreLink, LoadLink, LoadKey, LoadValue, Publish, Mark, ConfirmPresent, ConfirmAbsent}
+use Rattle.vbr_machine.specs.declared.event.Step.TheVariants.{ReadEpoch, TakeFlag, StoreBirth, StoreKey, StoreValue}
+use Rattle.vbr_machine.specs.declared.event.Step.TheVariants.{StoreLink, LoadLink, LoadKey, LoadValue, Publish, Mark}
+use Rattle.vbr_machine.specs.declared.event.Step.TheVariants.{ConfirmPresent, ConfirmAbsent}
 use Rattle.vbr_machine.specs.declared.event.Effect.TheVariants.{Value, Done, Won, Lost, Answered}
 use Rattle.vbr_machine.specs.declared.event.CoreRefusal.TheVariants.{NotHeld, OutOfRange}
 use Rattle.vbr_machine.proofs.worked.WorkedLists.{by, shape_of_one, Plays}
@@ -22,21 +24,28 @@ map_of_one = empty_start (record { slots = 1; buckets = 1; spread = None; last_e
 
 -- a slot is born in and gets a key
 abbrev in_hand : List Event
-in_hand = by 0 ReadEpoch ∷ by 0 (TakeFlag 0) ∷ by 0 (StoreBirth 0 1) ∷ by 0 (StoreKey 0 7) ∷ by 0 (LoadLink (Head 0)) ∷ by 0 ReadEpoch ∷ by 0 (StoreLink 0 None) ∷ []
+in_hand = by 0 ReadEpoch ∷ by 0 (TakeFlag 0) ∷ by 0 (StoreBirth 0 1) ∷ by 0 (StoreKey 0 7) ∷ by 0 (LoadLink (Head 0))
+    ∷ by 0 ReadEpoch ∷ by 0 (StoreLink 0 None) ∷ []
 
 -- another pass finds the node, and reads its key and its link
 abbrev read_by_another : List Event
-read_by_another = by 1 ReadEpoch ∷ by 1 (LoadLink (Head 0)) ∷ by 1 ReadEpoch ∷ by 1 (LoadKey 0) ∷ by 1 (LoadLink (Slot 0)) ∷ by 1 ReadEpoch ∷ []
+read_by_another = by 1 ReadEpoch ∷ by 1 (LoadLink (Head 0)) ∷ by 1 ReadEpoch ∷ by 1 (LoadKey 0)
+    ∷ by 1 (LoadLink (Slot 0)) ∷ by 1 ReadEpoch ∷ []
 
 abbrev inserted : List Event
 inserted = in_hand ++ by 0 (StoreValue 0 107) ∷ by 0 (Publish (Head 0) 0 0) ∷ []
 
 abbrev valued_run : List Event
-valued_run = inserted ++ read_by_another ++ by 1 (LoadValue 0) ∷ by 1 ReadEpoch ∷ by 1 (ConfirmPresent Get 0 33554432) ∷ by 0 (Mark 0 33554432) ∷ by 1 (ConfirmPresent Get 0 33554432) ∷ []
+valued_run = inserted ++ read_by_another ++ by 1 (LoadValue 0) ∷ by 1 ReadEpoch ∷ by 1 (ConfirmPresent Get 0 33554432)
+    ∷ by 0 (Mark 0 33554432) ∷ by 1 (ConfirmPresent Get 0 33554432) ∷ []
 
 pub valued_run_plays : Plays map_of_one 2 valued_run
-    ((Value 1) ∷ Won ∷ Done ∷ Done ∷ (Value 0) ∷ (Value 1) ∷ Done ∷ Done ∷ Won ∷ (Value 1) ∷ (Value 33554433) ∷ (Value 1) ∷ (Value 7) ∷ (Value 33554432) ∷ (Value 1) ∷ (Value 107) ∷ (Value 1) ∷ (Answered true) ∷ Won ∷ (Lost 50331648) ∷ [])
-    (record { who = 0; op = Insert; key = 7; reply = true; value = Some 107 } ∷ record { who = 1; op = Get; key = 7; reply = true; value = Some 107 } ∷ record { who = 0; op = Remove; key = 7; reply = true; value = Some 107 } ∷ [])
+    ((Value 1) ∷ Won ∷ Done ∷ Done ∷ (Value 0) ∷ (Value 1) ∷ Done ∷ Done ∷ Won ∷ (Value 1) ∷ (Value 33554433)
+    ∷ (Value 1) ∷ (Value 7) ∷ (Value 33554432) ∷ (Value 1) ∷ (Value 107) ∷ (Value 1) ∷ (Answered true) ∷ Won
+    ∷ (Lost 50331648) ∷ [])
+    (record { who = 0; op = Insert; key = 7; reply = true; value = Some 107 }
+    ∷ record { who = 1; op = Get; key = 7; reply = true; value = Some 107 }
+    ∷ record { who = 0; op = Remove; key = 7; reply = true; value = Some 107 } ∷ [])
 unfolding bucket_of link_of word_of has_flag first_bits flag_word
 valued_run_plays = (search (rules, tests), refl, refl)
 
@@ -46,15 +55,18 @@ valued_run_word = refl
 
 -- ---- where a value is missing
 
-pub published_without_a_value : Refuses map_of_one 2 (world_after map_of_one in_hand) (by 0 (Publish (Head 0) 0 0)) OutOfRange
+pub published_without_a_value : Refuses map_of_one 2 (world_after map_of_one in_hand) (by 0 (Publish (Head 0) 0 0))
+    OutOfRange
 unfolding bucket_of link_of word_of has_flag first_bits flag_word
 published_without_a_value = search (rules, tests)
 
-pub marked_without_a_value : Refuses map_of_one 2 (world_after map_of_one (inserted ++ read_by_another)) (by 1 (Mark 0 33554432)) NotHeld
+pub marked_without_a_value : Refuses map_of_one 2 (world_after map_of_one (inserted ++ read_by_another))
+    (by 1 (Mark 0 33554432)) NotHeld
 unfolding bucket_of link_of word_of has_flag first_bits flag_word
 marked_without_a_value = search (rules, tests)
 
-pub got_without_a_value : Refuses map_of_one 2 (world_after map_of_one (inserted ++ read_by_another)) (by 1 (ConfirmPresent Get 0 33554432)) NotHeld
+pub got_without_a_value : Refuses map_of_one 2 (world_after map_of_one (inserted ++ read_by_another))
+    (by 1 (ConfirmPresent Get 0 33554432)) NotHeld
 unfolding bucket_of link_of word_of has_flag first_bits flag_word
 got_without_a_value = search (rules, tests)
 

@@ -3,13 +3,42 @@ use Rattle.std.proofs.Common.{arith}
 use Rattle.vbr_machine.specs.Start.{IsStart}
 use Rattle.vbr_machine.specs.Safety.{IsSafe}
 use Rattle.vbr_machine.proofs.runs.SafeRuns.{every_run}
-use Rattle.vbr_machine.proofs.worked.WorkedLists.{shape_of_three, shape_of_one, reborn_slot, same_word, two_helpers, worked_plays}
+use Rattle.vbr_machine.proofs.worked.WorkedLists.{shape_of_three, shape_of_one, reborn_slot, same_word, two_helpers}
+use Rattle.vbr_machine.proofs.worked.WorkedLists.{worked_plays}
 
 three_is_shape : IsStart shape_of_three
-three_is_shape = record { shape = record { some_slot = omega arith; slots = omega arith; some_bucket = omega arith; buckets = omega arith; some_epoch = omega arith; last_epoch = omega arith }; ascending = λ k low. absurd (omega arith); few = omega arith; paired = omega arith }
+three_is_shape =
+    record {
+      shape =
+          record {
+            some_slot = omega arith;
+            slots = omega arith;
+            some_bucket = omega arith;
+            buckets = omega arith;
+            some_epoch = omega arith;
+            last_epoch = omega arith;
+          };
+      ascending = λ k low. absurd (omega arith);
+      few = omega arith;
+      paired = omega arith;
+    }
 
 one_is_shape : IsStart shape_of_one
-one_is_shape = record { shape = record { some_slot = omega arith; slots = omega arith; some_bucket = omega arith; buckets = omega arith; some_epoch = omega arith; last_epoch = omega arith }; ascending = λ k low. absurd (omega arith); few = omega arith; paired = omega arith }
+one_is_shape =
+    record {
+      shape =
+          record {
+            some_slot = omega arith;
+            slots = omega arith;
+            some_bucket = omega arith;
+            buckets = omega arith;
+            some_epoch = omega arith;
+            last_epoch = omega arith;
+          };
+      ascending = λ k low. absurd (omega arith);
+      few = omega arith;
+      paired = omega arith;
+    }
 
 pub reborn_slot_safe : IsSafe shape_of_three reborn_slot
 reborn_slot_safe = every_run shape_of_three 2 reborn_slot three_is_shape worked_plays.0.0

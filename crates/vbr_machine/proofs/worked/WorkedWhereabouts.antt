@@ -5,7 +5,8 @@ use Rattle.vbr_words.specs.Flags.{has_flag, first_bits, flag_word}
 use Rattle.vbr_words.specs.Words.{word_of, link_of}
 use Rattle.vbr_words.specs.Buckets.{bucket_of}
 use Rattle.vbr_machine.specs.declared.event.Event.{Event}
-use Rattle.vbr_machine.specs.Whereabouts.{Whereabouts, InSharedPool, WithPass, InSet, MarkedInList, Unstamped, number_at}
+use Rattle.vbr_machine.specs.Whereabouts.{Whereabouts, InSharedPool, WithPass, InSet, MarkedInList, Unstamped}
+use Rattle.vbr_machine.specs.Whereabouts.{number_at}
 use Rattle.vbr_machine.specs.declared.event.Step.TheVariants.{Mark, Unlink}
 use Rattle.vbr_machine.specs.Runs.{IsRun}
 use Rattle.vbr_words.specs.declared.place.At.TheVariants.{Head}
@@ -15,9 +16,11 @@ use Rattle.vbr_machine.proofs.worked.WorkedLists.{by, shape_of_three, reborn_slo
 abbrev numbers : ℕ → List ℕ
 numbers moment =
     let at = λ (whereabouts : Whereabouts). number_at shape_of_three (take moment reborn_slot) whereabouts in
-    at InSharedPool ∷ at (WithPass 0) ∷ at (WithPass 1) ∷ at InSet ∷ at MarkedInList ∷ at (Unstamped 0) ∷ at (Unstamped 1) ∷ []
+    at InSharedPool ∷ at (WithPass 0) ∷ at (WithPass 1) ∷ at InSet ∷ at MarkedInList ∷ at (Unstamped 0)
+    ∷ at (Unstamped 1) ∷ []
 
--- at the opening; once pass 0 has taken a slot; once it has published two, and pass 1 has one in hand; once a node is marked; unlinked; stamped; and born in again and published
+-- at the opening; once pass 0 has taken a slot; once it has published two, and pass 1 has one in hand; once a node
+-- is marked; unlinked; stamped; and born in again and published
 pub along_reborn_slot : map numbers (0 ∷ 2 ∷ 28 ∷ 29 ∷ 30 ∷ 32 ∷ 43 ∷ [])
     ≡ (3 ∷ 0 ∷ 0 ∷ 0 ∷ 0 ∷ 0 ∷ 0 ∷ [])
     ∷ (2 ∷ 1 ∷ 0 ∷ 0 ∷ 0 ∷ 0 ∷ 0 ∷ [])
@@ -34,7 +37,8 @@ along_reborn_slot = refl
 
 -- a run of the same beginning, in which pass 0 unlinks both nodes before it stamps one
 abbrev two_unlinked : List Event
-two_unlinked = take 14 reborn_slot ++ by 0 (Mark 1 33554433) ∷ by 0 (Unlink (Head 0) 33554434 1) ∷ by 0 (Mark 0 33554432) ∷ by 0 (Unlink (Head 0) 33554433 0) ∷ []
+two_unlinked = take 14 reborn_slot ++ by 0 (Mark 1 33554433) ∷ by 0 (Unlink (Head 0) 33554434 1)
+    ∷ by 0 (Mark 0 33554432) ∷ by 0 (Unlink (Head 0) 33554433 0) ∷ []
 
 pub two_unlinked_accepted : IsRun shape_of_three 2 two_unlinked
 unfolding bucket_of link_of word_of has_flag first_bits flag_word

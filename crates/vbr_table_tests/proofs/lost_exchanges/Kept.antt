@@ -26,20 +26,25 @@ hand_kept hand keeps is =
     }
 
 -- where nodes have values, a store of an item takes four steps
-pub four : {p q : PassView} → p.trace.start.shape.values ≡ true → StoresIn p q (steps_to_update p.trace.start) → Took p.trace q.trace 4
+pub four : {p q : PassView} → p.trace.start.shape.values ≡ true → StoresIn p q (steps_to_update p.trace.start) →
+    Took p.trace q.trace 4
 four {p} {q} has stores =
     let T : Bool → Type 0 = λ values. Took p.trace q.trace (1 + steps_to_value values + 1 + 1) in
     subst T has stores.took
 
 -- a pass is its table's once it has replaced a node or has lost that
-pub own_replaced : (p q : PassView) {t : TableView} (hand : HandView) (value : ℕ) (node : Held) (r : Result Marked (HandView × Rollback)) → IfOk r (ReplacesHeld p q node 7 value) → IfErr r (GivesBack p q node hand) → IsReplaceable p.trace node 7 0 → IsOf p.trace t → IsOf q.trace t
+pub own_replaced : (p q : PassView) {t : TableView} (hand : HandView) (value : ℕ) (node : Held)
+    (r : Result Marked (HandView × Rollback)) → IfOk r (ReplacesHeld p q node 7 value) →
+    IfErr r (GivesBack p q node hand) → IsReplaceable p.trace node 7 0 → IsOf p.trace t → IsOf q.trace t
 own_replaced p q hand value node (Ok marked) replaced lost is own =
     let old = is.valued is.has_values in
     of_on (replaced.made old.0 old.1).same own
 own_replaced p q hand value node (Err back) replaced lost is own = of_on lost.exchange.quiet.same own
 
 -- and once it has answered a get by it, or has lost that
-pub own_told : (p q : Trace) {t : TableView} (node : Held) (r : Result (Unit {0}) Rollback) → OnOk r (AnswersEntry p q Get node) → IfErr r (FindsAnother p q node) → IsReplaceable p node 7 0 → IsOf p t → IsOf q t
+pub own_told : (p q : Trace) {t : TableView} (node : Held) (r : Result (Unit {0}) Rollback) →
+    OnOk r (AnswersEntry p q Get node) → IfErr r (FindsAnother p q node) → IsReplaceable p node 7 0 → IsOf p t →
+    IsOf q t
 own_told p q node (Ok done) answers lost is own =
     let old = is.valued is.has_values in
     of_on (answers.answers 7 old.0 is.key_is (λ _. old.1)).made.same own

@@ -23,7 +23,8 @@ use Rattle.vbr_at_table.proofs.Lemmas.{held_kept, key_on}
 use Rattle.vbr_list.proofs.Lemmas.{of_on}
 
 -- what was held before a call that answered is held after it
-pub held_through : {T E : Type 0} {P : T → Type 0} {know later : Know} (held : Held) (r : Result T E) (x : T) → r ≡ Ok x → IfOk r P → ((y : T) → P y → Keeps know later) → IsHeld know held → IsHeld later held
+pub held_through : {T E : Type 0} {P : T → Type 0} {know later : Know} (held : Held) (r : Result T E) (x : T) →
+    r ≡ Ok x → IfOk r P → ((y : T) → P y → Keeps know later) → IsHeld know held → IsHeld later held
 held_through {T} {E} {P} held r x is told keeps h =
     let Q : Result T E → Type 0 = λ r. IfOk r P in
     held_kept held (keeps x (subst Q is told)) h
@@ -32,8 +33,10 @@ held_through {T} {E} {P} held r x is told keeps h =
 in_bucket : (start : Start) (key : ℕ) → start.shape.buckets ≡ 1 → bucket_of start.shape key ≡ 0
 in_bucket start key one = let low = bucket_of-lt start.shape key (omega (arith, one)) in omega (arith, low, one)
 
-pub behind_head : (start : Start) (know : Know) (at : At) (key : ℕ) → at ≡ Head 0 → start.shape.buckets ≡ 1 → StandsBehind start know at key
-behind_head start know at key head one = let P : At → Type 0 = λ at. StandsBehind start know at key in subst P (sym head) (in_bucket start key one)
+pub behind_head : (start : Start) (know : Know) (at : At) (key : ℕ) → at ≡ Head 0 → start.shape.buckets ≡ 1 →
+    StandsBehind start know at key
+behind_head start know at key head one =
+    let P : At → Type 0 = λ at. StandsBehind start know at key in subst P (sym head) (in_bucket start key one)
 
 -- the link word 33554432 isn't marked
 pub is_unmarked : (word : ℕ) → word ≡ 33554432 → (link_of word).mark ≡ false
@@ -49,10 +52,17 @@ of_some P false known = (0, λ is. absurd (let z : false ≡ true = is in cc))
 
 -- a present node stays present
 pub present_kept : {know later : Know} (node : Held) → Keeps know later → IsPresent know node → IsPresent later node
-present_kept node keeps is = record { held = held_kept node keeps is.held; key = (is.key.0, key_on node.at is.key.0 keeps is.key.1); unmarked = is.unmarked }
+present_kept node keeps is =
+    record {
+      held = held_kept node keeps is.held;
+      key = (is.key.0, key_on node.at is.key.0 keeps is.key.1);
+      unmarked = is.unmarked;
+    }
 
 -- a pass is its table's once it has marked the node, or has lost that
-pub own_marked : (p q : Trace) {t : TableView} (node : Held) (r : Result Marked Rollback) → IfOk r (MarksEntry p q node) → IfErr r (LosesExchange p q node) → IsPresent (knows p) node → IsValued p node.at → IsOf p t → IsOf q t
+pub own_marked : (p q : Trace) {t : TableView} (node : Held) (r : Result Marked Rollback) →
+    IfOk r (MarksEntry p q node) → IfErr r (LosesExchange p q node) → IsPresent (knows p) node → IsValued p node.at →
+    IsOf p t → IsOf q t
 own_marked p q node (Ok marked) removed lost is valued own =
     let P : ℕ → Type 0 = λ value. ValueAt (knows p) node.at value in
     let value = of_some P p.start.shape.values valued in

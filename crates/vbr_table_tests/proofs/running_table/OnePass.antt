@@ -20,10 +20,12 @@ pub below : (m n : ℕ) → m ≡ 0 → n ≡ 1 → m < n
 below m n zero one = omega arith
 
 -- a run of one pass has no events of others
-none_others : (start : Start) (seen rest last : List Event) → IsRun start 1 ((seen ++ rest) ++ last) → NoneOf 0 rest → rest ≡ []
+none_others : (start : Start) (seen rest last : List Event) → IsRun start 1 ((seen ++ rest) ++ last) → NoneOf 0 rest →
+    rest ≡ []
 none_others start seen [] last run none = refl
 none_others start seen (e ∷ es) last run none =
-    absurd (none.0 (only_0 e.pass (is_run_after start 1 seen (e ∷ es) (is_run_before start 1 (seen ++ e ∷ es) last run)).0.0))
+    absurd (none.0
+    (only_0 e.pass (is_run_after start 1 seen (e ∷ es) (is_run_before start 1 (seen ++ e ∷ es) last run)).0.0))
 
 -- the pass 0 of a table that has no other
 pub record IsOnlyPass (p : Trace) : Type 0 where
@@ -40,19 +42,25 @@ still_only : (step : Step) (p q : Trace) (r : ℕ) → IsOnlyPass p → Did step
 still_only step p q r a d = record { passes = d.same.2 ∙ a.passes; who = d.same.3 ∙ a.who }
 
 -- what it has seen after its first read of the epoch
-read_first : (p q : Trace) (r : ℕ) → p.seen ≡ [] → IsOnlyPass p → Did ReadEpoch p q r → q.seen ≡ event_of 0 ReadEpoch ∷ []
-read_first p q r new a d = d.seen ∙ ap (λ (x : List Event × List Event × ℕ). (x.0 ++ x.1) ++ event_of x.2 ReadEpoch ∷ []) (λ i. (new i, none_since ReadEpoch p q r a d i, a.who i))
+read_first : (p q : Trace) (r : ℕ) → p.seen ≡ [] → IsOnlyPass p → Did ReadEpoch p q r →
+    q.seen ≡ event_of 0 ReadEpoch ∷ []
+read_first p q r new a d = d.seen
+    ∙ ap (λ (x : List Event × List Event × ℕ). (x.0 ++ x.1) ++ event_of x.2 ReadEpoch ∷ [])
+    (λ i. (new i, none_since ReadEpoch p q r a d i, a.who i))
 
 -- the stamp of a slot that is taken once the epoch was read is that of the opening
-taken_stamp : (p q t : Trace) (r n : ℕ) → p.seen ≡ [] → IsOnlyPass p → Did ReadEpoch p q r → Did (TakeFlag 0) q t n → has_flag n 0 ≡ true → stamp_in ((knows t).own 0) ≡ 0
+taken_stamp : (p q t : Trace) (r n : ℕ) → p.seen ≡ [] → IsOnlyPass p → Did ReadEpoch p q r → Did (TakeFlag 0) q t n →
+    has_flag n 0 ≡ true → stamp_in ((knows t).own 0) ≡ 0
 taken_stamp p q t r n new a read took set =
     ap stamp_in (ap (λ (k : Know). k.own 0) (took.know ∙ won_flag _ (knows q)) ∙ put_here (knows q).own 0 _)
-    ∙ ap (λ (x : List Event × List Event). (world_after q.start (x.0 ++ x.1)).stamp 0) (λ i. (read_first p q r new a read i, none_since (TakeFlag 0) q t n (still_only ReadEpoch p q r a read) took i))
+    ∙ ap (λ (x : List Event × List Event). (world_after q.start (x.0 ++ x.1)).stamp 0)
+    (λ i. (read_first p q r new a read i, none_since (TakeFlag 0) q t n (still_only ReadEpoch p q r a read) took i))
   where
     won_flag : (a b : Know) → cond (has_flag n 0) a b ≡ a
     won_flag a b = ap (λ (t : Bool). cond t a b) set
 
 -- and so where the taking answers that it was taken
-pub stamp_0 : {T : Type 0} (p q t : Trace) (r : ℕ) (answer : Result T ℕ) → p.seen ≡ [] → IsOnlyPass p → Did ReadEpoch p q r → is_ok answer ≡ true → Reached 0 q t answer → stamp_in ((knows t).own 0) ≡ 0
+pub stamp_0 : {T : Type 0} (p q t : Trace) (r : ℕ) (answer : Result T ℕ) → p.seen ≡ [] → IsOnlyPass p →
+    Did ReadEpoch p q r → is_ok answer ≡ true → Reached 0 q t answer → stamp_in ((knows t).own 0) ≡ 0
 stamp_0 p q t r (Ok x) new a read won took = taken_stamp p q t r took.0 new a read took.1 took.2
 stamp_0 p q t r (Err n) new a read won took = absurd (cc)

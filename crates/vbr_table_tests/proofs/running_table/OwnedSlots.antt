@@ -7,7 +7,8 @@ use Rattle.vbr_machine.specs.Links.{link_to}
 use Rattle.vbr_machine.specs.Acceptance.{MayBear}
 use Rattle.vbr_machine.specs.Knowledge.{Know, birth_of}
 use Rattle.vbr_machine.specs.Learning.{birth_in_hand, with_key, with_value}
-use Rattle.vbr_machine.specs.declared.event.Step.TheVariants.{ReadEpoch, LoadStamp, TakeFlag, StoreBirth, StoreKey, StoreValue}
+use Rattle.vbr_machine.specs.declared.event.Step.TheVariants.{ReadEpoch, LoadStamp, TakeFlag, StoreBirth, StoreKey}
+use Rattle.vbr_machine.specs.declared.event.Step.TheVariants.{StoreValue}
 use Rattle.vbr_machine.specs.declared.knowledge.Read.{Read}
 use Rattle.vbr_machine.specs.declared.knowledge.Holding.{Holding}
 use Rattle.vbr_machine.specs.declared.knowledge.Holding.TheVariants.{Free, Unlinked, InHand}
@@ -26,7 +27,8 @@ loaded_own p q s t r d = ap (λ (k : Know). k.own s) d.know
 taken_epoch : (p q : Trace) (s r : ℕ) → Did (TakeFlag s) p q r → (knows q).epoch ≡ (knows p).epoch
 taken_epoch p q s r d = ap (λ (k : Know). k.epoch) d.know ∙ epoch_learned (TakeFlag s) r _ (knows p)
 
-pub reached_epoch : {T : Type 0} (p q : Trace) (s : ℕ) (answer : Result T ℕ) → Reached s p q answer → (knows q).epoch ≡ (knows p).epoch
+pub reached_epoch : {T : Type 0} (p q : Trace) (s : ℕ) (answer : Result T ℕ) → Reached s p q answer →
+    (knows q).epoch ≡ (knows p).epoch
 reached_epoch p q s (Ok x) d = taken_epoch p q s d.0 d.1
 reached_epoch p q s (Err n) d = taken_epoch p q s n d.0
 
@@ -49,12 +51,14 @@ taken_free p q s r d set = (_, ap (λ (k : Know). k.own s) (d.know ∙ won _ (kn
     won : (a b : Know) → cond (has_flag r s) a b ≡ a
     won a b = ap (λ (t : Bool). cond t a b) set
 
-pub reached_free : {T : Type 0} (p q : Trace) (s : ℕ) (answer : Result T ℕ) → is_ok answer ≡ true → Reached s p q answer → IsFreeWith ((knows q).own s)
+pub reached_free : {T : Type 0} (p q : Trace) (s : ℕ) (answer : Result T ℕ) → is_ok answer ≡ true →
+    Reached s p q answer → IsFreeWith ((knows q).own s)
 reached_free p q s (Ok x) won d = taken_free p q s d.0 d.1 d.2
 reached_free p q s (Err n) won d = absurd (cc)
 
 -- the birth in hand
-pub born_birth : (p q : Trace) (s birth r : ℕ) → Did (StoreBirth s birth) p q r → birth_in_hand ((knows q).own s) ≡ birth
+pub born_birth : (p q : Trace) (s birth r : ℕ) → Did (StoreBirth s birth) p q r →
+    birth_in_hand ((knows q).own s) ≡ birth
 born_birth p q s birth r d = ap birth_in_hand (ap (λ (k : Know). k.own s) d.know ∙ put_here (knows p).own s _)
 
 keyed : (holding : Option Holding) (key : ℕ) → birth_in_hand (with_key holding key) ≡ birth_in_hand holding
@@ -63,8 +67,10 @@ keyed (Some (Free stamp)) key = refl
 keyed (Some (Unlinked reread)) key = refl
 keyed (Some (InHand known)) key = refl
 
-pub keyed_birth : (p q : Trace) (s key r : ℕ) → Did (StoreKey s key) p q r → birth_in_hand ((knows q).own s) ≡ birth_in_hand ((knows p).own s)
-keyed_birth p q s key r d = ap birth_in_hand (ap (λ (k : Know). k.own s) d.know ∙ put_here (knows p).own s _) ∙ keyed ((knows p).own s) key
+pub keyed_birth : (p q : Trace) (s key r : ℕ) → Did (StoreKey s key) p q r →
+    birth_in_hand ((knows q).own s) ≡ birth_in_hand ((knows p).own s)
+keyed_birth p q s key r d =
+    ap birth_in_hand (ap (λ (k : Know). k.own s) d.know ∙ put_here (knows p).own s _) ∙ keyed ((knows p).own s) key
 
 valued : (holding : Option Holding) (value : ℕ) → birth_in_hand (with_value holding value) ≡ birth_in_hand holding
 valued None value = refl
@@ -72,8 +78,10 @@ valued (Some (Free stamp)) value = refl
 valued (Some (Unlinked reread)) value = refl
 valued (Some (InHand known)) value = refl
 
-pub valued_birth : (p q : Trace) (s value r : ℕ) → Did (StoreValue s value) p q r → birth_in_hand ((knows q).own s) ≡ birth_in_hand ((knows p).own s)
-valued_birth p q s value r d = ap birth_in_hand (ap (λ (k : Know). k.own s) d.know ∙ put_here (knows p).own s _) ∙ valued ((knows p).own s) value
+pub valued_birth : (p q : Trace) (s value r : ℕ) → Did (StoreValue s value) p q r →
+    birth_in_hand ((knows q).own s) ≡ birth_in_hand ((knows p).own s)
+valued_birth p q s value r d =
+    ap birth_in_hand (ap (λ (k : Know). k.own s) d.know ∙ put_here (knows p).own s _) ∙ valued ((knows p).own s) value
 
 -- ---- the link word 33554432: to none, with version 1
 
@@ -85,5 +93,8 @@ to_none : (checked : List Read) → 33554432 ≡ word_of (link_to None 1 (unwrap
 unfolding word_of
 to_none checked = refl
 
-pub is_word : (checked : List Read) (slot : Option ℕ) (birth : ℕ) → slot ≡ None → birth ≡ 1 → 33554432 ≡ word_of (link_to slot birth (unwrap_or (birth_of checked slot) 0))
-is_word checked slot birth none one = subst (λ (x : Option ℕ × ℕ). 33554432 ≡ word_of (link_to x.0 x.1 (unwrap_or (birth_of checked x.0) 0))) (λ i. (sym none i, sym one i)) (to_none checked)
+pub is_word : (checked : List Read) (slot : Option ℕ) (birth : ℕ) → slot ≡ None → birth ≡ 1 →
+    33554432 ≡ word_of (link_to slot birth (unwrap_or (birth_of checked slot) 0))
+is_word checked slot birth none one =
+    subst (λ (x : Option ℕ × ℕ). 33554432 ≡ word_of (link_to x.0 x.1 (unwrap_or (birth_of checked x.0) 0)))
+    (λ i. (sym none i, sym one i)) (to_none checked)

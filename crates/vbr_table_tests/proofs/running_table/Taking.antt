@@ -15,7 +15,8 @@ Reached slot p q answer =
     (λ taken. (found : ℕ) × Did (TakeFlag slot) p q found × (has_flag found slot ≡ true))
     (λ found. Did (TakeFlag slot) p q found × (has_flag found slot ≡ false))
 
-pub reached : {T : Type 0} (slot : ℕ) (p q : PassView) (answer : Result T ℕ) → OnOk answer (TakesFlag slot p q) → IfErr answer (MissesFlag slot p q) → Reached slot p.trace q.trace answer
+pub reached : {T : Type 0} (slot : ℕ) (p q : PassView) (answer : Result T ℕ) → OnOk answer (TakesFlag slot p q) →
+    IfErr answer (MissesFlag slot p q) → Reached slot p.trace q.trace answer
 reached slot p q (Ok x) taken missed = (taken.found, taken.did, taken.there)
 reached slot p q (Err n) taken missed = (missed.did, missed.missing)
 
@@ -24,6 +25,7 @@ pub did_has : (step : Step) (p q : Trace) (r : ℕ) → Did step p q r → HasEv
 did_has step p q r d = (p.seen ++ d.rest, [], d.seen ∙ sym (append-nil _))
 
 -- whether the slot was taken or not
-pub reached_for : {T : Type 0} (s : ℕ) (p q : Trace) (answer : Result T ℕ) → Reached s p q answer → HasEvent q.seen (event_of p.who (TakeFlag s))
+pub reached_for : {T : Type 0} (s : ℕ) (p q : Trace) (answer : Result T ℕ) → Reached s p q answer →
+    HasEvent q.seen (event_of p.who (TakeFlag s))
 reached_for s p q (Ok x) d = did_has (TakeFlag s) p q d.0 d.1
 reached_for s p q (Err n) d = did_has (TakeFlag s) p q n d.0

@@ -11,7 +11,10 @@ confirm_absent-requires-clause-holder g c =
     subst P c.args.at.now.own.1 (place_in c.args.at.now.stepper.now c.law.ensures c.args.pred.now c.requires.gap.held)
 
 pub confirm_absent-requires-clause-checked : goal.confirm_absent-requires-clause-checked
-confirm_absent-requires-clause-checked g c = accepted_checked c.args.at.now.own (absent_accepted c.args.at.now.stepper.now c.law.ensures c.args.op c.args.key c.args.pred.now c.requires.gap.held c.requires.gap.behind c.requires.gap.before c.requires.gap.unmarked c.requires.op.other c.requires.op.asked)
+confirm_absent-requires-clause-checked g c =
+    accepted_checked c.args.at.now.own
+    (absent_accepted c.args.at.now.stepper.now c.law.ensures c.args.op c.args.key c.args.pred.now c.requires.gap.held
+    c.requires.gap.behind c.requires.gap.before c.requires.gap.unmarked c.requires.op.other c.requires.op.asked)
 
 pub returns-in-Ok-clause-keeps : goal.returns-in-Ok-clause-keeps
 returns-in-Ok-clause-keeps g c = absent_keeps c.in-Ok.ensures.found.did c.in-Ok.ensures.found.keeps
@@ -23,4 +26,5 @@ pub returns-in-Ok-clause-answers : goal.returns-in-Ok-clause-answers
 returns-in-Ok-clause-answers g c = absent_answered c.in-Ok.ensures.found.did
 
 pub returns-in-Err-clause-lost : goal.returns-in-Err-clause-lost
-returns-in-Err-clause-lost g c = absent_finds c.args.pred.now c.in-Err.ensures.other.unexpected c.args.pred.now.at refl c.in-Err.ensures.other.did
+returns-in-Err-clause-lost g c =
+    absent_finds c.args.pred.now c.in-Err.ensures.other.unexpected c.args.pred.now.at refl c.in-Err.ensures.other.did

@@ -12,10 +12,16 @@ use Rattle.vbr_at_table.proofs.confirming.confirm_present.Goals as goal
 pub confirm_present-requires-clause-slot : goal.confirm_present-requires-clause-slot
 confirm_present-requires-clause-slot g c =
     let P : Start → Type 0 = λ start. c.in-Slot.slot < start.shape.slots in
-    subst P c.args.at.now.own.1 (present_accepted c.args.at.now.stepper.now c.law.ensures c.args.op c.args.held.now c.in-Slot.slot c.requires.node.held c.in-Slot.is c.requires.node.key c.requires.node.unmarked c.requires.op c.requires.asked).in_shape.0
+    subst P c.args.at.now.own.1
+    (present_accepted c.args.at.now.stepper.now c.law.ensures c.args.op c.args.held.now c.in-Slot.slot
+    c.requires.node.held c.in-Slot.is c.requires.node.key c.requires.node.unmarked c.requires.op
+    c.requires.asked).in_shape.0
 
 pub confirm_present-requires-clause-checked : goal.confirm_present-requires-clause-checked
-confirm_present-requires-clause-checked g c = accepted_checked c.args.at.now.own (present_accepted c.args.at.now.stepper.now c.law.ensures c.args.op c.args.held.now c.in-Slot.slot c.requires.node.held c.in-Slot.is c.requires.node.key c.requires.node.unmarked c.requires.op c.requires.asked)
+confirm_present-requires-clause-checked g c =
+    accepted_checked c.args.at.now.own
+    (present_accepted c.args.at.now.stepper.now c.law.ensures c.args.op c.args.held.now c.in-Slot.slot
+    c.requires.node.held c.in-Slot.is c.requires.node.key c.requires.node.unmarked c.requires.op c.requires.asked)
 
 pub returns-in-Ok-clause-keeps : goal.returns-in-Ok-clause-keeps
 returns-in-Ok-clause-keeps g c = present_keeps c.in-Ok.ensures.found.did c.in-Ok.ensures.found.keeps
@@ -23,16 +29,20 @@ returns-in-Ok-clause-keeps g c = present_keeps c.in-Ok.ensures.found.did c.in-Ok
 pub returns-in-Err-clause-keeps : goal.returns-in-Err-clause-keeps
 returns-in-Err-clause-keeps g c = present_keeps c.in-Err.ensures.other.did c.in-Err.ensures.other.keeps
 
-answered : (g : given.Over) (c : goal.In-Ok g) → AnswersEntry c.args.at.now.stepper.now.trace c.confirm_present.new.self.stepper.now.trace c.args.op c.args.held.now
+answered : (g : given.Over) (c : goal.In-Ok g) →
+    AnswersEntry c.args.at.now.stepper.now.trace c.confirm_present.new.self.stepper.now.trace c.args.op c.args.held.now
 answered g c = record {
   answers = (λ key value k v.
       let P : At → Type 0 = λ at. KeyAt (knows c.args.at.now.stepper.now.trace) at key in
       let V : At → Type 0 = λ at. ValueAt (knows c.args.at.now.stepper.now.trace) at value in
-      present_answered c.law.ensures.start c.law.ensures.is_run c.in-Ok.ensures.found.did key value (subst P c.in-Slot.is k) (λ get. subst V c.in-Slot.is (v get)));
+      present_answered c.law.ensures.start c.law.ensures.is_run c.in-Ok.ensures.found.did key value
+      (subst P c.in-Slot.is k) (λ get. subst V c.in-Slot.is (v get)));
 }
 
 pub returns-in-Ok-clause-answers : goal.returns-in-Ok-clause-answers
 returns-in-Ok-clause-answers g c = answered g c
 
 pub returns-in-Err-clause-lost : goal.returns-in-Err-clause-lost
-returns-in-Err-clause-lost g c = present_finds c.args.held.now c.in-Err.ensures.other.unexpected c.in-Slot.slot c.in-Slot.is c.in-Err.ensures.other.did
+returns-in-Err-clause-lost g c =
+    present_finds c.args.held.now c.in-Err.ensures.other.unexpected c.in-Slot.slot c.in-Slot.is
+    c.in-Err.ensures.other.did

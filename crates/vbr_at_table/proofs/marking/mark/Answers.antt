@@ -13,10 +13,15 @@ use Rattle.vbr_at_table.proofs.marking.mark.Goals as goal
 pub mark-requires-clause-slot : goal.mark-requires-clause-slot
 mark-requires-clause-slot g c =
     let P : Start → Type 0 = λ start. c.in-Slot.slot < start.shape.slots in
-    subst P c.args.at.now.own.1 (mark_accepted c.args.at.now.stepper.now c.law.ensures c.args.held.now c.in-Slot.slot c.requires.node.held c.in-Slot.is c.requires.node.key c.requires.node.unmarked c.requires.valued).in_shape
+    subst P c.args.at.now.own.1
+    (mark_accepted c.args.at.now.stepper.now c.law.ensures c.args.held.now c.in-Slot.slot c.requires.node.held
+    c.in-Slot.is c.requires.node.key c.requires.node.unmarked c.requires.valued).in_shape
 
 pub mark-requires-clause-checked : goal.mark-requires-clause-checked
-mark-requires-clause-checked g c = accepted_checked c.args.at.now.own (mark_accepted c.args.at.now.stepper.now c.law.ensures c.args.held.now c.in-Slot.slot c.requires.node.held c.in-Slot.is c.requires.node.key c.requires.node.unmarked c.requires.valued)
+mark-requires-clause-checked g c =
+    accepted_checked c.args.at.now.own
+    (mark_accepted c.args.at.now.stepper.now c.law.ensures c.args.held.now c.in-Slot.slot c.requires.node.held
+    c.in-Slot.is c.requires.node.key c.requires.node.unmarked c.requires.valued)
 
 pub returns-in-Ok-clause-keeps : goal.returns-in-Ok-clause-keeps
 returns-in-Ok-clause-keeps g c = record {
@@ -35,11 +40,14 @@ returns-in-Err-clause-keeps g c = record {
 }
 
 pub returns-in-Ok-clause-removed : goal.returns-in-Ok-clause-removed
-returns-in-Ok-clause-removed g c = mark_told c.args.held.now c.law.ensures.start c.law.ensures.is_run c.requires.node.held c.in-Slot.is c.in-Ok.ensures.found.did c.with_mark.ensures
+returns-in-Ok-clause-removed g c = mark_told c.args.held.now c.law.ensures.start c.law.ensures.is_run
+    c.requires.node.held c.in-Slot.is c.in-Ok.ensures.found.did c.with_mark.ensures
 
 pub returns-in-Err-clause-lost : goal.returns-in-Err-clause-lost
 returns-in-Err-clause-lost g c = record {
   quiet = mark_failed c.in-Err.ensures.other.did c.in-Err.ensures.other.unexpected;
   lost = search rules;
-  unchanged = unchanged_by_none c.law.ensures.start (run_after c.law.ensures.start c.in-Err.ensures.other.did) (did_same c.in-Err.ensures.other.did) (did_seen c.in-Err.ensures.other.did) (mark_adds_none c.in-Err.ensures.other.did c.in-Err.ensures.other.unexpected);
+  unchanged = unchanged_by_none c.law.ensures.start (run_after c.law.ensures.start c.in-Err.ensures.other.did)
+      (did_same c.in-Err.ensures.other.did) (did_seen c.in-Err.ensures.other.did)
+      (mark_adds_none c.in-Err.ensures.other.did c.in-Err.ensures.other.unexpected);
 }

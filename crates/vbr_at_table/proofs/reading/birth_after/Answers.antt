@@ -9,28 +9,51 @@ use Rattle.vbr_at_table.proofs.ReadSteps.{loads_birth}
 use Rattle.vbr_at_table.proofs.reading.birth_after.Goals as goal
 
 pub load_birth-birth-requires-clause-slot : goal.load_birth-birth-requires-clause-slot
-load_birth-birth-requires-clause-slot g c = named_in c.args.at.now.stepper.now c.law.ensures c.args.held.now c.in-Some.slot c.args.at.now.own c.requires.held (ap (λ (l : Link). l.slot) (sym c.decode.ensures.link) ∙ c.in-Some.is)
+load_birth-birth-requires-clause-slot g c =
+    named_in c.args.at.now.stepper.now c.law.ensures c.args.held.now c.in-Some.slot c.args.at.now.own c.requires.held
+    (ap (λ (l : Link). l.slot) (sym c.decode.ensures.link) ∙ c.in-Some.is)
 
 pub load_birth-birth-requires-clause-held : goal.load_birth-birth-requires-clause-held
-load_birth-birth-requires-clause-held g c = named_found c.args.at.now.stepper.now c.law.ensures c.args.held.now c.in-Some.slot c.requires.held (ap (λ (l : Link). l.slot) (sym c.decode.ensures.link) ∙ c.in-Some.is)
+load_birth-birth-requires-clause-held g c =
+    named_found c.args.at.now.stepper.now c.law.ensures c.args.held.now c.in-Some.slot c.requires.held
+    (ap (λ (l : Link). l.slot) (sym c.decode.ensures.link) ∙ c.in-Some.is)
 
 pub returns-then-now-held-clause-reads : goal.returns-then-now-held-clause-reads
-returns-then-now-held-clause-reads g c = birth_in_two c.args.at.now.stepper.now c.load_birth-birth.new.self.stepper.now c.read_epoch-now.new.self.stepper.now c.args.held.now.word (ap (λ (l : Link). l.slot) (sym c.decode.ensures.link) ∙ c.in-Some.is) c.law.ensures c.load_birth-birth.ensures.step c.load_birth-birth.ensures.pool c.read_epoch-now.ensures.step c.read_epoch-now.ensures.pool
+returns-then-now-held-clause-reads g c =
+    birth_in_two c.args.at.now.stepper.now c.load_birth-birth.new.self.stepper.now c.read_epoch-now.new.self.stepper.now
+    c.args.held.now.word (ap (λ (l : Link). l.slot) (sym c.decode.ensures.link) ∙ c.in-Some.is) c.law.ensures
+    c.load_birth-birth.ensures.step c.load_birth-birth.ensures.pool c.read_epoch-now.ensures.step
+    c.read_epoch-now.ensures.pool
 
 pub returns-clause-reads : goal.returns-clause-reads
-returns-clause-reads g c = birth_in_two c.args.at.now.stepper.now c.load_birth-birth.new.self.stepper.now c.read_epoch-now.new.self.stepper.now c.args.held.now.word (ap (λ (l : Link). l.slot) (sym c.decode.ensures.link) ∙ c.in-Some.is) c.law.ensures c.load_birth-birth.ensures.step c.load_birth-birth.ensures.pool c.read_epoch-now.ensures.step c.read_epoch-now.ensures.pool
+returns-clause-reads g c =
+    birth_in_two c.args.at.now.stepper.now c.load_birth-birth.new.self.stepper.now c.read_epoch-now.new.self.stepper.now
+    c.args.held.now.word (ap (λ (l : Link). l.slot) (sym c.decode.ensures.link) ∙ c.in-Some.is) c.law.ensures
+    c.load_birth-birth.ensures.step c.load_birth-birth.ensures.pool c.read_epoch-now.ensures.step
+    c.read_epoch-now.ensures.pool
 
 pub returns-clause-birth : goal.returns-clause-birth
 returns-clause-birth g c =
-    let P : Option ℕ → Type 0 = λ o. BirthNamed (knows c.read_epoch-now.new.self.stepper.now.trace) o c.load_birth-birth.result in
+    let P : Option ℕ → Type 0 =
+    λ o. BirthNamed (knows c.read_epoch-now.new.self.stepper.now.trace) o c.load_birth-birth.result in
     record {
-      keeps = checked_keeps (loads_birth _ _) c.load_birth-birth.ensures.step c.read_epoch-now.ensures.step (c.if-now-held.false ∙ c.requires.held.epoch);
-      birth = subst P (sym (ap (λ (l : Link). l.slot) (sym c.decode.ensures.link) ∙ c.in-Some.is)) (checked (loads_birth _ _) c.load_birth-birth.ensures.step c.read_epoch-now.ensures.step (c.if-now-held.false ∙ c.requires.held.epoch));
+      keeps = checked_keeps (loads_birth _ _) c.load_birth-birth.ensures.step c.read_epoch-now.ensures.step
+          (c.if-now-held.false ∙ c.requires.held.epoch);
+      birth = subst P (sym (ap (λ (l : Link). l.slot) (sym c.decode.ensures.link) ∙ c.in-Some.is))
+          (checked (loads_birth _ _) c.load_birth-birth.ensures.step c.read_epoch-now.ensures.step
+          (c.if-now-held.false ∙ c.requires.held.epoch));
     }
 
 pub returns-then-now-held-clause-moved : goal.returns-then-now-held-clause-moved
 returns-then-now-held-clause-moved g c = record {
   some = search rules;
-  rolls = load_rolls c.law.ensures (loads_birth _ _) (record { between = c.load_birth-birth.new.self.stepper.now; loaded = c.load_birth-birth.ensures.step; pool_loaded = c.load_birth-birth.ensures.pool; read = c.read_epoch-now.ensures.step; pool_read = c.read_epoch-now.ensures.pool })
+  rolls = load_rolls c.law.ensures (loads_birth _ _)
+      (record {
+        between = c.load_birth-birth.new.self.stepper.now;
+        loaded = c.load_birth-birth.ensures.step;
+        pool_loaded = c.load_birth-birth.ensures.pool;
+        read = c.read_epoch-now.ensures.step;
+        pool_read = c.read_epoch-now.ensures.pool;
+      })
       (λ e. c.if-now-held.true (e ∙ sym c.requires.held.epoch));
 }

@@ -5,10 +5,13 @@ use Rattle.vbr_at_table.proofs.ReadSteps.{loads_key}
 use Rattle.vbr_at_table.proofs.reading.key_of.Goals as goal
 
 pub read_key-key-requires-clause-slot : goal.read_key-key-requires-clause-slot
-read_key-key-requires-clause-slot g c = node_in c.args.at.now.stepper.now c.law.ensures c.args.node.now c.in-Slot.slot c.args.at.now.own c.requires.held c.in-Slot.is
+read_key-key-requires-clause-slot g c =
+    node_in c.args.at.now.stepper.now c.law.ensures c.args.node.now c.in-Slot.slot c.args.at.now.own c.requires.held
+    c.in-Slot.is
 
 pub read_key-key-requires-clause-held : goal.read_key-key-requires-clause-held
-read_key-key-requires-clause-held g c = node_found c.args.at.now.stepper.now c.law.ensures c.args.node.now c.in-Slot.slot c.requires.held c.in-Slot.is
+read_key-key-requires-clause-held g c =
+    node_found c.args.at.now.stepper.now c.law.ensures c.args.node.now c.in-Slot.slot c.requires.held c.in-Slot.is
 
 pub returns-then-now-before-clause-reads : goal.returns-then-now-before-clause-reads
 returns-then-now-before-clause-reads g c = load_in_two c.law.ensures (loads_key _ _) c.read_key-key.ensures.reads
@@ -17,7 +20,10 @@ pub returns-clause-reads : goal.returns-clause-reads
 returns-clause-reads g c = load_in_two c.law.ensures (loads_key _ _) c.read_key-key.ensures.reads
 
 pub returns-then-now-before-clause-moved : goal.returns-then-now-before-clause-moved
-returns-then-now-before-clause-moved g c = load_rolls c.law.ensures (loads_key _ _) c.read_key-key.ensures.reads (apart c.if-now-before.true c.epoch-before.ensures)
+returns-then-now-before-clause-moved g c =
+    load_rolls c.law.ensures (loads_key _ _) c.read_key-key.ensures.reads
+    (apart c.if-now-before.true c.epoch-before.ensures)
 
 pub returns-clause-key : goal.returns-clause-key
-returns-clause-key g c = key_told c.args.node.now.at c.law.ensures c.in-Slot.is c.read_key-key.ensures.reads (c.if-now-before.false ∙ c.epoch-before.ensures)
+returns-clause-key g c = key_told c.args.node.now.at c.law.ensures c.in-Slot.is c.read_key-key.ensures.reads
+    (c.if-now-before.false ∙ c.epoch-before.ensures)

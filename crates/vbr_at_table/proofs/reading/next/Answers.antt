@@ -13,25 +13,34 @@ returns-in_default-clause-reads g c =
     subst P (sym names) (reads_none c.args.at.now.stepper.now c.law.ensures)
 
 pub read_node-birth-requires-clause-slot : goal.read_node-birth-requires-clause-slot
-read_node-birth-requires-clause-slot g c = named_in c.args.at.now.stepper.now c.law.ensures c.args.held.now c.in-Some.slot c.args.at.now.own c.requires.held (ap (λ (l : Link). l.slot) (sym c.decode.ensures.link) ∙ c.in-Some.is)
+read_node-birth-requires-clause-slot g c =
+    named_in c.args.at.now.stepper.now c.law.ensures c.args.held.now c.in-Some.slot c.args.at.now.own c.requires.held
+    (ap (λ (l : Link). l.slot) (sym c.decode.ensures.link) ∙ c.in-Some.is)
 
 pub read_node-birth-requires-clause-held : goal.read_node-birth-requires-clause-held
-read_node-birth-requires-clause-held g c = named_found c.args.at.now.stepper.now c.law.ensures c.args.held.now c.in-Some.slot c.requires.held (ap (λ (l : Link). l.slot) (sym c.decode.ensures.link) ∙ c.in-Some.is)
+read_node-birth-requires-clause-held g c =
+    named_found c.args.at.now.stepper.now c.law.ensures c.args.held.now c.in-Some.slot c.requires.held
+    (ap (λ (l : Link). l.slot) (sym c.decode.ensures.link) ∙ c.in-Some.is)
 
 pub returns-then-now-before-clause-reads : goal.returns-then-now-before-clause-reads
 returns-then-now-before-clause-reads g c =
     let names = ap (λ (l : Link). l.slot) (sym c.decode.ensures.link) ∙ c.in-Some.is in
-    let P : Option ℕ → Type 0 = λ slot. ReadsIn c.args.at.now.stepper.now c.read_node-birth.new.self.stepper.now (next_steps slot) in
+    let P : Option ℕ → Type 0 =
+    λ slot. ReadsIn c.args.at.now.stepper.now c.read_node-birth.new.self.stepper.now (next_steps slot) in
     subst P (sym names) (node_in_three c.law.ensures c.read_node-birth.ensures.reads)
 
 pub returns-clause-reads : goal.returns-clause-reads
 returns-clause-reads g c =
     let names = ap (λ (l : Link). l.slot) (sym c.decode.ensures.link) ∙ c.in-Some.is in
-    let P : Option ℕ → Type 0 = λ slot. ReadsIn c.args.at.now.stepper.now c.read_node-birth.new.self.stepper.now (next_steps slot) in
+    let P : Option ℕ → Type 0 =
+    λ slot. ReadsIn c.args.at.now.stepper.now c.read_node-birth.new.self.stepper.now (next_steps slot) in
     subst P (sym names) (node_in_three c.law.ensures c.read_node-birth.ensures.reads)
 
 pub returns-then-now-before-clause-moved : goal.returns-then-now-before-clause-moved
-returns-then-now-before-clause-moved g c = node_rolls c.law.ensures c.read_node-birth.ensures.reads (apart c.if-now-before.true c.epoch-before.ensures)
+returns-then-now-before-clause-moved g c =
+    node_rolls c.law.ensures c.read_node-birth.ensures.reads (apart c.if-now-before.true c.epoch-before.ensures)
 
 pub returns-clause-next : goal.returns-clause-next
-returns-clause-next g c = node_told c.args.held.now c.law.ensures c.requires.held (ap (λ (l : Link). l.slot) (sym c.decode.ensures.link) ∙ c.in-Some.is) c.read_node-birth.ensures.reads (c.if-now-before.false ∙ c.epoch-before.ensures)
+returns-clause-next g c = node_told c.args.held.now c.law.ensures c.requires.held
+    (ap (λ (l : Link). l.slot) (sym c.decode.ensures.link) ∙ c.in-Some.is) c.read_node-birth.ensures.reads
+    (c.if-now-before.false ∙ c.epoch-before.ensures)

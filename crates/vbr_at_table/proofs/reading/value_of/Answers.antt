@@ -5,10 +5,13 @@ use Rattle.vbr_at_table.proofs.ReadSteps.{loads_value}
 use Rattle.vbr_at_table.proofs.reading.value_of.Goals as goal
 
 pub read_value-value-requires-clause-slot : goal.read_value-value-requires-clause-slot
-read_value-value-requires-clause-slot g c = node_in c.args.at.now.stepper.now c.law.ensures c.args.node.now c.in-Slot.slot c.args.at.now.own c.requires.held c.in-Slot.is
+read_value-value-requires-clause-slot g c =
+    node_in c.args.at.now.stepper.now c.law.ensures c.args.node.now c.in-Slot.slot c.args.at.now.own c.requires.held
+    c.in-Slot.is
 
 pub read_value-value-requires-clause-held : goal.read_value-value-requires-clause-held
-read_value-value-requires-clause-held g c = node_found c.args.at.now.stepper.now c.law.ensures c.args.node.now c.in-Slot.slot c.requires.held c.in-Slot.is
+read_value-value-requires-clause-held g c =
+    node_found c.args.at.now.stepper.now c.law.ensures c.args.node.now c.in-Slot.slot c.requires.held c.in-Slot.is
 
 pub returns-then-now-before-clause-reads : goal.returns-then-now-before-clause-reads
 returns-then-now-before-clause-reads g c = load_in_two c.law.ensures (loads_value _ _) c.read_value-value.ensures.reads
@@ -17,7 +20,11 @@ pub returns-clause-reads : goal.returns-clause-reads
 returns-clause-reads g c = load_in_two c.law.ensures (loads_value _ _) c.read_value-value.ensures.reads
 
 pub returns-then-now-before-clause-moved : goal.returns-then-now-before-clause-moved
-returns-then-now-before-clause-moved g c = load_rolls c.law.ensures (loads_value _ _) c.read_value-value.ensures.reads (apart c.if-now-before.true c.epoch-before.ensures)
+returns-then-now-before-clause-moved g c =
+    load_rolls c.law.ensures (loads_value _ _) c.read_value-value.ensures.reads
+    (apart c.if-now-before.true c.epoch-before.ensures)
 
 pub returns-clause-value : goal.returns-clause-value
-returns-clause-value g c = value_told c.args.node.now.at c.in-Slot.is c.read_value-value.ensures.reads (c.if-now-before.false ∙ c.epoch-before.ensures)
+returns-clause-value g c =
+    value_told c.args.node.now.at c.in-Slot.is c.read_value-value.ensures.reads
+    (c.if-now-before.false ∙ c.epoch-before.ensures)

@@ -11,9 +11,13 @@ returns-clause-reserves g c =
     let p = c.args.at.now.stepper.now in
     let q = c.reserve_from-first.new.at.stepper.now in
     let r = c.reserve_from-second.new.at.stepper.now in
-    let slots : c.slots-slots.result ≡ p.trace.start.shape.slots = c.slots-slots.ensures.slots ∙ ap (λ (start : Dimensions). start.slots) c.shape.ensures.shape ∙ ap (λ (start : Start). start.shape.slots) (sym c.args.at.now.own.1) in
+    let slots : c.slots-slots.result ≡ p.trace.start.shape.slots =
+    c.slots-slots.ensures.slots ∙ ap (λ (start : Dimensions). start.slots) c.shape.ensures.shape
+    ∙ ap (λ (start : Start). start.shape.slots) (sym c.args.at.now.own.1) in
     let low = c.last_tried.ensures.low in
     let first = c.reserve_from-first.ensures.reserves in
     let second = c.reserve_from-second.ensures.reserves in
-    let taken = ap (λ (xs : List ℕ × List ℕ). length xs.0 - length xs.1) (λ i. (c.pool.ensures.pool i, c.pool-before.ensures.pool i)) in
-    reserves_round slots c.most_kept-most.ensures (omega (arith, slots, low)) first second (grown_by p r (grows_on p q r first.takes.grows second.takes.grows) _ taken)
+    let taken = ap (λ (xs : List ℕ × List ℕ). length xs.0 - length xs.1)
+    (λ i. (c.pool.ensures.pool i, c.pool-before.ensures.pool i)) in
+    reserves_round slots c.most_kept-most.ensures (omega (arith, slots, low)) first second
+    (grown_by p r (grows_on p q r first.takes.grows second.takes.grows) _ taken)

@@ -7,7 +7,10 @@ pub loop-slot-preserved-in-Ok : goal.loop-slot-preserved-in-Ok
 loop-slot-preserved-in-Ok g c =
     let won = c.in-Ok.ensures.taken in
     let hand = c.keep.ensures.hand ∙ hand_stays c.loop-slot.at.stepper.now won.did won.there c.law.ensures.own in (
-      record { pass = c.keep.ensures.table.pass ∙ c.take_flag.ensures.table.pass ∙ c.loop-slot.invariant.0.pass; slots = c.keep.ensures.table.slots ∙ c.take_flag.ensures.table.slots ∙ c.loop-slot.invariant.0.slots },
+      record {
+        pass = c.keep.ensures.table.pass ∙ c.take_flag.ensures.table.pass ∙ c.loop-slot.invariant.0.pass;
+        slots = c.keep.ensures.table.slots ∙ c.take_flag.ensures.table.slots ∙ c.loop-slot.invariant.0.slots;
+      },
       reserving_won c.loop-slot.invariant.1 c.loop-slot-test.true c.if-used-probes.true
           (takes_won won.did won.there won.keeps c.keep.ensures.trace c.keep.ensures.pool hand)
           (c.keep.ensures.pool ∙ ap (λ (xs : List ℕ). xs ++ c.loop-slot.slot ∷ []) won.keeps.0)
@@ -17,13 +20,23 @@ loop-slot-preserved-in-Ok g c =
 pub loop-slot-preserved-then-slot-next : goal.loop-slot-preserved-then-slot-next
 loop-slot-preserved-then-slot-next g c =
     let lost = c.in-Err.ensures.missed in (
-      record { pass = c.take_flag.ensures.table.pass ∙ c.loop-slot.invariant.0.pass; slots = c.take_flag.ensures.table.slots ∙ c.loop-slot.invariant.0.slots },
-      reserving_lost c.loop-slot.invariant.1 c.loop-slot-test.true c.if-used-probes.true (subst (λ (xs : List ℕ). length xs < c.args.most) c.pool.ensures.pool c.if-pool-most.true) lost.did lost.missing lost.keeps c.if-slot-next.true (up_to_next lost.did lost.missing c.next_from-next.ensures),
+      record {
+        pass = c.take_flag.ensures.table.pass ∙ c.loop-slot.invariant.0.pass;
+        slots = c.take_flag.ensures.table.slots ∙ c.loop-slot.invariant.0.slots;
+      },
+      reserving_lost c.loop-slot.invariant.1 c.loop-slot-test.true c.if-used-probes.true
+          (subst (λ (xs : List ℕ). length xs < c.args.most) c.pool.ensures.pool c.if-pool-most.true) lost.did
+          lost.missing lost.keeps c.if-slot-next.true (up_to_next lost.did lost.missing c.next_from-next.ensures),
     )
 
 pub loop-slot-preserved : goal.loop-slot-preserved
 loop-slot-preserved g c =
     let lost = c.in-Err.ensures.missed in (
-      record { pass = c.take_flag.ensures.table.pass ∙ c.loop-slot.invariant.0.pass; slots = c.take_flag.ensures.table.slots ∙ c.loop-slot.invariant.0.slots },
-      reserving_lost c.loop-slot.invariant.1 c.loop-slot-test.true c.if-used-probes.true (subst (λ (xs : List ℕ). length xs < c.args.most) c.pool.ensures.pool c.if-pool-most.true) lost.did lost.missing lost.keeps (omega arith) (up_to_it lost.did lost.missing),
+      record {
+        pass = c.take_flag.ensures.table.pass ∙ c.loop-slot.invariant.0.pass;
+        slots = c.take_flag.ensures.table.slots ∙ c.loop-slot.invariant.0.slots;
+      },
+      reserving_lost c.loop-slot.invariant.1 c.loop-slot-test.true c.if-used-probes.true
+          (subst (λ (xs : List ℕ). length xs < c.args.most) c.pool.ensures.pool c.if-pool-most.true) lost.did
+          lost.missing lost.keeps (omega arith) (up_to_it lost.did lost.missing),
     )

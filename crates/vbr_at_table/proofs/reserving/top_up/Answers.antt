@@ -14,10 +14,20 @@ returns-clause-tops_up g c =
     let p = c.args.at.now.stepper.now in
     let q = c.reserve_from-first.new.at.stepper.now in
     let r = c.reserve_from-second.new.at.stepper.now in
-    let slots : c.slots-slots.result ≡ p.trace.start.shape.slots = c.slots-slots.ensures.slots ∙ ap (λ (start : Dimensions). start.slots) c.shape.ensures.shape ∙ ap (λ (start : Start). start.shape.slots) (sym c.args.at.now.own.1) in
+    let slots : c.slots-slots.result ≡ p.trace.start.shape.slots =
+    c.slots-slots.ensures.slots ∙ ap (λ (start : Dimensions). start.slots) c.shape.ensures.shape
+    ∙ ap (λ (start : Start). start.shape.slots) (sym c.args.at.now.own.1) in
     let tried = c.last_tried-start.ensures.tried in
-    let low : last_tried p.trace < c.slots-slots.result = subst (λ (n : ℕ). last_tried p.trace < n) (sym slots) (subst (λ (n : ℕ). n < p.trace.start.shape.slots) tried c.last_tried-start.ensures.low) in
-    let first = subst (λ (x : ℕ × ℕ). ReservesFrom p q (x.0 + 1) c.slots-slots.result x.1 c.args.probes c.reserve_from-first.result) (λ i. (tried i, c.most_kept-most.ensures i)) c.reserve_from-first.ensures.reserves in
-    let second = subst (λ (x : ℕ × ℕ). ReservesFrom q r 0 (x.0 + 1) x.1 (c.args.probes - c.reserve_from-first.result) c.reserve_from-second.result) (λ i. (tried i, c.most_kept-most.ensures i)) c.reserve_from-second.ensures.reserves in
-    let taken = ap (λ (xs : List ℕ × List ℕ). length xs.0 - length xs.1) (λ i. (c.pool.ensures.pool i, c.pool-before.ensures.pool i)) in
+    let low : last_tried p.trace < c.slots-slots.result =
+    subst (λ (n : ℕ). last_tried p.trace < n) (sym slots)
+    (subst (λ (n : ℕ). n < p.trace.start.shape.slots) tried c.last_tried-start.ensures.low) in
+    let first = subst
+    (λ (x : ℕ × ℕ). ReservesFrom p q (x.0 + 1) c.slots-slots.result x.1 c.args.probes c.reserve_from-first.result)
+    (λ i. (tried i, c.most_kept-most.ensures i)) c.reserve_from-first.ensures.reserves in
+    let second =
+    subst (λ (x : ℕ × ℕ).
+    ReservesFrom q r 0 (x.0 + 1) x.1 (c.args.probes - c.reserve_from-first.result) c.reserve_from-second.result)
+    (λ i. (tried i, c.most_kept-most.ensures i)) c.reserve_from-second.ensures.reserves in
+    let taken = ap (λ (xs : List ℕ × List ℕ). length xs.0 - length xs.1)
+    (λ i. (c.pool.ensures.pool i, c.pool-before.ensures.pool i)) in
     tops_up low first second slots (grown_by p r (grows_on p q r first.takes.grows second.takes.grows) _ taken)

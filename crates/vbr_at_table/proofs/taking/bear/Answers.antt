@@ -4,9 +4,15 @@ use Rattle.vbr_at_table.proofs.Counting.{no_room}
 use Rattle.vbr_at_table.proofs.taking.bear.Goals as goal
 
 pub returns-then-not-affords-clause-none : goal.returns-then-not-affords-clause-none
-returns-then-not-affords-clause-none g c = bears_none c.args.at.now.stepper.now c.args.budget c.args.used c.requires.within (no_room _ _ c.affords.result c.if-not-affords.true c.affords.ensures.1)
+returns-then-not-affords-clause-none g c =
+    bears_none c.args.at.now.stepper.now c.args.budget c.args.used c.requires.within
+    (no_room _ _ c.affords.result c.if-not-affords.true c.affords.ensures.1)
 
 pub returns-clause-born : goal.returns-clause-born
 returns-clause-born g c =
-    let hand : c.of.result ≡ record { slot = c.args.slot; birth = _ } = c.of.ensures ∙ ap (λ e. record { slot = c.args.slot; birth = e }) c.epoch.ensures in
-    is_born c.args.at.now.stepper.now c.store_birth.new.self.stepper.now c.args.slot c.store_birth.ensures.step.did c.args.budget c.args.used c.of.result c.requires.empty_hand c.requires.below (c.affords.ensures.0 c.if-not-affords.false) c.pool-pool.ensures.room c.pool-pool.ensures.own.apart c.store_birth.ensures.step.pool c.store_birth.ensures.step.hand hand
+    let hand : c.of.result ≡ record { slot = c.args.slot; birth = _ } =
+    c.of.ensures ∙ ap (λ e. record { slot = c.args.slot; birth = e }) c.epoch.ensures in
+    is_born c.args.at.now.stepper.now c.store_birth.new.self.stepper.now c.args.slot c.store_birth.ensures.step.did
+    c.args.budget c.args.used c.of.result c.requires.empty_hand c.requires.below
+    (c.affords.ensures.0 c.if-not-affords.false) c.pool-pool.ensures.room c.pool-pool.ensures.own.apart
+    c.store_birth.ensures.step.pool c.store_birth.ensures.step.hand hand

@@ -8,30 +8,49 @@ returns-then-not-affords-clause-scans g c = scans c.loop-i.invariant.1
 
 pub returns-then-not-affords-clause-part : goal.returns-then-not-affords-clause-part
 returns-then-not-affords-clause-part g c =
-    let then : length c.pool-i-end.result.now ≡ length c.args.at.now.stepper.now.pool = ap length c.pool-i-end.ensures.pool in
+    let then : length c.pool-i-end.result.now ≡ length c.args.at.now.stepper.now.pool =
+    ap length c.pool-i-end.ensures.pool in
     let low = c.loop-i-test.true in
-    scan_short c.loop-i.invariant.1 (omega arith) (no_room _ _ c.affords.result c.if-not-affords.true c.affords.ensures.1)
+    scan_short c.loop-i.invariant.1 (omega arith)
+    (no_room _ _ c.affords.result c.if-not-affords.true c.affords.ensures.1)
 
 pub returns-then-stamp-epoch-clause-scans : goal.returns-then-stamp-epoch-clause-scans
 returns-then-stamp-epoch-clause-scans g c =
-    let now : length c.pool.result.now ≡ length c.args.at.now.stepper.now.pool = ap length (c.pool.ensures.pool ∙ c.loop-i.invariant.1.pool.0) in
-    let then : length c.pool-i-end.result.now ≡ length c.args.at.now.stepper.now.pool = ap length c.pool-i-end.ensures.pool in
+    let now : length c.pool.result.now ≡ length c.args.at.now.stepper.now.pool =
+    ap length (c.pool.ensures.pool ∙ c.loop-i.invariant.1.pool.0) in
+    let then : length c.pool-i-end.result.now ≡ length c.args.at.now.stepper.now.pool =
+    ap length c.pool-i-end.ensures.pool in
     let low = c.loop-i-test.true in
-    scans_found c.loop-i.invariant.1 c.pool.result.now c.pool.ensures.pool c.pool.ensures.own (omega arith) (c.affords.ensures.0 c.if-not-affords.false) c.load_stamp-stamp.ensures.step c.load_stamp-stamp.ensures.known c.load_stamp-stamp.ensures.pool
+    scans_found c.loop-i.invariant.1 c.pool.result.now c.pool.ensures.pool c.pool.ensures.own (omega arith)
+    (c.affords.ensures.0 c.if-not-affords.false) c.load_stamp-stamp.ensures.step c.load_stamp-stamp.ensures.known
+    c.load_stamp-stamp.ensures.pool
 
 pub returns-then-stamp-epoch-clause-scanned : goal.returns-then-stamp-epoch-clause-scanned
 returns-then-stamp-epoch-clause-scanned g c =
-    let now : length c.pool.result.now ≡ length c.args.at.now.stepper.now.pool = ap length (c.pool.ensures.pool ∙ c.loop-i.invariant.1.pool.0) in
-    let then : length c.pool-i-end.result.now ≡ length c.args.at.now.stepper.now.pool = ap length c.pool-i-end.ensures.pool in
+    let now : length c.pool.result.now ≡ length c.args.at.now.stepper.now.pool =
+    ap length (c.pool.ensures.pool ∙ c.loop-i.invariant.1.pool.0) in
+    let then : length c.pool-i-end.result.now ≡ length c.args.at.now.stepper.now.pool =
+    ap length c.pool-i-end.ensures.pool in
     let low = c.loop-i-test.true in
-    scan_found c.loop-i.invariant.1 c.pool.result.now c.pool.ensures.pool c.pool.ensures.own (omega arith) (c.affords.ensures.0 c.if-not-affords.false) c.load_stamp-stamp.ensures.step c.load_stamp-stamp.ensures.known c.load_stamp-stamp.ensures.pool c.if-stamp-epoch.true
+    scan_found c.loop-i.invariant.1 c.pool.result.now c.pool.ensures.pool c.pool.ensures.own (omega arith)
+    (c.affords.ensures.0 c.if-not-affords.false) c.load_stamp-stamp.ensures.step c.load_stamp-stamp.ensures.known
+    c.load_stamp-stamp.ensures.pool c.if-stamp-epoch.true
 
 pub loop-i-preserved : goal.loop-i-preserved
 loop-i-preserved g c =
-    let now : length c.pool.result.now ≡ length c.args.at.now.stepper.now.pool = ap length (c.pool.ensures.pool ∙ c.loop-i.invariant.1.pool.0) in
-    let then : length c.pool-i-end.result.now ≡ length c.args.at.now.stepper.now.pool = ap length c.pool-i-end.ensures.pool in
-    let low = c.loop-i-test.true in
-    (record { pass = c.load_stamp-stamp.ensures.table.pass ∙ c.loop-i.invariant.0.pass; slots = c.load_stamp-stamp.ensures.table.slots ∙ c.loop-i.invariant.0.slots }, scan_next c.loop-i.invariant.1 c.pool.result.now c.pool.ensures.pool c.pool.ensures.own (omega arith) (c.affords.ensures.0 c.if-not-affords.false) c.load_stamp-stamp.ensures.step c.load_stamp-stamp.ensures.known c.load_stamp-stamp.ensures.pool c.if-stamp-epoch.false)
+    let now : length c.pool.result.now ≡ length c.args.at.now.stepper.now.pool =
+    ap length (c.pool.ensures.pool ∙ c.loop-i.invariant.1.pool.0) in
+    let then : length c.pool-i-end.result.now ≡ length c.args.at.now.stepper.now.pool =
+    ap length c.pool-i-end.ensures.pool in
+    let low = c.loop-i-test.true in (
+      record {
+        pass = c.load_stamp-stamp.ensures.table.pass ∙ c.loop-i.invariant.0.pass;
+        slots = c.load_stamp-stamp.ensures.table.slots ∙ c.loop-i.invariant.0.slots;
+      },
+      scan_next c.loop-i.invariant.1 c.pool.result.now c.pool.ensures.pool c.pool.ensures.own (omega arith)
+          (c.affords.ensures.0 c.if-not-affords.false) c.load_stamp-stamp.ensures.step c.load_stamp-stamp.ensures.known
+          c.load_stamp-stamp.ensures.pool c.if-stamp-epoch.false,
+    )
 
 pub returns-clause-scans : goal.returns-clause-scans
 returns-clause-scans g c = scans c.loop-i.invariant.1

@@ -10,7 +10,8 @@ use Rattle.vbr_at_table.proofs.taking.win_slot.Goals as goal
 
 pub returns-in-Ok-clause-probes : goal.returns-in-Ok-clause-probes
 returns-in-Ok-clause-probes g c =
-    win_probes c.loop-slot.invariant.1 c.in-Ok.ensures.taken.did c.in-Ok.ensures.taken.there c.in-Ok.ensures.taken.keeps c.keep.ensures.trace c.keep.ensures.pool c.keep.ensures.hand
+    win_probes c.loop-slot.invariant.1 c.in-Ok.ensures.taken.did c.in-Ok.ensures.taken.there c.in-Ok.ensures.taken.keeps
+    c.keep.ensures.trace c.keep.ensures.pool c.keep.ensures.hand
 
 pub returns-in-Ok-clause-won : goal.returns-in-Ok-clause-won
 returns-in-Ok-clause-won g c =
@@ -23,15 +24,37 @@ returns-in-Ok-clause-won g c =
 
 pub loop-slot-preserved-then-slot-slots : goal.loop-slot-preserved-then-slot-slots
 loop-slot-preserved-then-slot-slots g c =
-    let slots : c.slots.result ≡ c.args.at.now.stepper.now.trace.start.shape.slots = c.slots.ensures.slots ∙ ap (λ (start : Dimensions). start.slots) c.shape-in-Err.ensures.shape ∙ ap (λ (start : Start). start.shape.slots) (sym c.take_flag.new.self.own.1 ∙ c.in-Err.ensures.missed.did.same.1 ∙ c.loop-slot.invariant.1.tried.quiet.same.start) in
-    let past = subst (λ (n : ℕ). n ≤ c.next_flag-slot.result) slots c.if-slot-slots.true in
-    (record { pass = c.take_flag.ensures.table.pass ∙ c.loop-slot.invariant.0.pass; slots = c.take_flag.ensures.table.slots ∙ c.loop-slot.invariant.0.slots }, win_round c.loop-slot.invariant.1 c.loop-slot-test.true (c.affords.ensures.0 c.if-not-affords.false) c.in-Err.ensures.missed.did c.in-Err.ensures.missed.missing c.next_flag-slot.ensures c.in-Err.ensures.missed.keeps past)
+    let slots : c.slots.result ≡ c.args.at.now.stepper.now.trace.start.shape.slots =
+    c.slots.ensures.slots ∙ ap (λ (start : Dimensions). start.slots) c.shape-in-Err.ensures.shape
+    ∙ ap (λ (start : Start). start.shape.slots)
+    (sym c.take_flag.new.self.own.1 ∙ c.in-Err.ensures.missed.did.same.1
+    ∙ c.loop-slot.invariant.1.tried.quiet.same.start) in
+    let past = subst (λ (n : ℕ). n ≤ c.next_flag-slot.result) slots c.if-slot-slots.true in (
+      record {
+        pass = c.take_flag.ensures.table.pass ∙ c.loop-slot.invariant.0.pass;
+        slots = c.take_flag.ensures.table.slots ∙ c.loop-slot.invariant.0.slots;
+      },
+      win_round c.loop-slot.invariant.1 c.loop-slot-test.true (c.affords.ensures.0 c.if-not-affords.false)
+          c.in-Err.ensures.missed.did c.in-Err.ensures.missed.missing c.next_flag-slot.ensures
+          c.in-Err.ensures.missed.keeps past,
+    )
 
 pub loop-slot-preserved : goal.loop-slot-preserved
 loop-slot-preserved g c =
-    let slots : c.slots.result ≡ c.args.at.now.stepper.now.trace.start.shape.slots = c.slots.ensures.slots ∙ ap (λ (start : Dimensions). start.slots) c.shape-in-Err.ensures.shape ∙ ap (λ (start : Start). start.shape.slots) (sym c.take_flag.new.self.own.1 ∙ c.in-Err.ensures.missed.did.same.1 ∙ c.loop-slot.invariant.1.tried.quiet.same.start) in
-    let low = subst (λ (n : ℕ). c.next_flag-slot.result < n) slots c.if-slot-slots.false in
-    (record { pass = c.take_flag.ensures.table.pass ∙ c.loop-slot.invariant.0.pass; slots = c.take_flag.ensures.table.slots ∙ c.loop-slot.invariant.0.slots }, win_next c.loop-slot.invariant.1 c.loop-slot-test.true (c.affords.ensures.0 c.if-not-affords.false) c.in-Err.ensures.missed.did c.in-Err.ensures.missed.missing c.next_flag-slot.ensures c.in-Err.ensures.missed.keeps low)
+    let slots : c.slots.result ≡ c.args.at.now.stepper.now.trace.start.shape.slots =
+    c.slots.ensures.slots ∙ ap (λ (start : Dimensions). start.slots) c.shape-in-Err.ensures.shape
+    ∙ ap (λ (start : Start). start.shape.slots)
+    (sym c.take_flag.new.self.own.1 ∙ c.in-Err.ensures.missed.did.same.1
+    ∙ c.loop-slot.invariant.1.tried.quiet.same.start) in
+    let low = subst (λ (n : ℕ). c.next_flag-slot.result < n) slots c.if-slot-slots.false in (
+      record {
+        pass = c.take_flag.ensures.table.pass ∙ c.loop-slot.invariant.0.pass;
+        slots = c.take_flag.ensures.table.slots ∙ c.loop-slot.invariant.0.slots;
+      },
+      win_next c.loop-slot.invariant.1 c.loop-slot-test.true (c.affords.ensures.0 c.if-not-affords.false)
+          c.in-Err.ensures.missed.did c.in-Err.ensures.missed.missing c.next_flag-slot.ensures
+          c.in-Err.ensures.missed.keeps low,
+    )
 
 -- ---- the budget had no room for one more, or each slot was outside, once round
 

@@ -7,7 +7,8 @@ use Rattle.vbr_at_table.proofs.taking.win_slot.Given as goal
 -- so each slot before the next one, on the way round, was outside the shared pool at some moment;
 -- and the own pool and the hand are as they were.
 abbrev pub invariant-loop-slot : goal.invariant-loop-slot
-invariant-loop-slot g l = IsSameTable l.fn.at l.at × Winning l.fn.at.stepper.now l.at.stepper.now l.fn.budget l.probes l.start l.slot l.end
+invariant-loop-slot g l =
+    IsSameTable l.fn.at l.at × Winning l.fn.at.stepper.now l.at.stepper.now l.fn.budget l.probes l.start l.slot l.end
 
 abbrev pub decreases-loop-slot : goal.decreases-loop-slot
 decreases-loop-slot g l = l.budget - l.probes

@@ -12,47 +12,81 @@ use Rattle.vbr_at_table.proofs.unlinking.unlink.Goals as goal
 pub link_to-new-requires : goal.link_to-new-requires
 link_to-new-requires g c =
     let b = c.in_ok-next_birth.ensures in
-    written_fits c.birth_after.new.at.stepper.now c.law.ensures c.args.pred.now c.args.marked c.decode.result c.in_ok-next_birth.next_birth (held_kept c.args.pred.now b.birth.keeps c.requires.pred.held) (marked_kept c.args.marked b.birth.keeps c.requires.marked) c.decode.ensures.link b.birth.birth c.decode.ensures.fits
+    written_fits c.birth_after.new.at.stepper.now c.law.ensures c.args.pred.now c.args.marked c.decode.result
+    c.in_ok-next_birth.next_birth (held_kept c.args.pred.now b.birth.keeps c.requires.pred.held)
+    (marked_kept c.args.marked b.birth.keeps c.requires.marked) c.decode.ensures.link b.birth.birth
+    c.decode.ensures.fits
 
 pub unlink-requires-clause-pred : goal.unlink-requires-clause-pred
 unlink-requires-clause-pred g c =
     let b = c.in_ok-next_birth.ensures in
     let P : Start → Type 0 = λ start. IsAtIn start c.args.pred.now.at in
     subst P c.birth_after.new.at.own.1
-    (accepted c.birth_after.new.at.stepper.now c.law.ensures c.args.pred.now c.args.marked c.decode.result c.in_ok-next_birth.next_birth (held_kept c.args.pred.now b.birth.keeps c.requires.pred.held) (marked_kept c.args.marked b.birth.keeps c.requires.marked) c.decode.ensures.link b.birth.birth c.requires.pred.unmarked c.requires.names).in_shape.0
+    (accepted c.birth_after.new.at.stepper.now c.law.ensures c.args.pred.now c.args.marked c.decode.result
+    c.in_ok-next_birth.next_birth (held_kept c.args.pred.now b.birth.keeps c.requires.pred.held)
+    (marked_kept c.args.marked b.birth.keeps c.requires.marked) c.decode.ensures.link b.birth.birth
+    c.requires.pred.unmarked c.requires.names).in_shape.0
 
 pub unlink-requires-clause-slot : goal.unlink-requires-clause-slot
 unlink-requires-clause-slot g c =
     let b = c.in_ok-next_birth.ensures in
     let P : Start → Type 0 = λ start. c.args.marked.slot < start.shape.slots in
     subst P c.birth_after.new.at.own.1
-    (accepted c.birth_after.new.at.stepper.now c.law.ensures c.args.pred.now c.args.marked c.decode.result c.in_ok-next_birth.next_birth (held_kept c.args.pred.now b.birth.keeps c.requires.pred.held) (marked_kept c.args.marked b.birth.keeps c.requires.marked) c.decode.ensures.link b.birth.birth c.requires.pred.unmarked c.requires.names).in_shape.1
+    (accepted c.birth_after.new.at.stepper.now c.law.ensures c.args.pred.now c.args.marked c.decode.result
+    c.in_ok-next_birth.next_birth (held_kept c.args.pred.now b.birth.keeps c.requires.pred.held)
+    (marked_kept c.args.marked b.birth.keeps c.requires.marked) c.decode.ensures.link b.birth.birth
+    c.requires.pred.unmarked c.requires.names).in_shape.1
 
 pub unlink-requires-clause-checked : goal.unlink-requires-clause-checked
 unlink-requires-clause-checked g c =
     let b = c.in_ok-next_birth.ensures in
-    accepted_checked c.birth_after.new.at.own (accepted c.birth_after.new.at.stepper.now c.law.ensures c.args.pred.now c.args.marked c.decode.result c.in_ok-next_birth.next_birth (held_kept c.args.pred.now b.birth.keeps c.requires.pred.held) (marked_kept c.args.marked b.birth.keeps c.requires.marked) c.decode.ensures.link b.birth.birth c.requires.pred.unmarked c.requires.names)
+    accepted_checked c.birth_after.new.at.own
+    (accepted c.birth_after.new.at.stepper.now c.law.ensures c.args.pred.now c.args.marked c.decode.result
+    c.in_ok-next_birth.next_birth (held_kept c.args.pred.now b.birth.keeps c.requires.pred.held)
+    (marked_kept c.args.marked b.birth.keeps c.requires.marked) c.decode.ensures.link b.birth.birth
+    c.requires.pred.unmarked c.requires.names)
 
 pub unlink-requires-clause-new : goal.unlink-requires-clause-new
 unlink-requires-clause-new g c =
     let b = c.in_ok-next_birth.ensures in
-    c.link_to-new.ensures.word ∙ ap word_of (sym (written c.birth_after.new.at.stepper.now c.law.ensures c.args.pred.now c.args.marked c.decode.result c.in_ok-next_birth.next_birth (held_kept c.args.pred.now b.birth.keeps c.requires.pred.held) (marked_kept c.args.marked b.birth.keeps c.requires.marked) c.decode.ensures.link b.birth.birth))
+    c.link_to-new.ensures.word
+    ∙ ap word_of
+    (sym (written c.birth_after.new.at.stepper.now c.law.ensures c.args.pred.now c.args.marked c.decode.result
+    c.in_ok-next_birth.next_birth (held_kept c.args.pred.now b.birth.keeps c.requires.pred.held)
+    (marked_kept c.args.marked b.birth.keeps c.requires.marked) c.decode.ensures.link b.birth.birth))
 
 pub returns-in-Ok-clause-stays : goal.returns-in-Ok-clause-stays
-returns-in-Ok-clause-stays g c = record { took = search rules; quiet = quiet_on c.birth_after.ensures.reads.quiet (unlink_quiet c.in-Ok.ensures.found.did); own = search rules }
+returns-in-Ok-clause-stays g c =
+    record {
+      took = search rules;
+      quiet = quiet_on c.birth_after.ensures.reads.quiet (unlink_quiet c.in-Ok.ensures.found.did);
+      own = search rules;
+    }
 
 pub returns-in-Err-clause-stays : goal.returns-in-Err-clause-stays
-returns-in-Err-clause-stays g c = record { took = search rules; quiet = quiet_on c.birth_after.ensures.reads.quiet (unlink_quiet c.in-Err.ensures.other.did); own = search rules }
+returns-in-Err-clause-stays g c =
+    record {
+      took = search rules;
+      quiet = quiet_on c.birth_after.ensures.reads.quiet (unlink_quiet c.in-Err.ensures.other.did);
+      own = search rules;
+    }
 
 pub returns-in-Ok-clause-unlinked : goal.returns-in-Ok-clause-unlinked
 returns-in-Ok-clause-unlinked g c =
     let b = c.in_ok-next_birth.ensures in
-    unlink_told c.args.pred.now c.args.marked c.decode.result c.in_ok-next_birth.next_birth c.law.ensures b.reads b.birth c.requires.pred c.requires.marked c.requires.names c.decode.ensures.link c.by-unlinked.result c.link_to-new.result (search rules) c.link_to-new.ensures.link c.in-Ok.ensures.found.did c.in-Ok.ensures.found.keeps (search rules)
+    unlink_told c.args.pred.now c.args.marked c.decode.result c.in_ok-next_birth.next_birth c.law.ensures b.reads
+    b.birth c.requires.pred c.requires.marked c.requires.names c.decode.ensures.link c.by-unlinked.result
+    c.link_to-new.result (search rules) c.link_to-new.ensures.link c.in-Ok.ensures.found.did c.in-Ok.ensures.found.keeps
+    (search rules)
 
 pub returns-in-Err-clause-failed : goal.returns-in-Err-clause-failed
 returns-in-Err-clause-failed g c =
     let b = c.in_ok-next_birth.ensures in
-    unlink_lost c.args.pred.now c.args.marked c.decode.result c.in_ok-next_birth.next_birth c.law.ensures b.reads b.birth c.requires.pred c.requires.marked c.requires.names c.decode.ensures.link c.in-Err.ensures.other.did c.in-Err.ensures.other.unexpected c.in-Err.ensures.other.keeps
+    unlink_lost c.args.pred.now c.args.marked c.decode.result c.in_ok-next_birth.next_birth c.law.ensures b.reads
+    b.birth c.requires.pred c.requires.marked c.requires.names c.decode.ensures.link c.in-Err.ensures.other.did
+    c.in-Err.ensures.other.unexpected c.in-Err.ensures.other.keeps
 
 pub returns-in_err-next_birth-clause-failed : goal.returns-in_err-next_birth-clause-failed
-returns-in_err-next_birth-clause-failed g c = none_unlinked c.args.pred.now c.from_residual.result c.birth_after.ensures.reads (search rules) c.in_err-next_birth.ensures.moved.rolls.fresh
+returns-in_err-next_birth-clause-failed g c =
+    none_unlinked c.args.pred.now c.from_residual.result c.birth_after.ensures.reads (search rules)
+    c.in_err-next_birth.ensures.moved.rolls.fresh

@@ -13,38 +13,60 @@ use Rattle.vbr_at_table.specs.Exchanges.{StoresIn}
 use Rattle.vbr_at_table.specs.Held.{IsFilled}
 use Rattle.vbr_at_table.specs.Values.{steps_to_value}
 use Rattle.vbr_at_table.proofs.WrittenLinks.{fits, birth_in_hand_low, birth_named_low}
-use Rattle.vbr_at_table.proofs.Filled.{hand_at, key_stored_keeps, key_stored_quiet, link_stored_quiet, link_accepted, link_now, filled, link_stored_keeps, ready}
+use Rattle.vbr_at_table.proofs.Filled.{hand_at, key_stored_keeps, key_stored_quiet, link_stored_quiet, link_accepted}
+use Rattle.vbr_at_table.proofs.Filled.{link_now, filled, link_stored_keeps, ready}
 use Rattle.vbr_at_table.proofs.Storing.{stores_on, stores_one}
 use Rattle.vbr_at_table.proofs.updating.fill.Goals as goal
 
 pub link_to-link-requires : goal.link_to-link-requires
 link_to-link-requires g c =
-    let all = ready c.args.hand.now c.args.pred.now c.args.birth c.law.ensures c.requires.hand c.slot-slot.ensures c.requires.pred c.requires.birth c.store_key.ensures.step c.put_value.ensures.puts c.put_value.ensures.stores.keeps in
-    fits c.put_value.new.at.stepper.now c.law-2.ensures c.decode.result.slot c.birth.result c.args.birth c.decode.ensures.fits.slot
-    (birth_in_hand_low c.put_value.new.at.stepper.now c.law-2.ensures c.slot-slot.result c.birth.result (all.hand.1 ∙ sym c.birth.ensures))
-    (birth_named_low c.put_value.new.at.stepper.now c.law-2.ensures (link_of c.args.pred.now.word).slot c.args.birth all.named)
+    let all = ready c.args.hand.now c.args.pred.now c.args.birth c.law.ensures c.requires.hand c.slot-slot.ensures
+    c.requires.pred c.requires.birth c.store_key.ensures.step c.put_value.ensures.puts
+    c.put_value.ensures.stores.keeps in
+    fits c.put_value.new.at.stepper.now c.law-2.ensures c.decode.result.slot c.birth.result c.args.birth
+    c.decode.ensures.fits.slot
+    (birth_in_hand_low c.put_value.new.at.stepper.now c.law-2.ensures c.slot-slot.result c.birth.result
+    (all.hand.1 ∙ sym c.birth.ensures))
+    (birth_named_low c.put_value.new.at.stepper.now c.law-2.ensures (link_of c.args.pred.now.word).slot c.args.birth
+    all.named)
 
 pub store_link-requires-clause-next_in : goal.store_link-requires-clause-next_in
 store_link-requires-clause-next_in g c =
-    let all = ready c.args.hand.now c.args.pred.now c.args.birth c.law.ensures c.requires.hand c.slot-slot.ensures c.requires.pred c.requires.birth c.store_key.ensures.step c.put_value.ensures.puts c.put_value.ensures.stores.keeps in
-    let ok = link_accepted c.put_value.new.at.stepper.now c.law-2.ensures c.args.pred.now c.slot-slot.result c.args.hand.now.birth c.args.birth all in
+    let all = ready c.args.hand.now c.args.pred.now c.args.birth c.law.ensures c.requires.hand c.slot-slot.ensures
+    c.requires.pred c.requires.birth c.store_key.ensures.step c.put_value.ensures.puts
+    c.put_value.ensures.stores.keeps in
+    let ok = link_accepted c.put_value.new.at.stepper.now c.law-2.ensures c.args.pred.now c.slot-slot.result
+    c.args.hand.now.birth c.args.birth all in
     let P : Start → Type 0 = λ start. IsNextIn start (link_of c.args.pred.now.word).slot in
     let Q : Option ℕ → Type 0 = IsNextIn c.put_value.new.at.slots.now.start in
-    subst Q (sym (ap (λ (l : Link). l.slot) (c.link_to-link.ensures.link) ∙ ap (λ (l : Link). l.slot) c.decode.ensures.link)) (subst P c.put_value.new.at.own.1 ok.in_shape.1)
+    subst Q (sym
+    (ap (λ (l : Link). l.slot) (c.link_to-link.ensures.link) ∙ ap (λ (l : Link). l.slot) c.decode.ensures.link))
+    (subst P c.put_value.new.at.own.1 ok.in_shape.1)
 
 pub store_link-requires-clause-next_held : goal.store_link-requires-clause-next_held
 store_link-requires-clause-next_held g c =
-    let all = ready c.args.hand.now c.args.pred.now c.args.birth c.law.ensures c.requires.hand c.slot-slot.ensures c.requires.pred c.requires.birth c.store_key.ensures.step c.put_value.ensures.puts c.put_value.ensures.stores.keeps in
-    let ok = link_accepted c.put_value.new.at.stepper.now c.law-2.ensures c.args.pred.now c.slot-slot.result c.args.hand.now.birth c.args.birth all in
+    let all = ready c.args.hand.now c.args.pred.now c.args.birth c.law.ensures c.requires.hand c.slot-slot.ensures
+    c.requires.pred c.requires.birth c.store_key.ensures.step c.put_value.ensures.puts
+    c.put_value.ensures.stores.keeps in
+    let ok = link_accepted c.put_value.new.at.stepper.now c.law-2.ensures c.args.pred.now c.slot-slot.result
+    c.args.hand.now.birth c.args.birth all in
     let Q : Option ℕ → Type 0 = IsNextHeld (knows c.put_value.new.at.stepper.now.trace).checked in
-    subst Q (sym (ap (λ (l : Link). l.slot) (c.link_to-link.ensures.link) ∙ ap (λ (l : Link). l.slot) c.decode.ensures.link)) ok.held
+    subst Q (sym
+    (ap (λ (l : Link). l.slot) (c.link_to-link.ensures.link) ∙ ap (λ (l : Link). l.slot) c.decode.ensures.link)) ok.held
 
 pub store_link-requires-clause-word : goal.store_link-requires-clause-word
 store_link-requires-clause-word g c =
-    let all = ready c.args.hand.now c.args.pred.now c.args.birth c.law.ensures c.requires.hand c.slot-slot.ensures c.requires.pred c.requires.birth c.store_key.ensures.step c.put_value.ensures.puts c.put_value.ensures.stores.keeps in
-    let written = link_now c.put_value.new.at.stepper.now c.law-2.ensures c.args.pred.now c.slot-slot.result c.args.hand.now.birth c.args.birth all
-    (link_of c.link_to-link.result).slot (ap (λ (l : Link). l.slot) (c.link_to-link.ensures.link) ∙ ap (λ (l : Link). l.slot) c.decode.ensures.link) in
-    let is : link_to c.decode.result.slot c.birth.result c.args.birth ≡ link_to (link_of c.args.pred.now.word).slot c.args.hand.now.birth c.args.birth = (λ i. link_to (c.decode.ensures.link i).slot (c.birth.ensures i) c.args.birth) in
+    let all = ready c.args.hand.now c.args.pred.now c.args.birth c.law.ensures c.requires.hand c.slot-slot.ensures
+    c.requires.pred c.requires.birth c.store_key.ensures.step c.put_value.ensures.puts
+    c.put_value.ensures.stores.keeps in
+    let written =
+    link_now c.put_value.new.at.stepper.now c.law-2.ensures c.args.pred.now c.slot-slot.result c.args.hand.now.birth
+    c.args.birth all
+    (link_of c.link_to-link.result).slot
+    (ap (λ (l : Link). l.slot) (c.link_to-link.ensures.link) ∙ ap (λ (l : Link). l.slot) c.decode.ensures.link) in
+    let is : link_to c.decode.result.slot c.birth.result c.args.birth
+    ≡ link_to (link_of c.args.pred.now.word).slot c.args.hand.now.birth c.args.birth =
+    (λ i. link_to (c.decode.ensures.link i).slot (c.birth.ensures i) c.args.birth) in
     c.link_to-link.ensures.word ∙ ap word_of is ∙ ap word_of (sym written)
 
 pub returns-clause-stores : goal.returns-clause-stores
@@ -52,13 +74,18 @@ returns-clause-stores g c =
     let p = c.args.at.now.stepper.now in
     let key = c.store_key.ensures.step in
     let put = c.put_value.ensures in
-    let values : c.store_key.new.self.stepper.now.trace.start.shape.values ≡ p.trace.start.shape.values = ap (λ (d : Start). d.shape.values) key.same.1 in
-    let P : Bool → Type 0 = λ b. StoresIn c.store_key.new.self.stepper.now c.put_value.new.at.stepper.now (steps_to_value b) in
+    let values : c.store_key.new.self.stepper.now.trace.start.shape.values ≡ p.trace.start.shape.values =
+    ap (λ (d : Start). d.shape.values) key.same.1 in
+    let P : Bool → Type 0 =
+    λ b. StoresIn c.store_key.new.self.stepper.now c.put_value.new.at.stepper.now (steps_to_value b) in
     let stored = subst P values put.stores in
     let link = c.store_link.ensures.step in
-    let first = stores_one key (key_stored_keeps key) c.store_key.ensures.pool.0 (did_none key refl c.store_key.ensures.pool) in
-    let last = stores_one link (link_stored_keeps link) c.store_link.ensures.pool.0 (did_none link refl c.store_link.ensures.pool) in
-    stores_on (1 + steps_to_value p.trace.start.shape.values) 1 (stores_on 1 (steps_to_value p.trace.start.shape.values) first stored) last
+    let first = stores_one key (key_stored_keeps key) c.store_key.ensures.pool.0
+    (did_none key refl c.store_key.ensures.pool) in
+    let last = stores_one link (link_stored_keeps link) c.store_link.ensures.pool.0
+    (did_none link refl c.store_link.ensures.pool) in
+    stores_on (1 + steps_to_value p.trace.start.shape.values) 1
+    (stores_on 1 (steps_to_value p.trace.start.shape.values) first stored) last
 
 pub returns-clause-fills : goal.returns-clause-fills
 returns-clause-fills g c =
@@ -67,19 +94,33 @@ returns-clause-fills g c =
     let link = c.store_link.ensures.step in
     let put = c.put_value.ensures.puts in
     let at = hand_at p c.law.ensures c.args.hand.now c.requires.hand c.slot-slot.result c.slot-slot.ensures in
-    let all = ready c.args.hand.now c.args.pred.now c.args.birth c.law.ensures c.requires.hand c.slot-slot.ensures c.requires.pred c.requires.birth c.store_key.ensures.step c.put_value.ensures.puts c.put_value.ensures.stores.keeps in
-    let written = link_now c.put_value.new.at.stepper.now c.law-2.ensures c.args.pred.now c.slot-slot.result c.args.hand.now.birth c.args.birth all
-    (link_of c.link_to-link.result).slot (ap (λ (l : Link). l.slot) (c.link_to-link.ensures.link) ∙ ap (λ (l : Link). l.slot) c.decode.ensures.link) in
-    let values : c.store_key.new.self.stepper.now.trace.start.shape.values ≡ p.trace.start.shape.values = ap (λ (d : Start). d.shape.values) key.same.1 in
-    let full = filled c.store_key.new.self.stepper.now.trace.start.shape.values c.args.value key put.holding link at.1 at.2 written in
-    let F : ℕ → Type 0 = λ s. IsFilled ((knows c.store_link.new.self.stepper.now.trace).own s) c.args.hand.now.birth c.args.key (link_to (link_of c.args.pred.now.word).slot c.args.hand.now.birth c.args.birth) in
-    let V : ℕ → Type 0 = λ s. value_in_hand ((knows c.store_link.new.self.stepper.now.trace).own s) ≡ Some c.args.value in
+    let all = ready c.args.hand.now c.args.pred.now c.args.birth c.law.ensures c.requires.hand c.slot-slot.ensures
+    c.requires.pred c.requires.birth c.store_key.ensures.step c.put_value.ensures.puts
+    c.put_value.ensures.stores.keeps in
+    let written =
+    link_now c.put_value.new.at.stepper.now c.law-2.ensures c.args.pred.now c.slot-slot.result c.args.hand.now.birth
+    c.args.birth all
+    (link_of c.link_to-link.result).slot
+    (ap (λ (l : Link). l.slot) (c.link_to-link.ensures.link) ∙ ap (λ (l : Link). l.slot) c.decode.ensures.link) in
+    let values : c.store_key.new.self.stepper.now.trace.start.shape.values ≡ p.trace.start.shape.values =
+    ap (λ (d : Start). d.shape.values) key.same.1 in
+    let full = filled c.store_key.new.self.stepper.now.trace.start.shape.values c.args.value key put.holding link at.1
+    at.2 written in
+    let F : ℕ → Type 0 =
+    λ s. IsFilled ((knows c.store_link.new.self.stepper.now.trace).own s) c.args.hand.now.birth c.args.key
+    (link_to (link_of c.args.pred.now.word).slot c.args.hand.now.birth c.args.birth) in
+    let V : ℕ → Type 0 =
+    λ s. value_in_hand ((knows c.store_link.new.self.stepper.now.trace).own s) ≡ Some c.args.value in
     record {
       fills = record {
         quiet = quiet_on (quiet_on (key_stored_quiet key) put.quiet) (link_stored_quiet link);
         hand = c.store_link.ensures.pool.1 ∙ put.hand ∙ c.store_key.ensures.pool.1;
         filled = subst F c.slot-slot.ensures full.0;
-        unchanged = unchanged_on (unchanged_on (did_unchanged key (λ w a bucket. none_counted (p.trace.who == p.trace.who))) put.unchanged) (did_unchanged link (λ w a bucket. none_counted (c.put_value.new.at.stepper.now.trace.who == c.put_value.new.at.stepper.now.trace.who)));
+        unchanged = unchanged_on
+            (unchanged_on (did_unchanged key (λ w a bucket. none_counted (p.trace.who == p.trace.who))) put.unchanged)
+            (did_unchanged link
+            (λ w a bucket.
+            none_counted (c.put_value.new.at.stepper.now.trace.who == c.put_value.new.at.stepper.now.trace.who)));
       };
       valued = λ has. subst V c.slot-slot.ensures (full.1 (values ∙ has));
     }

@@ -11,17 +11,23 @@ use Rattle.vbr_at_table.proofs.updating.put_value.Goals as goal
 
 pub returns-then-VALUES-clause-stores : goal.returns-then-VALUES-clause-stores
 returns-then-VALUES-clause-stores g c =
-    let has : c.args.at.now.stepper.now.trace.start.shape.values ≡ true = ap (λ (d : Start). d.shape.values) c.args.at.now.own.1 ∙ c.kind.ensures ∙ sym c.VALUES.ensures ∙ c.if-VALUES.true in
-    let P : Bool → Type 0 = λ values. StoresIn c.args.at.now.stepper.now c.store_value.new.self.stepper.now (steps_to_value values) in
-    subst P (sym has) (stores_one c.store_value.ensures.step (value_stored_keeps c.store_value.ensures.step) c.store_value.ensures.pool.0 (did_none c.store_value.ensures.step refl c.store_value.ensures.pool))
+    let has : c.args.at.now.stepper.now.trace.start.shape.values ≡ true =
+    ap (λ (d : Start). d.shape.values) c.args.at.now.own.1 ∙ c.kind.ensures ∙ sym c.VALUES.ensures ∙ c.if-VALUES.true in
+    let P : Bool → Type 0 =
+    λ values. StoresIn c.args.at.now.stepper.now c.store_value.new.self.stepper.now (steps_to_value values) in
+    subst P (sym has)
+    (stores_one c.store_value.ensures.step (value_stored_keeps c.store_value.ensures.step) c.store_value.ensures.pool.0
+    (did_none c.store_value.ensures.step refl c.store_value.ensures.pool))
 
 pub returns-then-VALUES-clause-puts : goal.returns-then-VALUES-clause-puts
 returns-then-VALUES-clause-puts g c =
     let p = c.args.at.now.stepper.now in
     let q = c.store_value.new.self.stepper.now in
     let d = c.store_value.ensures.step in
-    let has : p.trace.start.shape.values ≡ true = ap (λ (d : Start). d.shape.values) c.args.at.now.own.1 ∙ c.kind.ensures ∙ sym c.VALUES.ensures ∙ c.if-VALUES.true in
-    let P : Bool → Type 0 = λ values. (knows q.trace).own c.args.slot ≡ with_kept_value values ((knows p.trace).own c.args.slot) c.args.value in
+    let has : p.trace.start.shape.values ≡ true =
+    ap (λ (d : Start). d.shape.values) c.args.at.now.own.1 ∙ c.kind.ensures ∙ sym c.VALUES.ensures ∙ c.if-VALUES.true in
+    let P : Bool → Type 0 =
+    λ values. (knows q.trace).own c.args.slot ≡ with_kept_value values ((knows p.trace).own c.args.slot) c.args.value in
     record {
       quiet = value_stored_quiet d;
       hand = c.store_value.ensures.pool.1;

@@ -1,4 +1,5 @@
-use Rattle.std.proofs.Common.{◌≡◌, ℕ, ◌+◌, List, [], ◌∷◌, ◌++◌, Some, None, Ok, length, refl, sym, ap, subst, arith, append-nil, length-append}
+use Rattle.std.proofs.Common.{◌≡◌, ℕ, ◌+◌, List, [], ◌∷◌, ◌++◌, Some, None, Ok, length, refl, sym, ap, subst, arith}
+use Rattle.std.proofs.Common.{append-nil, length-append}
 use Rattle.vbr_machine.specs.Start.{Start, IsStart}
 use Rattle.vbr_machine.specs.Runs.{IsRun}
 use Rattle.vbr_machine.proofs.Lemmas.{begins_refl}
@@ -19,7 +20,11 @@ loop-next-init c =
     let P : Cursor → Type 0 = λ d. Sweeps p p d 0 in
     subst P (sym c.first-cursor.ensures) (record {
       pages = [];
-      sees = record { same = same_refl p; begins = begins_refl p.seen; is_run = subst Q c.pass.ensures.pass c.law.ensures.is_run };
+      sees = record {
+        same = same_refl p;
+        begins = begins_refl p.seen;
+        is_run = subst Q c.pass.ensures.pass c.law.ensures.is_run;
+      };
       given = c.an_iteration_begins.ensures p;
       is = refl;
       low = omega arith;
@@ -31,14 +36,16 @@ returns-in_default c =
     let y = rw c.in_default.is at c.in_ok-next.ensures in
     let p = c.args.member.now.pass.trace in
     let d = c.next_key.new.cursor in
-    let on = c.an_iteration_goes_on.ensures p c.loop-next.member.pass.trace c.next_key.new.self.pass.trace c.loop-next.cursor d x.pages None x.sees y.goes.sees x.given y.iterates.gives.0 in
+    let on = c.an_iteration_goes_on.ensures p c.loop-next.member.pass.trace c.next_key.new.self.pass.trace
+    c.loop-next.cursor d x.pages None x.sees y.goes.sees x.given y.iterates.gives.0 in
     let P : Start → Type 0 = λ s. IsAtEnd s d in
     let Q : PassView → Type 0 = λ v. IsStart v.trace.start in
     let count : length (x.pages ++ []) ≡ length x.pages = ap length (append-nil x.pages) in
     let is = x.is in
     record {
       pages = x.pages ++ [];
-      all = c.an_iteration_ends.ensures p c.next_key.new.self.pass.trace d (x.pages ++ []) (subst Q c.pass.ensures.pass c.law.ensures.start) on (subst P x.sees.same.start y.iterates.gives.1);
+      all = c.an_iteration_ends.ensures p c.next_key.new.self.pass.trace d (x.pages ++ [])
+          (subst Q c.pass.ensures.pass c.law.ensures.start) on (subst P x.sees.same.start y.iterates.gives.1);
       is = omega (arith, count, is);
     }
 
@@ -51,8 +58,10 @@ loop-next-preserved c =
     let r = c.next_key.new.self.pass.trace in
     let d = c.next_key.new.cursor in
     let page = c.in-Some.page in
-    let on = c.an_iteration_goes_on.ensures p c.loop-next.member.pass.trace r c.loop-next.cursor d x.pages (Some page) x.sees y.goes.sees x.given y.iterates.gives.0 in
-    let more : SeesMore r c.remove.new.self.pass.trace = record { same = z.same; begins = z.begins; is_run = z.is_run } in
+    let on = c.an_iteration_goes_on.ensures p c.loop-next.member.pass.trace r c.loop-next.cursor d x.pages (Some page)
+    x.sees y.goes.sees x.given y.iterates.gives.0 in
+    let more : SeesMore r c.remove.new.self.pass.trace =
+    record { same = z.same; begins = z.begins; is_run = z.is_run } in
     let count : length (x.pages ++ page ∷ []) ≡ length x.pages + 1 = length-append x.pages (page ∷ []) in
     let is = x.is in
     let sum = c.saturating_add-count.ensures in

@@ -19,6 +19,8 @@ loop-i-preserved g c =
       long = kept ∙ long;
       left = omega arith;
       blocks = omega arith;
-      so_far = one_more g.H.HandleOf.member (λ m. Some m) c.loop-i.handles c.loop-i.i c.put_back.new.handle c.in-Some-Some.member _ _ _ (omega arith) c.in-Some-Some.ensures.items c.put_back.ensures.member i.so_far;
-      steps = map-set_same g.H.HandleOf.steps c.loop-i.handles c.loop-i.i c.put_back.new.handle c.index-handles-i.result c.put_back.ensures.steps ∙ i.steps;
+      so_far = one_more g.H.HandleOf.member (λ m. Some m) c.loop-i.handles c.loop-i.i c.put_back.new.handle
+          c.in-Some-Some.member _ _ _ (omega arith) c.in-Some-Some.ensures.items c.put_back.ensures.member i.so_far;
+      steps = map-set_same g.H.HandleOf.steps c.loop-i.handles c.loop-i.i c.put_back.new.handle c.index-handles-i.result
+          c.put_back.ensures.steps ∙ i.steps;
     }

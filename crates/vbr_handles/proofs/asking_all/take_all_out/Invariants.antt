@@ -11,7 +11,8 @@ invariant-loop-i g l = record {
   blocks : length l.blocks.items ≡ l.i;
   room : length l.initial.handles ≤ vec_capacity l.members;
   blocks_room : length l.initial.handles ≤ vec_capacity l.blocks;
-  so_far : l.members.items ++ members_by g.H.HandleOf.member (drop l.i l.handles) ≡ members_by g.H.HandleOf.member l.initial.handles;
+  so_far : l.members.items ++ members_by g.H.HandleOf.member (drop l.i l.handles)
+      ≡ members_by g.H.HandleOf.member l.initial.handles;
   full : AreFull g.H.HandleOf.member (drop l.i l.handles);
   steps : map g.H.HandleOf.steps l.handles ≡ map g.H.HandleOf.steps l.initial.handles;
 }

@@ -10,6 +10,9 @@ loop-i-preserved g c =
     let long = c.loop-i.invariant.long in
     record {
       long = length-set c.loop-i.handles c.loop-i.i c.swap.new.self ∙ long;
-      empty = λ k d low. emptied g.H.HandleOf.member c.loop-i.handles c.loop-i.i c.swap.new.self (omega arith) (c.swap.ensures.taken ∙ c.empty-owner.ensures) c.loop-i.invariant.empty k d (omega (arith, low));
-      steps = map-set_same g.H.HandleOf.steps c.loop-i.handles c.loop-i.i c.swap.new.self c.index-handles-i.result c.swap.ensures.steps ∙ c.loop-i.invariant.steps;
+      empty = λ k d low.
+          emptied g.H.HandleOf.member c.loop-i.handles c.loop-i.i c.swap.new.self (omega arith)
+          (c.swap.ensures.taken ∙ c.empty-owner.ensures) c.loop-i.invariant.empty k d (omega (arith, low));
+      steps = map-set_same g.H.HandleOf.steps c.loop-i.handles c.loop-i.i c.swap.new.self c.index-handles-i.result
+          c.swap.ensures.steps ∙ c.loop-i.invariant.steps;
     }

@@ -9,10 +9,20 @@ returns-in-Ok-Memory-clause-reports g c =
 
 pub returns-then-count-room-clause-reports : goal.returns-then-count-room-clause-reports
 returns-then-count-room-clause-reports g c =
-    let told = rw c.in-Ok-Report.field-0-is at c.in-Ok-Report.ensures.asks in
-    (stays g.H.HandleOf.member _ _ told.1.came told.0 told.1.tells.0 told.1.full, ((told.0, told.1.enough), told.1.tells.1, subst (λ (n : ℕ). c.args.room < n) c.count.ensures c.if-count-room.true))
+    let told = rw c.in-Ok-Report.field-0-is at c.in-Ok-Report.ensures.asks in (
+      stays g.H.HandleOf.member _ _ told.1.came told.0 told.1.tells.0 told.1.full,
+      (
+        (told.0, told.1.enough),
+        told.1.tells.1,
+        subst (λ (n : ℕ). c.args.room < n) c.count.ensures c.if-count-room.true,
+      ),
+    )
 
 pub returns-clause-reports : goal.returns-clause-reports
 returns-clause-reports g c =
-    let told = rw c.in-Ok-Report.field-0-is at c.in-Ok-Report.ensures.asks in
-    (stays g.H.HandleOf.member _ _ told.1.came told.0 told.1.tells.0 told.1.full, (told.0, told.1.enough), told.1.tells.1, subst (λ (n : ℕ). n ≤ c.args.room) c.count.ensures c.if-count-room.false)
+    let told = rw c.in-Ok-Report.field-0-is at c.in-Ok-Report.ensures.asks in (
+      stays g.H.HandleOf.member _ _ told.1.came told.0 told.1.tells.0 told.1.full,
+      (told.0, told.1.enough),
+      told.1.tells.1,
+      subst (λ (n : ℕ). n ≤ c.args.room) c.count.ensures c.if-count-room.false,
+    )

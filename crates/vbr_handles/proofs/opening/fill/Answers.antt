@@ -15,6 +15,8 @@ loop-i-preserved g c =
     record {
       long = kept ∙ long;
       left = omega arith;
-      so_far = one_more g.H.HandleOf.member (λ o. o.member) c.loop-i.handles c.loop-i.i c.swap.new.self c.in-Some.owner _ _ _ (omega arith) split c.swap.ensures.taken c.loop-i.invariant.so_far;
-      steps = map-set_same g.H.HandleOf.steps c.loop-i.handles c.loop-i.i c.swap.new.self c.index-handles-i.result c.swap.ensures.steps ∙ c.loop-i.invariant.steps;
+      so_far = one_more g.H.HandleOf.member (λ o. o.member) c.loop-i.handles c.loop-i.i c.swap.new.self c.in-Some.owner
+          _ _ _ (omega arith) split c.swap.ensures.taken c.loop-i.invariant.so_far;
+      steps = map-set_same g.H.HandleOf.steps c.loop-i.handles c.loop-i.i c.swap.new.self c.index-handles-i.result
+          c.swap.ensures.steps ∙ c.loop-i.invariant.steps;
     }

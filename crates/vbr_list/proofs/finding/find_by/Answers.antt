@@ -15,9 +15,25 @@ returns-in-Some-clause-found g c =
     let r = c.search.new.self.at.stepper.now.trace in
     let quiet = c.search.ensures.goes.goes.quiet in
     let ok = run_at p r quiet.same (quiet.is_run c.law.ensures.is_run) in
-    let paid = call_paid p p r r c.law.ensures.start ok c.args.key 3 (quiet_refl p) quiet (begins_refl r.seen) (omega arith, omega arith) (repeated_none 9 p c.args.key 3 0) c.in-Some.ensures.found.walks c.search.new.self.used 0 (omega arith) in
-    let costs : c.search.new.self.used ≤ find_costs_among (listed_for p c.args.key) (disturbed p r c.args.key) = omega (arith, paid) in
-    rw same (record { quiet = search rules; found = search rules; was_so = was_so c.args.key c.in-Some.found c.law.ensures.start c.search.ensures.goes.goes.quiet.same c.in-Some.ensures.found.found; clear = clear_found c.args.key c.in-Some.found c.law.ensures.start c.search.ensures.goes.goes.quiet.same c.in-Some.ensures.found.found; within = search rules; took = search rules; costs = λ alone. let paid = undisturbed (λ t. c.search.new.self.used ≤ find_costs_among (listed_for p c.args.key) t) c.args.key costs alone in let used = c.in-Some.ensures.found.used in omega (arith, paid, used); disturbed_costs = let used = c.in-Some.ensures.found.used in omega (arith, costs, used) })
+    let paid = call_paid p p r r c.law.ensures.start ok c.args.key 3 (quiet_refl p) quiet (begins_refl r.seen)
+    (omega arith, omega arith) (repeated_none 9 p c.args.key 3 0) c.in-Some.ensures.found.walks c.search.new.self.used 0
+    (omega arith) in
+    let costs : c.search.new.self.used ≤ find_costs_among (listed_for p c.args.key) (disturbed p r c.args.key) =
+    omega (arith, paid) in
+    rw same (record {
+      quiet = search rules;
+      found = search rules;
+      was_so = was_so c.args.key c.in-Some.found c.law.ensures.start c.search.ensures.goes.goes.quiet.same
+          c.in-Some.ensures.found.found;
+      clear = clear_found c.args.key c.in-Some.found c.law.ensures.start c.search.ensures.goes.goes.quiet.same
+          c.in-Some.ensures.found.found;
+      within = search rules;
+      took = search rules;
+      costs = λ alone.
+          let paid = undisturbed (λ t. c.search.new.self.used ≤ find_costs_among (listed_for p c.args.key) t) c.args.key
+          costs alone in let used = c.in-Some.ensures.found.used in omega (arith, paid, used);
+      disturbed_costs = let used = c.in-Some.ensures.found.used in omega (arith, costs, used);
+    })
 
 pub returns-in-None-clause-tired : goal.returns-in-None-clause-tired
 returns-in-None-clause-tired g c =
@@ -27,8 +43,16 @@ returns-in-None-clause-tired g c =
     let quiet = c.search.ensures.goes.goes.quiet in
     let ok = run_at p r quiet.same (quiet.is_run c.law.ensures.is_run) in
     let tired = c.in-None.ensures.tired in
-    let lacks = lacks_steps p p r c.law.ensures.start ok c.args.key (quiet_refl p) quiet (omega arith) (repeated_none 9 p c.args.key 3 0) tired.walks c.args.budget tired.tired in
-    rw same (record { quiet = search rules; refused = search rules; lacks = λ alone. let x = undisturbed (λ t. c.args.budget < enough_to_search_among (listed_for p c.args.key) t) c.args.key lacks alone in omega (arith, x); disturbed_lacks = lacks })
+    let lacks = lacks_steps p p r c.law.ensures.start ok c.args.key (quiet_refl p) quiet (omega arith)
+    (repeated_none 9 p c.args.key 3 0) tired.walks c.args.budget tired.tired in
+    rw same (record {
+      quiet = search rules;
+      refused = search rules;
+      lacks = λ alone.
+          let x = undisturbed (λ t. c.args.budget < enough_to_search_among (listed_for p c.args.key) t) c.args.key lacks
+          alone in omega (arith, x);
+      disturbed_lacks = lacks;
+    })
 
 pub returns-in-Some-clause-took : goal.returns-in-Some-clause-took
 returns-in-Some-clause-took g c =

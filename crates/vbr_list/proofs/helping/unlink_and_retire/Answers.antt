@@ -1,5 +1,6 @@
 use Rattle.vbr_list.proofs.Names.{◌+◌, ℕ, sym, ◌∙◌, subst, arith}
-use Rattle.vbr_list.proofs.Names.{At, behind_kept, counts_on, is_kept, IsUnlinked, KeepsUnlinked, KeyOf, knows, link_of, quiet_on, StandsBehind, Start, unchanged_by_none}
+use Rattle.vbr_list.proofs.Names.{At, behind_kept, counts_on, is_kept, IsUnlinked, KeepsUnlinked, KeyOf, knows, link_of}
+use Rattle.vbr_list.proofs.Names.{quiet_on, StandsBehind, Start, unchanged_by_none}
 use Rattle.vbr_list.specs.Pieces.{Goes}
 use Rattle.vbr_list.proofs.Clearing.{clear_before, clear_skipped, out_kept}
 use Rattle.vbr_list.proofs.Disturbing.{loses_place, moved_late, opened, run_at}
@@ -19,8 +20,17 @@ returns-in-Ok-clause-goes g c = λ used.
     subst (λ (n : ℕ). Goes c.args.at.now.stepper.now c.retire.new.at.stepper.now used n) (omega arith)
     (record {
       quiet = quiet_on a.stays.quiet b.quiet;
-      counts = counts_on (counts_step used c.steps_to_unlink-used.result (took_same c.steps_to_unlink-used.result _ c.steps_to_unlink-used.ensures.is a.stays.took)) (counts_step (used + c.steps_to_unlink-used.result) c.retire.result b.took);
-      hand = helped_hand a.stays.own (subst Q (sym (rw c.in-Ok.is at c.unlink-outcome.ensures.unlinked).slot) (rw c.in-Ok.is at c.unlink-outcome.ensures.unlinked).unlinks) (retired_hand c.in-Ok.unlinked.slot c.law-in-Ok.ensures.own (subst P (sym (rw c.in-Ok.is at c.unlink-outcome.ensures.unlinked).slot) (rw c.in-Ok.is at c.unlink-outcome.ensures.unlinked).owned) b.known b.pool b.hand b.takes_no_slot) b.turn b.known;
+      counts = counts_on
+          (counts_step used c.steps_to_unlink-used.result
+          (took_same c.steps_to_unlink-used.result _ c.steps_to_unlink-used.ensures.is a.stays.took))
+          (counts_step (used + c.steps_to_unlink-used.result) c.retire.result b.took);
+      hand = helped_hand a.stays.own
+          (subst Q (sym (rw c.in-Ok.is at c.unlink-outcome.ensures.unlinked).slot)
+          (rw c.in-Ok.is at c.unlink-outcome.ensures.unlinked).unlinks)
+          (retired_hand c.in-Ok.unlinked.slot c.law-in-Ok.ensures.own
+          (subst P (sym (rw c.in-Ok.is at c.unlink-outcome.ensures.unlinked).slot)
+          (rw c.in-Ok.is at c.unlink-outcome.ensures.unlinked).owned) b.known b.pool b.hand b.takes_no_slot) b.turn
+          b.known;
     })
 
 pub returns-in-Ok-clause-unlinks : goal.returns-in-Ok-clause-unlinks
@@ -35,25 +45,45 @@ returns-in-Ok-clause-unlinks g c =
       helps = λ e. record {
         at = won.at;
         epoch = sym e ∙ won.read.known.epoch ∙ won.keeps.epoch;
-        opens = opened p.trace q.trace r.trace c.args.pred.now c.args.marked c.in-Ok.place a b c.law-in-Ok.ensures.start c.law-in-Ok.ensures.is_run won.keeps won.at won.read.known won.still won.stands won.next c.retire.ensures.retires.unchanged;
-        come = λ key is. helped key c.args.pred.now c.in-Ok.place is won.keeps won.at won.still won.read a b (retired_keeps (knows q.trace) (knows r.trace) c.in-Ok.unlinked.slot (is_kept q.pool) c.retire.ensures.retires.known (sym e ∙ won.read.known.epoch));
+        opens = opened p.trace q.trace r.trace c.args.pred.now c.args.marked c.in-Ok.place a b c.law-in-Ok.ensures.start
+            c.law-in-Ok.ensures.is_run won.keeps won.at won.read.known won.still won.stands won.next
+            c.retire.ensures.retires.unchanged;
+        come = λ key is.
+            helped key c.args.pred.now c.in-Ok.place is won.keeps won.at won.still won.read a b
+            (retired_keeps (knows q.trace) (knows r.trace) c.in-Ok.unlinked.slot (is_kept q.pool)
+            c.retire.ensures.retires.known (sym e ∙ won.read.known.epoch));
       };
-      late = λ other. moved_late p.trace q.trace r.trace a b c.law.ensures.start (won.read.known.epoch ∙ won.keeps.epoch) c.retire.ensures.retires.stamped other;
+      late = λ other.
+          moved_late p.trace q.trace r.trace a b c.law.ensures.start (won.read.known.epoch ∙ won.keeps.epoch)
+          c.retire.ensures.retires.stamped other;
       clear = λ key k behind out.
           let P : At → Type 0 = λ t. StandsBehind q.trace.start (knows q.trace) t key in
           let Q : Start → Type 0 = λ s. StandsBehind s (knows q.trace) c.args.pred.now.at key in
-          clear_before (clear_skipped c.in-Ok.place c.law.ensures.start a.same won.read won.still c.args.marked.slot key (link_of c.args.marked.word)
-          (subst P (sym won.at) (subst Q (sym a.same.start) (behind_kept p.trace.start c.args.pred.now.at key won.keeps behind)))
-          (won.keeps.reads _ c.requires.may.marked.held.link) c.requires.may.marked.mark (sym won.next) (won.keeps.reads (KeyOf c.args.marked.slot key) k)
-          (out_kept p.trace q.trace c.args.marked.slot c.law.ensures.start c.law.ensures.is_run a won.keeps.epoch out)) b;
+          clear_before
+          (clear_skipped c.in-Ok.place c.law.ensures.start a.same won.read won.still c.args.marked.slot key
+          (link_of c.args.marked.word)
+          (subst P (sym won.at)
+          (subst Q (sym a.same.start) (behind_kept p.trace.start c.args.pred.now.at key won.keeps behind)))
+          (won.keeps.reads _ c.requires.may.marked.held.link) c.requires.may.marked.mark (sym won.next)
+          (won.keeps.reads (KeyOf c.args.marked.slot key) k)
+          (out_kept p.trace q.trace c.args.marked.slot c.law.ensures.start c.law.ensures.is_run a won.keeps.epoch out))
+          b;
       left = λ key k behind.
           let P : At → Type 0 = λ t. StandsBehind q.trace.start (knows q.trace) t key in
           let Q : Start → Type 0 = λ s. StandsBehind s (knows q.trace) c.args.pred.now.at key in
-          left_skipped p.trace q.trace r.trace c.in-Ok.place c.args.marked key c.law.ensures.start c.law.ensures.is_run a b won.keeps won.read won.still c.requires.may.marked (sym won.next)
-          (subst P (sym won.at) (subst Q (sym a.same.start) (behind_kept p.trace.start c.args.pred.now.at key won.keeps behind))) k;
+          left_skipped p.trace q.trace r.trace c.in-Ok.place c.args.marked key c.law.ensures.start c.law.ensures.is_run
+          a b won.keeps won.read won.still c.requires.may.marked (sym won.next)
+          (subst P (sym won.at)
+          (subst Q (sym a.same.start) (behind_kept p.trace.start c.args.pred.now.at key won.keeps behind))) k;
     }
 
 pub returns-in-Err-clause-lost : goal.returns-in-Err-clause-lost
 returns-in-Err-clause-lost g c =
     let failed = rw c.in-Err.is at c.unlink-outcome.ensures.failed in
-    loses_place c.args.at.now.stepper.now.trace c.unlink-outcome.new.at.stepper.now.trace c.args.pred.now c.in-Err.rollback c.unlink-outcome.ensures.stays.quiet.same failed.rolled failed.fresh (unchanged_by_none c.law.ensures.start (run_at c.args.at.now.stepper.now.trace c.unlink-outcome.new.at.stepper.now.trace c.unlink-outcome.ensures.stays.quiet.same (c.unlink-outcome.ensures.stays.quiet.is_run c.law.ensures.is_run)) c.unlink-outcome.ensures.stays.quiet.same c.unlink-outcome.ensures.stays.quiet.seen failed.adds_none) c.unlink-outcome.ensures.stays.quiet.seen
+    loses_place c.args.at.now.stepper.now.trace c.unlink-outcome.new.at.stepper.now.trace c.args.pred.now
+    c.in-Err.rollback c.unlink-outcome.ensures.stays.quiet.same failed.rolled failed.fresh
+    (unchanged_by_none c.law.ensures.start
+    (run_at c.args.at.now.stepper.now.trace c.unlink-outcome.new.at.stepper.now.trace
+    c.unlink-outcome.ensures.stays.quiet.same (c.unlink-outcome.ensures.stays.quiet.is_run c.law.ensures.is_run))
+    c.unlink-outcome.ensures.stays.quiet.same c.unlink-outcome.ensures.stays.quiet.seen failed.adds_none)
+    c.unlink-outcome.ensures.stays.quiet.seen

@@ -9,5 +9,8 @@ pub returns : goal.returns
 returns c =
     let p = c.args.pass.now in
     let q = c.during.new.self in
-    let told : CallsAs (stored_in p.trace c.args.key 0) (BoundsOfInsert p q c.args.key c.args.budget) p q c.args.budget c.during.result = search rules in
-    calls_as c.during.result told (stored_bare p.trace c.args.key 0 (ap (λ (d : Start). d.shape.values) c.requires.own.1 ∙ c.kind.ensures)) (λ bounds. bounds)
+    let told : CallsAs (stored_in p.trace c.args.key 0) (BoundsOfInsert p q c.args.key c.args.budget) p q c.args.budget
+    c.during.result = search rules in
+    calls_as c.during.result told
+    (stored_bare p.trace c.args.key 0 (ap (λ (d : Start). d.shape.values) c.requires.own.1 ∙ c.kind.ensures))
+    (λ bounds. bounds)

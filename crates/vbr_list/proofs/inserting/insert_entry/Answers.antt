@@ -9,5 +9,9 @@ pub returns : goal.returns
 returns c =
     let p = c.args.pass.now in
     let q = c.during.new.self in
-    let told : CallsAs (stored_in p.trace c.args.key c.args.value) (BoundsOfInsert p q c.args.key c.args.budget) p q c.args.budget c.during.result = search rules in
-    calls_entry c.during.result c.law.ensures (calls_as c.during.result told (stored_kept p.trace c.args.key c.args.value (ap (λ (d : Start). d.shape.values) c.requires.own.1 ∙ c.kind.ensures)) (λ bounds. bounds))
+    let told : CallsAs (stored_in p.trace c.args.key c.args.value) (BoundsOfInsert p q c.args.key c.args.budget) p q
+    c.args.budget c.during.result = search rules in
+    calls_entry c.during.result c.law.ensures
+    (calls_as c.during.result told
+    (stored_kept p.trace c.args.key c.args.value (ap (λ (d : Start). d.shape.values) c.requires.own.1 ∙ c.kind.ensures))
+    (λ bounds. bounds))

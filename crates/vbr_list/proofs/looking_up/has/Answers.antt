@@ -10,7 +10,11 @@ returns g c =
     let p = c.args.pass.now in
     let q = c.during-answer.new.self in
     let answer = c.during-answer.result in
-    let told : CallsAs (given_in p.trace Has c.args.key) (BoundsOfLookUp (given_in p.trace Has c.args.key) 0 p q c.args.key c.args.budget) p q c.args.budget answer = search rules in
+    let told : CallsAs (given_in p.trace Has c.args.key)
+    (BoundsOfLookUp (given_in p.trace Has c.args.key) 0 p q c.args.key c.args.budget) p q c.args.budget answer =
+    search rules in
     let P : Result Bool Refusal → Type 0 = Calls Has p q c.args.key c.args.budget in
-    let same : (given : Option ℕ) → given_in p.trace Has c.args.key given ≡ set_call p.trace.who Has c.args.key (is_some given) = λ given. sym (told_bare p.trace.start p.trace.who Has c.args.key (is_some given)) in
+    let same : (given : Option ℕ) →
+    given_in p.trace Has c.args.key given ≡ set_call p.trace.who Has c.args.key (is_some given) =
+    λ given. sym (told_bare p.trace.start p.trace.who Has c.args.key (is_some given)) in
     subst P (sym c.is_yes.ensures) (calls_yes answer told same (λ bounds. look_up_yes answer bounds same))

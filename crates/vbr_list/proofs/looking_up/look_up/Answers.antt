@@ -1,5 +1,6 @@
 use Rattle.vbr_list.proofs.Names.{rules, ◌≡◌, ◌+◌, ◌≤◌, refl, ◌∙◌, arith, ap, subst}
-use Rattle.vbr_list.proofs.Names.{adds_on, AddsAnswer, answer_on, bucket_of, counts_on, loads_on, no_room, none_on, quiet_on, same_on, same_refl, Start, took_all}
+use Rattle.vbr_list.proofs.Names.{adds_on, AddsAnswer, answer_on, bucket_of, counts_on, loads_on, no_room, none_on}
+use Rattle.vbr_list.proofs.Names.{quiet_on, same_on, same_refl, Start, took_all}
 use Rattle.vbr_list.proofs.Going.{call_on, call_refl, goes_on, within_call, within_of}
 use Rattle.vbr_list.proofs.Observing.{observed, observes_on}
 use Rattle.vbr_list.specs.Budgets.{listed_for, look_up_costs, steps_where}
@@ -17,11 +18,16 @@ use Rattle.vbr_list.proofs.Told.{given_same, told_since}
 use Rattle.vbr_list.proofs.looking_up.look_up.Goals as goal
 
 pub settle_look_up-requires-clause-asked : goal.settle_look_up-requires-clause-asked
-settle_look_up-requires-clause-asked g c = λ gives. ap (λ (d : Start). d.shape.values) ((quiet_on c.loop-sight.invariant.3.tries.goes.quiet c.look.ensures.goes.goes.quiet).same.start ∙ c.requires.own.1) ∙ c.requires.asked gives
+settle_look_up-requires-clause-asked g c = λ gives.
+    ap (λ (d : Start). d.shape.values)
+    ((quiet_on c.loop-sight.invariant.3.tries.goes.quiet c.look.ensures.goes.goes.quiet).same.start ∙ c.requires.own.1)
+    ∙ c.requires.asked gives
 
 pub loop-sight-preserved : goal.loop-sight-preserved
 loop-sight-preserved g c =
-    let before = peeks_on c.loop-sight.invariant.3 c.look.ensures.goes.goes c.look.ensures.observes c.look.ensures.goes.more (rw c.loop-sight.invariant.2 at (within_call (call_on c.loop-sight.invariant.0 c.look.ensures.goes.call))) in
+    let before =
+    peeks_on c.loop-sight.invariant.3 c.look.ensures.goes.goes c.look.ensures.observes c.look.ensures.goes.more
+    (rw c.loop-sight.invariant.2 at (within_call (call_on c.loop-sight.invariant.0 c.look.ensures.goes.call))) in
     let s = c.settle_look_up.ensures.settles in
     let a = c.look.ensures.goes.goes.quiet in
     let b = c.in_default-settle_look_up.ensures.rolls.quiet in
@@ -29,7 +35,9 @@ loop-sight-preserved g c =
       same,
       c.loop-sight.invariant.1,
       c.loop-sight.invariant.2,
-      peeks_on before (record { quiet = b; counts = s.counts; hand = s.hand }) (observed c.settle_look_up.ensures.only_loads c.in_default-settle_look_up.ensures.rolls.adds_none) (let low = s.more in omega (arith, low)) (rw c.loop-sight.invariant.2 at (within_call same)),
+      peeks_on before (record { quiet = b; counts = s.counts; hand = s.hand })
+          (observed c.settle_look_up.ensures.only_loads c.in_default-settle_look_up.ensures.rolls.adds_none)
+          (let low = s.more in omega (arith, low)) (rw c.loop-sight.invariant.2 at (within_call same)),
       (let p = c.args.stepper.now.trace in
           let q = c.loop-sight.call.at.stepper.now.trace in
           let m = c.look.new.self.at.stepper.now.trace in
@@ -38,14 +46,25 @@ loop-sight-preserved g c =
           let two = quiet_on first a in
           let whole = quiet_on two b in
           let looks = rw (c.loop-sight.invariant.0.key ∙ c.loop-sight.invariant.1) at c.in-Some.ensures.sight.looks in
-          let adds = adds_on (adds_on c.loop-sight.invariant.3.observes.adds_none c.look.ensures.observes.adds_none) c.in_default-settle_look_up.ensures.rolls.adds_none in
+          let adds = adds_on (adds_on c.loop-sight.invariant.3.observes.adds_none c.look.ensures.observes.adds_none)
+          c.in_default-settle_look_up.ensures.rolls.adds_none in
           let ok = run_at p r whole.same (whole.is_run c.law.ensures.is_run) in
-          let own = unchanged_at p p r (bucket_of p.start.shape c.args.key) c.law.ensures.start ok (same_refl p) whole.same whole.seen adds in
-          round_on p q m r c.law.ensures.start ok c.args.key (steps_to_answer c.args.gives) first.same two.same whole.same first.seen a.seen b.seen own (sighted c.in-Some.sight) c.loop-sight.invariant.4 c.in-Some.ensures.sight.fresh looks c.settle_look_up.ensures.few c.in_default-settle_look_up.ensures.rolls.loses),
+          let own = unchanged_at p p r (bucket_of p.start.shape c.args.key) c.law.ensures.start ok (same_refl p)
+          whole.same whole.seen adds in
+          round_on p q m r c.law.ensures.start ok c.args.key (steps_to_answer c.args.gives) first.same two.same
+          whole.same first.seen a.seen b.seen own (sighted c.in-Some.sight) c.loop-sight.invariant.4
+          c.in-Some.ensures.sight.fresh looks c.settle_look_up.ensures.few
+          c.in_default-settle_look_up.ensures.rolls.loses),
     )
 
 pub loop-sight-init : goal.loop-sight-init
-loop-sight-init g c = (call_refl _, refl, refl, peeks_refl c.args.stepper.now 0 c.args.budget (omega arith), repeated_none 5 c.args.stepper.now.trace c.args.key (3 + steps_to_answer c.args.gives) 0)
+loop-sight-init g c = (
+  call_refl _,
+  refl,
+  refl,
+  peeks_refl c.args.stepper.now 0 c.args.budget (omega arith),
+  repeated_none 5 c.args.stepper.now.trace c.args.key (3 + steps_to_answer c.args.gives) 0,
+)
 
 pub returns-in_default-clause-took : goal.returns-in_default-clause-took
 returns-in_default-clause-took g c =
@@ -60,24 +79,35 @@ returns-then-not-affords-clause-took g c =
 pub returns-in-Ok-clause-took : goal.returns-in-Ok-clause-took
 returns-in-Ok-clause-took g c =
     let same : c.stepper-in-Ok-1.given.0 ≡ c.settle_look_up.new.self.at.stepper.now = search rules in
-    rw same (took_all (counts_on (goes_on c.loop-sight.invariant.3.tries.goes c.look.ensures.goes.goes).counts c.settle_look_up.ensures.settles.counts))
+    rw same (took_all
+    (counts_on (goes_on c.loop-sight.invariant.3.tries.goes c.look.ensures.goes.goes).counts
+    c.settle_look_up.ensures.settles.counts))
 
 pub returns-in_default-clause-calls : goal.returns-in_default-clause-calls
 returns-in_default-clause-calls g c =
     let same : c.stepper-1.given.0 ≡ c.look.new.self.at.stepper.now = search rules in
     let tired = c.in_default.ensures.tired in
     let looks = rw (c.loop-sight.invariant.0.key ∙ c.loop-sight.invariant.1) at tired.looks in
-    let within = rw c.loop-sight.invariant.2 at (within_call (call_on c.loop-sight.invariant.0 c.look.ensures.goes.call)) in
-    rw same (look_up_tires c.law.ensures c.args.key c.loop-sight.invariant.3.tries c.look.ensures.goes.goes within (rw (c.loop-sight.invariant.0.budget ∙ c.loop-sight.invariant.2) at tired.tired) (search rules) (few_to_answer c.args.gives) c.loop-sight.invariant.3.observes c.look.ensures.observes c.loop-sight.invariant.4 looks)
+    let within =
+    rw c.loop-sight.invariant.2 at (within_call (call_on c.loop-sight.invariant.0 c.look.ensures.goes.call)) in
+    rw same (look_up_tires c.law.ensures c.args.key c.loop-sight.invariant.3.tries c.look.ensures.goes.goes within
+    (rw (c.loop-sight.invariant.0.budget ∙ c.loop-sight.invariant.2) at tired.tired) (search rules)
+    (few_to_answer c.args.gives) c.loop-sight.invariant.3.observes c.look.ensures.observes c.loop-sight.invariant.4
+    looks)
 
 pub returns-then-not-affords-clause-calls : goal.returns-then-not-affords-clause-calls
 returns-then-not-affords-clause-calls g c =
     let same : c.stepper-then-not-affords-1.given.0 ≡ c.look.new.self.at.stepper.now = search rules in
     let looks = rw (c.loop-sight.invariant.0.key ∙ c.loop-sight.invariant.1) at c.in-Some.ensures.sight.looks in
     let budget = c.look.ensures.goes.call.budget ∙ c.loop-sight.invariant.0.budget ∙ c.loop-sight.invariant.2 in
-    let short = no_room c.look.new.self.used c.look.new.self.budget c.affords.result c.if-not-affords.true c.affords.ensures.1 in
-    let within = rw c.loop-sight.invariant.2 at (within_call (call_on c.loop-sight.invariant.0 c.look.ensures.goes.call)) in
-    rw same (look_up_tires c.law.ensures c.args.key c.loop-sight.invariant.3.tries c.look.ensures.goes.goes within (rw budget at short) (search rules) (few_to_answer c.args.gives) c.loop-sight.invariant.3.observes c.look.ensures.observes c.loop-sight.invariant.4 (looked_again c.law.ensures c.loop-sight.invariant.3.tries.goes.quiet c.look.ensures.goes.goes.quiet looks))
+    let short = no_room c.look.new.self.used c.look.new.self.budget c.affords.result c.if-not-affords.true
+    c.affords.ensures.1 in
+    let within =
+    rw c.loop-sight.invariant.2 at (within_call (call_on c.loop-sight.invariant.0 c.look.ensures.goes.call)) in
+    rw same (look_up_tires c.law.ensures c.args.key c.loop-sight.invariant.3.tries c.look.ensures.goes.goes within
+    (rw budget at short) (search rules) (few_to_answer c.args.gives) c.loop-sight.invariant.3.observes
+    c.look.ensures.observes c.loop-sight.invariant.4
+    (looked_again c.law.ensures c.loop-sight.invariant.3.tries.goes.quiet c.look.ensures.goes.goes.quiet looks))
 
 pub returns-in-Ok-clause-calls : goal.returns-in-Ok-clause-calls
 returns-in-Ok-clause-calls g c =
@@ -87,36 +117,57 @@ returns-in-Ok-clause-calls g c =
     let r = c.settle_look_up.new.self.at.stepper.now in
     let op = look_up_op c.args.gives in
     let first = quiet_on c.loop-sight.invariant.3.tries.goes.quiet c.look.ensures.goes.goes.quiet in
-    let call = call_on (call_on c.loop-sight.invariant.0 c.look.ensures.goes.call) c.settle_look_up.ensures.settles.call in
+    let call = call_on (call_on c.loop-sight.invariant.0 c.look.ensures.goes.call)
+    c.settle_look_up.ensures.settles.call in
     let key = c.look.ensures.goes.call.key ∙ c.loop-sight.invariant.0.key ∙ c.loop-sight.invariant.1 in
     let answered = rw key at c.in-Ok.ensures.answers.made in
     let made = told_since first (given_same first.same op c.args.key c.in-Ok.answer) answered in
     let before = observes_on c.loop-sight.invariant.3.observes c.look.ensures.observes in
-    let counts = counts_on (goes_on c.loop-sight.invariant.3.tries.goes c.look.ensures.goes.goes).counts c.settle_look_up.ensures.settles.counts in
+    let counts =
+    counts_on (goes_on c.loop-sight.invariant.3.tries.goes c.look.ensures.goes.goes).counts
+    c.settle_look_up.ensures.settles.counts in
     let loop = c.loop-sight.call.at.stepper.now in
     let begun = c.loop-sight.invariant.3.tries.goes.quiet in
     let sight = rw (c.loop-sight.invariant.0.key ∙ c.loop-sight.invariant.1) at c.in-Some.ensures.sight.looks in
     let ok_r = run_at p.trace r.trace (same_on first.same answered.same) answered.is_run in
     let looks = looked_again c.law.ensures begun c.look.ensures.goes.goes.quiet sight in
-    let all = call_paid p.trace loop.trace q.trace r.trace c.law.ensures.start ok_r c.args.key (3 + steps_to_answer c.args.gives) begun c.look.ensures.goes.goes.quiet answered.seen (omega arith, omega arith) c.loop-sight.invariant.4 looks c.settle_look_up.new.self.used (steps_to_answer c.args.gives) c.settle_look_up.ensures.few in
-    let paid : c.settle_look_up.new.self.used ≤ costs_among (listed_for p.trace c.args.key) (disturbed p.trace r.trace c.args.key) (steps_where c.args.gives) = omega (arith, all) in
-    let S : Start → Type 0 = λ start. AddsAnswer (kept_call start (given_call q.trace.who op c.args.key c.in-Ok.answer)) q.trace r.trace in
+    let all = call_paid p.trace loop.trace q.trace r.trace c.law.ensures.start ok_r c.args.key
+    (3 + steps_to_answer c.args.gives) begun c.look.ensures.goes.goes.quiet answered.seen (omega arith, omega arith)
+    c.loop-sight.invariant.4 looks c.settle_look_up.new.self.used (steps_to_answer c.args.gives)
+    c.settle_look_up.ensures.few in
+    let paid : c.settle_look_up.new.self.used
+    ≤ costs_among (listed_for p.trace c.args.key) (disturbed p.trace r.trace c.args.key) (steps_where c.args.gives) =
+    omega (arith, all) in
+    let S : Start → Type 0 =
+    λ start. AddsAnswer (kept_call start (given_call q.trace.who op c.args.key c.in-Ok.answer)) q.trace r.trace in
     rw same (record {
       same = same_on first.same answered.same;
       made = made;
       alone = alone c.law.ensures.start c.law.ensures.low made;
       quiet = tt;
       hand = search rules;
-      steps = within_of c.settle_look_up.new.self.used c.args.budget (rw c.loop-sight.invariant.2 at (within_call call)) counts;
+      steps = within_of c.settle_look_up.new.self.used c.args.budget (rw c.loop-sight.invariant.2 at (within_call call))
+          counts;
       bounds = record {
         only_loads = loads_on before.only_loads c.settle_look_up.ensures.only_loads;
-        adds = answer_on (λ who. kept_call p.trace.start (given_call who op c.args.key c.in-Ok.answer)) first.same before.adds_none (subst S first.same.start (rw key at c.in-Ok.ensures.answers.adds));
+        adds = answer_on (λ who. kept_call p.trace.start (given_call who op c.args.key c.in-Ok.answer)) first.same
+            before.adds_none (subst S first.same.start (rw key at c.in-Ok.ensures.answers.adds));
         adds_none = tt;
-        takes_no_slot = none_on (goes_on c.loop-sight.invariant.3.tries.goes c.look.ensures.goes.goes).hand.takes_no_slot c.settle_look_up.ensures.settles.hand.takes_no_slot;
+        takes_no_slot =
+            none_on (goes_on c.loop-sight.invariant.3.tries.goes c.look.ensures.goes.goes).hand.takes_no_slot
+            c.settle_look_up.ensures.settles.hand.takes_no_slot;
         refused = tt;
         within = tt;
         disturbed_within = tt;
-        costs = λ whole. let most = undisturbed (λ t. c.settle_look_up.new.self.used ≤ costs_among (listed_for p.trace c.args.key) t (steps_where c.args.gives)) c.args.key paid whole in within_of c.settle_look_up.new.self.used (look_up_costs p.trace c.args.key + steps_where c.args.gives) (omega (arith, most)) counts;
-        disturbed_costs = within_of c.settle_look_up.new.self.used (costs_among (listed_for p.trace c.args.key) (disturbed p.trace r.trace c.args.key) (steps_where c.args.gives)) paid counts;
+        costs = λ whole.
+            let most = undisturbed
+            (λ t. c.settle_look_up.new.self.used
+            ≤ costs_among (listed_for p.trace c.args.key) t (steps_where c.args.gives)) c.args.key paid whole in
+            within_of c.settle_look_up.new.self.used (look_up_costs p.trace c.args.key + steps_where c.args.gives)
+            (omega (arith, most)) counts;
+        disturbed_costs =
+            within_of c.settle_look_up.new.self.used
+            (costs_among (listed_for p.trace c.args.key) (disturbed p.trace r.trace c.args.key)
+            (steps_where c.args.gives)) paid counts;
       };
     })

@@ -11,6 +11,10 @@ returns c =
     let p = c.args.pass.now in
     let q = c.during-answer.new.self in
     let answer = c.during-answer.result in
-    let told : CallsAs (given_in p.trace Remove c.args.key) (BoundsOfRemove is_some p q c.args.key c.args.budget) p q c.args.budget answer = search rules in
+    let told : CallsAs (given_in p.trace Remove c.args.key) (BoundsOfRemove is_some p q c.args.key c.args.budget) p q
+    c.args.budget answer = search rules in
     let P : Result Bool Refusal → Type 0 = Calls Remove p q c.args.key c.args.budget in
-    subst P (sym c.is_yes.ensures) (calls_yes answer told (given_bare p.trace Remove c.args.key (ap (λ (d : Start). d.shape.values) c.requires.own.1 ∙ c.kind.ensures)) (remove_yes answer))
+    subst P (sym c.is_yes.ensures)
+    (calls_yes answer told
+    (given_bare p.trace Remove c.args.key (ap (λ (d : Start). d.shape.values) c.requires.own.1 ∙ c.kind.ensures))
+    (remove_yes answer))

@@ -24,14 +24,19 @@ settle_remove-requires-clause-expects g c = λ some.
 pub loop-found-preserved : goal.loop-found-preserved
 loop-found-preserved g c =
     let s = c.settle_remove.ensures.settles in
-    let found = tries_on c.loop-found.invariant.3 c.reach.ensures.goes.goes c.reach.ensures.goes.more (rw c.loop-found.invariant.2 at (within_call (call_on c.loop-found.invariant.0 c.reach.ensures.goes.call))) in
+    let found = tries_on c.loop-found.invariant.3 c.reach.ensures.goes.goes c.reach.ensures.goes.more
+    (rw c.loop-found.invariant.2 at (within_call (call_on c.loop-found.invariant.0 c.reach.ensures.goes.call))) in
     let a = c.reach.ensures.goes.goes.quiet in
     let b = c.in_default-settle_remove.ensures.rolls.quiet in
-    let same = call_on (call_on c.loop-found.invariant.0 c.reach.ensures.goes.call) c.settle_remove.ensures.settles.call in (
+    let same = call_on (call_on c.loop-found.invariant.0 c.reach.ensures.goes.call)
+    c.settle_remove.ensures.settles.call in (
       same,
       c.loop-found.invariant.1,
       c.loop-found.invariant.2,
-      tries_on found (record { quiet = c.in_default-settle_remove.ensures.rolls.quiet; counts = s.counts; hand = s.hand }) (let low = c.settle_remove.ensures.settles.more in omega (arith, low)) (rw c.loop-found.invariant.2 at (within_call same)),
+      tries_on found
+          (record { quiet = c.in_default-settle_remove.ensures.rolls.quiet; counts = s.counts; hand = s.hand })
+          (let low = c.settle_remove.ensures.settles.more in omega (arith, low))
+          (rw c.loop-found.invariant.2 at (within_call same)),
       let p = c.args.stepper.now.trace in
           let q = c.loop-found.call.at.stepper.now.trace in
           let m = c.reach.new.self.at.stepper.now.trace in
@@ -39,7 +44,10 @@ loop-found-preserved g c =
           let first = c.loop-found.invariant.3.goes.quiet in
           let whole = quiet_on (quiet_on first a) b in
           let key = c.loop-found.invariant.0.key ∙ c.loop-found.invariant.1 in
-          search_round_on p q m r c.law.ensures.start (run_at p r whole.same (whole.is_run c.law.ensures.is_run)) c.args.key 3 first.same a.same whole.same first.seen a.seen b.seen s.hand.takes_no_slot.count c.loop-found.invariant.4 c.in-Some.found (rw key at c.in-Some.ensures.found.last) c.in_default-settle_remove.ensures.rolls.few c.in_default-settle_remove.ensures.rolls.loses,
+          search_round_on p q m r c.law.ensures.start (run_at p r whole.same (whole.is_run c.law.ensures.is_run))
+          c.args.key 3 first.same a.same whole.same first.seen a.seen b.seen s.hand.takes_no_slot.count
+          c.loop-found.invariant.4 c.in-Some.found (rw key at c.in-Some.ensures.found.last)
+          c.in_default-settle_remove.ensures.rolls.few c.in_default-settle_remove.ensures.rolls.loses,
     )
 
 pub returns-in_default-clause-took : goal.returns-in_default-clause-took
@@ -50,15 +58,20 @@ returns-in_default-clause-took g c =
 pub returns-in-Ok-clause-took : goal.returns-in-Ok-clause-took
 returns-in-Ok-clause-took g c =
     let same : c.stepper-in-Ok-1.given.0 ≡ c.settle_remove.new.self.at.stepper.now = search rules in
-    rw same (took_all (counts_on (goes_on c.loop-found.invariant.3.goes c.reach.ensures.goes.goes).counts c.settle_remove.ensures.settles.counts))
+    rw same (took_all
+    (counts_on (goes_on c.loop-found.invariant.3.goes c.reach.ensures.goes.goes).counts
+    c.settle_remove.ensures.settles.counts))
 
 pub returns-in_default-clause-calls : goal.returns-in_default-clause-calls
 returns-in_default-clause-calls g c =
     let same : c.stepper-1.given.0 ≡ c.reach.new.self.at.stepper.now = search rules in
     let key = c.loop-found.invariant.0.key ∙ c.loop-found.invariant.1 in
     let tired = c.in_default.ensures.tired in
-    let within = rw c.loop-found.invariant.2 at (within_call (call_on c.loop-found.invariant.0 c.reach.ensures.goes.call)) in
-    rw same (remove_tires c.law.ensures c.args.key c.loop-found.invariant.3 c.reach.ensures.goes.goes within (rw (c.loop-found.invariant.0.budget ∙ c.loop-found.invariant.2) at tired.tired) (search rules) c.loop-found.invariant.4 (rw key at tired.walks))
+    let within =
+    rw c.loop-found.invariant.2 at (within_call (call_on c.loop-found.invariant.0 c.reach.ensures.goes.call)) in
+    rw same (remove_tires c.law.ensures c.args.key c.loop-found.invariant.3 c.reach.ensures.goes.goes within
+    (rw (c.loop-found.invariant.0.budget ∙ c.loop-found.invariant.2) at tired.tired) (search rules)
+    c.loop-found.invariant.4 (rw key at tired.walks))
 
 pub returns-in-Ok-clause-calls : goal.returns-in-Ok-clause-calls
 returns-in-Ok-clause-calls g c =
@@ -69,44 +82,70 @@ returns-in-Ok-clause-calls g c =
     let before = c.loop-found.invariant.3.goes.quiet in
     let went = c.reach.ensures.goes.goes.quiet in
     let first = quiet_on before went in
-    let call = call_on (call_on c.loop-found.invariant.0 c.reach.ensures.goes.call) c.settle_remove.ensures.settles.call in
+    let call = call_on (call_on c.loop-found.invariant.0 c.reach.ensures.goes.call)
+    c.settle_remove.ensures.settles.call in
     let key = c.reach.ensures.goes.call.key ∙ c.loop-found.invariant.0.key ∙ c.loop-found.invariant.1 in
     let budget = c.reach.ensures.goes.call.budget ∙ c.loop-found.invariant.0.budget ∙ c.loop-found.invariant.2 in
     let answered = rw key at c.in-Ok.ensures.answers.made in
-    let made = told_since first (given_same first.same (op_to_remove c.args.expected c.in-Ok.answer) c.args.key c.in-Ok.answer) answered in
-    let counts = counts_on (goes_on c.loop-found.invariant.3.goes c.reach.ensures.goes.goes).counts c.settle_remove.ensures.settles.counts in
+    let made = told_since first
+    (given_same first.same (op_to_remove c.args.expected c.in-Ok.answer) c.args.key c.in-Ok.answer) answered in
+    let counts =
+    counts_on (goes_on c.loop-found.invariant.3.goes c.reach.ensures.goes.goes).counts
+    c.settle_remove.ensures.settles.counts in
     let values = ap steps_to_value_of first.same.start in
     let walk = c.loop-found.call.at.stepper.now.trace in
     let there = c.loop-found.invariant.0.key ∙ c.loop-found.invariant.1 in
     let last = rw there at c.in-Some.ensures.found.last in
     let walks = rw there at c.in-Some.ensures.found.walks in
     let soon_so : Type 0 = RemovesSoon c.args.expected c.reach.new.self c.settle_remove.new.self c.in-Ok.answer in
-    let late_so : ℕ → Type 0 = λ k. MarksAndSearches (steps_to_value_of q.trace.start + 1) q.trace r.trace k c.reach.new.self.used c.settle_remove.new.self.used c.in-Some.found.pred in
+    let late_so : ℕ → Type 0 =
+    λ k. MarksAndSearches (steps_to_value_of q.trace.start + 1) q.trace r.trace k c.reach.new.self.used
+    c.settle_remove.new.self.used c.in-Some.found.pred in
     let either : soon_so ⊎ ((op_to_remove c.args.expected c.in-Ok.answer ≡ Remove) × late_so c.args.key) =
-    by_either {C = soon_so ⊎ ((op_to_remove c.args.expected c.in-Ok.answer ≡ Remove) × late_so c.args.key)} c.in-Ok.ensures.answers.paid (λ soon. inl soon) (λ x. inr (taken_removes c.args.expected c.in-Ok.answer x.taken, subst late_so key x.late)) in
-    let paid = remove_paid p.trace walk q.trace r.trace c.law.ensures.start c.args.key before went made answered.seen c.loop-found.invariant.4 c.in-Some.found last walks either (λ (soon : soon_so). let few = soon.few in omega (arith, few, values)) in
+    by_either {C = soon_so ⊎ ((op_to_remove c.args.expected c.in-Ok.answer ≡ Remove) × late_so c.args.key)}
+    c.in-Ok.ensures.answers.paid (λ soon. inl soon)
+    (λ x. inr (taken_removes c.args.expected c.in-Ok.answer x.taken, subst late_so key x.late)) in
+    let paid = remove_paid p.trace walk q.trace r.trace c.law.ensures.start c.args.key before went made answered.seen
+    c.loop-found.invariant.4 c.in-Some.found last walks either
+    (λ (soon : soon_so). let few = soon.few in omega (arith, few, values)) in
     rw same (record {
       same = same_on first.same answered.same;
       made = made;
       alone = alone c.law.ensures.start c.law.ensures.low made;
       quiet = tt;
       hand = search rules;
-      steps = within_of c.settle_remove.new.self.used c.args.budget (rw c.loop-found.invariant.2 at (within_call call)) counts;
+      steps = within_of c.settle_remove.new.self.used c.args.budget (rw c.loop-found.invariant.2 at (within_call call))
+          counts;
       bounds = record {
-        takes_no_slot = none_on (goes_on c.loop-found.invariant.3.goes c.reach.ensures.goes.goes).hand.takes_no_slot c.settle_remove.ensures.settles.hand.takes_no_slot;
+        takes_no_slot =
+            none_on (goes_on c.loop-found.invariant.3.goes c.reach.ensures.goes.goes).hand.takes_no_slot
+            c.settle_remove.ensures.settles.hand.takes_no_slot;
         unlists = λ yes left.
             let room = room_left c.settle_remove.new.self.used c.args.budget counts left in
             let most = call.budget ∙ c.loop-found.invariant.2 in
-            leaves_since r.trace c.args.key c.law.ensures.start first (rw key at c.in-Ok.ensures.answers.unlists yes (omega (arith, room, most)));
+            leaves_since r.trace c.args.key c.law.ensures.start first
+            (rw key at c.in-Ok.ensures.answers.unlists yes (omega (arith, room, most)));
         refused = tt;
         within = tt;
         disturbed_within = tt;
-        costs = λ whole. let most = undisturbed (λ t. c.settle_remove.new.self.used ≤ remove_costs_among (listed_for p.trace c.args.key) t (steps_to_value_of p.trace.start)) c.args.key paid whole in within_of c.settle_remove.new.self.used (remove_costs p.trace c.args.key) (omega (arith, most)) counts;
-        disturbed_costs = within_of c.settle_remove.new.self.used (remove_costs_among (listed_for p.trace c.args.key) (disturbed p.trace r.trace c.args.key) (steps_to_value_of p.trace.start)) paid counts;
+        costs = λ whole.
+            let most = undisturbed
+            (λ t. c.settle_remove.new.self.used
+            ≤ remove_costs_among (listed_for p.trace c.args.key) t (steps_to_value_of p.trace.start)) c.args.key paid
+            whole in
+            within_of c.settle_remove.new.self.used (remove_costs p.trace c.args.key) (omega (arith, most)) counts;
+        disturbed_costs =
+            within_of c.settle_remove.new.self.used
+            (remove_costs_among (listed_for p.trace c.args.key) (disturbed p.trace r.trace c.args.key)
+            (steps_to_value_of p.trace.start)) paid counts;
         fewer = λ yes whole enough.
-            let soon = remove_alone p.trace walk q.trace r.trace c.law.ensures.start c.args.key before went made answered.seen c.loop-found.invariant.4 c.in-Some.found last walks either whole in
+            let soon = remove_alone p.trace walk q.trace r.trace c.law.ensures.start c.args.key before went made
+            answered.seen c.loop-found.invariant.4 c.in-Some.found last walks either whole in
             let few = soon.1 in
-            let left = leaves_since r.trace c.args.key c.law.ensures.start first (subst (λ (k : ℕ). Leaves q.trace r.trace k) key (soon.0.leaves yes (omega (arith, few, enough, budget, values)))) in
-            left_fewer p.trace walk q.trace r.trace c.law.ensures.start c.args.key before went made answered.seen (taken_removes c.args.expected c.in-Ok.answer yes) left whole;
+            let left = leaves_since r.trace c.args.key c.law.ensures.start first
+            (subst (λ (k : ℕ). Leaves q.trace r.trace k) key
+            (soon.0.leaves yes (omega (arith, few, enough, budget, values)))) in
+            left_fewer p.trace walk q.trace r.trace c.law.ensures.start c.args.key before went made answered.seen
+            (taken_removes c.args.expected c.in-Ok.answer yes) left whole;
       };
     })

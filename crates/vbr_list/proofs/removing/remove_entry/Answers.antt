@@ -10,5 +10,9 @@ pub returns : goal.returns
 returns c =
     let p = c.args.pass.now in
     let q = c.during.new.self in
-    let told : CallsAs (given_in p.trace Remove c.args.key) (BoundsOfRemove is_some p q c.args.key c.args.budget) p q c.args.budget c.during.result = search rules in
-    calls_entry c.during.result c.law.ensures (calls_as c.during.result told (given_kept p.trace Remove c.args.key (ap (λ (d : Start). d.shape.values) c.requires.own.1 ∙ c.kind.ensures)) (λ bounds. bounds))
+    let told : CallsAs (given_in p.trace Remove c.args.key) (BoundsOfRemove is_some p q c.args.key c.args.budget) p q
+    c.args.budget c.during.result = search rules in
+    calls_entry c.during.result c.law.ensures
+    (calls_as c.during.result told
+    (given_kept p.trace Remove c.args.key (ap (λ (d : Start). d.shape.values) c.requires.own.1 ∙ c.kind.ensures))
+    (λ bounds. bounds))

@@ -12,5 +12,9 @@ returns c =
     let q = c.during.new.self in
     let expected = Some c.args.expected in
     let has = ap (λ (d : Start). d.shape.values) c.requires.own.1 ∙ c.kind.ensures in
-    let told : CallsAs (removal_in p.trace c.args.key expected) (BoundsOfRemove (takes_out expected) p q c.args.key c.args.budget) p q c.args.budget c.during.result = search rules in
-    calls_entry c.during.result c.law.ensures (calls_as c.during.result told (λ there. given_kept p.trace (op_to_remove expected there) c.args.key has there) (λ bounds. bounds))
+    let told : CallsAs (removal_in p.trace c.args.key expected)
+    (BoundsOfRemove (takes_out expected) p q c.args.key c.args.budget) p q c.args.budget c.during.result =
+    search rules in
+    calls_entry c.during.result c.law.ensures
+    (calls_as c.during.result told (λ there. given_kept p.trace (op_to_remove expected there) c.args.key has there)
+    (λ bounds. bounds))

@@ -11,6 +11,10 @@ returns g c =
       goes = rw same c.search.ensures.goes.goes;
       within = search rules;
       walks = rw same (walked _ c.search.new.self c.search.result c.search.ensures.found c.search.ensures.tired);
-      clear = λ room. rw same (clear_walked _ c.search.new.self c.search.result c.law.ensures.start c.search.ensures.goes.goes.quiet.same c.search.ensures.found c.search.ensures.tired room);
-      sweeps = λ room. rw same (swept_walked _ c.search.new.self c.search.result c.law.ensures.start c.law.ensures.is_run c.search.ensures.goes.goes.quiet c.search.ensures.found c.search.ensures.tired room);
+      clear = λ room.
+          rw same
+          (clear_walked _ c.search.new.self c.search.result c.law.ensures.start c.search.ensures.goes.goes.quiet.same c.search.ensures.found c.search.ensures.tired room);
+      sweeps = λ room.
+          rw same (swept_walked _ c.search.new.self c.search.result c.law.ensures.start c.law.ensures.is_run
+          c.search.ensures.goes.goes.quiet c.search.ensures.found c.search.ensures.tired room);
     }

@@ -9,8 +9,11 @@ use Rattle.vbr_list.proofs.seeking.seek_in.Goals as goal
 
 pub loop-next-init : goal.loop-next-init
 loop-next-init g c =
-    let p = c.args.at.now.stepper.now in
-    (record { pass = refl; slots = refl }, peeks_refl p c.args.used c.args.budget c.requires.within, repeated_none_in 5 p.trace c.args.bucket (steps_besides p.trace) c.args.used)
+    let p = c.args.at.now.stepper.now in (
+      record { pass = refl; slots = refl },
+      peeks_refl p c.args.used c.args.budget c.requires.within,
+      repeated_none_in 5 p.trace c.args.bucket (steps_besides p.trace) c.args.used,
+    )
 
 pub loop-next-preserved : goal.loop-next-preserved
 loop-next-preserved g c =
@@ -18,8 +21,11 @@ loop-next-preserved g c =
     let y = c.walk.ensures.peeks in
     let stopped = rw c.in-Err-Again.field-0-is at c.in-Err-Again.ensures.stopped in
     let paid = stopped.1 in
-    let same = ap steps_to_value_of x.1.tries.goes.quiet.same.start in
-    (table_on x.0 c.walk.ensures.table, peeks_on x.1 y.tries.goes y.observes y.tries.within.0 y.tries.within.1, lost_on c.law.ensures x.1.tries.goes.quiet y.tries.goes.quiet x.2 (omega (arith, paid, same)) stopped.2)
+    let same = ap steps_to_value_of x.1.tries.goes.quiet.same.start in (
+      table_on x.0 c.walk.ensures.table,
+      peeks_on x.1 y.tries.goes y.observes y.tries.within.0 y.tries.within.1,
+      lost_on c.law.ensures x.1.tries.goes.quiet y.tries.goes.quiet x.2 (omega (arith, paid, same)) stopped.2,
+    )
 
 pub returns-in-Ok-clause-sought : goal.returns-in-Ok-clause-sought
 returns-in-Ok-clause-sought g c =
@@ -31,8 +37,11 @@ returns-in-Ok-clause-sought g c =
     record {
       peeks = peeks_on x.1 y.tries.goes y.observes y.tries.within.0 y.tries.within.1;
       next = record {
-        tells = tells_since c.walk.new.at.stepper.now.trace c.args.bucket c.args.from c.in-Ok.next x.1.tries.goes.quiet next.tells;
-        searches = last_search c.law.ensures x.1.tries.goes.quiet y.tries.goes.quiet x.2 (steps_besides c.loop-next.at.stepper.now.trace) next.paid c.walk.new.used (steps_besides p) (omega (arith, same));
+        tells = tells_since c.walk.new.at.stepper.now.trace c.args.bucket c.args.from c.in-Ok.next x.1.tries.goes.quiet
+            next.tells;
+        searches = last_search c.law.ensures x.1.tries.goes.quiet y.tries.goes.quiet x.2
+            (steps_besides c.loop-next.at.stepper.now.trace) next.paid c.walk.new.used (steps_besides p)
+            (omega (arith, same));
       };
       tired = tt;
     }
@@ -46,5 +55,9 @@ returns-in-Err-Tired-clause-sought g c =
     record {
       peeks = peeks_on x.1 y.tries.goes y.observes y.tries.within.0 y.tries.within.1;
       next = tt;
-      tired = record { tired = short; searches = last_search c.law.ensures x.1.tries.goes.quiet y.tries.goes.quiet x.2 3 stopped.1 (c.args.budget + 1) 11 (omega (arith, short)) };
+      tired = record {
+        tired = short;
+        searches = last_search c.law.ensures x.1.tries.goes.quiet y.tries.goes.quiet x.2 3 stopped.1 (c.args.budget + 1)
+            11 (omega (arith, short));
+      };
     }

@@ -1,7 +1,9 @@
-use Rattle.vbr_list.proofs.Names.{rules, ◌≡◌, ◌+◌, sym, ap, ◌∙◌, subst, arith, Bool, true, false, not, Option, ℕ, None, is_none, is_some}
+use Rattle.vbr_list.proofs.Names.{rules, ◌≡◌, ◌+◌, sym, ap, ◌∙◌, subst, arith, Bool, true, false, not, Option, ℕ, None}
+use Rattle.vbr_list.proofs.Names.{is_none, is_some}
 use Rattle.vbr_list.proofs.Names.{Held, Link, link_of}
 use Rattle.vbr_list.proofs.Disturbing.{moves_epoch}
-use Rattle.vbr_list.proofs.Following.{follows_head, follows_marked, follows_node, peeks_behind, peeks_visit, tells_next, tells_none, value_lost, value_paid, visit_lost}
+use Rattle.vbr_list.proofs.Following.{follows_head, follows_marked, follows_node, peeks_behind, peeks_visit, tells_next}
+use Rattle.vbr_list.proofs.Following.{tells_none, value_lost, value_paid, visit_lost}
 use Rattle.vbr_list.proofs.Going.{goes_read, table_on}
 use Rattle.vbr_list.proofs.Observing.{reads_observe}
 use Rattle.vbr_list.proofs.Traversals.{Follows}
@@ -17,8 +19,15 @@ is_last_so is_last slot e = grind arith
 
 pub loop-here-init : goal.loop-here-init
 loop-here-init g c =
-    let reads = c.start_at-head.ensures.reads in
-    (c.start_at-head.ensures.table, (c.in-Ok.here, follows_head c.law.ensures c.args.bucket c.args.from c.args.used.now (c.args.used.now + 3) c.args.budget c.in-Ok.here (record { goes = goes_read c.args.used.now reads; observes = reads_observe reads }) (omega arith) (c.affords.ensures.0 c.if-not-affords.false) c.in-Ok.ensures.head))
+    let reads = c.start_at-head.ensures.reads in (
+      c.start_at-head.ensures.table,
+      (
+        c.in-Ok.here,
+        follows_head c.law.ensures c.args.bucket c.args.from c.args.used.now (c.args.used.now + 3) c.args.budget
+            c.in-Ok.here (record { goes = goes_read c.args.used.now reads; observes = reads_observe reads })
+            (omega arith) (c.affords.ensures.0 c.if-not-affords.false) c.in-Ok.ensures.head,
+      ),
+    )
 
 pub visit_behind-requires-clause-held : goal.visit_behind-requires-clause-held
 visit_behind-requires-clause-held g c = c.loop-here.invariant.1.1.inside.held
@@ -29,33 +38,53 @@ loop-here-preserved-in-Ok-Marked g c =
     let i = c.loop-here.invariant in
     let met = rw c.in-Ok-Marked.field-0-is at c.in-Ok-Marked.ensures.met in
     let fits = c.affords-in-loop-here.ensures.0 c.if-not-affords-2.false in
-    let P : Held → Type 0 = Follows c.args.at.now.stepper.now c.visit_behind.new.at.stepper.now c.args.bucket c.args.from c.args.used.now c.visit_behind.new.used c.args.budget i.1.0 in
-    (table_on i.0 v.table, (i.1.0, subst P (sym c.held_of-here.ensures) (follows_marked c.law.ensures i.1.1 v.looks v.used fits c.in-Ok-Marked.marked met)))
+    let P : Held → Type 0 =
+    Follows c.args.at.now.stepper.now c.visit_behind.new.at.stepper.now c.args.bucket c.args.from c.args.used.now
+    c.visit_behind.new.used c.args.budget i.1.0 in (
+      table_on i.0 v.table,
+      (
+        i.1.0,
+        subst P (sym c.held_of-here.ensures)
+            (follows_marked c.law.ensures i.1.1 v.looks v.used fits c.in-Ok-Marked.marked met),
+      ),
+    )
 
 pub loop-here-preserved : goal.loop-here-preserved
 loop-here-preserved g c =
     let v = c.visit_behind.ensures in
     let i = c.loop-here.invariant in
     let met = rw c.in-Ok-Smaller.field-0-is at c.in-Ok-Smaller.ensures.met in
-    let fits = c.affords-in-loop-here.ensures.0 c.if-not-affords-2.false in
-    (table_on i.0 v.table, (c.in-Ok-Smaller.node, follows_node c.law.ensures i.1.1 v.looks v.used fits c.in-Ok-Smaller.node met))
+    let fits = c.affords-in-loop-here.ensures.0 c.if-not-affords-2.false in (
+      table_on i.0 v.table,
+      (c.in-Ok-Smaller.node, follows_node c.law.ensures i.1.1 v.looks v.used fits c.in-Ok-Smaller.node met),
+    )
 
 pub returns-in_default-clause-stopped : goal.returns-in_default-clause-stopped
 returns-in_default-clause-stopped g c =
-    let reads = c.start_at-head.ensures.reads in
-    (omega arith, omega arith, starts_none c.law.ensures c.args.bucket reads.quiet (reads_observe reads) c.in_default.ensures.moved)
+    let reads = c.start_at-head.ensures.reads in (
+      omega arith,
+      omega arith,
+      starts_none c.law.ensures c.args.bucket reads.quiet (reads_observe reads) c.in_default.ensures.moved,
+    )
 
 pub returns-then-not-affords-2-clause-stopped : goal.returns-then-not-affords-2-clause-stopped
-returns-then-not-affords-2-clause-stopped g c = (search rules, paid_so_far c.law.ensures c.loop-here.invariant.1.1.peeks.tries.goes.quiet c.loop-here.invariant.1.1.walks)
+returns-then-not-affords-2-clause-stopped g c = (
+  search rules,
+  paid_so_far c.law.ensures c.loop-here.invariant.1.1.peeks.tries.goes.quiet c.loop-here.invariant.1.1.walks,
+)
 
 pub returns-in-Err-clause-peeks : goal.returns-in-Err-clause-peeks
-returns-in-Err-clause-peeks g c = peeks_visit c.law.ensures c.loop-here.invariant.1.1 c.visit_behind.ensures.looks c.visit_behind.ensures.used (c.affords-in-loop-here.ensures.0 c.if-not-affords-2.false)
+returns-in-Err-clause-peeks g c =
+    peeks_visit c.law.ensures c.loop-here.invariant.1.1 c.visit_behind.ensures.looks c.visit_behind.ensures.used
+    (c.affords-in-loop-here.ensures.0 c.if-not-affords-2.false)
 
 pub returns-in-Err-clause-stopped : goal.returns-in-Err-clause-stopped
 returns-in-Err-clause-stopped g c =
     let v = c.visit_behind.ensures in
-    let some : is_some (link_of c.loop-here.here.word).slot ≡ true = ap (λ (l : Link). is_some l.slot) (sym c.decode.ensures.link) ∙ sym c.is_some.ensures ∙ c.loop-here-test.true in
-    let lost = visit_lost c.law.ensures c.loop-here.invariant.1.1 v.looks v.used (c.affords-in-loop-here.ensures.0 c.if-not-affords-2.false) some c.in-Err.ensures.moved in
+    let some : is_some (link_of c.loop-here.here.word).slot ≡ true =
+    ap (λ (l : Link). is_some l.slot) (sym c.decode.ensures.link) ∙ sym c.is_some.ensures ∙ c.loop-here-test.true in
+    let lost = visit_lost c.law.ensures c.loop-here.invariant.1.1 v.looks v.used
+    (c.affords-in-loop-here.ensures.0 c.if-not-affords-2.false) some c.in-Err.ensures.moved in
     let paid = lost.1 in
     (lost.0, omega (arith, paid), lost.2)
 
@@ -63,7 +92,9 @@ pub returns-in_default-read-clause-peeks : goal.returns-in_default-read-clause-p
 returns-in_default-read-clause-peeks g c =
     let v = c.visit_behind.ensures in
     let reads = c.value_if_any-read.ensures.reads in
-    peeks_behind c.law.ensures c.loop-here.invariant.1.1 v.looks v.used (c.affords-in-loop-here.ensures.0 c.if-not-affords-2.false) c.steps_to_value_of.result reads (steps_read c.steps_to_value_of.ensures c.value_if_any-read.new.at.own.1 reads.quiet.same.start)
+    peeks_behind c.law.ensures c.loop-here.invariant.1.1 v.looks v.used
+    (c.affords-in-loop-here.ensures.0 c.if-not-affords-2.false) c.steps_to_value_of.result reads
+    (steps_read c.steps_to_value_of.ensures c.value_if_any-read.new.at.own.1 reads.quiet.same.start)
 
 pub returns-in_default-read-clause-stopped : goal.returns-in_default-read-clause-stopped
 returns-in_default-read-clause-stopped g c =
@@ -72,13 +103,16 @@ returns-in_default-read-clause-stopped g c =
     let w = c.value_if_any-read.ensures in
     let met = rw c.in-Ok-Beyond.field-0-is at c.in-Ok-Beyond.ensures.met in
     let steps = steps_read c.steps_to_value_of.ensures c.value_if_any-read.new.at.own.1 w.reads.quiet.same.start in
-    value_lost c.law.ensures i v.looks v.used (c.affords-in-loop-here.ensures.0 c.if-not-affords-2.false) met w.reads steps (moves_epoch _ c.in_default-read.ensures.moved.rolls)
+    value_lost c.law.ensures i v.looks v.used (c.affords-in-loop-here.ensures.0 c.if-not-affords-2.false) met w.reads
+    steps (moves_epoch _ c.in_default-read.ensures.moved.rolls)
 
 pub returns-in-Ok-Beyond-clause-peeks : goal.returns-in-Ok-Beyond-clause-peeks
 returns-in-Ok-Beyond-clause-peeks g c =
     let v = c.visit_behind.ensures in
     let reads = c.value_if_any-read.ensures.reads in
-    peeks_behind c.law.ensures c.loop-here.invariant.1.1 v.looks v.used (c.affords-in-loop-here.ensures.0 c.if-not-affords-2.false) c.steps_to_value_of.result reads (steps_read c.steps_to_value_of.ensures c.value_if_any-read.new.at.own.1 reads.quiet.same.start)
+    peeks_behind c.law.ensures c.loop-here.invariant.1.1 v.looks v.used
+    (c.affords-in-loop-here.ensures.0 c.if-not-affords-2.false) c.steps_to_value_of.result reads
+    (steps_read c.steps_to_value_of.ensures c.value_if_any-read.new.at.own.1 reads.quiet.same.start)
 
 pub returns-in-Ok-Beyond-clause-next : goal.returns-in-Ok-Beyond-clause-next
 returns-in-Ok-Beyond-clause-next g c =
@@ -88,8 +122,13 @@ returns-in-Ok-Beyond-clause-next g c =
     let met = rw c.in-Ok-Beyond.field-0-is at c.in-Ok-Beyond.ensures.met in
     let steps = steps_read c.steps_to_value_of.ensures c.value_if_any-read.new.at.own.1 w.reads.quiet.same.start in
     record {
-      tells = tells_next c.value_if_any-read.new.at.stepper.now (record { key = c.in-Ok-Beyond.key; value = c.in-Ok-read.value; is_last = c.is_none-is_last.result }) c.in-Ok-Beyond.node c.law.ensures.start i v.looks.goes.quiet met w.reads.quiet c.in-Ok-read.ensures.value (is_last_so c.is_none-is_last.result c.decode-in-Ok-Beyond.result.slot c.is_none-is_last.ensures ∙ ap (λ (l : Link). is_none l.slot) c.decode-in-Ok-Beyond.ensures.link);
-      paid = value_paid c.law.ensures i v.looks v.used (c.affords-in-loop-here.ensures.0 c.if-not-affords-2.false) met w.reads steps;
+      tells = tells_next c.value_if_any-read.new.at.stepper.now
+          (record { key = c.in-Ok-Beyond.key; value = c.in-Ok-read.value; is_last = c.is_none-is_last.result })
+          c.in-Ok-Beyond.node c.law.ensures.start i v.looks.goes.quiet met w.reads.quiet c.in-Ok-read.ensures.value
+          (is_last_so c.is_none-is_last.result c.decode-in-Ok-Beyond.result.slot c.is_none-is_last.ensures
+          ∙ ap (λ (l : Link). is_none l.slot) c.decode-in-Ok-Beyond.ensures.link);
+      paid = value_paid c.law.ensures i v.looks v.used (c.affords-in-loop-here.ensures.0 c.if-not-affords-2.false) met
+          w.reads steps;
     }
 
 pub returns-clause-next : goal.returns-clause-next
@@ -97,4 +136,7 @@ returns-clause-next g c =
     let i = c.loop-here.invariant.1.1 in
     let none = no_slot c.decode.result.slot (sym c.is_some.ensures ∙ c.loop-here-test.false) in
     let paid = paid_so_far c.law.ensures i.peeks.tries.goes.quiet i.walks in
-    record { tells = tells_none c.law.ensures.start i (ap (λ (l : Link). l.slot) (sym c.decode.ensures.link) ∙ none); paid = omega (arith, paid) }
+    record {
+      tells = tells_none c.law.ensures.start i (ap (λ (l : Link). l.slot) (sym c.decode.ensures.link) ∙ none);
+      paid = omega (arith, paid);
+    }

@@ -7,7 +7,8 @@ use Rattle.vbr_list.specs.Storing.{Makes}
 use Rattle.vbr_list.specs.Wanted.{steps_to_compare}
 use Rattle.vbr_list.proofs.Disturbing.{run_at}
 use Rattle.vbr_list.proofs.Preparing.{within_all, within_most, within_on}
-use Rattle.vbr_list.proofs.Stores.{are_alone, replaced_not, store_lone, store_lone_costs, store_ready, store_refused_first, store_vain, told_had, told_paid, told_where}
+use Rattle.vbr_list.proofs.Stores.{are_alone, replaced_not, store_lone, store_lone_costs, store_ready}
+use Rattle.vbr_list.proofs.Stores.{store_refused_first, store_vain, told_had, told_paid, told_where}
 use Rattle.vbr_list.proofs.StoredValues.{calls_with}
 use Rattle.vbr_list.proofs.Sufficing.{had_no_slot}
 use Rattle.vbr_list.proofs.storing.store_by.Goals as goal
@@ -16,7 +17,8 @@ pub returns-in-Ok-Ready-clause-took : goal.returns-in-Ok-Ready-clause-took
 returns-in-Ok-Ready-clause-took c =
     let same : c.stepper-in-Ok-Ready-1.given.0 ≡ c.store_with.new.self.at.stepper.now = search rules in
     let counts = rw c.prepare_store.ensures.prepares.call.budget at c.store_with.ensures.links.counts in
-    rw same (took_all (within_on c.prepare_store.ensures.prepares.counts counts.counts counts.within.0 counts.within.1).counts)
+    rw same (took_all
+    (within_on c.prepare_store.ensures.prepares.counts counts.counts counts.within.0 counts.within.1).counts)
 
 pub returns-in-Err-clause-calls : goal.returns-in-Err-clause-calls
 returns-in-Err-clause-calls c =
@@ -27,7 +29,10 @@ returns-in-Err-clause-calls c =
     let none = c.in-Err.ensures.refused in
     let refusal = c.in-Err.refusal in
     let wanted = c.args.wanted in
-    let within = store_vain p.trace q.trace c.law.ensures.start (run_at p.trace q.trace none.quiet.same (none.quiet.is_run c.law.ensures.is_run)) c.args.key c.args.budget (steps_to_prepare wanted p q.trace) none.quiet refusal none.searches in
+    let within =
+    store_vain p.trace q.trace c.law.ensures.start
+    (run_at p.trace q.trace none.quiet.same (none.quiet.is_run c.law.ensures.is_run)) c.args.key c.args.budget
+    (steps_to_prepare wanted p q.trace) none.quiet refusal none.searches in
     let alone = store_lone wanted p q.trace c.args.key c.args.budget refusal within in
     rw same (record {
       same = none.quiet.same;
@@ -45,7 +50,9 @@ returns-in-Err-clause-calls c =
         refused = store_refused_first wanted p q c.args.key c.args.budget refusal none.says none.so;
         within = alone;
         disturbed_within = within;
-        ready = λ some is_alone enough. store_ready {A = Option ℕ} p q c.args.budget (listed_for p.trace c.args.key) (steps_to_compare wanted) (Err refusal) some is_alone enough (had_no_slot p q 0 c.args.budget refusal none.says) alone;
+        ready = λ some is_alone enough.
+            store_ready {A = Option ℕ} p q c.args.budget (listed_for p.trace c.args.key) (steps_to_compare wanted)
+            (Err refusal) some is_alone enough (had_no_slot p q 0 c.args.budget refusal none.says) alone;
         leaves = tt;
         leaves_alone = tt;
         costs = tt;
@@ -58,7 +65,8 @@ returns-in-Ok-Told-clause-calls c =
     let same : c.stepper-in-Ok-Told-1.given.0 ≡ c.prepare_store.new.self.at.stepper.now = search rules in
     let prepares = c.prepare_store.ensures.prepares in
     let there = c.in-Ok-Told.there in
-    let x : HasAnswered c.args.wanted _ c.prepare_store.new.self there = rw c.in-Ok-Told.field-0-is at c.in-Ok-Told.ensures.prepared in
+    let x : HasAnswered c.args.wanted _ c.prepare_store.new.self there =
+    rw c.in-Ok-Told.field-0-is at c.in-Ok-Told.ensures.prepared in
     let p = c.args.stepper.now in
     let q = c.prepare_store.new.self.at.stepper.now in
     let wanted = c.args.wanted in
@@ -67,7 +75,9 @@ returns-in-Ok-Told-clause-calls c =
     let M : List Call → Type 0 = λ calls. Makes calls p.trace q.trace in
     let made = subst M (sym calls) told in
     let none = replaced_not wanted there x.tells.is_not in
-    let costs = within_most prepares.counts (told_paid p.trace q.trace c.law.ensures.start (run_at p.trace q.trace told.same told.is_run) c.args.key (steps_to_prepare wanted p q.trace) x.searched) in
+    let costs = within_most prepares.counts
+    (told_paid p.trace q.trace c.law.ensures.start (run_at p.trace q.trace told.same told.is_run) c.args.key
+    (steps_to_prepare wanted p q.trace) x.searched) in
     rw same (record {
       same = told.same;
       made = made;
@@ -96,6 +106,11 @@ pub returns-in-Ok-Ready-clause-calls : goal.returns-in-Ok-Ready-clause-calls
 returns-in-Ok-Ready-clause-calls c =
     let same : c.stepper-in-Ok-Ready-1.given.0 ≡ c.store_with.new.self.at.stepper.now = search rules in
     let prepares = c.prepare_store.ensures.prepares in
-    let x : HasPrepared c.args.wanted _ c.prepare_store.new.self c.in-Ok-Ready.hand = rw c.in-Ok-Ready.field-0-is at c.in-Ok-Ready.ensures.prepared in
-    rw same (calls_with c.args.stepper.now c.prepare_store.new.self c.store_with.new.self c.args.key c.args.value c.args.wanted c.args.budget c.law.ensures.start c.law.ensures.low c.law.ensures.is_run x.quiet prepares.advances prepares.kept prepares.had prepares.shared c.prepare_store.ensures.tries prepares.counts prepares.call.key prepares.call.budget
-    c.store_with.ensures.links x.searched c.store_with.result c.store_with.ensures.had c.store_with.ensures.answers c.store_with.ensures.refused c.store_with.ensures.paid)
+    let x : HasPrepared c.args.wanted _ c.prepare_store.new.self c.in-Ok-Ready.hand =
+    rw c.in-Ok-Ready.field-0-is at c.in-Ok-Ready.ensures.prepared in
+    rw same (calls_with c.args.stepper.now c.prepare_store.new.self c.store_with.new.self c.args.key c.args.value
+    c.args.wanted c.args.budget c.law.ensures.start c.law.ensures.low c.law.ensures.is_run x.quiet prepares.advances
+    prepares.kept prepares.had prepares.shared c.prepare_store.ensures.tries prepares.counts prepares.call.key
+    prepares.call.budget
+    c.store_with.ensures.links x.searched c.store_with.result c.store_with.ensures.had c.store_with.ensures.answers
+    c.store_with.ensures.refused c.store_with.ensures.paid)

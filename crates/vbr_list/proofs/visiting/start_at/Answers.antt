@@ -10,7 +10,8 @@ module _ {p q r : PassView} {m n : ℕ} (x : ReadsIn p q m) (y : ReadsIn q r n) 
   abbrev checked : Checks p.trace r.trace
   checked = record { between = q.trace; same = x.quiet.same; from = x.quiet.seen; to = y.quiet.seen; was = fresh }
 
-  starts : (bucket : ℕ) (head : Result Held Rollback) → IfOk head (IsHeadRead q r bucket) → IfOk head (StartsAt p.trace r.trace bucket)
+  starts : (bucket : ℕ) (head : Result Held Rollback) → IfOk head (IsHeadRead q r bucket) →
+      IfOk head (StartsAt p.trace r.trace bucket)
   starts bucket (Ok h) read = record {
     known = read.read.known;
     unmarked = read.unmarked;
@@ -27,7 +28,11 @@ pub returns-clause-reads : goal.returns-clause-reads
 returns-clause-reads g c = reads_on c.checkpoint-point.ensures.reads c.first.ensures.reads
 
 pub returns-clause-head : goal.returns-clause-head
-returns-clause-head g c = starts c.checkpoint-point.ensures.reads c.first.ensures.reads c.checkpoint-point.ensures.point.fresh c.args.bucket c.first.result c.first.ensures.head
+returns-clause-head g c =
+    starts c.checkpoint-point.ensures.reads c.first.ensures.reads c.checkpoint-point.ensures.point.fresh c.args.bucket
+    c.first.result c.first.ensures.head
 
 pub returns-clause-moved : goal.returns-clause-moved
-returns-clause-moved g c = starts_none c.checkpoint-point.ensures.reads c.first.ensures.reads c.checkpoint-point.ensures.point.fresh c.first.result c.first.ensures.moved
+returns-clause-moved g c =
+    starts_none c.checkpoint-point.ensures.reads c.first.ensures.reads c.checkpoint-point.ensures.point.fresh
+    c.first.result c.first.ensures.moved

@@ -1,5 +1,6 @@
 use Rattle.vbr_list.proofs.Names.{◌≡◌, ◌≤◌, ℕ, ◌+◌, Option, Some, None, sym, ap, ◌∙◌, subst, arith, false, IsSome}
-use Rattle.vbr_list.proofs.Names.{bucket_of, Held, held_kept, IsHeld, IsKeyRead, IsNext, Keeps, keeps_on, knows, link_of, next_steps, PassView, reads_on, ReadsIn, Start, stood_before, Trace}
+use Rattle.vbr_list.proofs.Names.{bucket_of, Held, held_kept, IsHeld, IsKeyRead, IsNext, Keeps, keeps_on, knows}
+use Rattle.vbr_list.proofs.Names.{link_of, next_steps, PassView, reads_on, ReadsIn, Start, stood_before, Trace}
 use Rattle.vbr_list.specs.Pieces.{LooksOn}
 use Rattle.vbr_list.specs.Visiting.{HasKey}
 use Rattle.vbr_list.specs.Walking.{ReadsNext}
@@ -15,8 +16,13 @@ in_three None some x = absurd (cc)
 in_three (Some s) some x = x
 
 -- its key is read too
-looks_five : {p q r : PassView} (a : ℕ) (here : Held) → IsSome (link_of here.word).slot → ReadsIn p q (next_steps (link_of here.word).slot) → ReadsIn q r 2 → LooksOn p r a (a + 3 + 2)
-looks_five a here some x y = record { goes = goes_on (goes_read a (in_three (link_of here.word).slot some x)) (goes_read (a + 3) y); observes = reads_observe (reads_on x y) }
+looks_five : {p q r : PassView} (a : ℕ) (here : Held) → IsSome (link_of here.word).slot →
+    ReadsIn p q (next_steps (link_of here.word).slot) → ReadsIn q r 2 → LooksOn p r a (a + 3 + 2)
+looks_five a here some x y =
+    record {
+      goes = goes_on (goes_read a (in_three (link_of here.word).slot some x)) (goes_read (a + 3) y);
+      observes = reads_observe (reads_on x y);
+    }
 
 -- what was read of the node
 read_next : {p q : Trace} {here node : Held} → IsNext p q here (Some node) → ReadsNext p q here node
@@ -33,10 +39,15 @@ returns-in-Some-of-clause-met g c =
     let p = c.args.at.now.stepper.now in
     let q = c.next-node.new.at.stepper.now.trace in
     let P : Held → Type 0 = λ h. ReadsNext p.trace q c.args.here.now h in
-    let s : n.0 ≡ c.in-Some-of.marked.slot = slot_same c.in-Some-of.marked.slot n.0 (ap (λ (h : Held). h.at) is ∙ n.2) in
+    let s : n.0 ≡ c.in-Some-of.marked.slot =
+    slot_same c.in-Some-of.marked.slot n.0 (ap (λ (h : Held). h.at) is ∙ n.2) in
     record {
       keeps = x.next.keeps;
-      visits = (let H : Held → Type 0 = IsHeld (knows q) in record { held = subst H (sym is) n.3.known; mark = c.in-Some-of.ensures.1 }, n.1 ∙ ap Some s);
+      visits = (
+        let H : Held → Type 0 = IsHeld (knows q) in
+            record { held = subst H (sym is) n.3.known; mark = c.in-Some-of.ensures.1 },
+        n.1 ∙ ap Some s,
+      );
       reads = subst P (sym is) (read_next n);
       fresh = fresh;
       count = omega arith;
@@ -45,28 +56,37 @@ returns-in-Some-of-clause-met g c =
 -- ---- a node whose key is read
 
 pub returns-in_err-key-clause-looks : goal.returns-in_err-key-clause-looks
-returns-in_err-key-clause-looks g c = looks_five c.args.used.now c.args.here.now c.requires.some c.next-node.ensures.reads c.key_of-read.ensures.reads
+returns-in_err-key-clause-looks g c =
+    looks_five c.args.used.now c.args.here.now c.requires.some c.next-node.ensures.reads c.key_of-read.ensures.reads
 
 pub returns-in_err-key-clause-moved : goal.returns-in_err-key-clause-moved
 returns-in_err-key-clause-moved g c =
     let x = c.in_ok-node.ensures in
     let y = c.in_err-key.ensures in
     let m = moves_epoch _ y.moved in
-    any_error c.from_residual-in_err-key.result (λ rollback. record { other = λ e. m.other (e ∙ sym x.next.keeps.epoch); fresh = m.fresh })
+    any_error c.from_residual-in_err-key.result
+    (λ rollback. record { other = λ e. m.other (e ∙ sym x.next.keeps.epoch); fresh = m.fresh })
 
 pub returns-then-key-number-clause-looks : goal.returns-then-key-number-clause-looks
-returns-then-key-number-clause-looks g c = looks_five c.args.used.now c.args.here.now c.requires.some c.next-node.ensures.reads c.key_of-read.ensures.reads
+returns-then-key-number-clause-looks g c =
+    looks_five c.args.used.now c.args.here.now c.requires.some c.next-node.ensures.reads c.key_of-read.ensures.reads
 
 pub returns-else-key-number-clause-looks : goal.returns-else-key-number-clause-looks
-returns-else-key-number-clause-looks g c = looks_five c.args.used.now c.args.here.now c.requires.some c.next-node.ensures.reads c.key_of-read.ensures.reads
+returns-else-key-number-clause-looks g c =
+    looks_five c.args.used.now c.args.here.now c.requires.some c.next-node.ensures.reads c.key_of-read.ensures.reads
 
-module _ {p q r : PassView} {m n : ℕ} (x : ReadsIn p q m) (y : ReadsIn q r n) (here node : Held) (held : IsHeld (knows p.trace) here) (keeps : Keeps (knows p.trace) (knows q.trace)) (next : IsNext p.trace q.trace here (Some node)) (key : ℕ) (k : IsKeyRead q r node.at key) where
+module _ {p q r : PassView} {m n : ℕ} (x : ReadsIn p q m) (y : ReadsIn q r n) (here node : Held)
+    (held : IsHeld (knows p.trace) here) (keeps : Keeps (knows p.trace) (knows q.trace))
+    (next : IsNext p.trace q.trace here (Some node)) (key : ℕ) (k : IsKeyRead q r node.at key) where
   has_key : (link_of node.word).mark ≡ false → HasKey p.trace r.trace here node key
   has_key unmarked = record {
     held = held_kept node k.keeps next.3.known;
     unmarked = unmarked;
     keyed = k.key;
-    of_bucket = λ bucket inside. ap (λ (start : Start). bucket_of start.shape key) y.quiet.same.start ∙ k.bucket bucket (next_inside bucket here node (record { held = held; inside = inside }) keeps (read_next next));
+    of_bucket = λ bucket inside.
+        ap (λ (start : Start). bucket_of start.shape key) y.quiet.same.start
+        ∙ k.bucket bucket
+        (next_inside bucket here node (record { held = held; inside = inside }) keeps (read_next next));
   }
 
   reads_node : ReadsNext p.trace r.trace here node
@@ -81,7 +101,12 @@ returns-then-key-number-clause-met g c =
     let node = c.in-Some.node in
     record {
       keeps = keeps_on x.next.keeps y.key.keeps;
-      visits = record { key = c.in_ok-key.key; has = has_key x.reads y.reads here node c.requires.held x.next.keeps n c.in_ok-key.key y.key (node_unmarked here node n c.in_default-of.ensures); low = c.if-key-number.true };
+      visits = record {
+        key = c.in_ok-key.key;
+        has = has_key x.reads y.reads here node c.requires.held x.next.keeps n c.in_ok-key.key y.key
+            (node_unmarked here node n c.in_default-of.ensures);
+        low = c.if-key-number.true;
+      };
       reads = reads_node x.reads y.reads here node c.requires.held x.next.keeps n c.in_ok-key.key y.key;
       fresh = y.key.fresh;
       count = omega arith;
@@ -97,7 +122,11 @@ returns-else-key-number-clause-met g c =
     let high : c.args.number ≤ c.in_ok-key.key = let f = c.if-key-number.false in omega (arith, f) in
     record {
       keeps = keeps_on x.next.keeps y.key.keeps;
-      visits = (has_key x.reads y.reads here node c.requires.held x.next.keeps n c.in_ok-key.key y.key (node_unmarked here node n c.in_default-of.ensures), high);
+      visits = (
+        has_key x.reads y.reads here node c.requires.held x.next.keeps n c.in_ok-key.key y.key
+            (node_unmarked here node n c.in_default-of.ensures),
+        high,
+      );
       reads = reads_node x.reads y.reads here node c.requires.held x.next.keeps n c.in_ok-key.key y.key;
       fresh = y.key.fresh;
       count = omega arith;

@@ -9,4 +9,5 @@ use Rattle.vbr_machine.proofs.laws.a_run_is_a_map.Goals as goal
 pub returns : goal.returns
 returns c = λ start passes run is ok.
     let safe = every_run start passes run is ok in
-    map_legal (opening_entries start) (opening_keys start) (opening_payloads start) (world_after start run).calls (λ key. refl) safe.legal safe.values
+    map_legal (opening_entries start) (opening_keys start) (opening_payloads start) (world_after start run).calls
+    (λ key. refl) safe.legal safe.values

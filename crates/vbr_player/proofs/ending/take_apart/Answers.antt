@@ -11,7 +11,9 @@ use Rattle.vbr_player.proofs.ending.take_apart.Goals as goal
 pub loop-worker-preserved : goal.loop-worker-preserved
 loop-worker-preserved g c =
     let i = c.loop-worker.invariant in let worker = c.in-Some.worker in
-    let all : c.loop-worker.yielded ++ (c.in-Some.worker ∷ into_iter_items c.next.new.self) ≡ c.args.workers.items = ap (λ (ws : List (Worker _)). c.loop-worker.yielded ++ ws) (sym {A = List (Worker _)} c.in-Some.ensures.steps.0) ∙ i.all in
+    let all : c.loop-worker.yielded ++ (c.in-Some.worker ∷ into_iter_items c.next.new.self) ≡ c.args.workers.items =
+    ap (λ (ws : List (Worker _)). c.loop-worker.yielded ++ ws) (sym {A = List (Worker _)} c.in-Some.ensures.steps.0)
+    ∙ i.all in
     record {
       passes =
           c.in-Ok.ensures.items

@@ -7,7 +7,8 @@ use Rattle.vbr_player.specs.Playing.{start_for}
 use Rattle.vbr_player.proofs.opened.open.Goals as goal
 
 pub returns-in-Ok-clause-start : goal.returns-in-Ok-clause-start
-returns-in-Ok-clause-start g c = c.in-Ok.ensures.table.0 ∙ g.met.N.Playable.opens c.shape.result ∙ ap (λ (shape : Dimensions). start_for g.N.Playable.script shape) c.shape.ensures
+returns-in-Ok-clause-start g c = c.in-Ok.ensures.table.0 ∙ g.met.N.Playable.opens c.shape.result
+    ∙ ap (λ (shape : Dimensions). start_for g.N.Playable.script shape) c.shape.ensures
 
 pub returns-in-Ok-clause-fresh : goal.returns-in-Ok-clause-fresh
 returns-in-Ok-clause-fresh g c =
@@ -15,5 +16,7 @@ returns-in-Ok-clause-fresh g c =
     record {
       passes = c.in-Ok.ensures.passes ∙ ap (λ (n : ℕ). new_passes c.in-Ok.set 0 n) (sym count);
       some = omega (arith, count, c.workers.ensures.workers, c.workers.ensures.within.some_worker);
-      values = ap (λ (start : Start). start.shape.values) (c.in-Ok.ensures.table.0 ∙ g.met.N.Playable.opens c.shape.result) ∙ start_values g.N.Playable.script c.shape.result;
+      values = ap (λ (start : Start). start.shape.values)
+          (c.in-Ok.ensures.table.0 ∙ g.met.N.Playable.opens c.shape.result)
+          ∙ start_values g.N.Playable.script c.shape.result;
     }

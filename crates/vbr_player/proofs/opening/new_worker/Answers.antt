@@ -9,6 +9,8 @@ pub returns : goal.returns
 returns g c =
     let lines = c.args.lines.now in
     let own : length (lines_by c.args.pass.trace.who lines) ≡ c.count_of-own.result =
-    length-filter (λ (line : Line). eqb line.worker c.args.pass.trace.who) lines ∙ sym (c.count_of-own.ensures ∙ ap (λ who. count_by (λ (line : Line). eqb line.worker who) lines) c.who.ensures.who) in
+    length-filter (λ (line : Line). eqb line.worker c.args.pass.trace.who) lines
+    ∙ sym (c.count_of-own.ensures
+    ∙ ap (λ who. count_by (λ (line : Line). eqb line.worker who) lines) c.who.ensures.who) in
     let room = c.in_ok-replies.ensures.capacity in
     record { caller_is = c.with_pass.ensures; none = c.in_ok-replies.ensures.items; room = omega arith }

@@ -12,21 +12,52 @@ use Rattle.vbr_script.specs.declared.script.Kind.{Kind}
 use Rattle.vbr_settings.specs.Options.{settings_among, asks_map_among, shape_fault, file_among, explained_among}
 use Rattle.vbr_settings.specs.Settings.{Settings}
 use Rattle.vbr_settings.specs.Given.{rows_in}
-use Rattle.vbr_run.specs.Program.{MayOpenAs, IsDone, IsFilePlayed, IsPlayed, IsUnopened, Opening, ProgramRun, kind_asked, opened_as}
+use Rattle.vbr_run.specs.Program.{MayOpenAs, IsDone, IsFilePlayed, IsPlayed, IsUnopened, Opening, ProgramRun}
+use Rattle.vbr_run.specs.Program.{kind_asked, opened_as}
 use Rattle.vbr_run.proofs.program.do_asked.Goals as goal
 
 module _ {F : Type 0} (remaining : F → Option (List ℕ)) (opens : Text → Result F Error → Type 0) where
-  filed : (explained : Option Text) (shape : Option ShapeError) (file : Option Text) (kind asked : Kind) (settings own : Settings) (input : Option (List ℕ)) (run : ProgramRun) (name : Text) (opened : Result F Error) → explained ≡ None → shape ≡ None → file ≡ Some name → asked ≡ kind → own ≡ settings → opens name opened → IsFilePlayed asked own name (opened_as remaining opened) run → IsDone explained shape file kind settings input (MayOpenAs remaining opens) run
-  filed explained shape file kind asked settings own input run name opened none shaped named alike same gives played = rw (none, shaped, named) (opened_as remaining opened, (opened, gives, refl), subst (λ (s : Settings). IsFilePlayed kind s name (opened_as remaining opened) run) same (subst (λ (k : Kind). IsFilePlayed k own name (opened_as remaining opened) run) alike played))
+  filed : (explained : Option Text) (shape : Option ShapeError) (file : Option Text) (kind asked : Kind)
+      (settings own : Settings) (input : Option (List ℕ)) (run : ProgramRun) (name : Text) (opened : Result F Error) →
+      explained ≡ None → shape ≡ None → file ≡ Some name → asked ≡ kind → own ≡ settings → opens name opened →
+      IsFilePlayed asked own name (opened_as remaining opened) run →
+      IsDone explained shape file kind settings input (MayOpenAs remaining opens) run
+  filed explained shape file kind asked settings own input run name opened none shaped named alike same gives played =
+      rw (none, shaped, named) (
+        opened_as remaining opened,
+        (opened, gives, refl),
+        subst (λ (s : Settings). IsFilePlayed kind s name (opened_as remaining opened) run) same
+            (subst (λ (k : Kind). IsFilePlayed k own name (opened_as remaining opened) run) alike played),
+      )
 
-  filed_ok : (explained : Option Text) (shape : Option ShapeError) (file : Option Text) (kind asked : Kind) (settings own : Settings) (input : Option (List ℕ)) (run : ProgramRun) (name : Text) (opened : Result F Error) (found : F) → explained ≡ None → shape ≡ None → file ≡ Some name → asked ≡ kind → own ≡ settings → opens name opened → opened ≡ Ok found → IsPlayed asked own (Some name) (remaining found) run → IsDone explained shape file kind settings input (MayOpenAs remaining opens) run
-  filed_ok explained shape file kind asked settings own input run name opened found none shaped named alike same gives is played = filed explained shape file kind asked settings own input run name opened none shaped named alike same gives (subst (λ (o : Result F Error). IsFilePlayed asked own name (opened_as remaining o) run) (sym is) played)
+  filed_ok : (explained : Option Text) (shape : Option ShapeError) (file : Option Text) (kind asked : Kind)
+      (settings own : Settings) (input : Option (List ℕ)) (run : ProgramRun) (name : Text) (opened : Result F Error)
+      (found : F) → explained ≡ None → shape ≡ None → file ≡ Some name → asked ≡ kind → own ≡ settings →
+      opens name opened → opened ≡ Ok found → IsPlayed asked own (Some name) (remaining found) run →
+      IsDone explained shape file kind settings input (MayOpenAs remaining opens) run
+  filed_ok explained shape file kind asked settings own input run name opened found none shaped named alike same gives
+      is played = filed explained shape file kind asked settings own input run name opened none shaped named alike same
+      gives (subst (λ (o : Result F Error). IsFilePlayed asked own name (opened_as remaining o) run) (sym is) played)
 
-  filed_err : (explained : Option Text) (shape : Option ShapeError) (file : Option Text) (kind asked : Kind) (settings own : Settings) (input : Option (List ℕ)) (run : ProgramRun) (name : Text) (opened : Result F Error) (error : Error) (why : IoErrorKind) → explained ≡ None → shape ≡ None → file ≡ Some name → asked ≡ kind → own ≡ settings → opens name opened → opened ≡ Err error → why ≡ error_kind error → IsUnopened why name run → IsDone explained shape file kind settings input (MayOpenAs remaining opens) run
-  filed_err explained shape file kind asked settings own input run name opened error why none shaped named alike same gives is kinds told = filed explained shape file kind asked settings own input run name opened none shaped named alike same gives (subst (λ (o : Result F Error). IsFilePlayed asked own name (opened_as remaining o) run) (sym is) (subst (λ (k : IoErrorKind). IsUnopened k name run) kinds told))
+  filed_err : (explained : Option Text) (shape : Option ShapeError) (file : Option Text) (kind asked : Kind)
+      (settings own : Settings) (input : Option (List ℕ)) (run : ProgramRun) (name : Text) (opened : Result F Error)
+      (error : Error) (why : IoErrorKind) → explained ≡ None → shape ≡ None → file ≡ Some name → asked ≡ kind →
+      own ≡ settings → opens name opened → opened ≡ Err error → why ≡ error_kind error → IsUnopened why name run →
+      IsDone explained shape file kind settings input (MayOpenAs remaining opens) run
+  filed_err explained shape file kind asked settings own input run name opened error why none shaped named alike same
+      gives is kinds told =
+      filed explained shape file kind asked settings own input run name opened none shaped named alike same gives
+      (subst (λ (o : Result F Error). IsFilePlayed asked own name (opened_as remaining o) run) (sym is)
+      (subst (λ (k : IoErrorKind). IsUnopened k name run) kinds told))
 
-standard : (explained : Option Text) (shape : Option ShapeError) (file : Option Text) (kind asked : Kind) (settings own : Settings) (input : Option (List ℕ)) (opens : Opening) (run : ProgramRun) → explained ≡ None → shape ≡ None → file ≡ None → asked ≡ kind → own ≡ settings → IsPlayed asked own None input run → IsDone explained shape file kind settings input opens run
-standard explained shape file kind asked settings own input opens run none shaped unnamed alike same played = rw (none, shaped, unnamed) (subst (λ (s : Settings). IsPlayed kind s None input run) same (subst (λ (k : Kind). IsPlayed k own None input run) alike played))
+standard : (explained : Option Text) (shape : Option ShapeError) (file : Option Text) (kind asked : Kind)
+    (settings own : Settings) (input : Option (List ℕ)) (opens : Opening) (run : ProgramRun) → explained ≡ None →
+    shape ≡ None → file ≡ None → asked ≡ kind → own ≡ settings → IsPlayed asked own None input run →
+    IsDone explained shape file kind settings input opens run
+standard explained shape file kind asked settings own input opens run none shaped unnamed alike same played =
+    rw (none, shaped, unnamed)
+    (subst (λ (s : Settings). IsPlayed kind s None input run) same
+    (subst (λ (k : Kind). IsPlayed k own None input run) alike played))
 
 pub returns-in-Ok-None-clause-done : goal.returns-in-Ok-None-clause-done
 returns-in-Ok-None-clause-done g c =
@@ -35,7 +66,8 @@ returns-in-Ok-None-clause-done g c =
     let unnamed : file_among (rows_in c.args.options.now) ≡ None = search rules in
     let alike : c.kind_asked-kind.result ≡ kind_asked (asks_map_among (rows_in c.args.options.now)) = search rules in
     let same : c.in-Ok-None.config ≡ settings_among (rows_in c.args.options.now) = search rules in
-    standard _ _ _ _ c.kind_asked-kind.result _ c.in-Ok-None.config _ _ _ none shaped unnamed alike same c.play_script.ensures.played
+    standard _ _ _ _ c.kind_asked-kind.result _ c.in-Ok-None.config _ _ _ none shaped unnamed alike same
+    c.play_script.ensures.played
 
 pub returns-in-Ok-clause-done : goal.returns-in-Ok-clause-done
 returns-in-Ok-clause-done g c =
@@ -46,7 +78,9 @@ returns-in-Ok-clause-done g c =
     let same : c.in-Ok-Some.config ≡ settings_among (rows_in c.args.options.now) = search rules in
     let gives : FnReturnsAt g.O.Fn c.args.files.now c.in-Ok-Some.name.now c.files.result = search rules in
     let is : c.files.result ≡ Ok c.in-Ok.file = search rules in
-    filed_ok g.F.Read.remaining (FnReturnsAt g.O.Fn c.args.files.now) _ _ _ _ c.kind_asked-kind.result _ c.in-Ok-Some.config _ _ c.in-Ok-Some.name.now c.files.result c.in-Ok.file none shaped named alike same gives is c.play_script-in-Ok.ensures.played
+    filed_ok g.F.Read.remaining (FnReturnsAt g.O.Fn c.args.files.now) _ _ _ _ c.kind_asked-kind.result _
+    c.in-Ok-Some.config _ _ c.in-Ok-Some.name.now c.files.result c.in-Ok.file none shaped named alike same gives is
+    c.play_script-in-Ok.ensures.played
 
 pub returns-in-Err-clause-done : goal.returns-in-Err-clause-done
 returns-in-Err-clause-done g c =
@@ -59,4 +93,6 @@ returns-in-Err-clause-done g c =
     let is : c.files.result ≡ Err c.in-Err.error = search rules in
     let kinds : c.kind.result ≡ error_kind c.in-Err.error = search rules in
     let keeps : Keeps (g.W.Write.contents c.args.writer.now) (g.W.Write.contents c.args.writer.now) = search rules in
-    filed_err g.F.Read.remaining (FnReturnsAt g.O.Fn c.args.files.now) _ _ _ _ c.kind_asked-kind.result _ c.in-Ok-Some.config _ _ c.in-Ok-Some.name.now c.files.result c.in-Err.error c.kind.result none shaped named alike same gives is kinds (c.report_unopened.ensures.status, keeps, c.report_unopened.ensures.told)
+    filed_err g.F.Read.remaining (FnReturnsAt g.O.Fn c.args.files.now) _ _ _ _ c.kind_asked-kind.result _
+    c.in-Ok-Some.config _ _ c.in-Ok-Some.name.now c.files.result c.in-Err.error c.kind.result none shaped named alike
+    same gives is kinds (c.report_unopened.ensures.status, keeps, c.report_unopened.ensures.told)

@@ -11,11 +11,21 @@ use Rattle.vbr_player.specs.Playing.{Plays}
 use Rattle.vbr_run.specs.Program.{IsPlayed, TellsOutcome}
 use Rattle.vbr_run.proofs.program.play_script.Goals as goal
 
-played : (kind own : Kind) (settings : Settings) (file : Option Text) (input before after old new : Option (List ℕ)) (status : ℕ) (answer : Result (TotalsOf own) RunError) → kind ≡ own → Plays own settings input before after answer → TellsOutcome file answer old new status → IsPlayed kind settings file input (record { output_before = before; output = after; errors_before = old; errors = new; status = status })
-played kind own settings file input before after old new status answer is plays tells = subst (λ (k : Kind). IsPlayed k settings file input (record { output_before = before; output = after; errors_before = old; errors = new; status = status })) (sym is) (answer, plays, tells)
+played : (kind own : Kind) (settings : Settings) (file : Option Text) (input before after old new : Option (List ℕ))
+    (status : ℕ) (answer : Result (TotalsOf own) RunError) → kind ≡ own → Plays own settings input before after answer →
+    TellsOutcome file answer old new status →
+    IsPlayed kind settings file input
+    (record { output_before = before; output = after; errors_before = old; errors = new; status = status })
+played kind own settings file input before after old new status answer is plays tells =
+    subst (λ (k : Kind).
+    IsPlayed k settings file input
+    (record { output_before = before; output = after; errors_before = old; errors = new; status = status })) (sym is)
+    (answer, plays, tells)
 
 pub returns-in-Set-clause-played : goal.returns-in-Set-clause-played
-returns-in-Set-clause-played g c = played _ Set _ _ _ _ _ _ _ _ c.play.result c.in-Set.is c.play.ensures c.tell.ensures.told
+returns-in-Set-clause-played g c =
+    played _ Set _ _ _ _ _ _ _ _ c.play.result c.in-Set.is c.play.ensures c.tell.ensures.told
 
 pub returns-in-Map-clause-played : goal.returns-in-Map-clause-played
-returns-in-Map-clause-played g c = played _ Map _ _ _ _ _ _ _ _ c.play_map.result c.in-Map.is c.play_map.ensures c.tell-in-Map.ensures.told
+returns-in-Map-clause-played g c =
+    played _ Map _ _ _ _ _ _ _ _ c.play_map.result c.in-Map.is c.play_map.ensures c.tell-in-Map.ensures.told

@@ -6,7 +6,8 @@ use Rattle.vbr_script.proofs.parser.parse.Given as goal
 -- the lines so far, and what the rest of the text means behind them, are what the text means
 abbrev pub invariant-loop-phase : goal.invariant-loop-phase
 invariant-loop-phase l = record {
-  read : HasRead l.kind l.workers l.text l.lines.items l.renewals.items l.phase l.number (all_meanings l.kind l.workers (lines_of l.rest));
+  read : HasRead l.kind l.workers l.text l.lines.items l.renewals.items l.phase l.number
+      (all_meanings l.kind l.workers (lines_of l.rest));
   place : l.number + length l.rest ≤ length l.text + 1;
 }
 

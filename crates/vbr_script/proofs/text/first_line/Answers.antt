@@ -8,7 +8,8 @@ pub returns-in-Some : goal.returns-in-Some
 returns-in-Some c =
     let text = c.args.text.now in
     let past = c.in-Some.end + 1 in
-    let rest : take (length text - past) (drop past text) ≡ drop past text = take_all _ _ (omega (arith, length-drop past text)) in
+    let rest : take (length text - past) (drop past text) ≡ drop past text =
+    take_all _ _ (omega (arith, length-drop past text)) in
     let first = lines_of-first text c.in-Some.end c.in-Some.ensures in
     (cc (first, rest), rw rest (omega (arith, length-drop past text, c.in-Some.ensures.0.high)))
 

@@ -10,7 +10,8 @@ use Rattle.vbr_script.proofs.text.first_token.Goals as goal
 pub returns : goal.returns
 returns c =
     let line = c.without_blanks-line.result.now in
-    let found = position_from_yields_List is_blank _ _ c.position-end.result c.position-end.ensures.ran (YieldsList-from_slice line c.iter.ensures.rest) (λ x b q k. search (rules, tests)) in
+    let found = position_from_yields_List is_blank _ _ c.position-end.result c.position-end.ensures.ran
+    (YieldsList-from_slice line c.iter.ensures.rest) (λ x b q k. search (rules, tests)) in
     let some : 0 < length line = grind (arith, nat_tests) in
     let first = tokens_of-first line c.position-end.result some (c.without_blanks-line.ensures.front some) found in
     cc (first.0, first.1)

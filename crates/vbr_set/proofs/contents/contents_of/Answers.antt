@@ -11,8 +11,12 @@ pub returns : goal.returns
 returns g c = λ opened run x.
     let start = with_opened c.args.shape.now opened in
     let a = incarnations_after start run in
-    let long : c.args.notes.len ≡ length c.note_lists.new.notes = (let l = c.args.notes.ok in let k = c.note_lists.auto.notes in let m = c.deref_mut.ensures.len in omega arith) in
-    let told = c.gather-live.ensures.gathered opened run x (subst (λ (l : List Bool). NotesLists start a l) (sym (c.deref.ensures.value ∙ whole c.args.notes.len c.note_lists.new.notes _ long)) (c.note_lists.ensures opened run x)) in
+    let long : c.args.notes.len ≡ length c.note_lists.new.notes =
+    (let l = c.args.notes.ok in let k = c.note_lists.auto.notes in let m = c.deref_mut.ensures.len in omega arith) in
+    let told = c.gather-live.ensures.gathered opened run x
+    (subst (λ (l : List Bool). NotesLists start a l)
+    (sym (c.deref.ensures.value ∙ whole c.args.notes.len c.note_lists.new.notes _ long))
+    (c.note_lists.ensures opened run x)) in
     record {
       listed = told.0;
       epoch = ap (slice_index c.args.words.now) c.place_index.ensures.index ∙ x.are.each place.Epoch tt;

@@ -12,9 +12,12 @@ use Rattle.vbr_set.proofs.contents.gather.Goals.{then-decode, else-decode+in-Ok}
 
 pub loop-slot-preserved-then-not-notes-slot : goal.loop-slot-preserved-then-not-notes-slot
 loop-slot-preserved-then-not-notes-slot g c =
-    let low : c.loop-slot.slot < c.args.shape.now.slots = (let l = c.loop-slot-test.true in let e = c.slots-slot-end.ensures.slots in omega arith) in
+    let low : c.loop-slot.slot < c.args.shape.now.slots =
+    (let l = c.loop-slot-test.true in let e = c.slots-slot-end.ensures.slots in omega arith) in
     let i = c.loop-slot.invariant in record {
-      gathered = λ opened run x lists. gathered_skip (with_opened c.args.shape.now opened) c.args.notes.now lists low c.if-not-notes-slot.true (i.gathered opened run x lists);
+      gathered = λ opened run x lists.
+          gathered_skip (with_opened c.args.shape.now opened) c.args.notes.now lists low c.if-not-notes-slot.true
+          (i.gathered opened run x lists);
       few = (let f = i.few in omega arith);
       collected = i.collected;
       room = i.room;
@@ -23,7 +26,8 @@ loop-slot-preserved-then-not-notes-slot g c =
 pub loop-slot-preserved : goal.loop-slot-preserved
 loop-slot-preserved g c =
     let words = c.args.words.now in
-    let low : c.loop-slot.slot < c.args.shape.now.slots = (let l = c.loop-slot-test.true in let e = c.slots-slot-end.ensures.slots in omega arith) in
+    let low : c.loop-slot.slot < c.args.shape.now.slots =
+    (let l = c.loop-slot-test.true in let e = c.slots-slot-end.ensures.slots in omega arith) in
     let i = c.loop-slot.invariant in
     let link = c.decode.ensures.link ∙ ap (λ (k : ℕ). link_of (slice_index words k)) c.place_index.ensures.index in
     let mark = sym (ap (λ (l : Link). l.mark) link) in
@@ -31,7 +35,8 @@ loop-slot-preserved g c =
       | then-decode w ↦ record {
         gathered = λ opened run x lists.
             gathered_as (ap (λ v. v.items) w.listed-is) w.live-is w.marked-is
-            (gathered_marked c.args.notes.now x lists low c.if-not-notes-slot.false (mark ∙ w.if-decode.true) (i.gathered opened run x lists));
+            (gathered_marked c.args.notes.now x lists low c.if-not-notes-slot.false (mark ∙ w.if-decode.true)
+            (i.gathered opened run x lists));
         few = (let f = i.few in let l = w.live-is in let m = w.marked-is in omega arith);
         collected = ap (λ v. length v.items) w.listed-is ∙ i.collected ∙ sym w.live-is;
         room = (let e = ap vec_capacity w.listed-is in let r = i.room in omega arith);
@@ -39,10 +44,15 @@ loop-slot-preserved g c =
       | else-decode+in-Ok w ↦ record {
         gathered = λ opened run x lists.
             gathered_as (ap (λ v. v.items) w.listed-is ∙ w.in-Ok.ensures.items) w.live-is w.marked-is
-            (gathered_linked w.read.result c.args.notes.now x lists low c.if-not-notes-slot.false (mark ∙ w.if-decode.false) (w.read.ensures opened run x) (i.gathered opened run x lists));
+            (gathered_linked w.read.result c.args.notes.now x lists low c.if-not-notes-slot.false
+            (mark ∙ w.if-decode.false) (w.read.ensures opened run x) (i.gathered opened run x lists));
         few = (let f = i.few in let l = w.live-is in let m = w.marked-is in omega arith);
-        collected = ap (λ v. length v.items) w.listed-is ∙ ap length w.in-Ok.ensures.items ∙ length_push c.loop-slot.listed.items _ ∙ ap (λ n. n + 1) i.collected ∙ sym w.live-is;
-        room = (let e = ap vec_capacity w.listed-is in let more = w.in-Ok.ensures.capacity in let r = i.room in omega arith);
+        collected = ap (λ v. length v.items) w.listed-is ∙ ap length w.in-Ok.ensures.items
+            ∙ length_push c.loop-slot.listed.items _ ∙ ap (λ n. n + 1) i.collected ∙ sym w.live-is;
+        room = (let e = ap vec_capacity w.listed-is in
+            let more = w.in-Ok.ensures.capacity in
+            let r = i.room in
+            omega arith);
       }
     ]
 
@@ -52,5 +62,8 @@ returns-clause-gathered g c = λ opened run x lists.
     let high = c.loop-slot.auto.slot-end in
     let end = c.slots-slot-end.ensures.slots in
     let all : c.loop-slot.slot ≡ c.args.shape.now.slots = omega (arith, low, high, end) in
-    let told = subst (λ (s : ℕ). Gathered (g.N.Kind.shown (incarnations_after (with_opened c.args.shape.now opened) run)) (incarnations_after (with_opened c.args.shape.now opened) run) s c.loop-slot.listed.items c.loop-slot.live c.loop-slot.marked) all (c.loop-slot.invariant.gathered opened run x lists) in
+    let told = subst
+    (λ (s : ℕ). Gathered (g.N.Kind.shown (incarnations_after (with_opened c.args.shape.now opened) run))
+    (incarnations_after (with_opened c.args.shape.now opened) run) s c.loop-slot.listed.items c.loop-slot.live
+    c.loop-slot.marked) all (c.loop-slot.invariant.gathered opened run x lists) in
     (told.listed_is, told.live_is, told.marked_is)

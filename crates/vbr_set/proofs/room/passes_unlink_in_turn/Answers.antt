@@ -2,4 +2,11 @@ use Rattle.vbr_set.proofs.HavingSlots.{turn_called, turn_caught, turn_gave, turn
 use Rattle.vbr_set.proofs.room.passes_unlink_in_turn.Goals as goal
 
 pub returns : goal.returns
-returns c = record { opened = turn_opened; called = turn_called; met = turn_met; caught = turn_caught; gave = turn_gave; reserved = turn_reserved }
+returns c = record {
+  opened = turn_opened;
+  called = turn_called;
+  met = turn_met;
+  caught = turn_caught;
+  gave = turn_gave;
+  reserved = turn_reserved;
+}

@@ -12,4 +12,6 @@ returns c = λ opened run x.
     let high = c.loop-bucket.auto.bucket-end in
     let end = c.buckets-bucket-end.ensures.buckets in
     let all : c.loop-bucket.bucket ≡ start.shape.buckets = omega (arith, low, high, end) in
-    lists_end start a c.loop-bucket.notes (subst (λ (b : ℕ). NotedBelow start a b c.loop-bucket.notes) all (c.loop-bucket.invariant opened run x)) x.is_start.shape.some_bucket
+    lists_end start a c.loop-bucket.notes
+    (subst (λ (b : ℕ). NotedBelow start a b c.loop-bucket.notes) all (c.loop-bucket.invariant opened run x))
+    x.is_start.shape.some_bucket

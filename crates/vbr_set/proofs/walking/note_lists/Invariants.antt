@@ -8,4 +8,5 @@ use Rattle.vbr_set.proofs.Walks.{NotedBelow}
 use Rattle.vbr_set.proofs.walking.note_lists.Given as goal
 
 abbrev pub invariant-loop-bucket : goal.invariant-loop-bucket
-invariant-loop-bucket l = (opened : Opened) (run : List Event) → AreAfter (with_opened l.shape opened) l.words run → NotedBelow (with_opened l.shape opened) (incarnations_after (with_opened l.shape opened) run) l.bucket l.notes
+invariant-loop-bucket l = (opened : Opened) (run : List Event) → AreAfter (with_opened l.shape opened) l.words run →
+    NotedBelow (with_opened l.shape opened) (incarnations_after (with_opened l.shape opened) run) l.bucket l.notes

@@ -1,15 +1,18 @@
 -- `clap`'s definition computes at these arguments.
 use Rattle.std.proofs.Common.{refl}
 use Rattle.clap.proofs.OnLiterals.{clap_on_literals}
-use Rattle.vbr_settings.specs.Options.{command_line, AreOptions, number_among, has_switch, asks_map, file_among, explained_among, settings_of, file_of, explained_of}
+use Rattle.vbr_settings.specs.Options.{command_line, AreOptions, number_among, has_switch, asks_map, file_among}
+use Rattle.vbr_settings.specs.Options.{explained_among, settings_of, file_of, explained_of}
 use Rattle.vbr_settings.proofs.command.knows_its_options.Goals as goal
 
 pub returns-clause-name_alone : goal.returns-clause-name_alone
-unfolding clap_on_literals command_line AreOptions number_among has_switch asks_map file_among explained_among settings_of file_of explained_of
+unfolding clap_on_literals command_line AreOptions number_among has_switch asks_map file_among explained_among
+    settings_of file_of explained_of
 returns-clause-name_alone c name = (refl, refl, refl, refl, refl)
 
 pub returns-clause-all_given : goal.returns-clause-all_given
-unfolding clap_on_literals command_line AreOptions number_among has_switch asks_map file_among explained_among settings_of file_of explained_of
+unfolding clap_on_literals command_line AreOptions number_among has_switch asks_map file_among explained_among
+    settings_of file_of explained_of
 returns-clause-all_given c name = (refl, refl, refl, refl, refl)
 
 pub returns-clause-file : goal.returns-clause-file

@@ -8,4 +8,6 @@ returns-clause-words c =
     let high = c.loop-number.auto.number-end in
     let end = c.flag_words-number-end.ensures in
     laid_all c.args.shape.now c.loop-number.words.items
-    (subst (λ (i : ℕ). AreLaid c.args.shape.now (laid c.args.shape.now c.args.shape.now.slots i) c.loop-number.words.items) (omega (arith, low, high, end)) c.loop-number.invariant)
+    (subst (λ (i : ℕ).
+    AreLaid c.args.shape.now (laid c.args.shape.now c.args.shape.now.slots i) c.loop-number.words.items)
+    (omega (arith, low, high, end)) c.loop-number.invariant)

@@ -19,17 +19,30 @@ loop-number-preserved c =
     let low = c.loop-number.invariant.low in
     let last : number ≡ suc (number - 1) = (let test = c.loop-number-test.true in omega (arith, test)) in
     let inside : number - 1 < length c.args.keys.now = omega (arith, low, last) in
-    let few : length c.args.keys.now ≤ MAX_SLOTS = (let most = c.in_ok-words.ensures.shape.slots in let f = c.requires.few in omega (arith, most, f)) in
-    let linked = c.link_key.ensures c.args.keys.now c.args.values.now (opening_from start number) (heads_fit start number low few) (subst (AreWordsOf start (opening_from start number)) (sym c.deref_mut.ensures.value) c.loop-number.invariant.words) in
-    let next = subst (λ (w : World). AreWordsOf start w c.link_key.new.words) (opening_step start start number (number - 1) _ _ _ (opening_from start number) _ refl refl last (omega (arith, inside)) refl c.value_at.ensures inside (omega (arith, few)) refl) linked in
-    let long : c.loop-number.words.len ≡ length c.link_key.new.words = (let l = c.loop-number.words.ok in let k = c.link_key.auto.words in let m = c.deref_mut.ensures.len in omega arith) in
+    let few : length c.args.keys.now ≤ MAX_SLOTS =
+    (let most = c.in_ok-words.ensures.shape.slots in let f = c.requires.few in omega (arith, most, f)) in
+    let linked =
+    c.link_key.ensures c.args.keys.now c.args.values.now (opening_from start number) (heads_fit start number low few)
+    (subst (AreWordsOf start (opening_from start number)) (sym c.deref_mut.ensures.value)
+    c.loop-number.invariant.words) in
+    let next = subst (λ (w : World). AreWordsOf start w c.link_key.new.words)
+    (opening_step start start number (number - 1) _ _ _ (opening_from start number) _ refl refl last
+    (omega (arith, inside)) refl c.value_at.ensures inside (omega (arith, few)) refl) linked in
+    let long : c.loop-number.words.len ≡ length c.link_key.new.words =
+    (let l = c.loop-number.words.ok in
+    let k = c.link_key.auto.words in
+    let m = c.deref_mut.ensures.len in
+    omega arith) in
     record {
       low = omega (arith, low);
-      words = subst (AreWordsOf start (opening_from start (number - 1))) (sym (whole c.loop-number.words.len c.link_key.new.words (drop (length c.link_key.new.words) c.loop-number.words.items) long)) next;
+      words = subst (AreWordsOf start (opening_from start (number - 1)))
+          (sym (whole c.loop-number.words.len c.link_key.new.words
+          (drop (length c.link_key.new.words) c.loop-number.words.items) long)) next;
     }
 
 pub returns-clause-words : goal.returns-clause-words
 returns-clause-words c =
     let start : Start = start_with c.args.shape.now c.args.keys.now c.args.values.now in
     let none : c.loop-number.number ≡ 0 = (let test = c.loop-number-test.false in omega (arith, test)) in
-    subst (λ (w : World). AreWordsOf start w c.loop-number.words.items) (ap (opening_from start) none ∙ opening_all start) c.loop-number.invariant.words
+    subst (λ (w : World). AreWordsOf start w c.loop-number.words.items)
+    (ap (opening_from start) none ∙ opening_all start) c.loop-number.invariant.words

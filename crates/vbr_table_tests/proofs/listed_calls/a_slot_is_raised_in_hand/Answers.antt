@@ -10,4 +10,5 @@ use Rattle.vbr_table_tests.proofs.listed_calls.a_slot_is_raised_in_hand.Goals as
 pub words_after-words-requires-clause-worked : goal.words_after-words-requires-clause-worked
 words_after-words-requires-clause-worked g c =
     let shape : c.in_ok-shape.shape ≡ one_slot.shape = search rules in
-    subst (λ (d : Start). AreWorked d (opening d) RAISED_IN_HAND RAISED_IN_HAND_WORDS) (sym (ap empty_start shape)) raised_in_hand
+    subst (λ (d : Start). AreWorked d (opening d) RAISED_IN_HAND RAISED_IN_HAND_WORDS) (sym (ap empty_start shape))
+    raised_in_hand

@@ -14,4 +14,5 @@ pub words_after-words-requires-clause-worked : goal.words_after-words-requires-c
 words_after-words-requires-clause-worked g c =
     let shape : c.with_values-shape.result ≡ (valued one_slot).shape = search rules in
     let rows : c.deref.result.now ≡ with_values RAISED_IN_HAND = search rules in
-    subst (λ (x : Start × List (ℕ × Step × Effect)). AreWorked x.0 (opening x.0) x.1 RAISED_IN_HAND_WORDS) (λ i. (empty_start (sym shape i), sym rows i)) raised_in_hand_with_values
+    subst (λ (x : Start × List (ℕ × Step × Effect)). AreWorked x.0 (opening x.0) x.1 RAISED_IN_HAND_WORDS)
+    (λ i. (empty_start (sym shape i), sym rows i)) raised_in_hand_with_values

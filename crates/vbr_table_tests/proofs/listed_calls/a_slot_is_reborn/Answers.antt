@@ -10,4 +10,5 @@ use Rattle.vbr_table_tests.proofs.listed_calls.a_slot_is_reborn.Goals as goal
 pub words_after-words-requires-clause-worked : goal.words_after-words-requires-clause-worked
 words_after-words-requires-clause-worked g c =
     let shape : c.in_ok-shape.shape ≡ three_slots.shape = search rules in
-    subst (λ (d : Start). AreWorked d (opening d) REBORN_SLOT REBORN_SLOT_WORDS) (sym (ap empty_start shape)) reborn_slot
+    subst (λ (d : Start). AreWorked d (opening d) REBORN_SLOT REBORN_SLOT_WORDS) (sym (ap empty_start shape))
+    reborn_slot

@@ -14,4 +14,5 @@ pub words_after-words-requires-clause-worked : goal.words_after-words-requires-c
 words_after-words-requires-clause-worked g c =
     let shape : c.with_values-shape.result ≡ (valued three_slots).shape = search rules in
     let rows : c.deref.result.now ≡ with_values REBORN_SLOT = search rules in
-    subst (λ (x : Start × List (ℕ × Step × Effect)). AreWorked x.0 (opening x.0) x.1 REBORN_SLOT_WORDS) (λ i. (empty_start (sym shape i), sym rows i)) reborn_slot_with_values
+    subst (λ (x : Start × List (ℕ × Step × Effect)). AreWorked x.0 (opening x.0) x.1 REBORN_SLOT_WORDS)
+    (λ i. (empty_start (sym shape i), sym rows i)) reborn_slot_with_values

@@ -11,4 +11,5 @@ use Rattle.vbr_table_tests.proofs.listed_calls.a_step_of_each_kind_with_values.G
 pub words_after-words-requires-clause-worked : goal.words_after-words-requires-clause-worked
 words_after-words-requires-clause-worked g c =
     let shape : c.with_values-shape.result ≡ (valued many_epochs).shape = search rules in
-    subst (λ (d : Start). AreWorked d (opening d) STANDING_WITH_VALUES STANDING_WORDS) (sym (ap empty_start shape)) standing_with_values
+    subst (λ (d : Start). AreWorked d (opening d) STANDING_WITH_VALUES STANDING_WORDS) (sym (ap empty_start shape))
+    standing_with_values

@@ -11,4 +11,5 @@ use Rattle.vbr_table_tests.proofs.listed_calls.a_stored_value_is_read_back.Goals
 pub words_after-words-requires-clause-worked : goal.words_after-words-requires-clause-worked
 words_after-words-requires-clause-worked g c =
     let shape : c.with_values-shape.result ≡ (valued one_slot).shape = search rules in
-    subst (λ (d : Start). AreWorked d (opening d) STORED_VALUE STORED_VALUE_WORDS) (sym (ap empty_start shape)) stored_value
+    subst (λ (d : Start). AreWorked d (opening d) STORED_VALUE STORED_VALUE_WORDS) (sym (ap empty_start shape))
+    stored_value

@@ -11,4 +11,5 @@ use Rattle.vbr_table_tests.proofs.listed_calls.a_value_is_replaced_twice.Goals a
 pub words_after-words-requires-clause-worked : goal.words_after-words-requires-clause-worked
 words_after-words-requires-clause-worked g c =
     let shape : c.with_values-shape.result ≡ (valued many_epochs).shape = search rules in
-    subst (λ (d : Start). AreWorked d (opening d) REPLACED_VALUE REPLACED_VALUE_WORDS) (sym (ap empty_start shape)) replaced_value
+    subst (λ (d : Start). AreWorked d (opening d) REPLACED_VALUE REPLACED_VALUE_WORDS) (sym (ap empty_start shape))
+    replaced_value

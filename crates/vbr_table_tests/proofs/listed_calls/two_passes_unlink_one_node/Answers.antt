@@ -10,4 +10,5 @@ use Rattle.vbr_table_tests.proofs.listed_calls.two_passes_unlink_one_node.Goals 
 pub words_after-words-requires-clause-worked : goal.words_after-words-requires-clause-worked
 words_after-words-requires-clause-worked g c =
     let shape : c.in_ok-shape.shape ≡ one_slot.shape = search rules in
-    subst (λ (d : Start). AreWorked d (opening d) TWO_HELPERS TWO_HELPERS_WORDS) (sym (ap empty_start shape)) two_helpers
+    subst (λ (d : Start). AreWorked d (opening d) TWO_HELPERS TWO_HELPERS_WORDS) (sym (ap empty_start shape))
+    two_helpers

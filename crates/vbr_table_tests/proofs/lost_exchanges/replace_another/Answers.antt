@@ -8,7 +8,10 @@ pub replace_entry-requires-clause-hand : goal.replace_entry-requires-clause-hand
 replace_entry-requires-clause-hand g c = hand_kept c.args.hand c.read_entry.ensures.keeps c.requires.hand
 
 pub unlink-requires-clause-own : goal.unlink-requires-clause-own
-unlink-requires-clause-own g c = own_replaced c.read_entry.new.pass c.replace_entry.new.pass c.args.hand 307 c.read_entry.result.1 c.replace_entry.result c.replace_entry.ensures.replaced c.replace_entry.ensures.lost c.read_entry.ensures.node c.read_entry.ensures.own
+unlink-requires-clause-own g c =
+    own_replaced c.read_entry.new.pass c.replace_entry.new.pass c.args.hand 307 c.read_entry.result.1
+    c.replace_entry.result c.replace_entry.ensures.replaced c.replace_entry.ensures.lost c.read_entry.ensures.node
+    c.read_entry.ensures.own
 
 pub unlink-requires-clause-pred : goal.unlink-requires-clause-pred
 unlink-requires-clause-pred g c =

@@ -3,4 +3,6 @@ use Rattle.vbr_table_tests.proofs.retiring.HeldThrough.{held_through}
 use Rattle.vbr_table_tests.proofs.lost_stores.last_node.Goals as goal
 
 pub returns-clause-head : goal.returns-clause-head
-returns-clause-head g c = held_through c.args.head.now c.next.result _ c.expect.ensures c.next.ensures.next (λ node read. read.keeps) c.requires.head
+returns-clause-head g c =
+    held_through c.args.head.now c.next.result _ c.expect.ensures c.next.ensures.next (λ node read. read.keeps)
+    c.requires.head

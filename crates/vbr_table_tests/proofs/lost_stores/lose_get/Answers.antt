@@ -20,15 +20,21 @@ pub confirm_present_entry-told-requires-clause-node : goal.confirm_present_entry
 confirm_present_entry-told-requires-clause-node g c =
     let node = c.args.node.now in
     let value : IsValueRead c.args.pass.now c.value_of.new.pass node.at c.expect-value.result = search rules in
-    record { held = held_kept node value.keeps c.requires.node.present.held; key = (7, key_kept node.at 7 value.keeps c.requires.node.key_is); unmarked = c.requires.node.present.unmarked }
+    record {
+      held = held_kept node value.keeps c.requires.node.present.held;
+      key = (7, key_kept node.at 7 value.keeps c.requires.node.key_is);
+      unmarked = c.requires.node.present.unmarked;
+    }
 
 pub confirm_present_entry-told-requires-clause-asked : goal.confirm_present_entry-told-requires-clause-asked
 confirm_present_entry-told-requires-clause-asked g c =
-    let value : IsValueRead c.args.pass.now c.value_of.new.pass c.args.node.now.at c.expect-value.result = search rules in
+    let value : IsValueRead c.args.pass.now c.value_of.new.pass c.args.node.now.at c.expect-value.result =
+    search rules in
     λ get. (search rules, (c.expect-value.result, value.value))
 
 pub returns-clause-held : goal.returns-clause-held
 returns-clause-held g c =
     let node = c.args.node.now in
     let value : IsValueRead c.args.pass.now c.value_of.new.pass node.at c.expect-value.result = search rules in
-    held_kept node c.confirm_present_entry-told.ensures.keeps.keeps.keeps (held_kept node value.keeps c.requires.node.present.held)
+    held_kept node c.confirm_present_entry-told.ensures.keeps.keeps.keeps
+    (held_kept node value.keeps c.requires.node.present.held)

@@ -27,19 +27,24 @@ none_named : (know : Know) (word : ℕ) → word ≡ 33554432 → BirthNamed kno
 none_named know word is = subst (λ slot. BirthNamed know slot 0) (sym (names_none word is)) refl
 
 pub value_of-requires-clause-held : goal.value_of-requires-clause-held
-value_of-requires-clause-held g c = held_through c.last_node-node.result c.key_of.result _ c.expect-key.ensures c.key_of.ensures.key (λ key read. read.keeps) c.last_node-node.ensures.node
+value_of-requires-clause-held g c =
+    held_through c.last_node-node.result c.key_of.result _ c.expect-key.ensures c.key_of.ensures.key
+    (λ key read. read.keeps) c.last_node-node.ensures.node
 
 pub returns-clause-head : goal.returns-clause-head
 returns-clause-head g c =
     let head = c.head_of-head.result in
-    let held = held_through head c.key_of.result _ c.expect-key.ensures c.key_of.ensures.key (λ key read. read.keeps) c.last_node-node.ensures.head in
-    let value : IsValueRead c.key_of.new.pass c.value_of.new.pass c.last_node-node.result.at c.expect-told.result = search rules in
+    let held = held_through head c.key_of.result _ c.expect-key.ensures c.key_of.ensures.key (λ key read. read.keeps)
+    c.last_node-node.ensures.head in
+    let value : IsValueRead c.key_of.new.pass c.value_of.new.pass c.last_node-node.result.at c.expect-told.result =
+    search rules in
     record { held = held_kept head value.keeps held; unmarked = c.head_of-head.ensures.unmarked }
 
 pub returns-clause-node : goal.returns-clause-node
 returns-clause-node g c =
     let node = c.last_node-node.result in
-    let held = held_through node c.key_of.result _ c.expect-key.ensures c.key_of.ensures.key (λ key read. read.keeps) c.last_node-node.ensures.node in
+    let held = held_through node c.key_of.result _ c.expect-key.ensures c.key_of.ensures.key (λ key read. read.keeps)
+    c.last_node-node.ensures.node in
     let value : IsValueRead c.key_of.new.pass c.value_of.new.pass node.at c.expect-told.result = search rules in
     let key : IsKeyRead c.last_node-node.new.pass c.key_of.new.pass node.at c.expect-key.result = search rules in
     let seven : c.expect-key.result ≡ 7 = search rules in
@@ -47,7 +52,11 @@ returns-clause-node g c =
     let keyed = key_kept node.at 7 value.keeps (subst K seven key.key) in
     record {
       has_values = search rules;
-      present = record { held = held_kept node value.keeps held; key = (7, keyed); unmarked = is_unmarked node.word c.last_node-node.ensures.word };
+      present = record {
+        held = held_kept node value.keeps held;
+        key = (7, keyed);
+        unmarked = is_unmarked node.word c.last_node-node.ensures.word;
+      };
       key_is = keyed;
       valued = λ _. (c.expect-told.result, value.value);
       birth = none_named _ node.word c.last_node-node.ensures.word;

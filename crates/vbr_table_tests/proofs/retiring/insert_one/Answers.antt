@@ -8,8 +8,10 @@ pub update_entry-requires-clause-gap : goal.update_entry-requires-clause-gap
 update_entry-requires-clause-gap g c =
     let one : c.next.new.pass.trace.start.shape.buckets ≡ 1 = search rules in
     record {
-      held = held_through c.head_of-head.result c.next.result _ c.expect.ensures c.next.ensures.next (λ node read. read.keeps) c.head_of-head.ensures.held;
+      held = held_through c.head_of-head.result c.next.result _ c.expect.ensures c.next.ensures.next
+          (λ node read. read.keeps) c.head_of-head.ensures.held;
       unmarked = search rules;
-      behind = behind_head c.next.new.pass.trace.start (knows c.next.new.pass.trace) c.head_of-head.result.at 7 c.head_of-head.ensures.at one;
+      behind = behind_head c.next.new.pass.trace.start (knows c.next.new.pass.trace) c.head_of-head.result.at 7
+          c.head_of-head.ensures.at one;
       before = search rules;
     }

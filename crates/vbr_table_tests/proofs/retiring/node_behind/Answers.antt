@@ -6,7 +6,9 @@ use Rattle.vbr_table_tests.proofs.retiring.HeldThrough.{held_through, is_unmarke
 use Rattle.vbr_table_tests.proofs.retiring.node_behind.Goals as goal
 
 pub returns-clause-head : goal.returns-clause-head
-returns-clause-head g c = held_through c.args.head.now c.next.result _ c.expect.ensures c.next.ensures.next (λ node read. read.keeps) c.requires.head
+returns-clause-head g c =
+    held_through c.args.head.now c.next.result _ c.expect.ensures c.next.ensures.next (λ node read. read.keeps)
+    c.requires.head
 
 pub returns-clause-node : goal.returns-clause-node
 returns-clause-node g c =

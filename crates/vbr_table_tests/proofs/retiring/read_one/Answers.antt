@@ -6,14 +6,16 @@ use Rattle.vbr_table_tests.proofs.retiring.read_one.Goals as goal
 pub returns-clause-head : goal.returns-clause-head
 returns-clause-head g c =
     record {
-      held = held_through c.head_of-head.result c.key_of.result _ c.expect-key.ensures c.key_of.ensures.key (λ key read. read.keeps) c.node_behind-node.ensures.head;
+      held = held_through c.head_of-head.result c.key_of.result _ c.expect-key.ensures c.key_of.ensures.key
+          (λ key read. read.keeps) c.node_behind-node.ensures.head;
       unmarked = c.head_of-head.ensures.unmarked;
     }
 
 pub returns-clause-node : goal.returns-clause-node
 returns-clause-node g c =
     record {
-      held = held_through c.node_behind-node.result c.key_of.result _ c.expect-key.ensures c.key_of.ensures.key (λ key read. read.keeps) c.node_behind-node.ensures.node.held;
+      held = held_through c.node_behind-node.result c.key_of.result _ c.expect-key.ensures c.key_of.ensures.key
+          (λ key read. read.keeps) c.node_behind-node.ensures.node.held;
       key = search rules;
       unmarked = c.node_behind-node.ensures.node.unmarked;
     }

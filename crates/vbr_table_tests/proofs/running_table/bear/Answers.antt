@@ -2,14 +2,18 @@
 use Rattle.std.proofs.Common.{◌≡◌, ◌∙◌, sym, ap, subst, rules}
 use Rattle.vbr_machine.specs.Acceptance.{MayBear, stamp_in}
 use Rattle.vbr_table_tests.proofs.running_table.OnePass.{below}
-use Rattle.vbr_table_tests.proofs.running_table.OwnedSlots.{born_birth, free_is_some, free_may_bear, loaded_epoch, loaded_own}
+use Rattle.vbr_table_tests.proofs.running_table.OwnedSlots.{born_birth, free_is_some, free_may_bear, loaded_epoch}
+use Rattle.vbr_table_tests.proofs.running_table.OwnedSlots.{loaded_own}
 use Rattle.vbr_table_tests.proofs.running_table.bear.Goals as goal
 
 pub load_stamp-requires-clause-owned : goal.load_stamp-requires-clause-owned
 load_stamp-requires-clause-owned g c = free_is_some _ c.take_first.ensures.free
 
 pub store_birth-requires-clause-may_bear : goal.store_birth-requires-clause-may_bear
-store_birth-requires-clause-may_bear g c = subst MayBear (sym (loaded_own c.take_first.new.pass.trace c.load_stamp.new.pass.trace 0 0 _ c.load_stamp.ensures.step)) (free_may_bear _ c.take_first.ensures.free)
+store_birth-requires-clause-may_bear g c =
+    subst MayBear
+    (sym (loaded_own c.take_first.new.pass.trace c.load_stamp.new.pass.trace 0 0 _ c.load_stamp.ensures.step))
+    (free_may_bear _ c.take_first.ensures.free)
 
 pub store_birth-requires-clause-above_stamp : goal.store_birth-requires-clause-above_stamp
 store_birth-requires-clause-above_stamp g c =
@@ -17,7 +21,8 @@ store_birth-requires-clause-above_stamp g c =
     below _ _
     (ap stamp_in (loaded_own c.take_first.new.pass.trace c.load_stamp.new.pass.trace 0 0 _ c.load_stamp.ensures.step)
     ∙ sym (c.load_stamp.ensures.known (free_may_bear _ c.take_first.ensures.free)) ∙ zero)
-    (loaded_epoch c.take_first.new.pass.trace c.load_stamp.new.pass.trace 0 _ c.load_stamp.ensures.step ∙ c.take_first.ensures.epoch)
+    (loaded_epoch c.take_first.new.pass.trace c.load_stamp.new.pass.trace 0 _ c.load_stamp.ensures.step
+    ∙ c.take_first.ensures.epoch)
 
 pub returns-clause-birth : goal.returns-clause-birth
 returns-clause-birth g c =

@@ -9,7 +9,8 @@ pub store_link-requires-clause-next_in : goal.store_link-requires-clause-next_in
 store_link-requires-clause-next_in c = subst (IsNextIn c.args.slots.now.start) (sym names_none) tt
 
 pub store_link-requires-clause-next_held : goal.store_link-requires-clause-next_held
-store_link-requires-clause-next_held c = subst (IsNextHeld (knows c.store_value.new.pass.trace).checked) (sym names_none) tt
+store_link-requires-clause-next_held c =
+    subst (IsNextHeld (knows c.store_value.new.pass.trace).checked) (sym names_none) tt
 
 pub store_link-requires-clause-word : goal.store_link-requires-clause-word
 store_link-requires-clause-word c =

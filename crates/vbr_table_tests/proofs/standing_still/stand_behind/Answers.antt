@@ -10,4 +10,6 @@ use Rattle.vbr_table_tests.proofs.standing_still.stand_behind.Goals as goal
 pub table_after-requires-clause-worked : goal.table_after-requires-clause-worked
 table_after-requires-clause-worked g c =
     let shape : c.in_ok-shape.shape ≡ many_epochs.shape = search rules in
-    subst (λ (d : Start). AreWorked d (opening d) (take c.args.steps STANDING) STANDING_WORDS) (sym (ap empty_start shape)) (first_worked many_epochs c.args.steps STANDING (opening many_epochs) STANDING_WORDS standing)
+    subst (λ (d : Start). AreWorked d (opening d) (take c.args.steps STANDING) STANDING_WORDS)
+    (sym (ap empty_start shape))
+    (first_worked many_epochs c.args.steps STANDING (opening many_epochs) STANDING_WORDS standing)

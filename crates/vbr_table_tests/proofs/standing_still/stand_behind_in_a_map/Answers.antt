@@ -11,4 +11,7 @@ use Rattle.vbr_table_tests.proofs.standing_still.stand_behind_in_a_map.Goals as 
 pub table_after-requires-clause-worked : goal.table_after-requires-clause-worked
 table_after-requires-clause-worked g c =
     let shape : c.with_values-shape.result ≡ (valued many_epochs).shape = search rules in
-    subst (λ (d : Start). AreWorked d (opening d) (take c.args.steps STANDING_WITH_VALUES) STANDING_WORDS) (sym (ap empty_start shape)) (first_worked (valued many_epochs) c.args.steps STANDING_WITH_VALUES (opening (valued many_epochs)) STANDING_WORDS standing_with_values)
+    subst (λ (d : Start). AreWorked d (opening d) (take c.args.steps STANDING_WITH_VALUES) STANDING_WORDS)
+    (sym (ap empty_start shape))
+    (first_worked (valued many_epochs) c.args.steps STANDING_WITH_VALUES (opening (valued many_epochs)) STANDING_WORDS
+    standing_with_values)

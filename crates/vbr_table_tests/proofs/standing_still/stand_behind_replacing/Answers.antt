@@ -11,4 +11,7 @@ use Rattle.vbr_table_tests.proofs.standing_still.stand_behind_replacing.Goals as
 pub table_after-requires-clause-worked : goal.table_after-requires-clause-worked
 table_after-requires-clause-worked g c =
     let shape : c.with_values-shape.result ≡ (valued many_epochs).shape = search rules in
-    subst (λ (d : Start). AreWorked d (opening d) (take c.args.steps REPLACED_VALUE) REPLACED_VALUE_WORDS) (sym (ap empty_start shape)) (first_worked (valued many_epochs) c.args.steps REPLACED_VALUE (opening (valued many_epochs)) REPLACED_VALUE_WORDS replaced_value)
+    subst (λ (d : Start). AreWorked d (opening d) (take c.args.steps REPLACED_VALUE) REPLACED_VALUE_WORDS)
+    (sym (ap empty_start shape))
+    (first_worked (valued many_epochs) c.args.steps REPLACED_VALUE (opening (valued many_epochs)) REPLACED_VALUE_WORDS
+    replaced_value)

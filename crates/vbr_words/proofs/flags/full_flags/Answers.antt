@@ -14,4 +14,5 @@ returns-then-slots-lt-FLAGS c =
 
 pub returns-else-slots-lt-FLAGS : goal.returns-else-slots-lt-FLAGS
 returns-else-slots-lt-FLAGS c =
-    sym (full_word c.slots.result c.args.number c.if-slots-lt-FLAGS.false) ∙ ap (λ (n : ℕ). flag_word (λ slot. nat_lt slot n) c.args.number) c.slots.ensures.slots
+    sym (full_word c.slots.result c.args.number c.if-slots-lt-FLAGS.false)
+    ∙ ap (λ (n : ℕ). flag_word (λ slot. nat_lt slot n) c.args.number) c.slots.ensures.slots

@@ -7,9 +7,12 @@ use Rattle.vbr_words.proofs.LinkWords.{slot_in-is, word_of-link_of}
 use Rattle.vbr_words.proofs.link.decode.Goals as goal
 
 -- the fields, with a slot that a checked subtraction gave
-fields_are : (word : ℕ) (slot : Option ℕ) → SomeIff slot (1 ≤ word % MARK) (word % MARK - 1) → record { slot = slot; mark = word / MARK % 2 == 1; version = word / VERSION_UNIT } ≡ link_of word
+fields_are : (word : ℕ) (slot : Option ℕ) → SomeIff slot (1 ≤ word % MARK) (word % MARK - 1) →
+    record { slot = slot; mark = word / MARK % 2 == 1; version = word / VERSION_UNIT } ≡ link_of word
 unfolding link_of
-fields_are word slot is = ap (λ (s : Option ℕ). record { slot = s; mark = word / MARK % 2 == 1; version = word / VERSION_UNIT }) (slot_in-is slot (word % MARK) is)
+fields_are word slot is =
+    ap (λ (s : Option ℕ). record { slot = s; mark = word / MARK % 2 == 1; version = word / VERSION_UNIT })
+    (slot_in-is slot (word % MARK) is)
 
 pub returns-clause-link : goal.returns-clause-link
 returns-clause-link c = fields_are c.args.word _ c.checked_sub.ensures

@@ -13,14 +13,20 @@ returns-in-Err-clause-stops c =
     let first = c.args.world in
     let world = c.loop-index.world in
     let inside : c.loop-index.index < length c.args.events.now = omega arith in
-    run_stops first.start world.start (length first.passes) (length world.passes) c.args.events.now c.loop-index.index _ (world_of world) c.in-Err.refusal c.loop-index.invariant.start c.loop-index.invariant.passes c.loop-index.invariant.world inside c.loop-index.invariant.run c.in-Err.ensures.refused.refused c.in-Err.ensures.refused.grows
+    run_stops first.start world.start (length first.passes) (length world.passes) c.args.events.now c.loop-index.index _
+    (world_of world) c.in-Err.refusal c.loop-index.invariant.start c.loop-index.invariant.passes
+    c.loop-index.invariant.world inside c.loop-index.invariant.run c.in-Err.ensures.refused.refused
+    c.in-Err.ensures.refused.grows
 
 pub loop-index-preserved : goal.loop-index-preserved
 loop-index-preserved c =
     let first = c.args.world in
     let world = c.loop-index.world in
     let inside : c.loop-index.index < length c.args.events.now = omega arith in
-    let more = run_push first.start world.start (length first.passes) (length world.passes) c.args.events.now c.loop-index.index _ (world_of world) (world_of c.step.new.self) c.loop-index.invariant.start c.loop-index.invariant.passes c.loop-index.invariant.world inside c.loop-index.invariant.run c.in_default.ensures.made.accepted c.in_default.ensures.made.after in
+    let more = run_push first.start world.start (length first.passes) (length world.passes) c.args.events.now
+    c.loop-index.index _ (world_of world) (world_of c.step.new.self) c.loop-index.invariant.start
+    c.loop-index.invariant.passes c.loop-index.invariant.world inside c.loop-index.invariant.run
+    c.in_default.ensures.made.accepted c.in_default.ensures.made.after in
     record {
       run = more.0;
       world = more.1;
@@ -31,8 +37,10 @@ loop-index-preserved c =
 pub returns-clause-run : goal.returns-clause-run
 returns-clause-run c =
     let first = c.args.world in
-    let start : IsStart first.start = subst IsStart (ap (λ (kept : KeptWorld). kept.start) c.world.view_is) c.world.invariant.start in
-    let all : take c.loop-index.index c.args.events.now ≡ c.args.events.now = take_all c.loop-index.index c.args.events.now c.loop-index-test.false in
+    let start : IsStart first.start =
+    subst IsStart (ap (λ (kept : KeptWorld). kept.start) c.world.view_is) c.world.invariant.start in
+    let all : take c.loop-index.index c.args.events.now ≡ c.args.events.now =
+    take_all c.loop-index.index c.args.events.now c.loop-index-test.false in
     let run : IsRun first.start (length first.passes) c.args.events.now = rw all at c.loop-index.invariant.run in
     record {
       run = run;

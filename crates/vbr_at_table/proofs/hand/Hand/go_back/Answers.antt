@@ -8,4 +8,5 @@ pub returns : goal.returns
 returns c =
     let p = c.args.pass.now in
     let back = c.keep.ensures.pool ∙ ap (λ (slot : ℕ). p.pool ++ slot ∷ []) c.into_slot.ensures in
-    put_back p c.keep.new.self c.args.self.slot c.requires.hand.slot c.keep.ensures.trace back (c.keep.ensures.hand ∙ ap (λ (slot : ℕ). hand_without slot p.hand) c.into_slot.ensures)
+    put_back p c.keep.new.self c.args.self.slot c.requires.hand.slot c.keep.ensures.trace back
+    (c.keep.ensures.hand ∙ ap (λ (slot : ℕ). hand_without slot p.hand) c.into_slot.ensures)

@@ -10,4 +10,5 @@ loop-i-preserved c =
     let within : c.loop-i.i < length pairs = search rules in
     let asked = c.requires in
     let many = length-map pairs as_entry in
-    one_more_written c.args.entries.now c.loop-i.entries pairs c.loop-i.i c.index.result.now (omega arith) within c.index.ensures c.loop-i.invariant
+    one_more_written c.args.entries.now c.loop-i.entries pairs c.loop-i.i c.index.result.now (omega arith) within
+    c.index.ensures c.loop-i.invariant

@@ -10,4 +10,6 @@ use Rattle.vbr_handles.proofs.handle.SetOwner.owner_mut.Statement.{statement}
 use Rattle.vbr_handles.proofs.handle.SetOwner.owner_mut.Code as code
 
 pub owner_mut_spec : {M : Type 1} → statement M
-owner_mut_spec 𝓤 𝓛 𝓜 𝓡 wired = recasts the_row (Owner.the_row set_row) tt tt owner_of_set set_owner 𝓛 𝓜 𝓡 refl (λ h vs. refl) (λ w vs. refl) name (code.unfolded 𝓤 𝓛.H 𝓜 𝓡 wired)
+owner_mut_spec 𝓤 𝓛 𝓜 𝓡 wired =
+    recasts the_row (Owner.the_row set_row) tt tt owner_of_set set_owner 𝓛 𝓜 𝓡 refl (λ h vs. refl) (λ w vs. refl) name
+    (code.unfolded 𝓤 𝓛.H 𝓜 𝓡 wired)

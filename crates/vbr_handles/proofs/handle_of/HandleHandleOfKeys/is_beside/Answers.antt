@@ -3,4 +3,9 @@ use Rattle.vbr_handles.specs.Handles.{set_owner}
 use Rattle.vbr_handles.proofs.handle_of.HandleHandleOfKeys.is_beside.Goals as goal
 
 pub returns : goal.returns
-returns c = (ap (λ o. record { owned = set_owner o; steps = c.args.self.now.steps }) (c.is_beside.ensures.0 ∙ c.owner_mut-one.ensures.value), ap (λ o. record { owned = set_owner o; steps = c.args.other.now.steps }) (c.is_beside.ensures.1 ∙ c.owner_mut.ensures.value))
+returns c = (
+  ap (λ o. record { owned = set_owner o; steps = c.args.self.now.steps })
+      (c.is_beside.ensures.0 ∙ c.owner_mut-one.ensures.value),
+  ap (λ o. record { owned = set_owner o; steps = c.args.other.now.steps })
+      (c.is_beside.ensures.1 ∙ c.owner_mut.ensures.value),
+)

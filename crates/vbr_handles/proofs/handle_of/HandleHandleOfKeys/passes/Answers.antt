@@ -6,6 +6,8 @@ use Rattle.vbr_handles.proofs.handle_of.HandleHandleOfKeys.passes.Goals as goal
 
 pub returns : goal.returns
 returns c = (
-  subst (λ (o : Owner MemberView). IfSome o.member (λ m. c.passes.result ≡ m.set.passes)) c.owner_mut.ensures.value c.passes.ensures.0,
-  ap (λ o. record { owned = set_owner o; steps = c.args.self.now.steps }) (c.passes.ensures.1 ∙ c.owner_mut.ensures.value),
+  subst (λ (o : Owner MemberView). IfSome o.member (λ m. c.passes.result ≡ m.set.passes)) c.owner_mut.ensures.value
+      c.passes.ensures.0,
+  ap (λ o. record { owned = set_owner o; steps = c.args.self.now.steps })
+      (c.passes.ensures.1 ∙ c.owner_mut.ensures.value),
 )

@@ -9,5 +9,7 @@ use Rattle.vbr_handles.proofs.numbers.batches.get_all.Goals as goal
 
 pub returns : goal.returns
 returns c =
-    let Calls : Option Member → Option Member → ℕ → Found → Type 0 = λ m n key found. TellsFound m n key c.args.budget found in
-    seen_in_turn (λ (o : Owner Member). o.member) Calls c.args.owner.now c.look_up_all.new.who c.args.keys.now c.look_up_all.new.answers c.look_up_all.ensures
+    let Calls : Option Member → Option Member → ℕ → Found → Type 0 =
+    λ m n key found. TellsFound m n key c.args.budget found in
+    seen_in_turn (λ (o : Owner Member). o.member) Calls c.args.owner.now c.look_up_all.new.who c.args.keys.now
+    c.look_up_all.new.answers c.look_up_all.ensures

@@ -9,5 +9,7 @@ use Rattle.vbr_handles.proofs.numbers.batches.has_all.Goals as goal
 
 pub returns : goal.returns
 returns g c =
-    let Calls : Option Member → Option Member → ℕ → ℤ → Type 0 = λ m n key code. TellsCall Has m n key c.args.budget code in
-    seen_in_turn (λ (o : Owner Member). o.member) Calls c.args.owner.now c.look_up_all.new.who c.args.keys.now c.look_up_all.new.answers c.look_up_all.ensures
+    let Calls : Option Member → Option Member → ℕ → ℤ → Type 0 =
+    λ m n key code. TellsCall Has m n key c.args.budget code in
+    seen_in_turn (λ (o : Owner Member). o.member) Calls c.args.owner.now c.look_up_all.new.who c.args.keys.now
+    c.look_up_all.new.answers c.look_up_all.ensures

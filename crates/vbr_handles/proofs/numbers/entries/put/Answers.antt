@@ -11,10 +11,14 @@ use Rattle.vbr_handles.proofs.numbers.entries.put.Goals as goal
 pub returns : goal.returns
 returns c =
     let m = c.member_mut-member.result.now in
-    let full : c.args.owner.now.member ≡ Some m = sym (ap (λ (o : Owner Member). o.member) c.is_empty.ensures.2) ∙ c.member_mut-member.ensures.value in
-    let counted = c.steps-before.ensures ∙ ap (λ (q : PassView). counted_steps (steps_of q.trace)) c.pass.ensures.pass in
+    let full : c.args.owner.now.member ≡ Some m =
+    sym (ap (λ (o : Owner Member). o.member) c.is_empty.ensures.2) ∙ c.member_mut-member.ensures.value in
+    let counted =
+    c.steps-before.ensures ∙ ap (λ (q : PassView). counted_steps (steps_of q.trace)) c.pass.ensures.pass in
     let shown = to_z-of_z w32 c.give.result (search rules) in
-    subst (λ (x : Option Member). TellsPut x (Some c.top_up_after.new.member) c.args.key c.args.value c.args.budget c.args.found.now c.give.new.value (to_z w32 (of_z w32 c.give.result))) (sym full) (record {
+    subst (λ (x : Option Member).
+    TellsPut x (Some c.top_up_after.new.member) c.args.key c.args.value c.args.budget c.args.found.now c.give.new.value
+    (to_z w32 (of_z w32 c.give.result))) (sym full) (record {
       answer = c.put-answer.result;
       is = shown ∙ c.give.ensures.code;
       called = calls_and_tops_up c.put-answer.new.self c.put-answer.result c.has_stored_new.result c.put-answer.ensures c.put-answer.ensures.steps c.has_stored_new.ensures (c.top_up_after.ensures m.pass.trace counted);

@@ -13,5 +13,7 @@ returns-then-lacks_slots g c = λ p counted.
     let since = c.steps.ensures ∙ ap (λ (q : PassView). counted_steps (steps_of q.trace)) c.pass.ensures.pass in
     let left = c.left_of-left.ensures ∙ ap (left_of c.args.budget c.args.before) since in
     let law : PassLaw n.pass = subst PassLaw c.pass-then-lacks_slots.ensures.pass c.law.ensures in
-    let lacking : (c.args.has_added && lacks_slots m) ≡ true = (λ i. c.if-has_added.true i && (sym c.lacks_slots.ensures ∙ c.if-lacks_slots.true) i) in
-    subst (λ (b : Bool). TopsUpWhere b c.args.budget p m n) (sym lacking) (topped c.top_up.ensures.set law counted left c.reserve_of-wanted.ensures c.min.ensures c.top_up.ensures.tops_up.1)
+    let lacking : (c.args.has_added && lacks_slots m) ≡ true =
+    (λ i. c.if-has_added.true i && (sym c.lacks_slots.ensures ∙ c.if-lacks_slots.true) i) in
+    subst (λ (b : Bool). TopsUpWhere b c.args.budget p m n) (sym lacking)
+    (topped c.top_up.ensures.set law counted left c.reserve_of-wanted.ensures c.min.ensures c.top_up.ensures.tops_up.1)

@@ -12,7 +12,8 @@ use prog.Wp.{WpFn, Tables}
 use types.Logic.{Logic}
 use contract.Monad.{fact}
 use contract.Running.{tables, tables_of}
-use types.Kit.{Item, ‵, raw, ◌⊛◌, ◌$◌, ◌∵◌, !, qed, by, move, keep, drop, use1, join, split, fsplit, fjoin, fpack, feq_i, suffices, done}
+use types.Kit.{Item, ‵, raw, ◌⊛◌, ◌$◌, ◌∵◌, !, qed, by, move, keep, drop, use1, join, split, fsplit, fjoin, fpack}
+use types.Kit.{feq_i, suffices, done}
 use types.Part.{agg}
 use types.Run.{lit, no_more, and_then, returns, enter}
 use types.ByLocal.{alloc_all, pass_all, free_all, look_at, get, sets}
@@ -48,7 +49,10 @@ module _ (F : El) where
   fn' = inst_fn (args F) code.function
 
   abbrev ended : Ended
-  ended = record { signature = record { lifetimes = 0; outlives = []; params = From ∷ []; result = To F }; kept = (yes, tt) }
+  ended = record {
+    signature = record { lifetimes = 0; outlives = []; params = From ∷ []; result = To F };
+    kept = (yes, tt);
+  }
 
   abbrev stayed : Stays ended.signature.params ended.kept
   stayed = (stay_dropped From yes, tt)
@@ -60,18 +64,23 @@ module _ (F : El) {M : Type 1} {𝓤 : Ura M} (𝓛 : Logic 𝓤) (𝓣 : Tables
   open 𝓛 use {H}
 
   walk : (z : (walk_of 𝓛 (ended F) (stayed F) (spec F 𝓤)).Ghost)
-      → ent 𝓤 ((walk_of 𝓛 (ended F) (stayed F) (spec F 𝓤)).pre z) (WpFn 𝓤 H 𝓣.C 𝓣.Λ (fn' F) (z.0.4.0 ++ []) ((walk_of 𝓛 (ended F) (stayed F) (spec F 𝓤)).post z))
+      → ent 𝓤 ((walk_of 𝓛 (ended F) (stayed F) (spec F 𝓤)).pre z)
+      (WpFn 𝓤 H 𝓣.C 𝓣.Λ (fn' F) (z.0.4.0 ++ []) ((walk_of 𝓛 (ended F) (stayed F) (spec F 𝓤)).post z))
   walk z =
       let Post = (walk_of 𝓛 (ended F) (stayed F) (spec F 𝓤)).post z in
       let a : Heap.the_row.Denot = z.0.3.0 in
       let made : (OwnerRow F).Denot = record { ptr = null_ptr; alloc = a; member = None } in
-      qed 𝓛 ((‵ ftrue ⊛ ‵ (fsep (Heap.the_row.own_val a z.0.4.0) ftrue)) ∷ raw (emp 𝓤) ∷ []) ∵ split ! $ drop ! $ fsplit ! $
+      qed 𝓛 ((‵ ftrue ⊛ ‵ (fsep (Heap.the_row.own_val a z.0.4.0) ftrue)) ∷ raw (emp 𝓤) ∷ []) ∵ split ! $ drop ! $ fsplit
+      ! $
       handle_tells (E F).al ! a z.0.4.0 (λ hv ea fa. keep ! (0 ∷ []) $
       let w = nothing_word hv in
-      let good : T (has_ty (layout (OwnerRow F)) w) × WT w = (and_tt (has_ty (layout Heap.the_row) hv) fa.0, (record { fits = lit< tt }, (fa.1, tt))) in
+      let good : T (has_ty (layout (OwnerRow F)) w) × WT w =
+      (and_tt (has_ty (layout Heap.the_row) hv) fa.0, (record { fits = lit< tt }, (fa.1, tt))) in
       nothing ! $ fpack ! (null_ptr ≡ null_ptr) (λ _. ftrue) refl $
-      nothing ! $ move ! (2 ∷ 0 ∷ []) $ fjoin ! $ feq_i ! (List Val) (vnull ∷ []) (ptr_val null_ptr ∷ []) refl $ fjoin ! $ feq_i ! (List Val) (w ∷ []) (w ∷ []) refl $ fjoin ! $
-      fpack ! (Valss (RawPtr ∷ Heap.the_field.row ∷ [])) (within (shape (the_type (R F))) (to (the_type (R F)) made) (w ∷ [])) (vnull ∷ [], (hv ∷ [], tt)) $ fjoin ! $
+      nothing ! $ move ! (2 ∷ 0 ∷ []) $ fjoin ! $ feq_i ! (List Val) (vnull ∷ []) (ptr_val null_ptr ∷ []) refl $ fjoin !
+      $ feq_i ! (List Val) (w ∷ []) (w ∷ []) refl $ fjoin ! $
+      fpack ! (Valss (RawPtr ∷ Heap.the_field.row ∷ []))
+      (within (shape (the_type (R F))) (to (the_type (R F)) made) (w ∷ [])) (vnull ∷ [], (hv ∷ [], tt)) $ fjoin ! $
       use1 𝓛 (‵ ((OwnerRow F).own_val made (w ∷ []))) (id⊢ 𝓤 _) $
       let Γ : List (Item 𝓤) = ‵ ((OwnerRow F).own_val made (w ∷ [])) ∷ [] in
       by ! (subst (λ (us : List Val). ent 𝓤 (types.Kit.⋆ 𝓛 Γ) (WpFn 𝓤 H 𝓣.C 𝓣.Λ (fn' F) (us ++ []) Post)) (sym ea)
@@ -85,4 +94,6 @@ pub empty_spec : {M : Type 1} → stated.statement M
 unfolding tables_of
 empty_spec 𝓤 𝓛 𝓜 𝓡 wired X L y =
     let F : El = record { row = X; laws = L } in
-    spares 𝓛 𝓜 𝓡 (ended F) (stayed F) (spec F 𝓤) (Goes-dropped 𝓛 0 From yes (λ κs x f. refl), tt) 1 (X.lives, tt) (#self (args F)) (fn' F) (code.unfolded 𝓤 𝓛.H 𝓜 𝓡 wired (X, tt)) (walk F 𝓛 (tables_of 𝓤 𝓛.H 𝓜 (tables 𝓤 𝓛.H 𝓜 𝓡 𝓡.env))) ((y.0.0, y.0.1, tt, y.0.3, y.0.4), y.1)
+    spares 𝓛 𝓜 𝓡 (ended F) (stayed F) (spec F 𝓤) (Goes-dropped 𝓛 0 From yes (λ κs x f. refl), tt) 1 (X.lives, tt)
+    (#self (args F)) (fn' F) (code.unfolded 𝓤 𝓛.H 𝓜 𝓡 wired (X, tt))
+    (walk F 𝓛 (tables_of 𝓤 𝓛.H 𝓜 (tables 𝓤 𝓛.H 𝓜 𝓡 𝓡.env))) ((y.0.0, y.0.1, tt, y.0.3, y.0.4), y.1)

@@ -35,31 +35,43 @@ module _ (F : El) where
   fn' = inst_fn (args F) code.function
 
   abbrev ended : Ended
-  ended = record { signature = record { lifetimes = 0; outlives = []; params = From F ∷ []; result = To F }; kept = (no, tt) }
+  ended = record {
+    signature = record { lifetimes = 0; outlives = []; params = From F ∷ []; result = To F };
+    kept = (no, tt);
+  }
 
   abbrev stayed : Stays ended.signature.params ended.kept
   stayed = (stay_dropped (From F) no, tt)
 
   abbrev spec : {M : Type 1} (𝓤 : Ura M) → Clauses 𝓤 ended
-  spec 𝓤 κs a = record { ghost = Unit {0}; requires = λ _. emp 𝓤; ensures = λ _ r _. fact 𝓤 (r.member ≡ Some a.0.value) }
+  spec 𝓤 κs a =
+      record { ghost = Unit {0}; requires = λ _. emp 𝓤; ensures = λ _ r _. fact 𝓤 (r.member ≡ Some a.0.value) }
 
 module _ (F : El) {M : Type 1} {𝓤 : Ura M} (𝓛 : Logic 𝓤) (𝓣 : Tables 𝓤 𝓛.H) where
   open 𝓛 use {H}
 
   walk : (z : (walk_of 𝓛 (ended F) (stayed F) (spec F 𝓤)).Ghost)
-      → ent 𝓤 ((walk_of 𝓛 (ended F) (stayed F) (spec F 𝓤)).pre z) (WpFn 𝓤 H 𝓣.C 𝓣.Λ (fn' F) (z.0.4.0 ++ []) ((walk_of 𝓛 (ended F) (stayed F) (spec F 𝓤)).post z))
+      → ent 𝓤 ((walk_of 𝓛 (ended F) (stayed F) (spec F 𝓤)).pre z)
+      (WpFn 𝓤 H 𝓣.C 𝓣.Λ (fn' F) (z.0.4.0 ++ []) ((walk_of 𝓛 (ended F) (stayed F) (spec F 𝓤)).post z))
   walk z =
       let Post = (walk_of 𝓛 (ended F) (stayed F) (spec F 𝓤)).post z in
       let v : D (E F) = record { ptr = z.0.3.0.ptr; alloc = z.0.3.0.alloc; value = z.0.3.0.value } in
       let made : (OwnerRow F).Denot = record { ptr = v.ptr; alloc = v.alloc; member = Some v.value } in
-      qed 𝓛 ((‵ ftrue ⊛ ‵ (fsep ((B (E F)).own_val v z.0.4.0) ftrue)) ∷ raw (emp 𝓤) ∷ []) ∵ split ! $ drop ! $ fsplit ! $
-      box_out (E F) ! v z.0.4.0 (λ b o hv e ws fa. box_in (E F) ! v b o v.value e refl $ use1 𝓛 (‵ ((OwnerRow F).own_val made (word (E F) hv b o ∷ []))) (id⊢ 𝓤 _) $ move ! (1 ∷ 2 ∷ []) $ drop ! $ drop ! $
+      qed 𝓛 ((‵ ftrue ⊛ ‵ (fsep ((B (E F)).own_val v z.0.4.0) ftrue)) ∷ raw (emp 𝓤) ∷ []) ∵ split ! $ drop ! $ fsplit !
+      $
+      box_out (E F) ! v z.0.4.0
+      (λ b o hv e ws fa.
+      box_in (E F) ! v b o v.value e refl $ use1 𝓛 (‵ ((OwnerRow F).own_val made (word (E F) hv b o ∷ []))) (id⊢ 𝓤 _) $
+      move ! (1 ∷ 2 ∷ []) $ drop ! $ drop ! $
       let w = word (E F) hv b o in
       let Γ : List (Item 𝓤) = ‵ ((OwnerRow F).own_val made (w ∷ [])) ∷ [] in
       by ! (subst (λ (us : List Val). ent 𝓤 (types.Kit.⋆ 𝓛 Γ) (WpFn 𝓤 H 𝓣.C 𝓣.Λ (fn' F) (us ++ []) Post)) (sym ws)
-      (qed 𝓛 Γ ∵ enter ! 𝓣.C 𝓣.Λ (fn' F) (w ∷ []) _ $ alloc_all ! (λ ls. pass_all ! refl (box_typed (E F) hv b o fa, tt) $
-      sets ! (of_opd ! (get_in ! (fld ! refl (stop !)) (sub ! 0 refl (whole !)))) refl (tt, tt) $ sets ! (of_opd ! (get_in ! (fld ! refl (stop !)) (sub ! 1 refl (whole !)))) refl fa $
-      sets ! (agg ! (and_then ! (get ! refl) (and_then ! (get ! refl) (no_more !)))) refl (box_typed (E F) hv b o fa) $ returns ! (look_at ! 0 refl) $ free_all ! refl $
+      (qed 𝓛 Γ ∵ enter ! 𝓣.C 𝓣.Λ (fn' F) (w ∷ []) _ $ alloc_all !
+      (λ ls. pass_all ! refl (box_typed (E F) hv b o fa, tt) $
+      sets ! (of_opd ! (get_in ! (fld ! refl (stop !)) (sub ! 0 refl (whole !)))) refl (tt, tt) $ sets !
+      (of_opd ! (get_in ! (fld ! refl (stop !)) (sub ! 1 refl (whole !)))) refl fa $
+      sets ! (agg ! (and_then ! (get ! refl) (and_then ! (get ! refl) (no_more !)))) refl (box_typed (E F) hv b o fa) $
+      returns ! (look_at ! 0 refl) $ free_all ! refl $
       suffices ! _ (ends_at 𝓛 (ended F) (stayed F) (spec F 𝓤) z w made (tt, tt) (tt, tt)) $ says ! refl $
       nothing ! $ nothing ! $ fjoin ! $ join ! $ nothing ! $ join ! $ done !))))
 
@@ -67,4 +79,6 @@ pub of_parts_spec : {M : Type 1} → stated.statement M
 unfolding tables_of
 of_parts_spec 𝓤 𝓛 𝓜 𝓡 wired X L y =
     let F : El = record { row = X; laws = L } in
-    spares 𝓛 𝓜 𝓡 (ended F) (stayed F) (spec F 𝓤) (Goes-blank 𝓛 0 (From F) no (λ κs x f. tt), tt) 1 (X.lives, tt) (#self (args F)) (fn' F) (code.unfolded 𝓤 𝓛.H 𝓜 𝓡 wired (X, tt)) (walk F 𝓛 (tables_of 𝓤 𝓛.H 𝓜 (tables 𝓤 𝓛.H 𝓜 𝓡 𝓡.env))) ((y.0.0, y.0.1, tt, y.0.3, y.0.4), y.1)
+    spares 𝓛 𝓜 𝓡 (ended F) (stayed F) (spec F 𝓤) (Goes-blank 𝓛 0 (From F) no (λ κs x f. tt), tt) 1 (X.lives, tt)
+    (#self (args F)) (fn' F) (code.unfolded 𝓤 𝓛.H 𝓜 𝓡 wired (X, tt))
+    (walk F 𝓛 (tables_of 𝓤 𝓛.H 𝓜 (tables 𝓤 𝓛.H 𝓜 𝓡 𝓡.env))) ((y.0.0, y.0.1, tt, y.0.3, y.0.4), y.1)

@@ -13,13 +13,17 @@ confirm_look_up-outcome-requires-clause-held g c =
     let p = c.args.self.now.at.stepper.now.trace in
     let P : Held → Type 0 = IsUnmarked (knows p) in
     subst P (sym c.told_by-present.ensures.held)
-    (record { held = sight_held p.start (knows p) c.args.self.now.key c.args.sight c.requires.sight; unmarked = sight_unmarked p.start (knows p) c.args.self.now.key c.args.sight c.requires.sight })
+    (record {
+      held = sight_held p.start (knows p) c.args.self.now.key c.args.sight c.requires.sight;
+      unmarked = sight_unmarked p.start (knows p) c.args.self.now.key c.args.sight c.requires.sight;
+    })
 
 pub confirm_look_up-outcome-requires-clause-decides : goal.confirm_look_up-outcome-requires-clause-decides
 confirm_look_up-outcome-requires-clause-decides g c =
     let p = c.args.self.now.at.stepper.now.trace in
     let P : Held × Bool → Type 0 = λ x. DecidesKey p.start (knows p) c.args.self.now.key x.0 x.1 in
-    subst P (λ i. (sym c.told_by-present.ensures.held i, sym c.told_by-present.ensures.present i)) (sight_answers p.start (knows p) c.args.self.now.key c.args.sight c.requires.sight)
+    subst P (λ i. (sym c.told_by-present.ensures.held i, sym c.told_by-present.ensures.present i))
+    (sight_answers p.start (knows p) c.args.self.now.key c.args.sight c.requires.sight)
 
 pub returns-in-Ok-clause-settles : goal.returns-in-Ok-clause-settles
 returns-in-Ok-clause-settles g c =
@@ -52,4 +56,8 @@ returns-in-Err-clause-rolls g c =
     let q = c.confirm_look_up-outcome.new.at.stepper.now.trace in
     let lost = c.in-Err.ensures.lost in
     let P : Held → Type 0 = LosesHeld p q in
-    record { quiet = lost.quiet; adds_none = lost.adds_none; loses = subst P c.told_by-present.ensures.held (loses_link c.told_by-present.result.0 _ lost.lost) }
+    record {
+      quiet = lost.quiet;
+      adds_none = lost.adds_none;
+      loses = subst P c.told_by-present.ensures.held (loses_link c.told_by-present.result.0 _ lost.lost);
+    }

@@ -13,7 +13,8 @@ confirm_absent-requires-clause-gap g c =
     record {
       held = search rules;
       behind = search rules;
-      before = before_named (knows c.args.self.now.at.stepper.now.trace) c.args.self.now.key f.pred f.cur f.present c.requires.locates.end c.if-not-found.true;
+      before = before_named (knows c.args.self.now.at.stepper.now.trace) c.args.self.now.key f.pred f.cur f.present
+          c.requires.locates.end c.if-not-found.true;
       unmarked = search rules;
     }
 
@@ -26,19 +27,35 @@ confirm_present-requires-clause-asked g c = λ get. absurd (cc)
 pub returns-then-not-found-clause-made : goal.returns-then-not-found-clause-made
 returns-then-not-found-clause-made g c =
     let p = c.args.self.now.at.stepper.now.trace in
-    let P : Bool → Type 0 = λ present. IfOk c.confirm_absent.result (λ _. Made (set_call p.who (denied present) c.args.self.now.key false) p c.confirm_absent.new.at.stepper.now.trace) in
-    subst P (sym c.if-not-found.true) (on_ok c.confirm_absent.result (λ answers. answers.made) c.confirm_absent.ensures.answers)
+    let P : Bool → Type 0 =
+    λ present. IfOk c.confirm_absent.result
+    (λ _. Made (set_call p.who (denied present) c.args.self.now.key false) p
+    c.confirm_absent.new.at.stepper.now.trace) in
+    subst P (sym c.if-not-found.true)
+    (on_ok c.confirm_absent.result (λ answers. answers.made) c.confirm_absent.ensures.answers)
 
 pub returns-clause-made : goal.returns-clause-made
 returns-clause-made g c =
     let f = c.args.found.now in
     let p = c.args.self.now.at.stepper.now.trace in
-    let key = key_found (knows p) c.args.self.now.key f.pred c.in-Some.cur f.cur f.present c.requires.locates.end c.in-Some.is c.if-not-found.false in
-    let P : Bool → Type 0 = λ present. IfOk c.confirm_present.result (λ _. Made (set_call p.who (denied present) c.args.self.now.key false) p c.confirm_present.new.at.stepper.now.trace) in
-    subst P (sym c.if-not-found.false) (on_ok c.confirm_present.result (λ answers. (answers.answers c.args.self.now.key 0 key (λ get. absurd (cc))).made) c.confirm_present.ensures.answers)
+    let key = key_found (knows p) c.args.self.now.key f.pred c.in-Some.cur f.cur f.present c.requires.locates.end
+    c.in-Some.is c.if-not-found.false in
+    let P : Bool → Type 0 =
+    λ present. IfOk c.confirm_present.result
+    (λ _. Made (set_call p.who (denied present) c.args.self.now.key false) p
+    c.confirm_present.new.at.stepper.now.trace) in
+    subst P (sym c.if-not-found.false)
+    (on_ok c.confirm_present.result (λ answers. (answers.answers c.args.self.now.key 0 key (λ get. absurd (cc))).made)
+    c.confirm_present.ensures.answers)
 
 pub returns-then-not-found-clause-rolls : goal.returns-then-not-found-clause-rolls
-returns-then-not-found-clause-rolls g c = each_error (FindsAnother c.args.self.now.at.stepper.now.trace c.confirm_absent.new.at.stepper.now.trace c.args.found.now.pred) _ c.confirm_absent.result (unanswered_by_pred c.law.ensures c.args.found.now) c.confirm_absent.ensures.lost
+returns-then-not-found-clause-rolls g c =
+    each_error (FindsAnother c.args.self.now.at.stepper.now.trace c.confirm_absent.new.at.stepper.now.trace
+    c.args.found.now.pred) _ c.confirm_absent.result (unanswered_by_pred c.law.ensures c.args.found.now)
+    c.confirm_absent.ensures.lost
 
 pub returns-clause-rolls : goal.returns-clause-rolls
-returns-clause-rolls g c = each_error (FindsAnother c.args.self.now.at.stepper.now.trace c.confirm_present.new.at.stepper.now.trace c.in-Some.cur) _ c.confirm_present.result (unanswered_by_cur c.law.ensures c.args.found.now c.in-Some.cur c.in-Some.is) c.confirm_present.ensures.lost
+returns-clause-rolls g c =
+    each_error (FindsAnother c.args.self.now.at.stepper.now.trace c.confirm_present.new.at.stepper.now.trace
+    c.in-Some.cur) _ c.confirm_present.result
+    (unanswered_by_cur c.law.ensures c.args.found.now c.in-Some.cur c.in-Some.is) c.confirm_present.ensures.lost

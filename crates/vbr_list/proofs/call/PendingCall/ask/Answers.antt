@@ -9,17 +9,20 @@ use Rattle.vbr_list.proofs.Wants.{compare_few}
 use Rattle.vbr_list.proofs.call.PendingCall.ask.Goals as goal
 
 pub returns-in_err-there-clause-asks : goal.returns-in_err-there-clause-asks
-returns-in_err-there-clause-asks g c = let r = c.read_found.ensures in asks_read c.args.found.now.present r.call r.used r.reads
+returns-in_err-there-clause-asks g c =
+    let r = c.read_found.ensures in asks_read c.args.found.now.present r.call r.used r.reads
 
 pub returns-in_err-there-clause-lost : goal.returns-in_err-there-clause-lost
 returns-in_err-there-clause-lost g c =
     let r = c.read_found.ensures in
     let lost = c.in_err-there.ensures.lost in
     let used = rw lost.present at r.used in
-    any_error c.from_residual.result (λ rollback. record { quiet = r.reads.quiet; loses = lost.loses; more = omega (arith, used) })
+    any_error c.from_residual.result
+    (λ rollback. record { quiet = r.reads.quiet; loses = lost.loses; more = omega (arith, used) })
 
 pub returns-then-wants-clause-asks : goal.returns-then-wants-clause-asks
-returns-then-wants-clause-asks g c = let r = c.read_found.ensures in asks_read c.args.found.now.present r.call r.used r.reads
+returns-then-wants-clause-asks g c =
+    let r = c.read_found.ensures in asks_read c.args.found.now.present r.call r.used r.reads
 
 pub returns-then-wants-clause-met : goal.returns-then-wants-clause-met
 returns-then-wants-clause-met g c =
@@ -27,7 +30,8 @@ returns-then-wants-clause-met g c =
     let reads = c.in_ok-there.ensures.found in
     let is : wants c.args.wanted c.in_ok-there.there ≡ true = sym c.wants.ensures ∙ c.if-wants.true in
     let used = r.used in
-    let few = compare_few (knows c.read_found.new.self.at.stepper.now.trace) c.args.found.now c.args.wanted c.in_ok-there.there c.requires.open is reads.known.is in
+    let few = compare_few (knows c.read_found.new.self.at.stepper.now.trace) c.args.found.now c.args.wanted
+    c.in_ok-there.there c.requires.open is reads.known.is in
     (c.in_ok-there.there, record { quiet = r.reads.quiet; reads = reads; is = is; few = omega (arith, used, few) })
 
 pub returns-in_err-tell_found-clause-asks : goal.returns-in_err-tell_found-clause-asks
@@ -43,10 +47,18 @@ returns-in_err-tell_found-clause-lost g c =
     let r = c.read_found.ensures in
     let quiet = r.reads.quiet in
     let lost = c.in_err-tell_found.ensures.lost in
-    let none : ChangesNone p q = unchanged_by_none c.law.ensures.start (run_at p q quiet.same (quiet.is_run c.law.ensures.is_run)) quiet.same quiet.seen r.reads.adds_none in
+    let none : ChangesNone p q =
+    unchanged_by_none c.law.ensures.start (run_at p q quiet.same (quiet.is_run c.law.ensures.is_run)) quiet.same
+    quiet.seen r.reads.adds_none in
     let used = r.used in
     let one = c.tell_found.ensures.used in
-    any_error c.from_residual-in_err-tell_found.result (λ rollback. record { quiet = quiet_on quiet lost.quiet; loses = found_lost_since c.args.found.now quiet c.in_ok-there.ensures.found.keeps none lost.loses; more = omega (arith, used, one) })
+    any_error c.from_residual-in_err-tell_found.result
+    (λ rollback.
+    record {
+      quiet = quiet_on quiet lost.quiet;
+      loses = found_lost_since c.args.found.now quiet c.in_ok-there.ensures.found.keeps none lost.loses;
+      more = omega (arith, used, one);
+    })
 
 pub returns-clause-asks : goal.returns-clause-asks
 returns-clause-asks g c =
@@ -57,4 +69,9 @@ returns-clause-asks g c =
 pub returns-clause-met : goal.returns-clause-met
 returns-clause-met g c =
     let r = c.read_found.ensures in
-    record { told = tells_since c.args.self.now c.read_found.new.self c.tell_found.new.self c.in_ok-there.there r.call.key r.reads.quiet c.in_ok-tell_found.ensures.told; is_not = sym c.wants.ensures ∙ c.if-wants.false }
+    record {
+      told =
+          tells_since c.args.self.now c.read_found.new.self c.tell_found.new.self c.in_ok-there.there r.call.key
+          r.reads.quiet c.in_ok-tell_found.ensures.told;
+      is_not = sym c.wants.ensures ∙ c.if-wants.false;
+    }

@@ -29,7 +29,10 @@ returns-in-Ok-clause-answers g c =
     let q = c.confirm_absent-outcome.new.at.stepper.now.trace in
     let answers = c.in-Ok.ensures.answers in
     let same = told_bare p.start p.who Get c.args.self.now.key false in
-    record { made = subst (λ (call : Call). Made call p q) same answers.made; adds = subst (λ (call : Call). AddsAnswer call p q) same answers.adds }
+    record {
+      made = subst (λ (call : Call). Made call p q) same answers.made;
+      adds = subst (λ (call : Call). AddsAnswer call p q) same answers.adds;
+    }
 
 pub returns-in-Err-clause-rolls : goal.returns-in-Err-clause-rolls
 returns-in-Err-clause-rolls g c =

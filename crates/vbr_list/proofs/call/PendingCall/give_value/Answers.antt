@@ -1,5 +1,6 @@
 use Rattle.vbr_list.proofs.Names.{refl, ◌≡◌, Some, rules, arith, sym, ap, ◌∙◌, subst}
-use Rattle.vbr_list.proofs.Names.{adds_on, AddsAnswer, answer_on, Call, Get, held_kept, knows, loads_on, quiet_on, Start}
+use Rattle.vbr_list.proofs.Names.{adds_on, AddsAnswer, answer_on, Call, Get, held_kept, knows, loads_on, quiet_on}
+use Rattle.vbr_list.proofs.Names.{Start}
 use Rattle.vbr_list.specs.Told.{given_call, given_in}
 use Rattle.vbr_list.specs.Budgets.{steps_to_value_of, steps_where}
 use Rattle.vbr_list.proofs.Going.{goes_counted}
@@ -15,13 +16,18 @@ pub value_if_any-read-requires-clause-held : goal.value_if_any-read-requires-cla
 value_if_any-read-requires-clause-held g c = c.requires.sight.0
 
 pub value_if_any-read-requires-clause-slot : goal.value_if_any-read-requires-clause-slot
-value_if_any-read-requires-clause-slot g c = keyed_slot (knows c.args.self.now.at.stepper.now.trace) c.args.node.now.at c.args.self.now.key c.requires.sight.2
+value_if_any-read-requires-clause-slot g c =
+    keyed_slot (knows c.args.self.now.at.stepper.now.trace) c.args.node.now.at c.args.self.now.key c.requires.sight.2
 
 pub confirm_present-outcome-requires-clause-node : goal.confirm_present-outcome-requires-clause-node
 confirm_present-outcome-requires-clause-node g c =
     let s = c.requires.sight in
     let keeps = c.in_ok-value.ensures.value.keeps in
-    record { held = held_kept c.args.node.now keeps s.0; key = (c.args.self.now.key, key_kept c.args.node.now.at c.args.self.now.key keeps s.2); unmarked = s.1 }
+    record {
+      held = held_kept c.args.node.now keeps s.0;
+      key = (c.args.self.now.key, key_kept c.args.node.now.at c.args.self.now.key keeps s.2);
+      unmarked = s.1;
+    }
 
 pub confirm_present-outcome-requires-clause-op : goal.confirm_present-outcome-requires-clause-op
 confirm_present-outcome-requires-clause-op g c = λ e. absurd (cc)
@@ -35,45 +41,67 @@ pub returns-in_err-value-clause-settles : goal.returns-in_err-value-clause-settl
 returns-in_err-value-clause-settles g c =
     let reads = c.value_if_any-read.ensures.reads in
     let steps = steps_read c.steps_to_value_of.ensures c.value_if_any-read.new.at.own.1 reads.quiet.same.start in
-    let first = goes_counted c.args.self.now.used c.steps_to_value_of.result (steps_to_value_of c.args.self.now.at.stepper.now.trace.start) steps reads in
+    let first = goes_counted c.args.self.now.used c.steps_to_value_of.result
+    (steps_to_value_of c.args.self.now.at.stepper.now.trace.start) steps reads in
     let two = steps ∙ ap steps_where c.requires.values in
     record { call = search rules; counts = first.counts; hand = first.hand; more = omega (arith, two) }
 
 pub returns-in_err-value-clause-few : goal.returns-in_err-value-clause-few
 returns-in_err-value-clause-few g c =
     let reads = c.value_if_any-read.ensures.reads in
-    let two = steps_read c.steps_to_value_of.ensures c.value_if_any-read.new.at.own.1 reads.quiet.same.start ∙ ap steps_where c.requires.values in
+    let two = steps_read c.steps_to_value_of.ensures c.value_if_any-read.new.at.own.1 reads.quiet.same.start
+    ∙ ap steps_where c.requires.values in
     omega (arith, two)
 
 pub returns-in_err-value-clause-rolls : goal.returns-in_err-value-clause-rolls
 returns-in_err-value-clause-rolls g c =
     let reads = c.value_if_any-read.ensures.reads in
     let lost = c.in_err-value.ensures.moved in
-    any_error c.from_residual.result (λ rollback. record { quiet = reads.quiet; adds_none = reads.adds_none; loses = loses_value c.args.node.now _ lost.rolls })
+    any_error c.from_residual.result
+    (λ rollback.
+    record { quiet = reads.quiet; adds_none = reads.adds_none; loses = loses_value c.args.node.now _ lost.rolls })
 
 pub returns-in-Ok-clause-settles : goal.returns-in-Ok-clause-settles
 returns-in-Ok-clause-settles g c =
     let reads = c.value_if_any-read.ensures.reads in
     let keeps = c.confirm_present-outcome.ensures.keeps.keeps in
-    settles_read (search rules) refl (steps_read c.steps_to_value_of.ensures c.value_if_any-read.new.at.own.1 reads.quiet.same.start) reads keeps.took keeps.own keeps.takes_no_slot
+    settles_read (search rules) refl
+    (steps_read c.steps_to_value_of.ensures c.value_if_any-read.new.at.own.1 reads.quiet.same.start) reads keeps.took
+    keeps.own keeps.takes_no_slot
 
 pub returns-in-Err-clause-settles : goal.returns-in-Err-clause-settles
 returns-in-Err-clause-settles g c =
     let reads = c.value_if_any-read.ensures.reads in
     let keeps = c.confirm_present-outcome.ensures.keeps.keeps in
-    settles_read (search rules) refl (steps_read c.steps_to_value_of.ensures c.value_if_any-read.new.at.own.1 reads.quiet.same.start) reads keeps.took keeps.own keeps.takes_no_slot
+    settles_read (search rules) refl
+    (steps_read c.steps_to_value_of.ensures c.value_if_any-read.new.at.own.1 reads.quiet.same.start) reads keeps.took
+    keeps.own keeps.takes_no_slot
 
 pub returns-in-Ok-clause-few : goal.returns-in-Ok-clause-few
-returns-in-Ok-clause-few g c = omega (arith, steps_read c.steps_to_value_of.ensures c.value_if_any-read.new.at.own.1 c.value_if_any-read.ensures.reads.quiet.same.start, few_to_value c.args.self.now.at.stepper.now.trace.start)
+returns-in-Ok-clause-few g c =
+    omega (
+      arith,
+      steps_read c.steps_to_value_of.ensures c.value_if_any-read.new.at.own.1
+          c.value_if_any-read.ensures.reads.quiet.same.start,
+      few_to_value c.args.self.now.at.stepper.now.trace.start,
+    )
 
 pub returns-in-Err-clause-few : goal.returns-in-Err-clause-few
-returns-in-Err-clause-few g c = omega (arith, steps_read c.steps_to_value_of.ensures c.value_if_any-read.new.at.own.1 c.value_if_any-read.ensures.reads.quiet.same.start, few_to_value c.args.self.now.at.stepper.now.trace.start)
+returns-in-Err-clause-few g c =
+    omega (
+      arith,
+      steps_read c.steps_to_value_of.ensures c.value_if_any-read.new.at.own.1
+          c.value_if_any-read.ensures.reads.quiet.same.start,
+      few_to_value c.args.self.now.at.stepper.now.trace.start,
+    )
 
 pub returns-in-Ok-clause-only_loads : goal.returns-in-Ok-clause-only_loads
-returns-in-Ok-clause-only_loads g c = loads_on c.value_if_any-read.ensures.reads.only_loads c.confirm_present-outcome.ensures.keeps.only_loads
+returns-in-Ok-clause-only_loads g c =
+    loads_on c.value_if_any-read.ensures.reads.only_loads c.confirm_present-outcome.ensures.keeps.only_loads
 
 pub returns-in-Err-clause-only_loads : goal.returns-in-Err-clause-only_loads
-returns-in-Err-clause-only_loads g c = loads_on c.value_if_any-read.ensures.reads.only_loads c.confirm_present-outcome.ensures.keeps.only_loads
+returns-in-Err-clause-only_loads g c =
+    loads_on c.value_if_any-read.ensures.reads.only_loads c.confirm_present-outcome.ensures.keeps.only_loads
 
 pub returns-in-Ok-clause-answers : goal.returns-in-Ok-clause-answers
 returns-in-Ok-clause-answers g c =
@@ -84,12 +112,16 @@ returns-in-Ok-clause-answers g c =
     let key = c.args.self.now.key in
     let value = c.in_ok-value.value in
     let at = key_kept c.args.node.now.at key c.in_ok-value.ensures.value.keeps c.requires.sight.2 in
-    let answers = c.in-Ok.ensures.answers.answers key value at (λ get. c.in_ok-value.ensures.value.value c.requires.values) in
-    let told : given_call p.who Get key (Some value) ≡ given_in p Get key (Some value) = sym (given_kept p Get key c.requires.values (Some value)) in
-    let first : given_call q.who Get key (Some value) ≡ given_call p.who Get key (Some value) = λ i. given_call (reads.quiet.same.who i) Get key (Some value) in
+    let answers =
+    c.in-Ok.ensures.answers.answers key value at (λ get. c.in_ok-value.ensures.value.value c.requires.values) in
+    let told : given_call p.who Get key (Some value) ≡ given_in p Get key (Some value) =
+    sym (given_kept p Get key c.requires.values (Some value)) in
+    let first : given_call q.who Get key (Some value) ≡ given_call p.who Get key (Some value) =
+    λ i. given_call (reads.quiet.same.who i) Get key (Some value) in
     record {
       made = told_since reads.quiet (first ∙ told) answers.made;
-      adds = subst (λ (call : Call). AddsAnswer call p r) told (answer_on (λ who. given_call who Get key (Some value)) reads.quiet.same reads.adds_none answers.adds);
+      adds = subst (λ (call : Call). AddsAnswer call p r) told
+          (answer_on (λ who. given_call who Get key (Some value)) reads.quiet.same reads.adds_none answers.adds);
     }
 
 pub returns-in-Err-clause-rolls : goal.returns-in-Err-clause-rolls
@@ -99,5 +131,6 @@ returns-in-Err-clause-rolls g c =
     record {
       quiet = quiet_on reads.quiet lost.quiet;
       adds_none = adds_on reads.adds_none lost.adds_none;
-      loses = loses_later c.args.node.now reads.quiet c.in_ok-value.ensures.value.keeps (loses_link c.args.node.now _ lost.lost);
+      loses = loses_later c.args.node.now reads.quiet c.in_ok-value.ensures.value.keeps
+          (loses_link c.args.node.now _ lost.lost);
     }

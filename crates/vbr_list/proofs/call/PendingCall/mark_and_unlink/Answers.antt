@@ -1,5 +1,6 @@
 use Rattle.vbr_list.proofs.Names.{refl, ◌≡◌, ◌+◌, ℕ, true, false, Option, Some, rules, arith, sym, ap, ◌∙◌, subst, inl, inr, ◌⊎◌}
-use Rattle.vbr_list.proofs.Names.{At, counts_on, Get, Held, held_kept, KeyAt, knows, made_then, Names, no_room, quiet_on, Remove, Start, unchanged_by_none}
+use Rattle.vbr_list.proofs.Names.{At, counts_on, Get, Held, held_kept, KeyAt, knows, made_then, Names, no_room}
+use Rattle.vbr_list.proofs.Names.{quiet_on, Remove, Start, unchanged_by_none}
 use Rattle.vbr_list.specs.Pieces.{Goes}
 use Rattle.vbr_list.specs.Told.{given_call}
 use Rattle.vbr_list.specs.Removing.{RemovesLate, RemovesSoon}
@@ -17,45 +18,62 @@ use Rattle.vbr_list.proofs.ReadFirst.{found_lost_since}
 use Rattle.vbr_list.proofs.Reaching.{key_kept, pred_on, slot_same}
 use Rattle.vbr_list.proofs.Sufficing.{any_error}
 use Rattle.vbr_list.proofs.Told.{given_kept, given_same, told_as, told_since}
-use Rattle.vbr_list.proofs.ValueReads.{cur_is, few_to_value, read_then_step, settles_read, slot_at, steps_read, valued_since}
+use Rattle.vbr_list.proofs.ValueReads.{cur_is, few_to_value, read_then_step, settles_read, slot_at, steps_read}
+use Rattle.vbr_list.proofs.ValueReads.{valued_since}
 use Rattle.vbr_list.proofs.call.PendingCall.mark_and_unlink.Goals as goal
 
 pub value_if_any-read-requires-clause-held : goal.value_if_any-read-requires-clause-held
 value_if_any-read-requires-clause-held g c =
     let f = c.args.found.now in
-    (cur_is (knows c.args.self.now.at.stepper.now.trace) c.args.self.now.key f.pred c.in-Some.cur f.cur f.present c.requires.locates.end c.in-Some.is).held
+    (cur_is (knows c.args.self.now.at.stepper.now.trace) c.args.self.now.key f.pred c.in-Some.cur f.cur f.present
+    c.requires.locates.end c.in-Some.is).held
 
 pub value_if_any-read-requires-clause-slot : goal.value_if_any-read-requires-clause-slot
 value_if_any-read-requires-clause-slot g c =
     let f = c.args.found.now in
-    slot_at (cur_is (knows c.args.self.now.at.stepper.now.trace) c.args.self.now.key f.pred c.in-Some.cur f.cur f.present c.requires.locates.end c.in-Some.is)
+    slot_at (cur_is (knows c.args.self.now.at.stepper.now.trace) c.args.self.now.key f.pred c.in-Some.cur f.cur
+    f.present c.requires.locates.end c.in-Some.is)
 
 pub mark-outcome-requires-clause-node : goal.mark-outcome-requires-clause-node
 mark-outcome-requires-clause-node g c =
     let f = c.args.found.now in
-    let y = cur_is (knows c.args.self.now.at.stepper.now.trace) c.args.self.now.key f.pred c.in-Some.cur f.cur f.present c.requires.locates.end c.in-Some.is in
+    let y = cur_is (knows c.args.self.now.at.stepper.now.trace) c.args.self.now.key f.pred c.in-Some.cur f.cur f.present
+    c.requires.locates.end c.in-Some.is in
     let keeps = c.in_ok-value.ensures.value.keeps in
-    let there = key_found_since c.args.self.now.key f.pred c.in-Some.cur f.cur f.present keeps c.requires.locates.end c.in-Some.is c.requires.present in
+    let there = key_found_since c.args.self.now.key f.pred c.in-Some.cur f.cur f.present keeps c.requires.locates.end
+    c.in-Some.is c.requires.present in
     record { held = held_kept c.in-Some.cur keeps y.held; key = (c.args.self.now.key, there); unmarked = y.unmarked }
 
 pub mark-outcome-requires-clause-valued : goal.mark-outcome-requires-clause-valued
-mark-outcome-requires-clause-valued g c = λ has. (c.in_ok-value.value, valued_since c.value_if_any-read.ensures.reads.quiet.same c.in_ok-value.ensures.value.value has)
+mark-outcome-requires-clause-valued g c = λ has. (
+  c.in_ok-value.value,
+  valued_since c.value_if_any-read.ensures.reads.quiet.same c.in_ok-value.ensures.value.value has,
+)
 
 pub unlink_marked-requires-clause-marked : goal.unlink_marked-requires-clause-marked
 unlink_marked-requires-clause-marked g c =
     let f = c.args.found.now in
-    let y = cur_is (knows c.args.self.now.at.stepper.now.trace) c.args.self.now.key f.pred c.in-Some.cur f.cur f.present c.requires.locates.end c.in-Some.is in
+    let y = cur_is (knows c.args.self.now.at.stepper.now.trace) c.args.self.now.key f.pred c.in-Some.cur f.cur f.present
+    c.requires.locates.end c.in-Some.is in
     let keeps = c.in_ok-value.ensures.value.keeps in
-    let there = key_found_since c.args.self.now.key f.pred c.in-Some.cur f.cur f.present keeps c.requires.locates.end c.in-Some.is c.requires.present in
+    let there = key_found_since c.args.self.now.key f.pred c.in-Some.cur f.cur f.present keeps c.requires.locates.end
+    c.in-Some.is c.requires.present in
     let same = c.value_if_any-read.ensures.reads.quiet.same in
-    let made = c.in_ok-marked.ensures.removed.made c.args.self.now.key c.in_ok-value.value there (valued_since same c.in_ok-value.ensures.value.value) in
+    let made = c.in_ok-marked.ensures.removed.made c.args.self.now.key c.in_ok-value.value there
+    (valued_since same c.in_ok-value.ensures.value.value) in
     let mark = c.mark-outcome.ensures.keeps in
     let removed = c.in_ok-marked.ensures.removed in
-    let pred = pred_on c.args.self.now.key f.pred made.same mark.keeps (pred_on c.args.self.now.key f.pred same keeps c.requires.locates.pred) in
+    let pred = pred_on c.args.self.now.key f.pred made.same mark.keeps
+    (pred_on c.args.self.now.key f.pred same keeps c.requires.locates.pred) in
     let P : At → Type 0 = λ at. KeyAt (knows c.mark-outcome.new.at.stepper.now.trace) at c.args.self.now.key in
     let Q : ℕ → Type 0 = Names f.pred in
     record {
-      may = record { held = pred.held; unmarked = pred.unmarked; marked = removed.held; names = subst Q (slot_same c.in_ok-marked.marked.slot y.slot (removed.at ∙ y.at)) y.named };
+      may = record {
+        held = pred.held;
+        unmarked = pred.unmarked;
+        marked = removed.held;
+        names = subst Q (slot_same c.in_ok-marked.marked.slot y.slot (removed.at ∙ y.at)) y.named;
+      };
       key = subst P (sym removed.at) (key_kept c.in-Some.cur.at c.args.self.now.key mark.keeps there);
       inside = pred.inside;
       behind = pred.behind;
@@ -68,7 +86,8 @@ returns-in_err-value-clause-settles g c =
     let q = c.value_if_any-read.new.at.stepper.now in
     let reads = c.value_if_any-read.ensures.reads in
     let steps = steps_read c.steps_to_value_of.ensures c.value_if_any-read.new.at.own.1 reads.quiet.same.start in
-    let first : Goes p q c.args.self.now.used (c.args.self.now.used + c.steps_to_value_of.result) = goes_counted c.args.self.now.used c.steps_to_value_of.result (steps_to_value_of p.trace.start) steps reads in
+    let first : Goes p q c.args.self.now.used (c.args.self.now.used + c.steps_to_value_of.result) =
+    goes_counted c.args.self.now.used c.steps_to_value_of.result (steps_to_value_of p.trace.start) steps reads in
     let two = steps ∙ ap steps_where c.in_err-value.ensures.moved.some in
     record { call = search rules; counts = first.counts; hand = first.hand; more = omega (arith, two) }
 
@@ -80,31 +99,44 @@ returns-in_err-value-clause-rolls g c =
     let quiet = c.value_if_any-read.ensures.reads.quiet in
     let steps = steps_read c.steps_to_value_of.ensures c.value_if_any-read.new.at.own.1 quiet.same.start in
     let two = steps ∙ ap steps_where lost.some in
-    any_error c.from_residual.result (λ rollback. record { quiet = quiet; few = omega (arith, two); loses = inl (inl (moves_on p.trace q.trace quiet.same quiet.seen (moves_epoch _ lost.rolls))) })
+    any_error c.from_residual.result
+    (λ rollback.
+    record {
+      quiet = quiet;
+      few = omega (arith, two);
+      loses = inl (inl (moves_on p.trace q.trace quiet.same quiet.seen (moves_epoch _ lost.rolls)));
+    })
 
 -- ---- another value is expected
 
 pub tell_found-requires-clause-knows : goal.tell_found-requires-clause-knows
 tell_found-requires-clause-knows g c =
     let reads = c.value_if_any-read.ensures.reads in
-    let has = c.requires.expects (kept_expected c.args.expected c.in_ok-value.value (sym c.takes_out.ensures ∙ c.if-not-takes_out.true)) in
+    let has = c.requires.expects
+    (kept_expected c.args.expected c.in_ok-value.value (sym c.takes_out.ensures ∙ c.if-not-takes_out.true)) in
     record {
       values = ap (λ (d : Start). d.shape.values) reads.quiet.same.start ∙ has;
-      locates = located_on c.args.self.now.key c.args.found.now reads.quiet.same c.in_ok-value.ensures.value.keeps c.requires.locates;
-      is = value_found c.args.found.now c.in-Some.cur c.requires.present c.in-Some.is (c.in_ok-value.ensures.value.value has);
+      locates = located_on c.args.self.now.key c.args.found.now reads.quiet.same c.in_ok-value.ensures.value.keeps
+          c.requires.locates;
+      is = value_found c.args.found.now c.in-Some.cur c.requires.present c.in-Some.is
+          (c.in_ok-value.ensures.value.value has);
     }
 
 pub returns-in_err-tell_found-clause-settles : goal.returns-in_err-tell_found-clause-settles
 returns-in_err-tell_found-clause-settles g c =
     let reads = c.value_if_any-read.ensures.reads in
     let keeps = c.tell_found.ensures.keeps in
-    settles_read (call_on (search rules) c.tell_found.ensures.call) c.tell_found.ensures.used (steps_read c.steps_to_value_of.ensures c.value_if_any-read.new.at.own.1 reads.quiet.same.start) reads keeps.took keeps.own keeps.takes_no_slot
+    settles_read (call_on (search rules) c.tell_found.ensures.call) c.tell_found.ensures.used
+    (steps_read c.steps_to_value_of.ensures c.value_if_any-read.new.at.own.1 reads.quiet.same.start) reads keeps.took
+    keeps.own keeps.takes_no_slot
 
 pub returns-then-not-takes_out-clause-settles : goal.returns-then-not-takes_out-clause-settles
 returns-then-not-takes_out-clause-settles g c =
     let reads = c.value_if_any-read.ensures.reads in
     let keeps = c.tell_found.ensures.keeps in
-    settles_read (call_on (search rules) c.tell_found.ensures.call) c.tell_found.ensures.used (steps_read c.steps_to_value_of.ensures c.value_if_any-read.new.at.own.1 reads.quiet.same.start) reads keeps.took keeps.own keeps.takes_no_slot
+    settles_read (call_on (search rules) c.tell_found.ensures.call) c.tell_found.ensures.used
+    (steps_read c.steps_to_value_of.ensures c.value_if_any-read.new.at.own.1 reads.quiet.same.start) reads keeps.took
+    keeps.own keeps.takes_no_slot
 
 pub returns-in_err-tell_found-clause-rolls : goal.returns-in_err-tell_found-clause-rolls
 returns-in_err-tell_found-clause-rolls g c =
@@ -117,7 +149,10 @@ returns-in_err-tell_found-clause-rolls g c =
     any_error c.from_residual-in_err-tell_found.result (λ rollback. record {
       quiet = quiet_on reads.quiet lost.quiet;
       few = omega (arith, steps, two, one);
-      loses = found_lost_since c.args.found.now reads.quiet c.in_ok-value.ensures.value.keeps (unchanged_by_none c.law.ensures.start (run_at p c.value_if_any-read.new.at.stepper.now.trace reads.quiet.same (reads.quiet.is_run c.law.ensures.is_run)) reads.quiet.same reads.quiet.seen reads.adds_none) lost.loses;
+      loses = found_lost_since c.args.found.now reads.quiet c.in_ok-value.ensures.value.keeps
+          (unchanged_by_none c.law.ensures.start
+          (run_at p c.value_if_any-read.new.at.stepper.now.trace reads.quiet.same
+          (reads.quiet.is_run c.law.ensures.is_run)) reads.quiet.same reads.quiet.seen reads.adds_none) lost.loses;
     })
 
 pub returns-then-not-takes_out-clause-answers : goal.returns-then-not-takes_out-clause-answers
@@ -131,9 +166,15 @@ returns-then-not-takes_out-clause-answers g c =
     let steps = steps_read c.steps_to_value_of.ensures c.value_if_any-read.new.at.own.1 reads.quiet.same.start in
     let one = c.tell_found.ensures.used in
     record {
-      made = told_since reads.quiet ((λ i. given_call (reads.quiet.same.who i) Get key there) ∙ sym (given_kept p Get key (c.requires.expects some) there) ∙ told_op p key there (sym (kept_gets c.args.expected there some kept))) c.in_ok-tell_found.ensures.told;
+      made = told_since reads.quiet
+          ((λ i. given_call (reads.quiet.same.who i) Get key there)
+          ∙ sym (given_kept p Get key (c.requires.expects some) there)
+          ∙ told_op p key there (sym (kept_gets c.args.expected there some kept))) c.in_ok-tell_found.ensures.told;
       unlists = λ yes room. absurd (let no : true ≡ false = sym yes ∙ kept in cc);
-      paid = inl (record { few = omega (arith, steps, one); leaves = λ yes room. absurd (let no : true ≡ false = sym yes ∙ kept in cc) });
+      paid = inl (record {
+        few = omega (arith, steps, one);
+        leaves = λ yes room. absurd (let no : true ≡ false = sym yes ∙ kept in cc);
+      });
     }
 
 -- ---- it is taken out
@@ -142,7 +183,9 @@ pub returns-in_err-marked-clause-settles : goal.returns-in_err-marked-clause-set
 returns-in_err-marked-clause-settles g c =
     let reads = c.value_if_any-read.ensures.reads in
     let mark = c.mark-outcome.ensures.keeps in
-    settles_read (search rules) refl (steps_read c.steps_to_value_of.ensures c.value_if_any-read.new.at.own.1 reads.quiet.same.start) reads mark.took mark.own mark.takes_no_slot
+    settles_read (search rules) refl
+    (steps_read c.steps_to_value_of.ensures c.value_if_any-read.new.at.own.1 reads.quiet.same.start) reads mark.took
+    mark.own mark.takes_no_slot
 
 pub returns-in_err-marked-clause-rolls : goal.returns-in_err-marked-clause-rolls
 returns-in_err-marked-clause-rolls g c =
@@ -156,48 +199,76 @@ returns-in_err-marked-clause-rolls g c =
     any_error c.from_residual-in_err-marked.result (λ rollback. record {
       quiet = quiet_on reads.quiet lost.quiet;
       few = omega (arith, steps, two);
-      loses = inr (subst Q (sym c.in-Some.is) (lost_place_later c.in-Some.cur _ reads.quiet c.in_ok-value.ensures.value.keeps (unchanged_by_none c.law.ensures.start (run_at p c.value_if_any-read.new.at.stepper.now.trace reads.quiet.same (reads.quiet.is_run c.law.ensures.is_run)) reads.quiet.same reads.quiet.seen reads.adds_none) lost.lost lost.unchanged));
+      loses = inr (subst Q (sym c.in-Some.is)
+          (lost_place_later c.in-Some.cur _ reads.quiet c.in_ok-value.ensures.value.keeps
+          (unchanged_by_none c.law.ensures.start
+          (run_at p c.value_if_any-read.new.at.stepper.now.trace reads.quiet.same
+          (reads.quiet.is_run c.law.ensures.is_run)) reads.quiet.same reads.quiet.seen reads.adds_none) lost.lost
+          lost.unchanged));
     })
 
 pub returns-then-affords-clause-settles : goal.returns-then-affords-clause-settles
 returns-then-affords-clause-settles g c =
     let reads = c.value_if_any-read.ensures.reads in
     let mark = c.mark-outcome.ensures.keeps in
-    let then = read_then_step c.args.self.now.used c.steps_to_value_of.result (steps_read c.steps_to_value_of.ensures c.value_if_any-read.new.at.own.1 reads.quiet.same.start) reads mark.took mark.own mark.takes_no_slot in
+    let then = read_then_step c.args.self.now.used c.steps_to_value_of.result
+    (steps_read c.steps_to_value_of.ensures c.value_if_any-read.new.at.own.1 reads.quiet.same.start) reads mark.took
+    mark.own mark.takes_no_slot in
     let more = c.unlink_marked.ensures.goes in
     record { call = search rules; counts = counts_on then.0 more.goes.counts; hand = hand_on then.1 more.goes.hand; more = let m = more.more in omega (arith, m) }
 
 pub returns-then-affords-clause-answers : goal.returns-then-affords-clause-answers
 returns-then-affords-clause-answers g c =
     let f = c.args.found.now in
-    let y = cur_is (knows c.args.self.now.at.stepper.now.trace) c.args.self.now.key f.pred c.in-Some.cur f.cur f.present c.requires.locates.end c.in-Some.is in
-    let key = key_found (knows c.args.self.now.at.stepper.now.trace) c.args.self.now.key f.pred c.in-Some.cur f.cur f.present c.requires.locates.end c.in-Some.is c.requires.present in
+    let y = cur_is (knows c.args.self.now.at.stepper.now.trace) c.args.self.now.key f.pred c.in-Some.cur f.cur f.present
+    c.requires.locates.end c.in-Some.is in
+    let key = key_found (knows c.args.self.now.at.stepper.now.trace) c.args.self.now.key f.pred c.in-Some.cur f.cur
+    f.present c.requires.locates.end c.in-Some.is c.requires.present in
     let keeps = c.in_ok-value.ensures.value.keeps in
-    let there = key_found_since c.args.self.now.key f.pred c.in-Some.cur f.cur f.present keeps c.requires.locates.end c.in-Some.is c.requires.present in
+    let there = key_found_since c.args.self.now.key f.pred c.in-Some.cur f.cur f.present keeps c.requires.locates.end
+    c.in-Some.is c.requires.present in
     let same = c.value_if_any-read.ensures.reads.quiet.same in
-    let made = c.in_ok-marked.ensures.removed.made c.args.self.now.key c.in_ok-value.value there (valued_since same c.in_ok-value.ensures.value.value) in
-    let taken = taken_removes c.args.expected (Some c.in_ok-value.value) (sym c.takes_out.ensures ∙ c.if-not-takes_out.false) in
-    let told = told_since c.value_if_any-read.ensures.reads.quiet (given_same same Remove c.args.self.now.key (Some c.in_ok-value.value)) made in
+    let made = c.in_ok-marked.ensures.removed.made c.args.self.now.key c.in_ok-value.value there
+    (valued_since same c.in_ok-value.ensures.value.value) in
+    let taken = taken_removes c.args.expected (Some c.in_ok-value.value)
+    (sym c.takes_out.ensures ∙ c.if-not-takes_out.false) in
+    let told = told_since c.value_if_any-read.ensures.reads.quiet
+    (given_same same Remove c.args.self.now.key (Some c.in_ok-value.value)) made in
     let then = c.unlink_marked.ensures.goes.goes.quiet in
     let p = c.args.self.now.at.stepper.now in
     let q = c.value_if_any-read.new.at.stepper.now in
     let r = c.mark-outcome.new.at.stepper.now in
     let reads = c.value_if_any-read.ensures.reads in
     let steps = steps_read c.steps_to_value_of.ensures c.value_if_any-read.new.at.own.1 same.start in
-    let first : Goes p q c.args.self.now.used (c.args.self.now.used + c.steps_to_value_of.result) = goes_counted c.args.self.now.used c.steps_to_value_of.result (steps_to_value_of p.trace.start) steps reads in
+    let first : Goes p q c.args.self.now.used (c.args.self.now.used + c.steps_to_value_of.result) =
+    goes_counted c.args.self.now.used c.steps_to_value_of.result (steps_to_value_of p.trace.start) steps reads in
     let mark = c.mark-outcome.ensures.keeps in
-    let pred = pred_on c.args.self.now.key f.pred made.same mark.keeps (pred_on c.args.self.now.key f.pred same keeps c.requires.locates.pred) in
-    let E : Type 0 = RemovesSoon c.args.expected c.args.self.now c.unlink_marked.new.self (Some c.in_ok-value.value) ⊎ RemovesLate c.args.expected c.args.self.now c.unlink_marked.new.self f (Some c.in_ok-value.value) in
+    let pred = pred_on c.args.self.now.key f.pred made.same mark.keeps
+    (pred_on c.args.self.now.key f.pred same keeps c.requires.locates.pred) in
+    let E : Type 0 =
+    RemovesSoon c.args.expected c.args.self.now c.unlink_marked.new.self (Some c.in_ok-value.value) ⊎
+    RemovesLate c.args.expected c.args.self.now c.unlink_marked.new.self f (Some c.in_ok-value.value) in
     record {
-      made = told_as (told_op c.args.self.now.at.stepper.now.trace c.args.self.now.key (Some c.in_ok-value.value) (sym taken)) (made_then told then);
-      paid = by_either {C = E} c.unlink_marked.ensures.paid (λ soon. inl (record { few = let few = soon.few in omega (arith, few, steps); leaves = λ yes room. leaves_clear c.law.ensures.start told then.same soon.clear }))
+      made = told_as
+          (told_op c.args.self.now.at.stepper.now.trace c.args.self.now.key (Some c.in_ok-value.value) (sym taken))
+          (made_then told then);
+      paid = by_either {C = E} c.unlink_marked.ensures.paid
+          (λ soon. inl
+          (record {
+            few = let few = soon.few in omega (arith, few, steps);
+            leaves = λ yes room. leaves_clear c.law.ensures.start told then.same soon.clear;
+          }))
           (λ on. inr (record {
             taken = sym c.takes_out.ensures ∙ c.if-not-takes_out.false;
             late = record {
               marked = r.trace;
-              marks = marks_behind p.trace q.trace r.trace c.args.self.now.key f.pred c.in-Some.cur c.law.ensures.start (run_at p.trace r.trace told.same told.is_run) reads.quiet reads.adds_none made.same c.in_ok-marked.ensures.removed.leaves
-                  (apart p.trace c.law.ensures.start c.law.ensures.is_run f.pred.at c.in-Some.cur.at c.args.self.now.key c.requires.locates.pred.behind key)
-                  (mark.keeps.epoch ∙ keeps.epoch) (mark.takes_no_slot.count ∙ first.hand.takes_no_slot.count) pred.held pred.unmarked pred.inside;
+              marks = marks_behind p.trace q.trace r.trace c.args.self.now.key f.pred c.in-Some.cur c.law.ensures.start
+                  (run_at p.trace r.trace told.same told.is_run) reads.quiet reads.adds_none made.same
+                  c.in_ok-marked.ensures.removed.leaves
+                  (apart p.trace c.law.ensures.start c.law.ensures.is_run f.pred.at c.in-Some.cur.at c.args.self.now.key
+                  c.requires.locates.pred.behind key)
+                  (mark.keeps.epoch ∙ keeps.epoch) (mark.takes_no_slot.count ∙ first.hand.takes_no_slot.count) pred.held
+                  pred.unmarked pred.inside;
               used = c.args.self.now.used + c.steps_to_value_of.result + 1;
               few = omega (arith, steps);
               searches = on;
@@ -216,15 +287,22 @@ pub returns-else-affords-clause-answers : goal.returns-else-affords-clause-answe
 returns-else-affords-clause-answers g c =
     let f = c.args.found.now in
     let keeps = c.in_ok-value.ensures.value.keeps in
-    let there = key_found_since c.args.self.now.key f.pred c.in-Some.cur f.cur f.present keeps c.requires.locates.end c.in-Some.is c.requires.present in
+    let there = key_found_since c.args.self.now.key f.pred c.in-Some.cur f.cur f.present keeps c.requires.locates.end
+    c.in-Some.is c.requires.present in
     let same = c.value_if_any-read.ensures.reads.quiet.same in
-    let made = c.in_ok-marked.ensures.removed.made c.args.self.now.key c.in_ok-value.value there (valued_since same c.in_ok-value.ensures.value.value) in
-    let taken = taken_removes c.args.expected (Some c.in_ok-value.value) (sym c.takes_out.ensures ∙ c.if-not-takes_out.false) in
-    let told = told_since c.value_if_any-read.ensures.reads.quiet (given_same same Remove c.args.self.now.key (Some c.in_ok-value.value)) made in
+    let made = c.in_ok-marked.ensures.removed.made c.args.self.now.key c.in_ok-value.value there
+    (valued_since same c.in_ok-value.ensures.value.value) in
+    let taken = taken_removes c.args.expected (Some c.in_ok-value.value)
+    (sym c.takes_out.ensures ∙ c.if-not-takes_out.false) in
+    let told = told_since c.value_if_any-read.ensures.reads.quiet
+    (given_same same Remove c.args.self.now.key (Some c.in_ok-value.value)) made in
     let steps = steps_read c.steps_to_value_of.ensures c.value_if_any-read.new.at.own.1 same.start in
     let short = no_room (c.args.self.now.used + c.steps_to_value_of.result + 1) c.args.self.now.budget c.affords.result c.if-affords.false c.affords.ensures.1 in
     record {
       made = told_as (told_op c.args.self.now.at.stepper.now.trace c.args.self.now.key (Some c.in_ok-value.value) (sym taken)) told;
-      paid = inl (record { few = omega (arith, steps); leaves = λ yes room. absurd (omega (arith, steps, short, room)) });
+      paid = inl (record {
+        few = omega (arith, steps);
+        leaves = λ yes room. absurd (omega (arith, steps, short, room));
+      });
       unlists = λ yes room. (let f = c.if-affords.false in let z = c.affords.ensures.1 room in let w : false ≡ true = sym f ∙ z in absurd (cc));
     }

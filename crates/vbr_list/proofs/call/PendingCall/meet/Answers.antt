@@ -16,7 +16,9 @@ use Rattle.vbr_list.proofs.Wants.{met_as, was_compared, was_plain}
 use Rattle.vbr_list.proofs.call.PendingCall.meet.Goals as goal
 
 pub ask-requires-clause-values : goal.ask-requires-clause-values
-ask-requires-clause-values g c = ap (λ (d : Start). d.shape.values) (quiet_on c.loop-found.invariant.1.goes.quiet c.search.ensures.goes.goes.quiet).same.start ∙ c.requires.values
+ask-requires-clause-values g c =
+    ap (λ (d : Start). d.shape.values)
+    (quiet_on c.loop-found.invariant.1.goes.quiet c.search.ensures.goes.goes.quiet).same.start ∙ c.requires.values
 
 pub ask-requires-clause-locates : goal.ask-requires-clause-locates
 ask-requires-clause-locates g c = located c.search.ensures.goes c.in-Some.found c.in-Some.ensures.found
@@ -41,7 +43,10 @@ loop-found-preserved g c =
           let r = c.ask.new.self.at.stepper.now.trace in
           let first = c.loop-found.invariant.1.goes.quiet in
           let whole = quiet_on (quiet_on first s.goes.quiet) lost.quiet in
-          search_round_on p q m r c.law.ensures.start (run_at p r whole.same (whole.is_run c.law.ensures.is_run)) c.args.self.now.key 4 first.same s.goes.quiet.same whole.same first.seen s.goes.quiet.seen lost.quiet.seen a.hand.takes_no_slot.count c.loop-found.invariant.2 c.in-Some.found (rw c.loop-found.invariant.0.key at c.in-Some.ensures.found.last) (omega (arith, few)) lost.loses,
+          search_round_on p q m r c.law.ensures.start (run_at p r whole.same (whole.is_run c.law.ensures.is_run))
+          c.args.self.now.key 4 first.same s.goes.quiet.same whole.same first.seen s.goes.quiet.seen lost.quiet.seen
+          a.hand.takes_no_slot.count c.loop-found.invariant.2 c.in-Some.found
+          (rw c.loop-found.invariant.0.key at c.in-Some.ensures.found.last) (omega (arith, few)) lost.loses,
     )
 
 pub loop-found-smaller : goal.loop-found-smaller
@@ -57,7 +62,10 @@ loop-found-smaller g c =
 pub returns-in-Anything-clause-meets : goal.returns-in-Anything-clause-meets
 returns-in-Anything-clause-meets g c = record {
   call = call_refl c.args.self.now;
-  counts = record { counts = counts_none c.args.self.now.at.stepper.now.trace c.args.self.now.used; within = (omega arith, c.args.self.now.within) };
+  counts = record {
+    counts = counts_none c.args.self.now.at.stepper.now.trace c.args.self.now.used;
+    within = (omega arith, c.args.self.now.within);
+  };
   hand = hand_refl c.args.self.now.at.stepper.now;
 }
 
@@ -65,7 +73,11 @@ pub returns-in-Anything-clause-met : goal.returns-in-Anything-clause-met
 returns-in-Anything-clause-met g c =
     let p = c.args.self.now.at.stepper.now.trace in
     let P : Wanted → Type 0 = λ wanted. WasWanted wanted p p c.args.self.now.key in
-    record { quiet = quiet_refl p; was = subst P (sym c.in-Anything.is) tt; searches = record { lost = 0; few = omega arith; paid = omega arith } }
+    record {
+      quiet = quiet_refl p;
+      was = subst P (sym c.in-Anything.is) tt;
+      searches = record { lost = 0; few = omega arith; paid = omega arith };
+    }
 
 pub returns-in_default-search-clause-meets : goal.returns-in_default-search-clause-meets
 returns-in_default-search-clause-meets g c =
@@ -87,7 +99,11 @@ returns-in-Ok-clause-meets g c =
     let gone = goes_further c.loop-found.invariant.0 c.loop-found.invariant.1 c.search.ensures.goes in
     let a = c.ask.ensures.asks in
     let same = call_on gone.call a.call in
-    record { call = same; counts = within_on (steps_gone gone) a.counts a.more (within_call same); hand = hand_on gone.goes.hand a.hand }
+    record {
+      call = same;
+      counts = within_on (steps_gone gone) a.counts a.more (within_call same);
+      hand = hand_on gone.goes.hand a.hand;
+    }
 
 pub returns-in_default-search-clause-tired : goal.returns-in_default-search-clause-tired
 returns-in_default-search-clause-tired g c =
@@ -97,17 +113,23 @@ returns-in_default-search-clause-tired g c =
     record {
       quiet = gone.goes.quiet;
       short = short;
-      searches = search_ends c.law.ensures c.loop-found.invariant.0 c.loop-found.invariant.1.goes.quiet c.search.ensures.goes c.loop-found.invariant.2 tired.walks (c.args.self.now.budget + 1) 8 11 (omega (arith, short)) (omega arith);
+      searches = search_ends c.law.ensures c.loop-found.invariant.0 c.loop-found.invariant.1.goes.quiet
+          c.search.ensures.goes c.loop-found.invariant.2 tired.walks (c.args.self.now.budget + 1) 8 11
+          (omega (arith, short)) (omega arith);
     }
 
 pub returns-then-not-affords-clause-tired : goal.returns-then-not-affords-clause-tired
 returns-then-not-affords-clause-tired g c =
     let gone = goes_further c.loop-found.invariant.0 c.loop-found.invariant.1 c.search.ensures.goes in
-    let short = rw gone.call.budget at (no_room c.search.new.self.used c.search.new.self.budget c.affords.result c.if-not-affords.true c.affords.ensures.1) in
+    let short = rw gone.call.budget at
+    (no_room c.search.new.self.used c.search.new.self.budget c.affords.result c.if-not-affords.true
+    c.affords.ensures.1) in
     record {
       quiet = gone.goes.quiet;
       short = short;
-      searches = search_ends c.law.ensures c.loop-found.invariant.0 c.loop-found.invariant.1.goes.quiet c.search.ensures.goes c.loop-found.invariant.2 c.in-Some.ensures.found.walks (c.args.self.now.budget + 1) 8 11 (omega (arith, short)) (omega arith);
+      searches = search_ends c.law.ensures c.loop-found.invariant.0 c.loop-found.invariant.1.goes.quiet
+          c.search.ensures.goes c.loop-found.invariant.2 c.in-Some.ensures.found.walks (c.args.self.now.budget + 1) 8 11
+          (omega (arith, short)) (omega arith);
     }
 
 pub returns-then-has_wanted-clause-met : goal.returns-then-has_wanted-clause-met
@@ -117,12 +139,16 @@ returns-then-has_wanted-clause-met g c =
     let m = c.search.new.self.at.stepper.now.trace in
     let key = c.args.self.now.key in
     let first = c.loop-found.invariant.1.goes.quiet in
-    let is : has_wanted c.args.wanted c.in-Some.found.present ≡ true = sym c.has_wanted.ensures ∙ c.if-has_wanted.true in
-    let so = was_so key c.in-Some.found c.law.ensures.start gone.goes.quiet.same (found_since key c.in-Some.found first (rw c.loop-found.invariant.0.key at c.in-Some.ensures.found.found)) in
+    let is : has_wanted c.args.wanted c.in-Some.found.present ≡ true =
+    sym c.has_wanted.ensures ∙ c.if-has_wanted.true in
+    let so = was_so key c.in-Some.found c.law.ensures.start gone.goes.quiet.same
+    (found_since key c.in-Some.found first (rw c.loop-found.invariant.0.key at c.in-Some.ensures.found.found)) in
     record {
       quiet = gone.goes.quiet;
       was = was_plain p m key c.args.wanted c.in-Some.found.present is so;
-      searches = search_ends c.law.ensures c.loop-found.invariant.0 first c.search.ensures.goes c.loop-found.invariant.2 c.in-Some.ensures.found.walks c.search.new.self.used 0 (steps_to_compare c.args.wanted + 3) (omega arith) (omega arith);
+      searches = search_ends c.law.ensures c.loop-found.invariant.0 first c.search.ensures.goes c.loop-found.invariant.2
+          c.in-Some.ensures.found.walks c.search.new.self.used 0 (steps_to_compare c.args.wanted + 3) (omega arith)
+          (omega arith);
     }
 
 pub returns-in-Ok-clause-met : goal.returns-in-Ok-clause-met
@@ -145,9 +171,13 @@ returns-in-Ok-clause-met g c =
     let compared = x.few in
     record {
       quiet = whole;
-      was = was_compared b.key found wanted value c.law.ensures.start whole.same x.quiet x.reads.keeps c.requires.values there (sym c.has_wanted.ensures ∙ c.if-has_wanted.false) x.is x.reads.known.is;
-      searches = searches_later p m r c.law.ensures.start (run_at p r whole.same (whole.is_run c.law.ensures.is_run)) b.key gone.goes.quiet.seen x.quiet.seen (steps_to_compare wanted + 3) (omega arith)
-          (search_ends c.law.ensures c.loop-found.invariant.0 first c.search.ensures.goes c.loop-found.invariant.2 c.in-Some.ensures.found.walks e.used (steps_to_compare wanted) (steps_to_compare wanted + 3) compared (omega arith));
+      was = was_compared b.key found wanted value c.law.ensures.start whole.same x.quiet x.reads.keeps c.requires.values
+          there (sym c.has_wanted.ensures ∙ c.if-has_wanted.false) x.is x.reads.known.is;
+      searches = searches_later p m r c.law.ensures.start (run_at p r whole.same (whole.is_run c.law.ensures.is_run))
+          b.key gone.goes.quiet.seen x.quiet.seen (steps_to_compare wanted + 3) (omega arith)
+          (search_ends c.law.ensures c.loop-found.invariant.0 first c.search.ensures.goes c.loop-found.invariant.2
+          c.in-Some.ensures.found.walks e.used (steps_to_compare wanted) (steps_to_compare wanted + 3) compared
+          (omega arith));
     })
     (λ value x. record {
       tells = record { told = tells_since b d e value gone.call.key gone.goes.quiet x.told; is_not = x.is_not };
@@ -155,7 +185,8 @@ returns-in-Ok-clause-met g c =
         ended = m;
         quiet = gone.goes.quiet;
         to = x.told.seen;
-        searches = search_ends c.law.ensures c.loop-found.invariant.0 first c.search.ensures.goes c.loop-found.invariant.2 c.in-Some.ensures.found.walks e.used 3 6 few (omega arith);
+        searches = search_ends c.law.ensures c.loop-found.invariant.0 first c.search.ensures.goes
+            c.loop-found.invariant.2 c.in-Some.ensures.found.walks e.used 3 6 few (omega arith);
       };
     })
     c.in-Ok.ensures.met

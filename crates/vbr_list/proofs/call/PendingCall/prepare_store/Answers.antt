@@ -11,19 +11,25 @@ use Rattle.vbr_list.proofs.Wants.{met_goes, searches_more_steps, store_in_vain, 
 use Rattle.vbr_list.proofs.call.PendingCall.prepare_store.Goals as goal
 
 pub returns-in_default-clause-prepares : goal.returns-in_default-clause-prepares
-returns-in_default-clause-prepares g c = let x = c.meet.ensures.meets in prepares_none c.args.self.now c.meet.new.self x.call x.counts x.hand.takes_no_slot x.hand.hand
+returns-in_default-clause-prepares g c =
+    let x = c.meet.ensures.meets in
+    prepares_none c.args.self.now c.meet.new.self x.call x.counts x.hand.takes_no_slot x.hand.hand
 
 pub returns-in-Told-clause-prepares : goal.returns-in-Told-clause-prepares
-returns-in-Told-clause-prepares g c = let x = c.meet.ensures.meets in prepares_none c.args.self.now c.meet.new.self x.call x.counts x.hand.takes_no_slot x.hand.hand
+returns-in-Told-clause-prepares g c =
+    let x = c.meet.ensures.meets in
+    prepares_none c.args.self.now c.meet.new.self x.call x.counts x.hand.takes_no_slot x.hand.hand
 
 pub returns-in_err-hand-in-AsWanted-clause-prepares : goal.returns-in_err-hand-in-AsWanted-clause-prepares
 returns-in_err-hand-in-AsWanted-clause-prepares g c =
-    let met : MeetsWanted c.args.wanted c.args.self.now c.meet.new.self = rw c.in-AsWanted.is at c.in-Some.ensures.met in
+    let met : MeetsWanted c.args.wanted c.args.self.now c.meet.new.self =
+    rw c.in-AsWanted.is at c.in-Some.ensures.met in
     prepares_on (met_goes c.meet.ensures.meets met.quiet) c.provide.ensures.one c.provide.ensures.prepares
 
 pub returns-in_ok-hand-in-AsWanted-clause-prepares : goal.returns-in_ok-hand-in-AsWanted-clause-prepares
 returns-in_ok-hand-in-AsWanted-clause-prepares g c =
-    let met : MeetsWanted c.args.wanted c.args.self.now c.meet.new.self = rw c.in-AsWanted.is at c.in-Some.ensures.met in
+    let met : MeetsWanted c.args.wanted c.args.self.now c.meet.new.self =
+    rw c.in-AsWanted.is at c.in-Some.ensures.met in
     prepares_on (met_goes c.meet.ensures.meets met.quiet) c.provide.ensures.one c.provide.ensures.prepares
 
 -- ---- the shared pool
@@ -36,19 +42,23 @@ returns-in-Told-clause-tries g c = inl c.meet.ensures.meets.hand.takes_no_slot.t
 
 pub returns-in_err-hand-in-AsWanted-clause-tries : goal.returns-in_err-hand-in-AsWanted-clause-tries
 returns-in_err-hand-in-AsWanted-clause-tries g c =
-    let met : MeetsWanted c.args.wanted c.args.self.now c.meet.new.self = rw c.in-AsWanted.is at c.in-Some.ensures.met in
+    let met : MeetsWanted c.args.wanted c.args.self.now c.meet.new.self =
+    rw c.in-AsWanted.is at c.in-Some.ensures.met in
     let p = c.args.self.now.at.stepper.now in
     let m = c.meet.new.self.at.stepper.now in
     let r = c.provide.new.self.at.stepper.now in
-    tries_after p m r c.meet.ensures.meets.hand.takes_no_slot c.provide.ensures.tries (was_before p.trace m.trace r.trace c.args.self.now.key c.args.wanted met.was c.provide.ensures.quiet)
+    tries_after p m r c.meet.ensures.meets.hand.takes_no_slot c.provide.ensures.tries
+    (was_before p.trace m.trace r.trace c.args.self.now.key c.args.wanted met.was c.provide.ensures.quiet)
 
 pub returns-in_ok-hand-in-AsWanted-clause-tries : goal.returns-in_ok-hand-in-AsWanted-clause-tries
 returns-in_ok-hand-in-AsWanted-clause-tries g c =
-    let met : MeetsWanted c.args.wanted c.args.self.now c.meet.new.self = rw c.in-AsWanted.is at c.in-Some.ensures.met in
+    let met : MeetsWanted c.args.wanted c.args.self.now c.meet.new.self =
+    rw c.in-AsWanted.is at c.in-Some.ensures.met in
     let p = c.args.self.now.at.stepper.now in
     let m = c.meet.new.self.at.stepper.now in
     let r = c.provide.new.self.at.stepper.now in
-    tries_after p m r c.meet.ensures.meets.hand.takes_no_slot c.provide.ensures.tries (was_before p.trace m.trace r.trace c.args.self.now.key c.args.wanted met.was c.provide.ensures.quiet)
+    tries_after p m r c.meet.ensures.meets.hand.takes_no_slot c.provide.ensures.tries
+    (was_before p.trace m.trace r.trace c.args.self.now.key c.args.wanted met.was c.provide.ensures.quiet)
 
 pub returns-in_default-clause-refused : goal.returns-in_default-clause-refused
 returns-in_default-clause-refused g c =
@@ -62,12 +72,14 @@ returns-in_default-clause-refused g c =
       hand = x.hand.hand ∙ c.requires.empty_hand;
       says = record { counts = x.counts; short = tired.short };
       so = tt;
-      searches = searches_more_steps (c.args.self.now.budget + 1) (steps_to_prepare c.args.wanted p m + 10) (omega (arith, least)) tired.searches;
+      searches = searches_more_steps (c.args.self.now.budget + 1) (steps_to_prepare c.args.wanted p m + 10)
+          (omega (arith, least)) tired.searches;
     }
 
 pub returns-in-Told-clause-prepared : goal.returns-in-Told-clause-prepared
 returns-in-Told-clause-prepared g c =
-    let met : MeetsOther c.args.wanted c.args.self.now c.meet.new.self c.in-Told.there = rw c.in-Told.is at c.in-Some.ensures.met in
+    let met : MeetsOther c.args.wanted c.args.self.now c.meet.new.self c.in-Told.there =
+    rw c.in-Told.is at c.in-Some.ensures.met in
     let p = c.args.self.now.at.stepper.now in
     let m = c.meet.new.self.at.stepper.now.trace in
     let least = take_least p m in
@@ -78,13 +90,15 @@ returns-in-Told-clause-prepared g c =
         ended = met.searched.ended;
         quiet = met.searched.quiet;
         to = met.searched.to;
-        searches = searches_more_steps c.meet.new.self.used (steps_to_prepare c.args.wanted p m + 3) (omega (arith, least)) met.searched.searches;
+        searches = searches_more_steps c.meet.new.self.used (steps_to_prepare c.args.wanted p m + 3)
+            (omega (arith, least)) met.searched.searches;
       };
     }
 
 pub returns-in_err-hand-in-AsWanted-clause-refused : goal.returns-in_err-hand-in-AsWanted-clause-refused
 returns-in_err-hand-in-AsWanted-clause-refused g c =
-    let met : MeetsWanted c.args.wanted c.args.self.now c.meet.new.self = rw c.in-AsWanted.is at c.in-Some.ensures.met in
+    let met : MeetsWanted c.args.wanted c.args.self.now c.meet.new.self =
+    rw c.in-AsWanted.is at c.in-Some.ensures.met in
     let gone = met_goes c.meet.ensures.meets met.quiet in
     let error = err_from_is_err_and c.from_residual.result c.from_residual.ensures.1 in
     let refusal = c.in_err-hand-in-AsWanted.field-0.0 in
@@ -100,15 +114,21 @@ returns-in_err-hand-in-AsWanted-clause-refused g c =
       quiet = whole;
       hand = none.hand;
       says = takes_after p m r gone.goes.quiet some (steps_gone gone) d refusal (rw gone.call.budget at none.says);
-      so = wanted_for p.trace r.trace c.args.self.now.key c.args.wanted (was_before p.trace m.trace r.trace c.args.self.now.key c.args.wanted met.was d) refusal;
-      searches = store_in_vain c.args.self.now.key c.args.self.now.budget (steps_to_take_among m.trace.start m.pool (gained m.trace r.trace)) (steps_to_prepare c.args.wanted p r.trace + 10)
-          (searches_later p.trace m.trace r.trace c.law.ensures.start (run_at p.trace r.trace whole.same (whole.is_run c.law.ensures.is_run)) c.args.self.now.key gone.goes.quiet.seen d.seen (steps_to_compare c.args.wanted + 3) (omega arith) met.searches)
+      so = wanted_for p.trace r.trace c.args.self.now.key c.args.wanted
+          (was_before p.trace m.trace r.trace c.args.self.now.key c.args.wanted met.was d) refusal;
+      searches = store_in_vain c.args.self.now.key c.args.self.now.budget
+          (steps_to_take_among m.trace.start m.pool (gained m.trace r.trace))
+          (steps_to_prepare c.args.wanted p r.trace + 10)
+          (searches_later p.trace m.trace r.trace c.law.ensures.start
+          (run_at p.trace r.trace whole.same (whole.is_run c.law.ensures.is_run)) c.args.self.now.key
+          gone.goes.quiet.seen d.seen (steps_to_compare c.args.wanted + 3) (omega arith) met.searches)
           refusal (rw gone.call.budget at none.enough) (omega (arith, taken));
     })
 
 pub returns-in_ok-hand-in-AsWanted-clause-prepared : goal.returns-in_ok-hand-in-AsWanted-clause-prepared
 returns-in_ok-hand-in-AsWanted-clause-prepared g c =
-    let met : MeetsWanted c.args.wanted c.args.self.now c.meet.new.self = rw c.in-AsWanted.is at c.in-Some.ensures.met in
+    let met : MeetsWanted c.args.wanted c.args.self.now c.meet.new.self =
+    rw c.in-AsWanted.is at c.in-Some.ensures.met in
     let gone = met_goes c.meet.ensures.meets met.quiet in
     let d = c.provide.ensures.quiet in
     let hand = c.in_ok-hand-in-AsWanted.ensures.hand in
@@ -124,6 +144,7 @@ returns-in_ok-hand-in-AsWanted-clause-prepared g c =
         ended = m.trace;
         quiet = gone.goes.quiet;
         to = d.seen;
-        searches = searches_more_steps c.provide.new.self.used (steps_to_prepare c.args.wanted p r.trace + 3) (omega (arith, few, taken)) met.searches;
+        searches = searches_more_steps c.provide.new.self.used (steps_to_prepare c.args.wanted p r.trace + 3)
+            (omega (arith, few, taken)) met.searches;
       };
     }

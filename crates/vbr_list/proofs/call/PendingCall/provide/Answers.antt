@@ -22,6 +22,7 @@ returns-in-EpochSpent-clause-refused g c =
     let why = (subst P (c.in-Err.is ∙ ap Err c.in-EpochSpent.is) c.take-outcome.ensures.refused).why in
     record {
       hand = search rules;
-      says = spent_rest p q c.args.self.now.used c.args.self.now.budget c.in-EpochSpent.epoch c.args.self.now.within why.0 why.1;
+      says = spent_rest p q c.args.self.now.used c.args.self.now.budget c.in-EpochSpent.epoch c.args.self.now.within
+          why.0 why.1;
       enough = tt;
     }

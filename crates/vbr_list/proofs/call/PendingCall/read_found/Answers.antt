@@ -20,4 +20,7 @@ returns-in-Ok-clause-found g c =
 pub returns-in-Err-clause-lost : goal.returns-in-Err-clause-lost
 returns-in-Err-clause-lost g c =
     let quiet = c.value_of-read.ensures.reads.quiet in
-    record { present = c.if-not-found.false; loses = inl (inl (moves_on _ _ quiet.same quiet.seen (moves_epoch _ c.in-Err.ensures.moved))) }
+    record {
+      present = c.if-not-found.false;
+      loses = inl (inl (moves_on _ _ quiet.same quiet.seen (moves_epoch _ c.in-Err.ensures.moved)));
+    }

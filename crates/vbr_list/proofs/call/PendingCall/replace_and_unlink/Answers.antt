@@ -13,7 +13,12 @@ returns-clause-settles g c =
     let b = c.unlink_replaced.ensures.goes in
     let more = b.more in
     let first = a.more in
-    record { call = call_on a.call b.call; counts = counts_on a.counts b.goes.counts; more = omega (arith, more, first); takes_no_slot = none_on a.takes_no_slot b.goes.hand.takes_no_slot }
+    record {
+      call = call_on a.call b.call;
+      counts = counts_on a.counts b.goes.counts;
+      more = omega (arith, more, first);
+      takes_no_slot = none_on a.takes_no_slot b.goes.hand.takes_no_slot;
+    }
 
 pub returns-clause-had : goal.returns-clause-had
 returns-clause-had g c =
@@ -32,8 +37,14 @@ returns-clause-replaced g c = λ old known.
     let r = c.unlink_replaced.new.self.at.stepper.now.trace in
     let then = c.unlink_replaced.ensures.goes.goes.quiet in
     record {
-      stores = record { made = two_before stores.made then; spent = c.unlink_replaced.ensures.goes.goes.hand.hand ∙ stores.spent };
-      leaves = λ yes room. leaves_replaced p q r c.in-Ok.marked.slot c.args.self.now.key c.law.ensures.start stores.made.same stores.made.is_run x.replaced (rw c.replace_found.ensures.tries.call.key at x.old.key) then (c.unlink_replaced.ensures.leaves room);
+      stores = record {
+        made = two_before stores.made then;
+        spent = c.unlink_replaced.ensures.goes.goes.hand.hand ∙ stores.spent;
+      };
+      leaves = λ yes room.
+          leaves_replaced p q r c.in-Ok.marked.slot c.args.self.now.key c.law.ensures.start stores.made.same
+          stores.made.is_run x.replaced (rw c.replace_found.ensures.tries.call.key at x.old.key)
+          then (c.unlink_replaced.ensures.leaves room);
     }
 
 pub returns-clause-paid : goal.returns-clause-paid
@@ -52,7 +63,9 @@ returns-clause-paid g c =
     let e = c.unlink_replaced.new.self in
     ⊎_elim (λ (soon : UnlinksAtOnce d e c.in-Ok.marked.slot). inl (record {
       few = (let few = soon.few in omega (arith, few, low));
-      leaves = λ yes room. leaves_replaced p q r c.in-Ok.marked.slot c.args.self.now.key c.law.ensures.start stores.made.same stores.made.is_run x.replaced (rw key at x.old.key) then (soon.leaves (omega (arith, room, low, budget)));
+      leaves = λ yes room.
+          leaves_replaced p q r c.in-Ok.marked.slot c.args.self.now.key c.law.ensures.start stores.made.same
+          stores.made.is_run x.replaced (rw key at x.old.key) then (soon.leaves (omega (arith, room, low, budget)));
     }))
     (λ (on : SearchesOn q r d.key d.used e.used c.args.found.now.pred). (
     let S : ℕ → Type 0 = λ k. SearchesOn q r k d.used e.used c.args.found.now.pred in

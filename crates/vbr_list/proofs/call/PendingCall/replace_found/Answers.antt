@@ -1,5 +1,9 @@
-use Rattle.vbr_list.proofs.Names.{◌≡◌, ℕ, ◌+◌, ◌<◌, ◌≤◌, Bool, true, List, Option, Some, length, rules, arith, refl, inl, inr, sym, ap, ◌∙◌, subst}
-use Rattle.vbr_list.proofs.Names.{At, counts_on, CountsSteps, Ghosts, had_spent, HandView, Held, held_kept, IsRun, keeps_on, key_on, KeyAt, knows, Names, none_on, PassView, POOL, quiet_on, ReadsIn, replaced_since, Start, steps_to_birth, steps_to_update, steps_to_value, unchanged_by_none, value_on}
+use Rattle.vbr_list.proofs.Names.{◌≡◌, ℕ, ◌+◌, ◌<◌, ◌≤◌, Bool, true, List, Option, Some, length, rules, arith, refl}
+use Rattle.vbr_list.proofs.Names.{inl, inr, sym, ap, ◌∙◌, subst}
+use Rattle.vbr_list.proofs.Names.{At, counts_on, CountsSteps, Ghosts, had_spent, HandView, Held, held_kept, IsRun}
+use Rattle.vbr_list.proofs.Names.{keeps_on, key_on, KeyAt, knows, Names, none_on, PassView, POOL, quiet_on, ReadsIn}
+use Rattle.vbr_list.proofs.Names.{replaced_since, Start, steps_to_birth, steps_to_update, steps_to_value}
+use Rattle.vbr_list.proofs.Names.{unchanged_by_none, value_on}
 use Rattle.vbr_list.proofs.Going.{counts_step, goes_counted, took_same}
 use Rattle.vbr_at_table.specs.Exchanges.{StoresIn}
 use Rattle.vbr_list.specs.Pieces.{IsSameCall, pass_in, trace_in}
@@ -18,7 +22,11 @@ use Rattle.vbr_list.proofs.call.PendingCall.replace_found.Goals as goal
 pub birth_after-named-requires : goal.birth_after-named-requires
 birth_after-named-requires g c =
     let f = c.args.found.now in
-    record { held = (cur_is (knows c.args.self.now.at.stepper.now.trace) c.args.self.now.key f.pred c.in-Some.cur f.cur f.present c.requires.read.1.locates.end c.in-Some.is).held }
+    record {
+      held =
+          (cur_is (knows c.args.self.now.at.stepper.now.trace) c.args.self.now.key f.pred c.in-Some.cur f.cur f.present
+          c.requires.read.1.locates.end c.in-Some.is).held;
+    }
 
 pub replace-requires-clause-node : goal.replace-requires-clause-node
 replace-requires-clause-node g c =
@@ -26,55 +34,88 @@ replace-requires-clause-node g c =
     let k = c.requires.read.1 in
     let know = knows c.args.self.now.at.stepper.now.trace in
     let y = cur_is know c.args.self.now.key f.pred c.in-Some.cur f.cur f.present k.locates.end c.in-Some.is in
-    let there = key_found know c.args.self.now.key f.pred c.in-Some.cur f.cur f.present k.locates.end c.in-Some.is k.is.present in
+    let there = key_found know c.args.self.now.key f.pred c.in-Some.cur f.cur f.present k.locates.end c.in-Some.is
+    k.is.present in
     let keeps = c.in-Ok.ensures.birth.keeps in
     let key = key_on c.in-Some.cur.at c.args.self.now.key keeps there in
     record {
       has_values = ap (λ (d : Start). d.shape.values) c.birth_after-named.ensures.reads.quiet.same.start ∙ k.values;
-      present = record { held = held_kept c.in-Some.cur keeps y.held; key = (c.args.self.now.key, key); unmarked = y.unmarked };
+      present = record {
+        held = held_kept c.in-Some.cur keeps y.held;
+        key = (c.args.self.now.key, key);
+        unmarked = y.unmarked;
+      };
       key_is = key;
-      valued = λ has. (c.requires.read.0, value_on c.in-Some.cur.at c.requires.read.0 keeps (k.is.known c.in-Some.cur c.in-Some.is));
+      valued = λ has. (
+        c.requires.read.0,
+        value_on c.in-Some.cur.at c.requires.read.0 keeps (k.is.known c.in-Some.cur c.in-Some.is),
+      );
       birth = c.in-Ok.ensures.birth.birth;
     }
 
 pub returns-in_default-named-clause-tries : goal.returns-in_default-named-clause-tries
 returns-in_default-named-clause-tries g c =
     let n = c.steps_to_birth.result in
-    let read = goes_counted c.args.self.now.used n (steps_to_birth c.in-Some.cur.word) c.steps_to_birth.ensures.is c.birth_after-named.ensures.reads in
+    let read = goes_counted c.args.self.now.used n (steps_to_birth c.in-Some.cur.word) c.steps_to_birth.ensures.is
+    c.birth_after-named.ensures.reads in
     let few = c.steps_to_birth.ensures.few in
     let some = some_birth c.in-Some.cur.word c.in_default-named.ensures.moved.some in
     let is = c.steps_to_birth.ensures.is in
-    record { call = search rules; counts = read.counts; more = omega (arith, some, is); few = omega (arith, few); takes_no_slot = read.hand.takes_no_slot }
+    record {
+      call = search rules;
+      counts = read.counts;
+      more = omega (arith, some, is);
+      few = omega (arith, few);
+      takes_no_slot = read.hand.takes_no_slot;
+    }
 
 pub returns-in_default-named-clause-back : goal.returns-in_default-named-clause-back
 returns-in_default-named-clause-back g c =
     let p = c.args.self.now.at.stepper.now.trace in
     let q = c.birth_after-named.new.at.stepper.now.trace in
-    let read = goes_counted c.args.self.now.used c.steps_to_birth.result (steps_to_birth c.in-Some.cur.word) c.steps_to_birth.ensures.is c.birth_after-named.ensures.reads in
-    record { quiet = read.quiet; hand = hand_kept c.args.hand read.hand c.requires.hand; loses = inl (inl (moves_on p q read.quiet.same read.quiet.seen (moves_epoch _ c.in_default-named.ensures.moved.rolls))) }
+    let read = goes_counted c.args.self.now.used c.steps_to_birth.result (steps_to_birth c.in-Some.cur.word)
+    c.steps_to_birth.ensures.is c.birth_after-named.ensures.reads in
+    record {
+      quiet = read.quiet;
+      hand = hand_kept c.args.hand read.hand c.requires.hand;
+      loses = inl (inl
+          (moves_on p q read.quiet.same read.quiet.seen (moves_epoch _ c.in_default-named.ensures.moved.rolls)));
+    }
 
 pub returns-in_default-named-clause-had : goal.returns-in_default-named-clause-had
-returns-in_default-named-clause-had g c = let own = c.birth_after-named.ensures.reads.own in had_same c.args.self.now.at.stepper.now c.birth_after-named.new.at.stepper.now own.pool own.hand
+returns-in_default-named-clause-had g c =
+    let own = c.birth_after-named.ensures.reads.own in
+    had_same c.args.self.now.at.stepper.now c.birth_after-named.new.at.stepper.now own.pool own.hand
 
 -- a birth was read, and four steps came then
-tried_replace : {N : Type 0} {kind : Ghosts N} {c d : PendingCall N kind} {q : PassView} (n steps : ℕ) → IsSameCall c d → d.used ≡ c.used + n + 4 → n ≡ steps → n ≤ 2 → ReadsIn (pass_in c) q steps → (trace_in c).start.shape.values ≡ true → StoresIn q (pass_in d) (steps_to_update q.trace.start) → MayStoreNode c d
+tried_replace : {N : Type 0} {kind : Ghosts N} {c d : PendingCall N kind} {q : PassView} (n steps : ℕ) →
+    IsSameCall c d → d.used ≡ c.used + n + 4 → n ≡ steps → n ≤ 2 → ReadsIn (pass_in c) q steps →
+    (trace_in c).start.shape.values ≡ true → StoresIn q (pass_in d) (steps_to_update q.trace.start) → MayStoreNode c d
 tried_replace {c = c} {d = d} {q = q} n steps same used counted few birth values stores =
     let read = goes_counted c.used n steps counted birth in
     let has : q.trace.start.shape.values ≡ true = ap (λ (d : Start). d.shape.values) read.quiet.same.start ∙ values in
     let four : 4 ≡ steps_to_update q.trace.start = ap (λ (b : Bool). 1 + steps_to_value b + 1 + 1) (sym has) in
     record {
       call = same;
-      counts = subst (CountsSteps (trace_in c) (trace_in d) c.used) (sym used) (counts_on read.counts (counts_step (c.used + n) 4 (took_same 4 (steps_to_update q.trace.start) four stores.took)));
+      counts = subst (CountsSteps (trace_in c) (trace_in d) c.used) (sym used)
+          (counts_on read.counts
+          (counts_step (c.used + n) 4 (took_same 4 (steps_to_update q.trace.start) four stores.took)));
       more = omega (arith, used);
       few = omega (arith, used, few);
       takes_no_slot = none_on read.hand.takes_no_slot stores.takes_no_slot;
     }
 
 pub returns-in-Ok-replace-clause-tries : goal.returns-in-Ok-replace-clause-tries
-returns-in-Ok-replace-clause-tries g c = tried_replace c.steps_to_birth.result (steps_to_birth c.in-Some.cur.word) (search rules) refl c.steps_to_birth.ensures.is c.steps_to_birth.ensures.few c.birth_after-named.ensures.reads c.requires.read.1.values c.replace.ensures.stores
+returns-in-Ok-replace-clause-tries g c =
+    tried_replace c.steps_to_birth.result (steps_to_birth c.in-Some.cur.word) (search rules) refl
+    c.steps_to_birth.ensures.is c.steps_to_birth.ensures.few c.birth_after-named.ensures.reads c.requires.read.1.values
+    c.replace.ensures.stores
 
 pub returns-in-Err-clause-tries : goal.returns-in-Err-clause-tries
-returns-in-Err-clause-tries g c = tried_replace c.steps_to_birth.result (steps_to_birth c.in-Some.cur.word) (search rules) refl c.steps_to_birth.ensures.is c.steps_to_birth.ensures.few c.birth_after-named.ensures.reads c.requires.read.1.values c.replace.ensures.stores
+returns-in-Err-clause-tries g c =
+    tried_replace c.steps_to_birth.result (steps_to_birth c.in-Some.cur.word) (search rules) refl
+    c.steps_to_birth.ensures.is c.steps_to_birth.ensures.few c.birth_after-named.ensures.reads c.requires.read.1.values
+    c.replace.ensures.stores
 
 pub returns-in-Ok-replace-clause-replaced : goal.returns-in-Ok-replace-clause-replaced
 returns-in-Ok-replace-clause-replaced g c =
@@ -88,10 +129,13 @@ returns-in-Ok-replace-clause-replaced g c =
     let quiet = reads.quiet in
     let told = c.in-Ok-replace.ensures.replaced in
     let read = c.in-Ok.ensures.birth.keeps in
-    let made_now = told.made c.requires.read.0 (value_on c.in-Some.cur.at c.requires.read.0 read (first.is.known c.in-Some.cur c.in-Some.is)) in
+    let made_now =
+    told.made c.requires.read.0
+    (value_on c.in-Some.cur.at c.requires.read.0 read (first.is.known c.in-Some.cur c.in-Some.is)) in
     let has : q.start.shape.values ≡ true = ap (λ (d : Start). d.shape.values) quiet.same.start ∙ first.values in
     let y = cur_is (knows p) k f.pred c.in-Some.cur f.cur f.present first.locates.end c.in-Some.is in
-    let there = key_found (knows p) k f.pred c.in-Some.cur f.cur f.present first.locates.end c.in-Some.is first.is.present in
+    let there = key_found (knows p) k f.pred c.in-Some.cur f.cur f.present first.locates.end c.in-Some.is
+    first.is.present in
     let keeps = keeps_on read c.replace.ensures.stores.keeps in
     let two = two_since quiet (two_told q.start q.who k c.requires.read.0 c.args.value has made_now) in
     let pred = pred_on k f.pred two.same keeps first.locates.pred in
@@ -102,30 +146,41 @@ returns-in-Ok-replace-clause-replaced g c =
     let steps_last = c.replace.ensures.stores.takes_no_slot.count in
     record {
       stores = λ old known. record {
-        made = two_since quiet (two_told q.start q.who k old c.args.value has (told.made old (value_on c.in-Some.cur.at old read (known.is.known c.in-Some.cur c.in-Some.is))));
+        made = two_since quiet
+            (two_told q.start q.who k old c.args.value has
+            (told.made old (value_on c.in-Some.cur.at old read (known.is.known c.in-Some.cur c.in-Some.is))));
         spent = told.spent;
       };
       old = record {
-        may = record { held = pred.held; unmarked = pred.unmarked; marked = told.held; names = subst N (slot_same c.in-Ok-replace.marked.slot y.slot (told.at ∙ y.at)) y.named };
+        may = record {
+          held = pred.held;
+          unmarked = pred.unmarked;
+          marked = told.held;
+          names = subst N (slot_same c.in-Ok-replace.marked.slot y.slot (told.at ∙ y.at)) y.named;
+        };
         key = subst K (sym told.at) (key_kept c.in-Some.cur.at k keeps there);
         behind = pred.behind;
       };
       replaced = replaced_since p q r c.law.ensures.start quiet told.old;
-      marks = marks_behind p q r k f.pred c.in-Some.cur c.law.ensures.start R quiet reads.adds_none made_now.same told.leaves
-          (apart p c.law.ensures.start c.law.ensures.is_run f.pred.at c.in-Some.cur.at k first.locates.pred.behind there)
+      marks = marks_behind p q r k f.pred c.in-Some.cur c.law.ensures.start R quiet reads.adds_none made_now.same
+          told.leaves
+          (apart p c.law.ensures.start c.law.ensures.is_run f.pred.at c.in-Some.cur.at k first.locates.pred.behind
+          there)
           keeps.epoch (steps_last ∙ steps) pred.held pred.unmarked pred.inside;
     }
 
 pub returns-in-Ok-replace-clause-had : goal.returns-in-Ok-replace-clause-had
 returns-in-Ok-replace-clause-had g c =
     let own = c.birth_after-named.ensures.reads.own in
-    had_spent c.args.self.now.at.stepper.now c.replace.new.at.stepper.now c.args.hand.slot c.requires.hand.is.slot (c.replace.ensures.stores.pool ∙ own.pool)
+    had_spent c.args.self.now.at.stepper.now c.replace.new.at.stepper.now c.args.hand.slot c.requires.hand.is.slot
+    (c.replace.ensures.stores.pool ∙ own.pool)
 
 pub returns-in-Err-clause-had : goal.returns-in-Err-clause-had
 returns-in-Err-clause-had g c =
     let own = c.birth_after-named.ensures.reads.own in
     let lost = c.in-Err.ensures.lost in
-    had_same c.args.self.now.at.stepper.now c.replace.new.at.stepper.now (c.replace.ensures.stores.pool ∙ own.pool) (lost.hand.slot ∙ ap (λ (h : HandView). Some h.slot) lost.same ∙ sym c.requires.hand.is.slot)
+    had_same c.args.self.now.at.stepper.now c.replace.new.at.stepper.now (c.replace.ensures.stores.pool ∙ own.pool)
+    (lost.hand.slot ∙ ap (λ (h : HandView). Some h.slot) lost.same ∙ sym c.requires.hand.is.slot)
 
 pub returns-in-Err-clause-back : goal.returns-in-Err-clause-back
 returns-in-Err-clause-back g c =
@@ -133,7 +188,8 @@ returns-in-Err-clause-back g c =
     let q = c.birth_after-named.new.at.stepper.now.trace in
     let r = c.replace.new.at.stepper.now.trace in
     let reads = c.birth_after-named.ensures.reads in
-    let read = goes_counted c.args.self.now.used c.steps_to_birth.result (steps_to_birth c.in-Some.cur.word) c.steps_to_birth.ensures.is reads in
+    let read = goes_counted c.args.self.now.used c.steps_to_birth.result (steps_to_birth c.in-Some.cur.word)
+    c.steps_to_birth.ensures.is reads in
     let lost = c.in-Err.ensures.lost in
     let P : List ℕ → Type 0 = λ l. length l < POOL in
     let Q : Option Held → Type 0 = LosesNext p r in
@@ -141,6 +197,11 @@ returns-in-Err-clause-back g c =
     let none = unchanged_by_none c.law.ensures.start run_q read.quiet.same read.quiet.seen reads.adds_none in
     record {
       quiet = quiet_on read.quiet lost.exchange.quiet;
-      hand = record { is = lost.hand; room = subst P (sym c.replace.ensures.stores.pool) (read.hand.room c.requires.hand.room) };
-      loses = inr (subst Q (sym c.in-Some.is) (lost_place_later c.in-Some.cur _ read.quiet c.in-Ok.ensures.birth.keeps none lost.exchange.lost lost.exchange.unchanged));
+      hand = record {
+        is = lost.hand;
+        room = subst P (sym c.replace.ensures.stores.pool) (read.hand.room c.requires.hand.room);
+      };
+      loses = inr (subst Q (sym c.in-Some.is)
+          (lost_place_later c.in-Some.cur _ read.quiet c.in-Ok.ensures.birth.keeps none lost.exchange.lost
+          lost.exchange.unchanged));
     }

@@ -7,20 +7,30 @@ use Rattle.vbr_list.proofs.Walking.{last_walk, lost_on, repeated_none_in, walks_
 use Rattle.vbr_list.proofs.call.PendingCall.search.Goals as goal
 
 pub loop-found-init : goal.loop-found-init
-loop-found-init g c = (call_refl c.args.self.now, tries_refl c.args.self.now.at.stepper.now c.args.self.now.used c.args.self.now.budget c.args.self.now.within, repeated_none_in 9 c.args.self.now.at.stepper.now.trace c.args.self.now.bucket 3 c.args.self.now.used)
+loop-found-init g c = (
+  call_refl c.args.self.now,
+  tries_refl c.args.self.now.at.stepper.now c.args.self.now.used c.args.self.now.budget c.args.self.now.within,
+  repeated_none_in 9 c.args.self.now.at.stepper.now.trace c.args.self.now.bucket 3 c.args.self.now.used,
+)
 
 pub loop-found-preserved : goal.loop-found-preserved
 loop-found-preserved g c =
     let t = c.traverse.ensures.goes in
     let same = call_on c.loop-found.invariant.0 t.call in
-    let stopped = rw c.loop-found.invariant.0.bucket at (rw c.in-Err-Again.field-0-is at c.in-Err-Again.ensures.stopped) in
-    (same, tries_on c.loop-found.invariant.1 t.goes t.more (within_call same), lost_on c.law.ensures c.loop-found.invariant.1.goes.quiet t.goes.quiet c.loop-found.invariant.2 stopped.1 stopped.2)
+    let stopped =
+    rw c.loop-found.invariant.0.bucket at (rw c.in-Err-Again.field-0-is at c.in-Err-Again.ensures.stopped) in (
+      same,
+      tries_on c.loop-found.invariant.1 t.goes t.more (within_call same),
+      lost_on c.law.ensures c.loop-found.invariant.1.goes.quiet t.goes.quiet c.loop-found.invariant.2 stopped.1
+          stopped.2,
+    )
 
 pub returns-in-Ok-clause-goes : goal.returns-in-Ok-clause-goes
 returns-in-Ok-clause-goes g c = goes_further c.loop-found.invariant.0 c.loop-found.invariant.1 c.traverse.ensures.goes
 
 pub returns-in-Err-Tired-clause-goes : goal.returns-in-Err-Tired-clause-goes
-returns-in-Err-Tired-clause-goes g c = goes_further c.loop-found.invariant.0 c.loop-found.invariant.1 c.traverse.ensures.goes
+returns-in-Err-Tired-clause-goes g c =
+    goes_further c.loop-found.invariant.0 c.loop-found.invariant.1 c.traverse.ensures.goes
 
 pub returns-in-Ok-clause-found : goal.returns-in-Ok-clause-found
 returns-in-Ok-clause-found g c =
@@ -32,7 +42,8 @@ returns-in-Ok-clause-found g c =
     let t = c.traverse.ensures.goes.goes in
     let paid = rw c.loop-found.invariant.0.bucket at x.paid in
     let there = c.loop-found.self.of_key ∙ ap (bucket_of q.start.shape) c.loop-found.invariant.0.key in
-    let repeats = last_walk c.law.ensures first t.quiet lost paid (disturbed_at p c.args.self.now.bucket q.seen) (omega arith) in
+    let repeats =
+    last_walk c.law.ensures first t.quiet lost paid (disturbed_at p c.args.self.now.bucket q.seen) (omega arith) in
     record {
       found = found_since c.args.self.now.key c.in-Ok.found first (rw c.loop-found.invariant.0.key at x.found);
       used = x.used;
@@ -54,5 +65,6 @@ returns-in-Ok-clause-found g c =
 pub returns-in-Err-Tired-clause-tired : goal.returns-in-Err-Tired-clause-tired
 returns-in-Err-Tired-clause-tired g c =
     let x = rw c.loop-found.invariant.0.bucket at (rw c.in-Err-Tired.field-0-is at c.in-Err-Tired.ensures.stopped) in
-    let again = walks_again c.law.ensures c.loop-found.invariant.1.goes.quiet c.traverse.ensures.goes.goes.quiet c.loop-found.invariant.2 x.1 in
+    let again = walks_again c.law.ensures c.loop-found.invariant.1.goes.quiet c.traverse.ensures.goes.goes.quiet
+    c.loop-found.invariant.2 x.1 in
     record { tired = rw c.loop-found.invariant.0.budget at x.0; walks = rw c.args.self.now.of_key at again }

@@ -4,37 +4,60 @@ use Rattle.vbr_list.specs.declared.looking.Sight.{Sight}
 use Rattle.vbr_list.proofs.call.PendingCall.settle_look_up.Goals as goal
 
 pub give_value-requires-clause-sight : goal.give_value-requires-clause-sight
-give_value-requires-clause-sight g c = let P : Sight → Type 0 = IsSightFor c.args.self.now in subst P c.in-Present.is c.requires.sight
+give_value-requires-clause-sight g c =
+    let P : Sight → Type 0 = IsSightFor c.args.self.now in subst P c.in-Present.is c.requires.sight
 
 pub give_value-requires-clause-values : goal.give_value-requires-clause-values
 give_value-requires-clause-values g c = c.requires.asked c.if-not-gives.false
 
 pub give_none-requires-clause-sight : goal.give_none-requires-clause-sight
-give_none-requires-clause-sight g c = let P : Sight → Type 0 = IsSightFor c.args.self.now in subst P c.in-Absent.is c.requires.sight
+give_none-requires-clause-sight g c =
+    let P : Sight → Type 0 = IsSightFor c.args.self.now in subst P c.in-Absent.is c.requires.sight
 
 pub give_none-requires-clause-values : goal.give_none-requires-clause-values
 give_none-requires-clause-values g c = c.requires.asked c.if-not-gives.false
 
 pub returns-then-not-gives-clause-few : goal.returns-then-not-gives-clause-few
-returns-then-not-gives-clause-few g c = let P : Bool → Type 0 = λ gives. c.answer_has.new.self.used ≤ c.args.self.now.used + steps_to_answer gives in subst P (sym c.if-not-gives.true) (let one = c.answer_has.ensures.few in omega (arith, one))
+returns-then-not-gives-clause-few g c =
+    let P : Bool → Type 0 = λ gives. c.answer_has.new.self.used ≤ c.args.self.now.used + steps_to_answer gives in
+    subst P (sym c.if-not-gives.true) (let one = c.answer_has.ensures.few in omega (arith, one))
 
 pub returns-in-Present-clause-few : goal.returns-in-Present-clause-few
-returns-in-Present-clause-few g c = let P : Bool → Type 0 = λ gives. c.give_value.new.self.used ≤ c.args.self.now.used + steps_to_answer gives in subst P (sym c.if-not-gives.false) c.give_value.ensures.few
+returns-in-Present-clause-few g c =
+    let P : Bool → Type 0 = λ gives. c.give_value.new.self.used ≤ c.args.self.now.used + steps_to_answer gives in
+    subst P (sym c.if-not-gives.false) c.give_value.ensures.few
 
 pub returns-in-Absent-clause-few : goal.returns-in-Absent-clause-few
-returns-in-Absent-clause-few g c = let P : Bool → Type 0 = λ gives. c.give_none.new.self.used ≤ c.args.self.now.used + steps_to_answer gives in subst P (sym c.if-not-gives.false) c.give_none.ensures.few
+returns-in-Absent-clause-few g c =
+    let P : Bool → Type 0 = λ gives. c.give_none.new.self.used ≤ c.args.self.now.used + steps_to_answer gives in
+    subst P (sym c.if-not-gives.false) c.give_none.ensures.few
 
 pub returns-then-not-gives-clause-answers : goal.returns-then-not-gives-clause-answers
-returns-then-not-gives-clause-answers g c = let P : Bool → Type 0 = λ gives. IfOk c.answer_has.result (LookUpAnswers gives c.args.self.now c.answer_has.new.self) in subst P (sym c.if-not-gives.true) c.answer_has.ensures.answers
+returns-then-not-gives-clause-answers g c =
+    let P : Bool → Type 0 =
+    λ gives. IfOk c.answer_has.result (LookUpAnswers gives c.args.self.now c.answer_has.new.self) in
+    subst P (sym c.if-not-gives.true) c.answer_has.ensures.answers
 
 pub returns-in-Present-clause-answers : goal.returns-in-Present-clause-answers
-returns-in-Present-clause-answers g c = let P : Bool → Type 0 = λ gives. IfOk c.give_value.result (LookUpAnswers gives c.args.self.now c.give_value.new.self) in subst P (sym c.if-not-gives.false) c.give_value.ensures.answers
+returns-in-Present-clause-answers g c =
+    let P : Bool → Type 0 =
+    λ gives. IfOk c.give_value.result (LookUpAnswers gives c.args.self.now c.give_value.new.self) in
+    subst P (sym c.if-not-gives.false) c.give_value.ensures.answers
 
 pub returns-in-Absent-clause-answers : goal.returns-in-Absent-clause-answers
-returns-in-Absent-clause-answers g c = let P : Bool → Type 0 = λ gives. IfOk c.give_none.result (LookUpAnswers gives c.args.self.now c.give_none.new.self) in subst P (sym c.if-not-gives.false) c.give_none.ensures.answers
+returns-in-Absent-clause-answers g c =
+    let P : Bool → Type 0 =
+    λ gives. IfOk c.give_none.result (LookUpAnswers gives c.args.self.now c.give_none.new.self) in
+    subst P (sym c.if-not-gives.false) c.give_none.ensures.answers
 
 pub returns-in-Present-clause-rolls : goal.returns-in-Present-clause-rolls
-returns-in-Present-clause-rolls g c = let P : Sight → Type 0 = λ sight. IfErr c.give_value.result (LookUpRollsBack c.args.self.now c.give_value.new.self sight) in subst P (sym c.in-Present.is) c.give_value.ensures.rolls
+returns-in-Present-clause-rolls g c =
+    let P : Sight → Type 0 =
+    λ sight. IfErr c.give_value.result (LookUpRollsBack c.args.self.now c.give_value.new.self sight) in
+    subst P (sym c.in-Present.is) c.give_value.ensures.rolls
 
 pub returns-in-Absent-clause-rolls : goal.returns-in-Absent-clause-rolls
-returns-in-Absent-clause-rolls g c = let P : Sight → Type 0 = λ sight. IfErr c.give_none.result (LookUpRollsBack c.args.self.now c.give_none.new.self sight) in subst P (sym c.in-Absent.is) c.give_none.ensures.rolls
+returns-in-Absent-clause-rolls g c =
+    let P : Sight → Type 0 =
+    λ sight. IfErr c.give_none.result (LookUpRollsBack c.args.self.now c.give_none.new.self sight) in
+    subst P (sym c.in-Absent.is) c.give_none.ensures.rolls

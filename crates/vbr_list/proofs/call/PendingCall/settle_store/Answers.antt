@@ -1,5 +1,6 @@
 use Rattle.vbr_list.proofs.Names.{◌≡◌, ◌<◌, Bool, true, false, rules, arith, sym, ◌∙◌, subst}
-use Rattle.vbr_list.proofs.Names.{ChangesNone, counts_on, Get, had_back, had_grown, had_on, Made, none_on, quiet_on, Trace, unchanged_by_none}
+use Rattle.vbr_list.proofs.Names.{ChangesNone, counts_on, Get, had_back, had_grown, had_on, Made, none_on, quiet_on}
+use Rattle.vbr_list.proofs.Names.{Trace, unchanged_by_none}
 use Rattle.vbr_list.specs.Settling.{SettlesIn}
 use Rattle.vbr_list.specs.Storing.{HasUnlessStored}
 use Rattle.vbr_list.specs.Told.{given_call}
@@ -18,7 +19,8 @@ pub returns-in_default-clause-had : goal.returns-in_default-clause-had
 returns-in_default-clause-had g c =
     let r = c.read_found.ensures in
     let went = read_goes {c = c.args.self.now} {d = c.read_found.new.self} _ r.call r.used r.reads in
-    had_grown c.args.self.now.at.stepper.now c.read_found.new.self.at.stepper.now went.goes.hand.takes_no_slot.grows went.goes.hand.hand
+    had_grown c.args.self.now.at.stepper.now c.read_found.new.self.at.stepper.now went.goes.hand.takes_no_slot.grows
+    went.goes.hand.hand
 
 -- ---- as it is wanted
 
@@ -43,7 +45,9 @@ returns-in-Ok-change-clause-had g c =
     let went = read_goes {c = c.args.self.now} {d = c.read_found.new.self} _ read.call read.used read.reads in
     let is : wants c.args.wanted c.in-Ok.there ≡ true = sym c.wants.ensures ∙ c.if-not-wants.false in
     let P : Bool → Type 0 = λ stored. HasUnlessStored stored p r in
-    subst P (sym is) (unless_since true p q r (had_grown p q went.goes.hand.takes_no_slot.grows went.goes.hand.hand) (rw c.in-Ok-change.is at c.change.ensures.had))
+    subst P (sym is)
+    (unless_since true p q r (had_grown p q went.goes.hand.takes_no_slot.grows went.goes.hand.hand)
+    (rw c.in-Ok-change.is at c.change.ensures.had))
 
 pub returns-in-Err-clause-had : goal.returns-in-Err-clause-had
 returns-in-Err-clause-had g c =
@@ -52,14 +56,17 @@ returns-in-Err-clause-had g c =
     let r = c.change.new.self.at.stepper.now in
     let read = c.read_found.ensures in
     let went = read_goes {c = c.args.self.now} {d = c.read_found.new.self} _ read.call read.used read.reads in
-    had_on p q r (had_grown p q went.goes.hand.takes_no_slot.grows went.goes.hand.hand) (rw c.in-Err.is at c.change.ensures.had)
+    had_on p q r (had_grown p q went.goes.hand.takes_no_slot.grows went.goes.hand.hand)
+    (rw c.in-Err.is at c.change.ensures.had)
 
 pub returns-in-Ok-change-clause-answers : goal.returns-in-Ok-change-clause-answers
 returns-in-Ok-change-clause-answers g c =
     let read = c.read_found.ensures in
     let is : wants c.args.wanted c.in-Ok.there ≡ true = sym c.wants.ensures ∙ c.if-not-wants.false in
-    answers_since c.args.self.now c.read_found.new.self c.change.new.self c.args.value c.args.wanted c.in-Ok.there read.call.key c.law.ensures.start read.reads.quiet
-    (change_answers c.read_found.new.self c.change.new.self c.args.value c.args.wanted c.in-Ok.there is c.in-Ok-change.ensures.stored)
+    answers_since c.args.self.now c.read_found.new.self c.change.new.self c.args.value c.args.wanted c.in-Ok.there
+    read.call.key c.law.ensures.start read.reads.quiet
+    (change_answers c.read_found.new.self c.change.new.self c.args.value c.args.wanted c.in-Ok.there is
+    c.in-Ok-change.ensures.stored)
 
 pub returns-in-Ok-change-clause-paid : goal.returns-in-Ok-change-clause-paid
 returns-in-Ok-change-clause-paid g c =
@@ -72,7 +79,9 @@ returns-in-Ok-change-clause-paid g c =
     let used = read.used in
     let is : wants c.args.wanted c.in-Ok.there ≡ true = sym c.wants.ensures ∙ c.if-not-wants.false in
     let P : Bool → Type 0 = λ stored. SettlesIn 8 stored b d f in
-    subst P (sym (replaced_where c.args.wanted c.in-Ok.there is)) (settles_since b c.read_found.new.self d f c.law.ensures went (omega (arith, used, few)) read.reads.adds_none c.in-Ok.ensures.found.keeps _ c.in-Ok-change.ensures.paid)
+    subst P (sym (replaced_where c.args.wanted c.in-Ok.there is))
+    (settles_since b c.read_found.new.self d f c.law.ensures went (omega (arith, used, few)) read.reads.adds_none
+    c.in-Ok.ensures.found.keeps _ c.in-Ok-change.ensures.paid)
 
 pub returns-in-Err-clause-back : goal.returns-in-Err-clause-back
 returns-in-Err-clause-back g c =
@@ -82,12 +91,18 @@ returns-in-Err-clause-back g c =
     let read = c.read_found.ensures in
     let quiet = read.reads.quiet in
     let back = c.in-Err.ensures.back in
-    let none : ChangesNone p q = unchanged_by_none c.law.ensures.start (run_at p q quiet.same (quiet.is_run c.law.ensures.is_run)) quiet.same quiet.seen read.reads.adds_none in
+    let none : ChangesNone p q =
+    unchanged_by_none c.law.ensures.start (run_at p q quiet.same (quiet.is_run c.law.ensures.is_run)) quiet.same
+    quiet.seen read.reads.adds_none in
     let few = few_where c.args.found.now.present in
     let used = read.used in
     let more = back.few in
     record {
-      given = record { quiet = quiet_on quiet back.given.quiet; hand = back.given.hand; loses = found_lost_since c.args.found.now quiet c.in-Ok.ensures.found.keeps none back.given.loses };
+      given = record {
+        quiet = quiet_on quiet back.given.quiet;
+        hand = back.given.hand;
+        loses = found_lost_since c.args.found.now quiet c.in-Ok.ensures.found.keeps none back.given.loses;
+      };
       few = omega (arith, few, used, more);
     }
 
@@ -100,14 +115,20 @@ returns-then-is_err-clause-settles g c =
     let asks = asks_then {c = c.args.self.now} c.args.found.now.present r.call r.used r.reads t.call t.used t.keeps in
     let low = r.used in
     let used = t.used in
-    record { call = asks.call; counts = asks.counts; more = omega (arith, low, used); takes_no_slot = asks.hand.takes_no_slot }
+    record {
+      call = asks.call;
+      counts = asks.counts;
+      more = omega (arith, low, used);
+      takes_no_slot = asks.hand.takes_no_slot;
+    }
 
 pub returns-then-is_err-clause-had : goal.returns-then-is_err-clause-had
 returns-then-is_err-clause-had g c =
     let r = c.read_found.ensures in
     let t = c.tell_found.ensures in
     let asks = asks_then {c = c.args.self.now} c.args.found.now.present r.call r.used r.reads t.call t.used t.keeps in
-    had_grown c.args.self.now.at.stepper.now c.tell_found.new.self.at.stepper.now asks.hand.takes_no_slot.grows asks.hand.hand
+    had_grown c.args.self.now.at.stepper.now c.tell_found.new.self.at.stepper.now asks.hand.takes_no_slot.grows
+    asks.hand.hand
 
 pub returns-then-is_err-clause-back : goal.returns-then-is_err-clause-back
 returns-then-is_err-clause-back g c =
@@ -117,12 +138,19 @@ returns-then-is_err-clause-back g c =
     let read = c.read_found.ensures in
     let t = c.tell_found.ensures in
     let quiet = read.reads.quiet in
-    let asks = asks_then {c = c.args.self.now} c.args.found.now.present read.call read.used read.reads t.call t.used t.keeps in
+    let asks = asks_then {c = c.args.self.now} c.args.found.now.present read.call read.used read.reads t.call t.used
+    t.keeps in
     let lost = if_failed c.tell_found.result (sym c.is_err.ensures.value ∙ c.if-is_err.true) t.lost in
-    let none : ChangesNone p q = unchanged_by_none c.law.ensures.start (run_at p q quiet.same (quiet.is_run c.law.ensures.is_run)) quiet.same quiet.seen read.reads.adds_none in
+    let none : ChangesNone p q =
+    unchanged_by_none c.law.ensures.start (run_at p q quiet.same (quiet.is_run c.law.ensures.is_run)) quiet.same
+    quiet.seen read.reads.adds_none in
     let few = asks.few in
     record {
-      given = record { quiet = quiet_on quiet lost.quiet; hand = hand_kept c.args.hand asks.hand c.requires.has.hand; loses = found_lost_since c.args.found.now quiet c.in-Ok.ensures.found.keeps none lost.loses };
+      given = record {
+        quiet = quiet_on quiet lost.quiet;
+        hand = hand_kept c.args.hand asks.hand c.requires.has.hand;
+        loses = found_lost_since c.args.found.now quiet c.in-Ok.ensures.found.keeps none lost.loses;
+      };
       few = omega (arith, few);
     }
 
@@ -134,8 +162,14 @@ returns-then-not-wants-clause-settles g c =
     let low = r.used in
     let used = t.used in
     let more : c.args.self.now.used < c.tell_found.new.self.used = omega (arith, low, used) in
-    let x = takes_back {c = c.read_found.new.self} c.args.hand.slot (search rules) t.used t.keeps c.give_back.ensures.back in
-    record { call = call_on r.call x.call; counts = counts_on went.goes.counts x.counts; more = more; takes_no_slot = none_on went.goes.hand.takes_no_slot x.takes_no_slot }
+    let x = takes_back {c = c.read_found.new.self} c.args.hand.slot (search rules) t.used t.keeps
+    c.give_back.ensures.back in
+    record {
+      call = call_on r.call x.call;
+      counts = counts_on went.goes.counts x.counts;
+      more = more;
+      takes_no_slot = none_on went.goes.hand.takes_no_slot x.takes_no_slot;
+    }
 
 pub returns-then-not-wants-clause-had : goal.returns-then-not-wants-clause-had
 returns-then-not-wants-clause-had g c =
@@ -144,10 +178,13 @@ returns-then-not-wants-clause-had g c =
     let r = c.give_back.new.at.stepper.now in
     let read = c.read_found.ensures in
     let t = c.tell_found.ensures in
-    let asks = asks_then {c = c.args.self.now} c.args.found.now.present read.call read.used read.reads t.call t.used t.keeps in
+    let asks = asks_then {c = c.args.self.now} c.args.found.now.present read.call read.used read.reads t.call t.used
+    t.keeps in
     let is : wants c.args.wanted c.in-Ok.there ≡ false = sym c.wants.ensures ∙ c.if-not-wants.true in
     let P : Bool → Type 0 = λ stored. HasUnlessStored stored p r in
-    subst P (sym is) (had_on p q r (had_grown p q asks.hand.takes_no_slot.grows asks.hand.hand) (had_back q r c.args.hand.slot (asks.hand.hand ∙ c.requires.has.hand.is.slot) c.give_back.ensures.back.pool))
+    subst P (sym is)
+    (had_on p q r (had_grown p q asks.hand.takes_no_slot.grows asks.hand.hand)
+    (had_back q r c.args.hand.slot (asks.hand.hand ∙ c.requires.has.hand.is.slot) c.give_back.ensures.back.pool))
 
 pub returns-then-not-wants-clause-answers : goal.returns-then-not-wants-clause-answers
 returns-then-not-wants-clause-answers g c =
@@ -157,6 +194,8 @@ returns-then-not-wants-clause-answers g c =
     let p = c.args.self.now.at.stepper.now.trace in
     let is : wants c.args.wanted c.in-Ok.there ≡ false = sym c.wants.ensures ∙ c.if-not-wants.true in
     let told = (if_went c.tell_found.result (sym c.is_err.ensures.value ∙ c.if-is_err.false) t.told).1 in
-    let since = tells_since c.args.self.now c.read_found.new.self c.tell_found.new.self c.in-Ok.there read.call.key read.reads.quiet told in
+    let since = tells_since c.args.self.now c.read_found.new.self c.tell_found.new.self c.in-Ok.there read.call.key
+    read.reads.quiet told in
     let T : Trace → Type 0 = Made (given_call p.who Get c.args.self.now.key c.in-Ok.there) p in
-    told_answers c.args.self.now _ c.args.value c.args.wanted c.in-Ok.there is (subst T (sym back.trace) since) back.hand
+    told_answers c.args.self.now _ c.args.value c.args.wanted c.in-Ok.there is (subst T (sym back.trace) since)
+    back.hand

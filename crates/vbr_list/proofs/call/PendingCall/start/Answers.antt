@@ -15,4 +15,7 @@ pub returns-clause-observes : goal.returns-clause-observes
 returns-clause-observes g c = reads_observe c.start_at-head.ensures.reads
 
 pub returns-clause-come : goal.returns-clause-come
-returns-clause-come g c = ok_as c.start_at-head.result (λ head x. come_to c.args.self.now.bucket c.args.self.now.key head c.start_at-head.ensures.reads.quiet.same c.args.self.now.of_key (head_before c.args.self.now.bucket c.args.self.now.key head x)) c.start_at-head.ensures.head
+returns-clause-come g c =
+    ok_as c.start_at-head.result
+    (λ head x. come_to c.args.self.now.bucket c.args.self.now.key head c.start_at-head.ensures.reads.quiet.same
+    c.args.self.now.of_key (head_before c.args.self.now.bucket c.args.self.now.key head x)) c.start_at-head.ensures.head

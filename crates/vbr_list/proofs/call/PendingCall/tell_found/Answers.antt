@@ -14,7 +14,12 @@ confirm_absent-requires-clause-gap g c =
     let know = knows c.args.self.now.at.stepper.now.trace in
     let x = c.requires.knows.locates in
     let absent = there_absent know f c.args.there (rw c.if-is_none.true at c.is_none.ensures) c.requires.knows.is in
-    record { held = x.pred.held; behind = x.pred.behind; before = before_named know c.args.self.now.key f.pred f.cur f.present x.end absent; unmarked = x.pred.unmarked }
+    record {
+      held = x.pred.held;
+      behind = x.pred.behind;
+      before = before_named know c.args.self.now.key f.pred f.cur f.present x.end absent;
+      unmarked = x.pred.unmarked;
+    }
 
 pub confirm_absent-requires-clause-op : goal.confirm_absent-requires-clause-op
 confirm_absent-requires-clause-op g c = record { other = λ e. absurd (cc); asked = λ get. c.requires.knows.values }
@@ -22,26 +27,42 @@ confirm_absent-requires-clause-op g c = record { other = λ e. absurd (cc); aske
 pub confirm_present-requires-clause-asked : goal.confirm_present-requires-clause-asked
 confirm_present-requires-clause-asked g c = λ get.
     let f = c.args.found.now in
-    let value = there_value (knows c.args.self.now.at.stepper.now.trace) f c.args.there (rw c.if-is_none.false at c.is_none.ensures) c.requires.knows.is in
+    let value = there_value (knows c.args.self.now.at.stepper.now.trace) f c.args.there
+    (rw c.if-is_none.false at c.is_none.ensures) c.requires.knows.is in
     (c.requires.knows.values, (value.0, value.2.known c.in-Some.cur c.in-Some.is))
 
 pub returns-then-is_none-clause-told : goal.returns-then-is_none-clause-told
 returns-then-is_none-clause-told g c =
     let p = c.args.self.now.at.stepper.now.trace in
-    let P : Option ℕ → Type 0 = λ there. IfOk c.confirm_absent.result (λ _. Made (given_call p.who Get c.args.self.now.key there) p c.confirm_absent.new.at.stepper.now.trace) in
-    subst P (none_there c.args.there (rw c.if-is_none.true at c.is_none.ensures)) (on_ok c.confirm_absent.result (λ answers. answers.made) c.confirm_absent.ensures.answers)
+    let P : Option ℕ → Type 0 =
+    λ there. IfOk c.confirm_absent.result
+    (λ _. Made (given_call p.who Get c.args.self.now.key there) p c.confirm_absent.new.at.stepper.now.trace) in
+    subst P (none_there c.args.there (rw c.if-is_none.true at c.is_none.ensures))
+    (on_ok c.confirm_absent.result (λ answers. answers.made) c.confirm_absent.ensures.answers)
 
 pub returns-clause-told : goal.returns-clause-told
 returns-clause-told g c =
     let f = c.args.found.now in
     let p = c.args.self.now.at.stepper.now.trace in
     let value = there_value (knows p) f c.args.there (rw c.if-is_none.false at c.is_none.ensures) c.requires.knows.is in
-    let key = key_found (knows p) c.args.self.now.key f.pred c.in-Some.cur f.cur f.present c.requires.knows.locates.end c.in-Some.is value.2.present in
-    let P : Option ℕ → Type 0 = λ there. IfOk c.confirm_present.result (λ _. Made (given_call p.who Get c.args.self.now.key there) p c.confirm_present.new.at.stepper.now.trace) in
-    subst P value.1 (on_ok c.confirm_present.result (λ answers. (answers.answers c.args.self.now.key value.0 key (λ get. value.2.known c.in-Some.cur c.in-Some.is)).made) c.confirm_present.ensures.answers)
+    let key = key_found (knows p) c.args.self.now.key f.pred c.in-Some.cur f.cur f.present c.requires.knows.locates.end
+    c.in-Some.is value.2.present in
+    let P : Option ℕ → Type 0 =
+    λ there. IfOk c.confirm_present.result
+    (λ _. Made (given_call p.who Get c.args.self.now.key there) p c.confirm_present.new.at.stepper.now.trace) in
+    subst P value.1
+    (on_ok c.confirm_present.result
+    (λ answers. (answers.answers c.args.self.now.key value.0 key
+    (λ get. value.2.known c.in-Some.cur c.in-Some.is)).made) c.confirm_present.ensures.answers)
 
 pub returns-then-is_none-clause-lost : goal.returns-then-is_none-clause-lost
-returns-then-is_none-clause-lost g c = each_error (FindsAnother c.args.self.now.at.stepper.now.trace c.confirm_absent.new.at.stepper.now.trace c.args.found.now.pred) _ c.confirm_absent.result (unanswered_by_pred c.law.ensures c.args.found.now) c.confirm_absent.ensures.lost
+returns-then-is_none-clause-lost g c =
+    each_error (FindsAnother c.args.self.now.at.stepper.now.trace c.confirm_absent.new.at.stepper.now.trace
+    c.args.found.now.pred) _ c.confirm_absent.result (unanswered_by_pred c.law.ensures c.args.found.now)
+    c.confirm_absent.ensures.lost
 
 pub returns-clause-lost : goal.returns-clause-lost
-returns-clause-lost g c = each_error (FindsAnother c.args.self.now.at.stepper.now.trace c.confirm_present.new.at.stepper.now.trace c.in-Some.cur) _ c.confirm_present.result (unanswered_by_cur c.law.ensures c.args.found.now c.in-Some.cur c.in-Some.is) c.confirm_present.ensures.lost
+returns-clause-lost g c =
+    each_error (FindsAnother c.args.self.now.at.stepper.now.trace c.confirm_present.new.at.stepper.now.trace
+    c.in-Some.cur) _ c.confirm_present.result
+    (unanswered_by_cur c.law.ensures c.args.found.now c.in-Some.cur c.in-Some.is) c.confirm_present.ensures.lost

@@ -5,11 +5,16 @@ use Rattle.vbr_list.proofs.Disturbing.{loses_place_disturb, moves_on, moves_on_d
 use Rattle.vbr_list.proofs.Going.{call_on, goes_further, goes_on, tries_on, within_call}
 use Rattle.vbr_list.proofs.Moments.{cur_found}
 use Rattle.vbr_list.proofs.Reaching.{node_found, node_reached, pred_inside, pred_on, stood_since, traverses_on}
-use Rattle.vbr_list.proofs.Visits.{knows_now, met_knows, met_open, met_paid, met_past, met_to, paid_so_far, stands_still_on, starts_none, starts_walk, visit_changes_none, visit_paid, visited_run, walk_helped}
+use Rattle.vbr_list.proofs.Visits.{knows_now, met_knows, met_open, met_paid, met_past, met_to, paid_so_far}
+use Rattle.vbr_list.proofs.Visits.{stands_still_on, starts_none, starts_walk, visit_changes_none, visit_paid}
+use Rattle.vbr_list.proofs.Visits.{visited_run, walk_helped}
 use Rattle.vbr_list.proofs.call.PendingCall.traverse.Goals as goal
 
 pub help-requires-clause-pred : goal.help-requires-clause-pred
-help-requires-clause-pred g c = rw (c.visit.ensures.goes.call.key, c.loop-pred.invariant.0.key) (pred_on c.args.self.now.key c.loop-pred.pred c.visit.ensures.goes.goes.quiet.same c.in-Ok-Marked.ensures.met.keeps c.loop-pred.invariant.1.reached.is)
+help-requires-clause-pred g c =
+    rw (c.visit.ensures.goes.call.key, c.loop-pred.invariant.0.key)
+    (pred_on c.args.self.now.key c.loop-pred.pred c.visit.ensures.goes.goes.quiet.same c.in-Ok-Marked.ensures.met.keeps
+    c.loop-pred.invariant.1.reached.is)
 
 pub loop-pred-init : goal.loop-pred-init
 loop-pred-init g c =
@@ -20,7 +25,9 @@ loop-pred-init g c =
         tries = record { goes = c.start.ensures.goes.goes; within = (omega (arith, used), omega (arith, fits, used)) };
         some = omega (arith, used);
         reached = c.in-Ok.ensures.come;
-        walks = starts_walk c.law.ensures c.args.self.now.bucket c.start.ensures.goes.goes.quiet c.start.ensures.observes 9 c.args.self.now.used c.start.new.self.used c.in-Ok.pred used c.in-Ok.ensures.head;
+        walks = starts_walk c.law.ensures c.args.self.now.bucket c.start.ensures.goes.goes.quiet
+            c.start.ensures.observes 9 c.args.self.now.used c.start.new.self.used c.in-Ok.pred used
+            c.in-Ok.ensures.head;
       },
     )
 
@@ -32,11 +39,14 @@ loop-pred-preserved g c =
     let i = c.loop-pred.invariant.1 in
     let same = c.loop-pred.invariant.0.key in
     let low = met.visits.low in
-    let come = node_reached c.args.self.now.key met.visits.key c.loop-pred.pred c.in-Ok-Smaller.node v.goes.quiet.same (pred_inside i.reached.is) met.keeps met.reads met.visits.has (omega (arith, low, same)) in
+    let come = node_reached c.args.self.now.key met.visits.key c.loop-pred.pred c.in-Ok-Smaller.node v.goes.quiet.same
+    (pred_inside i.reached.is) met.keeps met.reads met.visits.has (omega (arith, low, same)) in
     let y = c.affords-in-loop-pred.ensures.0 c.if-not-affords-2.false in
     let b = c.loop-pred.invariant.0.budget in (
       call_on c.loop-pred.invariant.0 v.call,
-      traverses_on i v.goes (omega (arith, count)) (omega (arith, count, y, b)) come (met_to c.law.ensures c.args.self.now.bucket c.loop-pred.invariant.1.tries.goes.quiet c.visit.ensures.goes.goes.quiet c.visit.ensures.observes i.walks met (omega (arith, count)) come.is.unmarked),
+      traverses_on i v.goes (omega (arith, count)) (omega (arith, count, y, b)) come
+          (met_to c.law.ensures c.args.self.now.bucket c.loop-pred.invariant.1.tries.goes.quiet
+          c.visit.ensures.goes.goes.quiet c.visit.ensures.observes i.walks met (omega (arith, count)) come.is.unmarked),
     )
 
 pub loop-pred-preserved-in-Ok-help : goal.loop-pred-preserved-in-Ok-help
@@ -46,7 +56,8 @@ loop-pred-preserved-in-Ok-help g c =
     let i = c.loop-pred.invariant.1 in
     let met = rw c.in-Ok-Marked.field-0-is at c.in-Ok-Marked.ensures.met in
     let helped = c.in-Ok-help.ensures.helps in
-    let before = pred_on c.args.self.now.key c.loop-pred.pred v.goes.quiet.same c.in-Ok-Marked.ensures.met.keeps i.reached.is in
+    let before =
+    pred_on c.args.self.now.key c.loop-pred.pred v.goes.quiet.same c.in-Ok-Marked.ensures.met.keeps i.reached.is in
     let s = helped.come c.args.self.now.key before in
     let x = c.visit.ensures.used in
     let y = h.more in
@@ -63,11 +74,18 @@ loop-pred-preserved-in-Ok-help g c =
     let is = c.law.ensures.start in
     let ok_t = run_at p t all.same (all.is_run c.law.ensures.is_run) in
     let bucket = c.args.self.now.bucket in
-    let inside : HeldIn (knows r) c.loop-pred.pred.at bucket = subst (HeldIn (knows r) c.loop-pred.pred.at) (ap (λ (start : Start). bucket_of start.shape c.args.self.now.key) whole.same.start ∙ sym c.args.self.now.of_key) before.inside in
+    let inside : HeldIn (knows r) c.loop-pred.pred.at bucket =
+    subst (HeldIn (knows r) c.loop-pred.pred.at)
+    (ap (λ (start : Start). bucket_of start.shape c.args.self.now.key) whole.same.start ∙ sym c.args.self.now.of_key)
+    before.inside in
     let count = met.count in
-    let past : Walks 9 p r bucket c.args.self.now.used c.help.new.self.used c.loop-pred.pred (held_of c.in-Ok-Marked.marked) = met_past c.law.ensures c.args.self.now.bucket c.loop-pred.invariant.1.tries.goes.quiet c.visit.ensures.goes.goes.quiet c.visit.ensures.observes i.walks met (omega (arith, count, few)) in (
+    let past : Walks 9 p r bucket c.args.self.now.used c.help.new.self.used c.loop-pred.pred
+    (held_of c.in-Ok-Marked.marked) =
+    met_past c.law.ensures c.args.self.now.bucket c.loop-pred.invariant.1.tries.goes.quiet
+    c.visit.ensures.goes.goes.quiet c.visit.ensures.observes i.walks met (omega (arith, count, few)) in (
       call_on c.loop-pred.invariant.0 (call_on v.call h.call),
-      traverses_on i (goes_on v.goes h.goes) (omega (arith, x, y)) (omega (arith, few, z, b, d)) (record { is = s.is; stood = stood_since v.goes.quiet s.stood })
+      traverses_on i (goes_on v.goes h.goes) (omega (arith, x, y)) (omega (arith, few, z, b, d))
+          (record { is = s.is; stood = stood_since v.goes.quiet s.stood })
           (walk_helped c.law.ensures bucket whole h.goes.quiet past inside helped.epoch helped.opens),
     )
 
@@ -75,13 +93,18 @@ pub returns-in-Err-clause-goes : goal.returns-in-Err-clause-goes
 returns-in-Err-clause-goes g c = goes_further c.loop-pred.invariant.0 c.loop-pred.invariant.1.tries c.visit.ensures.goes
 
 pub returns-then-not-affords-3-clause-goes : goal.returns-then-not-affords-3-clause-goes
-returns-then-not-affords-3-clause-goes g c = goes_further c.loop-pred.invariant.0 c.loop-pred.invariant.1.tries c.visit.ensures.goes
+returns-then-not-affords-3-clause-goes g c =
+    goes_further c.loop-pred.invariant.0 c.loop-pred.invariant.1.tries c.visit.ensures.goes
 
 pub returns-in-Ok-Beyond-clause-goes : goal.returns-in-Ok-Beyond-clause-goes
-returns-in-Ok-Beyond-clause-goes g c = goes_further c.loop-pred.invariant.0 c.loop-pred.invariant.1.tries c.visit.ensures.goes
+returns-in-Ok-Beyond-clause-goes g c =
+    goes_further c.loop-pred.invariant.0 c.loop-pred.invariant.1.tries c.visit.ensures.goes
 
 pub returns-in-Err-help-clause-goes : goal.returns-in-Err-help-clause-goes
-returns-in-Err-help-clause-goes g c = goes_further (call_on c.loop-pred.invariant.0 c.visit.ensures.goes.call) (tries_on c.loop-pred.invariant.1.tries c.visit.ensures.goes.goes c.visit.ensures.goes.more (within_call (call_on c.loop-pred.invariant.0 c.visit.ensures.goes.call))) c.help.ensures.goes
+returns-in-Err-help-clause-goes g c =
+    goes_further (call_on c.loop-pred.invariant.0 c.visit.ensures.goes.call)
+    (tries_on c.loop-pred.invariant.1.tries c.visit.ensures.goes.goes c.visit.ensures.goes.more
+    (within_call (call_on c.loop-pred.invariant.0 c.visit.ensures.goes.call))) c.help.ensures.goes
 
 pub returns-in-Ok-Beyond-clause-found : goal.returns-in-Ok-Beyond-clause-found
 returns-in-Ok-Beyond-clause-found g c =
@@ -93,14 +116,21 @@ returns-in-Ok-Beyond-clause-found g c =
     let high = met.visits.1 in
     let is = c.loop-pred.invariant.0.key in
     let says = ap (λ k. k == c.in-Ok-Beyond.key) same in
-    let cur = node_found c.args.self.now.key c.in-Ok-Beyond.key _ c.loop-pred.pred c.in-Ok-Beyond.node met.reads met.visits.0 (omega (arith, high, is)) says in
+    let cur = node_found c.args.self.now.key c.in-Ok-Beyond.key _ c.loop-pred.pred c.in-Ok-Beyond.node met.reads
+    met.visits.0 (omega (arith, high, is)) says in
     record {
-      found = cur_found c.args.self.now.key c.visit.new.self.used c.loop-pred.pred c.in-Ok-Beyond.node (c.visit.new.self.key == c.in-Ok-Beyond.key) i.reached i.tries.goes.quiet v met.keeps cur met.reads.stood;
+      found = cur_found c.args.self.now.key c.visit.new.self.used c.loop-pred.pred c.in-Ok-Beyond.node
+          (c.visit.new.self.key == c.in-Ok-Beyond.key) i.reached i.tries.goes.quiet v met.keeps cur met.reads.stood;
       used = refl;
-      knew = met_knows c.law.ensures c.args.self.now.bucket c.loop-pred.invariant.1.tries.goes.quiet c.visit.ensures.goes.goes.quiet c.visit.ensures.observes i.walks met;
-      pred = stands_still_on v.seen (visit_changes_none c.law.ensures c.args.self.now.bucket c.loop-pred.invariant.1.tries.goes.quiet c.visit.ensures.goes.goes.quiet c.visit.ensures.observes) i.walks.stands;
-      cur = met_open c.law.ensures c.args.self.now.bucket c.loop-pred.invariant.1.tries.goes.quiet c.visit.ensures.goes.goes.quiet c.visit.ensures.observes i.walks met cur.unmarked;
-      paid = met_paid c.law.ensures c.args.self.now.bucket c.loop-pred.invariant.1.tries.goes.quiet c.visit.ensures.goes.goes.quiet c.visit.ensures.observes i.walks met (omega (arith, count));
+      knew = met_knows c.law.ensures c.args.self.now.bucket c.loop-pred.invariant.1.tries.goes.quiet
+          c.visit.ensures.goes.goes.quiet c.visit.ensures.observes i.walks met;
+      pred = stands_still_on v.seen
+          (visit_changes_none c.law.ensures c.args.self.now.bucket c.loop-pred.invariant.1.tries.goes.quiet
+          c.visit.ensures.goes.goes.quiet c.visit.ensures.observes) i.walks.stands;
+      cur = met_open c.law.ensures c.args.self.now.bucket c.loop-pred.invariant.1.tries.goes.quiet
+          c.visit.ensures.goes.goes.quiet c.visit.ensures.observes i.walks met cur.unmarked;
+      paid = met_paid c.law.ensures c.args.self.now.bucket c.loop-pred.invariant.1.tries.goes.quiet
+          c.visit.ensures.goes.goes.quiet c.visit.ensures.observes i.walks met (omega (arith, count));
     }
 
 pub returns-clause-found : goal.returns-clause-found
@@ -117,11 +147,16 @@ returns-clause-found g c =
 
 pub returns-in_default-clause-stopped : goal.returns-in_default-clause-stopped
 returns-in_default-clause-stopped g c =
-    let used = c.start.ensures.used in
-    (omega (arith, used), omega (arith, used), starts_none c.law.ensures c.args.self.now.bucket c.start.ensures.goes.goes.quiet c.start.ensures.observes c.in_default.ensures.moved)
+    let used = c.start.ensures.used in (
+      omega (arith, used),
+      omega (arith, used),
+      starts_none c.law.ensures c.args.self.now.bucket c.start.ensures.goes.goes.quiet c.start.ensures.observes
+          c.in_default.ensures.moved,
+    )
 
 pub returns-then-not-affords-2-clause-stopped : goal.returns-then-not-affords-2-clause-stopped
-returns-then-not-affords-2-clause-stopped g c = (search rules, paid_so_far c.law.ensures c.loop-pred.invariant.1.tries.goes.quiet c.loop-pred.invariant.1.walks)
+returns-then-not-affords-2-clause-stopped g c =
+    (search rules, paid_so_far c.law.ensures c.loop-pred.invariant.1.tries.goes.quiet c.loop-pred.invariant.1.walks)
 
 pub returns-in-Err-clause-stopped : goal.returns-in-Err-clause-stopped
 returns-in-Err-clause-stopped g c =
@@ -132,20 +167,32 @@ returns-in-Err-clause-stopped g c =
     let r = c.visit.new.self.at.stepper.now.trace in
     let first = i.tries.goes.quiet in
     let few = c.visit.ensures.used.1 in
-    let some : is_some (link_of c.loop-pred.pred.word).slot ≡ true = ap (λ (l : Link). is_some l.slot) (sym c.decode.ensures.link) ∙ sym c.is_some.ensures ∙ c.loop-pred-test.true in
+    let some : is_some (link_of c.loop-pred.pred.word).slot ≡ true =
+    ap (λ (l : Link). is_some l.slot) (sym c.decode.ensures.link) ∙ sym c.is_some.ensures ∙ c.loop-pred-test.true in
     let steps = c.visit.ensures.goes.goes.hand.takes_no_slot.count ∙ i.tries.goes.hand.takes_no_slot.count in (
       omega arith,
-      visit_paid c.law.ensures c.args.self.now.bucket c.loop-pred.invariant.1.tries.goes.quiet c.visit.ensures.goes.goes.quiet i.walks (omega (arith, few)) some,
-      moves_on_disturb p r c.law.ensures.start (visited_run c.law.ensures c.args.self.now.bucket first v) c.args.self.now.bucket (quiet_on first v).same steps q first.same v.seen i.walks.knew (moves_on q r v.same v.seen c.in-Err.ensures.moved),
+      visit_paid c.law.ensures c.args.self.now.bucket c.loop-pred.invariant.1.tries.goes.quiet
+          c.visit.ensures.goes.goes.quiet i.walks (omega (arith, few)) some,
+      moves_on_disturb p r c.law.ensures.start (visited_run c.law.ensures c.args.self.now.bucket first v)
+          c.args.self.now.bucket (quiet_on first v).same steps q first.same v.seen i.walks.knew
+          (moves_on q r v.same v.seen c.in-Err.ensures.moved),
     )
 
 pub returns-then-not-affords-3-clause-stopped : goal.returns-then-not-affords-3-clause-stopped
 returns-then-not-affords-3-clause-stopped g c =
     let b = c.visit.ensures.goes.call.budget ∙ c.loop-pred.invariant.0.budget in
-    let short : ¬ (c.visit.new.self.used + PIECE ≤ c.visit.new.self.budget) = λ h. (let f = c.if-not-affords-3.true in let z = c.affords-in-Ok-Marked.ensures.1 h in let w : false ≡ true = sym f ∙ z in cc) in
+    let short : ¬ (c.visit.new.self.used + PIECE ≤ c.visit.new.self.budget) =
+    λ h. (let f = c.if-not-affords-3.true in
+    let z = c.affords-in-Ok-Marked.ensures.1 h in
+    let w : false ≡ true = sym f ∙ z in
+    cc) in
     let met = rw c.in-Ok-Marked.field-0-is at c.in-Ok-Marked.ensures.met in
-    let count = met.count in
-    (omega (arith, short, b), met_paid c.law.ensures c.args.self.now.bucket c.loop-pred.invariant.1.tries.goes.quiet c.visit.ensures.goes.goes.quiet c.visit.ensures.observes c.loop-pred.invariant.1.walks met (omega (arith, count)))
+    let count = met.count in (
+      omega (arith, short, b),
+      met_paid c.law.ensures c.args.self.now.bucket c.loop-pred.invariant.1.tries.goes.quiet
+          c.visit.ensures.goes.goes.quiet c.visit.ensures.observes c.loop-pred.invariant.1.walks met
+          (omega (arith, count)),
+    )
 
 pub returns-in-Err-help-clause-stopped : goal.returns-in-Err-help-clause-stopped
 returns-in-Err-help-clause-stopped g c =
@@ -166,8 +213,12 @@ returns-in-Err-help-clause-stopped g c =
     let ok_t = run_at p t all.same (all.is_run c.law.ensures.is_run) in
     let bucket = c.args.self.now.bucket in
     let steps = h.hand.takes_no_slot.count ∙ v.hand.takes_no_slot.count ∙ i.tries.goes.hand.takes_no_slot.count in
-    let none = visit_changes_none c.law.ensures c.args.self.now.bucket c.loop-pred.invariant.1.tries.goes.quiet c.visit.ensures.goes.goes.quiet c.visit.ensures.observes in (
+    let none = visit_changes_none c.law.ensures c.args.self.now.bucket c.loop-pred.invariant.1.tries.goes.quiet
+    c.visit.ensures.goes.goes.quiet c.visit.ensures.observes in (
       omega arith,
-      visit_paid c.law.ensures bucket first later i.walks (let count = met.count in omega (arith, count, few)) (ap is_some met.reads.named),
-      loses_place_disturb p t is ok_t bucket all.same steps r c.loop-pred.pred whole.same h.quiet.seen (knows_now p r whole.same whole.seen met.fresh) (stands_still_on v.quiet.seen none i.walks.stands) c.in-Err-help.ensures.lost,
+      visit_paid c.law.ensures bucket first later i.walks (let count = met.count in omega (arith, count, few))
+          (ap is_some met.reads.named),
+      loses_place_disturb p t is ok_t bucket all.same steps r c.loop-pred.pred whole.same h.quiet.seen
+          (knows_now p r whole.same whole.seen met.fresh) (stands_still_on v.quiet.seen none i.walks.stands)
+          c.in-Err-help.ensures.lost,
     )

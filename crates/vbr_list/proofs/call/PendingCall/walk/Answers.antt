@@ -1,4 +1,5 @@
-use Rattle.vbr_list.proofs.Names.{rules, ◌≡◌, refl, sym, ap, ◌∙◌, subst, arith, eq-eqb, true, false, Option, ℕ, Some, None, ◌==◌, nat_tests, is_some}
+use Rattle.vbr_list.proofs.Names.{rules, ◌≡◌, refl, sym, ap, ◌∙◌, subst, arith, eq-eqb, true, false, Option, ℕ, Some}
+use Rattle.vbr_list.proofs.Names.{None, ◌==◌, nat_tests, is_some}
 use Rattle.vbr_list.proofs.Names.{Held, Link, link_of}
 use Rattle.vbr_list.proofs.Following.{follows_head, follows_marked, follows_node, visit_lost}
 use Rattle.vbr_list.proofs.Going.{call_on, goes_further}
@@ -15,8 +16,12 @@ no_slot (Some s) e = absurd (cc)
 
 pub loop-here-init : goal.loop-here-init
 loop-here-init g c =
-    let v = c.start.ensures in
-    (v.goes.call, follows_head c.law.ensures c.args.self.now.bucket c.args.self.now.key c.args.self.now.used c.start.new.self.used c.args.self.now.budget c.in-Ok.pred (record { goes = v.goes.goes; observes = v.observes }) v.used (c.affords.ensures.0 c.if-not-affords.false) c.in-Ok.ensures.head)
+    let v = c.start.ensures in (
+      v.goes.call,
+      follows_head c.law.ensures c.args.self.now.bucket c.args.self.now.key c.args.self.now.used c.start.new.self.used
+          c.args.self.now.budget c.in-Ok.pred (record { goes = v.goes.goes; observes = v.observes }) v.used
+          (c.affords.ensures.0 c.if-not-affords.false) c.in-Ok.ensures.head,
+    )
 
 pub loop-here-preserved-in-Ok-Marked : goal.loop-here-preserved-in-Ok-Marked
 loop-here-preserved-in-Ok-Marked g c =
@@ -25,9 +30,13 @@ loop-here-preserved-in-Ok-Marked g c =
     let met = rw i.0.key at (rw c.in-Ok-Marked.field-0-is at c.in-Ok-Marked.ensures.met) in
     let y = c.affords-in-loop-here.ensures.0 c.if-not-affords-2.false in
     let b = i.0.budget in
-    let P : Held → Type 0 = Follows c.args.self.now.at.stepper.now c.visit.new.self.at.stepper.now c.args.self.now.bucket c.args.self.now.key c.args.self.now.used c.visit.new.self.used c.args.self.now.budget c.loop-here.pred in (
+    let P : Held → Type 0 =
+    Follows c.args.self.now.at.stepper.now c.visit.new.self.at.stepper.now c.args.self.now.bucket c.args.self.now.key
+    c.args.self.now.used c.visit.new.self.used c.args.self.now.budget c.loop-here.pred in (
       call_on i.0 v.goes.call,
-      subst P (sym c.held_of-here.ensures) (follows_marked c.law.ensures i.1 (record { goes = v.goes.goes; observes = v.observes }) v.used (omega (arith, y, b)) c.in-Ok-Marked.marked met),
+      subst P (sym c.held_of-here.ensures)
+          (follows_marked c.law.ensures i.1 (record { goes = v.goes.goes; observes = v.observes }) v.used
+          (omega (arith, y, b)) c.in-Ok-Marked.marked met),
     )
 
 pub loop-here-preserved : goal.loop-here-preserved
@@ -36,23 +45,29 @@ loop-here-preserved g c =
     let i = c.loop-here.invariant in
     let met = rw i.0.key at (rw c.in-Ok-Smaller.field-0-is at c.in-Ok-Smaller.ensures.met) in
     let y = c.affords-in-loop-here.ensures.0 c.if-not-affords-2.false in
-    let b = i.0.budget in
-    (call_on i.0 v.goes.call, follows_node c.law.ensures i.1 (record { goes = v.goes.goes; observes = v.observes }) v.used (omega (arith, y, b)) c.in-Ok-Smaller.node met)
+    let b = i.0.budget in (
+      call_on i.0 v.goes.call,
+      follows_node c.law.ensures i.1 (record { goes = v.goes.goes; observes = v.observes }) v.used (omega (arith, y, b))
+          c.in-Ok-Smaller.node met,
+    )
 
 pub returns-in-Err-clause-goes : goal.returns-in-Err-clause-goes
-returns-in-Err-clause-goes g c = goes_further c.loop-here.invariant.0 c.loop-here.invariant.1.peeks.tries c.visit.ensures.goes
+returns-in-Err-clause-goes g c =
+    goes_further c.loop-here.invariant.0 c.loop-here.invariant.1.peeks.tries c.visit.ensures.goes
 
 pub returns-in-Err-clause-observes : goal.returns-in-Err-clause-observes
 returns-in-Err-clause-observes g c = observes_on c.loop-here.invariant.1.peeks.observes c.visit.ensures.observes
 
 pub returns-then-self-key-clause-goes : goal.returns-then-self-key-clause-goes
-returns-then-self-key-clause-goes g c = goes_further c.loop-here.invariant.0 c.loop-here.invariant.1.peeks.tries c.visit.ensures.goes
+returns-then-self-key-clause-goes g c =
+    goes_further c.loop-here.invariant.0 c.loop-here.invariant.1.peeks.tries c.visit.ensures.goes
 
 pub returns-then-self-key-clause-observes : goal.returns-then-self-key-clause-observes
 returns-then-self-key-clause-observes g c = observes_on c.loop-here.invariant.1.peeks.observes c.visit.ensures.observes
 
 pub returns-in-Ok-Beyond-clause-goes : goal.returns-in-Ok-Beyond-clause-goes
-returns-in-Ok-Beyond-clause-goes g c = goes_further c.loop-here.invariant.0 c.loop-here.invariant.1.peeks.tries c.visit.ensures.goes
+returns-in-Ok-Beyond-clause-goes g c =
+    goes_further c.loop-here.invariant.0 c.loop-here.invariant.1.peeks.tries c.visit.ensures.goes
 
 pub returns-in-Ok-Beyond-clause-observes : goal.returns-in-Ok-Beyond-clause-observes
 returns-in-Ok-Beyond-clause-observes g c = observes_on c.loop-here.invariant.1.peeks.observes c.visit.ensures.observes
@@ -62,14 +77,19 @@ returns-then-self-key-clause-sight g c =
     let v = c.visit.ensures in
     let i = c.loop-here.invariant in
     let met = rw i.0.key at (rw c.in-Ok-Beyond.field-0-is at c.in-Ok-Beyond.ensures.met) in
-    let says : true ≡ (c.args.self.now.key == c.in-Ok-Beyond.key) = let is = c.if-self-key.true in sym (eq-eqb c.args.self.now.key c.in-Ok-Beyond.key (sym (v.goes.call.key ∙ i.0.key) ∙ is)) in
-    let cur = node_found c.args.self.now.key c.in-Ok-Beyond.key true c.loop-here.here c.in-Ok-Beyond.node met.reads met.visits.0 met.visits.1 says in
+    let says : true ≡ (c.args.self.now.key == c.in-Ok-Beyond.key) = let is = c.if-self-key.true in
+    sym (eq-eqb c.args.self.now.key c.in-Ok-Beyond.key (sym (v.goes.call.key ∙ i.0.key) ∙ is)) in
+    let cur = node_found c.args.self.now.key c.in-Ok-Beyond.key true c.loop-here.here c.in-Ok-Beyond.node met.reads
+    met.visits.0 met.visits.1 says in
     let few = v.used.1 in
     record {
-      sees = present_at c.visit.new.self.at.stepper.now.trace.start c.args.self.now.key c.loop-here.here c.in-Ok-Beyond.node cur;
+      sees = present_at c.visit.new.self.at.stepper.now.trace.start c.args.self.now.key c.loop-here.here
+          c.in-Ok-Beyond.node cur;
       fresh = met.fresh;
-      stood = (met_open c.law.ensures c.args.self.now.bucket i.1.peeks.tries.goes.quiet v.goes.goes.quiet v.observes i.1.walks met cur.unmarked).stood;
-      paid = met_paid c.law.ensures c.args.self.now.bucket i.1.peeks.tries.goes.quiet v.goes.goes.quiet v.observes i.1.walks met (omega (arith, few));
+      stood = (met_open c.law.ensures c.args.self.now.bucket i.1.peeks.tries.goes.quiet v.goes.goes.quiet v.observes
+          i.1.walks met cur.unmarked).stood;
+      paid = met_paid c.law.ensures c.args.self.now.bucket i.1.peeks.tries.goes.quiet v.goes.goes.quiet v.observes
+          i.1.walks met (omega (arith, few));
     }
 
 pub returns-in-Ok-Beyond-clause-sight : goal.returns-in-Ok-Beyond-clause-sight
@@ -78,14 +98,18 @@ returns-in-Ok-Beyond-clause-sight g c =
     let i = c.loop-here.invariant in
     let met = rw i.0.key at (rw c.in-Ok-Beyond.field-0-is at c.in-Ok-Beyond.ensures.met) in
     let key = v.goes.call.key ∙ i.0.key in
-    let says : false ≡ (c.args.self.now.key == c.in-Ok-Beyond.key) = let isnt = c.if-self-key.false in let not : ¬ (c.args.self.now.key ≡ c.in-Ok-Beyond.key) = λ e. isnt (key ∙ e) in grind (arith, nat_tests, not) in
-    let cur = node_found c.args.self.now.key c.in-Ok-Beyond.key false c.loop-here.here c.in-Ok-Beyond.node met.reads met.visits.0 met.visits.1 says in
+    let says : false ≡ (c.args.self.now.key == c.in-Ok-Beyond.key) = let isnt = c.if-self-key.false in
+    let not : ¬ (c.args.self.now.key ≡ c.in-Ok-Beyond.key) = λ e. isnt (key ∙ e) in
+    grind (arith, nat_tests, not) in
+    let cur = node_found c.args.self.now.key c.in-Ok-Beyond.key false c.loop-here.here c.in-Ok-Beyond.node met.reads
+    met.visits.0 met.visits.1 says in
     let few = v.used.1 in
     record {
       sees = absent_before c.in-Ok-Beyond.node i.1 c.args.self.now.of_key v.goes.goes.quiet.same met.keeps cur;
       fresh = met.fresh;
       stood = stood_on v.goes.goes.quiet.seen i.1.walks.stands.stood;
-      paid = met_paid c.law.ensures c.args.self.now.bucket i.1.peeks.tries.goes.quiet v.goes.goes.quiet v.observes i.1.walks met (omega (arith, few));
+      paid = met_paid c.law.ensures c.args.self.now.bucket i.1.peeks.tries.goes.quiet v.goes.goes.quiet v.observes
+          i.1.walks met (omega (arith, few));
     }
 
 pub returns-clause-sight : goal.returns-clause-sight
@@ -104,13 +128,22 @@ returns-in-Err-clause-stopped g c =
     let v = c.visit.ensures in
     let y = c.affords-in-loop-here.ensures.0 c.if-not-affords-2.false in
     let b = c.loop-here.invariant.0.budget in
-    let some : is_some (link_of c.loop-here.here.word).slot ≡ true = ap (λ (l : Link). is_some l.slot) (sym c.decode.ensures.link) ∙ sym c.is_some.ensures ∙ c.loop-here-test.true in
-    visit_lost c.law.ensures c.loop-here.invariant.1 (record { goes = v.goes.goes; observes = v.observes }) v.used (omega (arith, y, b)) some c.in-Err.ensures.moved
+    let some : is_some (link_of c.loop-here.here.word).slot ≡ true =
+    ap (λ (l : Link). is_some l.slot) (sym c.decode.ensures.link) ∙ sym c.is_some.ensures ∙ c.loop-here-test.true in
+    visit_lost c.law.ensures c.loop-here.invariant.1 (record { goes = v.goes.goes; observes = v.observes }) v.used
+    (omega (arith, y, b)) some c.in-Err.ensures.moved
 
 pub returns-in_default-clause-stopped : goal.returns-in_default-clause-stopped
 returns-in_default-clause-stopped g c =
-    let used = c.start.ensures.used in
-    (omega (arith, used), omega (arith, used), starts_none c.law.ensures c.args.self.now.bucket c.start.ensures.goes.goes.quiet c.start.ensures.observes c.in_default.ensures.moved)
+    let used = c.start.ensures.used in (
+      omega (arith, used),
+      omega (arith, used),
+      starts_none c.law.ensures c.args.self.now.bucket c.start.ensures.goes.goes.quiet c.start.ensures.observes
+          c.in_default.ensures.moved,
+    )
 
 pub returns-then-not-affords-2-clause-stopped : goal.returns-then-not-affords-2-clause-stopped
-returns-then-not-affords-2-clause-stopped g c = (search rules, paid_so_far c.law.ensures c.loop-here.invariant.1.peeks.tries.goes.quiet c.loop-here.invariant.1.walks)
+returns-then-not-affords-2-clause-stopped g c = (
+  search rules,
+  paid_so_far c.law.ensures c.loop-here.invariant.1.peeks.tries.goes.quiet c.loop-here.invariant.1.walks,
+)

@@ -9,4 +9,7 @@ use Rattle.vbr_machine.proofs.plain_map.PlainMap.entries.Goals as goal
 pub returns-clause-ascending : goal.returns-clause-ascending
 returns-clause-ascending c =
     let listed : IfOk c.collect.result (λ entries. entries.items ≡ c.self.inside.entries.entries) = search rules in
-    IfOk-weaker c.collect.result _ _ (λ entries e. subst (λ es. IsStrictlyIncreasing (keys_listed es)) (sym e) (IsStrictlyIncreasing-from_sorted (keys_listed c.self.inside.entries.entries) c.iter.ensures.ordered)) listed
+    IfOk-weaker c.collect.result _ _
+    (λ entries e.
+    subst (λ es. IsStrictlyIncreasing (keys_listed es)) (sym e)
+    (IsStrictlyIncreasing-from_sorted (keys_listed c.self.inside.entries.entries) c.iter.ensures.ordered)) listed

@@ -15,17 +15,32 @@ loop-call-preserved c =
     let here : c.loop-call.call-index < length c.loop-call.calls = omega arith in
     record {
       requests = map-set_same request_of _ c.loop-call.call-index _ _ refl ∙ c.loop-call.invariant.requests;
-      leads = rw (take_more_set _ _ _ here) (Leads-push _ _ _ _ _ c.loop-call.invariant.leads c.in_ok-call.ensures.answers.reply c.in_ok-call.ensures.answers.after);
+      leads = rw (take_more_set _ _ _ here)
+          (Leads-push _ _ _ _ _ c.loop-call.invariant.leads c.in_ok-call.ensures.answers.reply
+          c.in_ok-call.ensures.answers.after);
       rest = rest_after c.loop-call.calls c.args.calls.now c.loop-call.call-index c.loop-call.invariant.rest _;
     }
 
 -- where a call was refused, what the calls before it did stands, and the call itself is as it was
-as_before : {T E : Type 0} (result : Result T E) (opening before after : List ℕ) (asked calls : List Call) (i : ℕ) (none : Call) → i < length asked → SetRefuses before after (get_or calls i none).op (get_or calls i none).key → Leads (keys_of opening) (take i calls) (keys_of before) → drop i calls ≡ drop i asked
+as_before : {T E : Type 0} (result : Result T E) (opening before after : List ℕ) (asked calls : List Call) (i : ℕ)
+    (none : Call) → i < length asked → SetRefuses before after (get_or calls i none).op (get_or calls i none).key →
+    Leads (keys_of opening) (take i calls) (keys_of before) → drop i calls ≡ drop i asked
     → OnErr result (SetStops opening after asked (set calls i (get_or calls i none)))
 as_before result opening before after asked calls i none here refused leads rest =
-    on_err result (rw (set-get_or calls i none, refused.unchanged) (record { count = i; stopped = get_or calls i none; here = still_asked calls asked i none here rest; insert = refused.insert; absent = refused.absent; leads = leads; rest = rest }))
+    on_err result
+    (rw (set-get_or calls i none, refused.unchanged)
+    (record {
+      count = i;
+      stopped = get_or calls i none;
+      here = still_asked calls asked i none here rest;
+      insert = refused.insert;
+      absent = refused.absent;
+      leads = leads;
+      rest = rest;
+    }))
 
 pub returns-in_err-call-clause-refused : goal.returns-in_err-call-clause-refused
 returns-in_err-call-clause-refused c =
     let here : c.loop-call.call-index < length c.args.calls.now = omega arith in
-    as_before c.from_residual.result _ _ _ _ _ c.loop-call.call-index _ here c.in_err-call.ensures.refused c.loop-call.invariant.leads c.loop-call.invariant.rest
+    as_before c.from_residual.result _ _ _ _ _ c.loop-call.call-index _ here c.in_err-call.ensures.refused
+    c.loop-call.invariant.leads c.loop-call.invariant.rest

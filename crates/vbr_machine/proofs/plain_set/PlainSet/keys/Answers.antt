@@ -8,4 +8,6 @@ use Rattle.vbr_machine.proofs.plain_set.PlainSet.keys.Goals as goal
 pub returns-clause-ascending : goal.returns-clause-ascending
 returns-clause-ascending c =
     let listed : IfOk c.collect.result (λ keys. keys.items ≡ c.self.inside.keys.keys) = search rules in
-    IfOk-weaker c.collect.result _ _ (λ keys e. subst IsStrictlyIncreasing (sym e) (IsStrictlyIncreasing-from_sorted c.self.inside.keys.keys c.iter.ensures.ordered)) listed
+    IfOk-weaker c.collect.result _ _
+    (λ keys e. subst IsStrictlyIncreasing (sym e)
+    (IsStrictlyIncreasing-from_sorted c.self.inside.keys.keys c.iter.ensures.ordered)) listed

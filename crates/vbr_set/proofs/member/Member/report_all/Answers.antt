@@ -7,7 +7,8 @@ put_together-members-requires-clause-members g c = (
   search rules,
   (
       let same = ap (λ xs. length xs) c.report_apart-told.ensures.same in
-      let many = as_many_passes c.take_apart.new.stakes.items c.take_apart.new.passes.items c.take_apart.ensures.parts in
+      let many = as_many_passes c.take_apart.new.stakes.items c.take_apart.new.passes.items
+      c.take_apart.ensures.parts in
       let made = ap (λ xs. length xs) c.take_apart.ensures.members in
       let room = c.in-Ok-with_capacity-2.ensures.capacity in
       let count = c.len-count.ensures in

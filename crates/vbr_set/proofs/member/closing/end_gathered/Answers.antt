@@ -9,7 +9,10 @@ use Rattle.vbr_set.proofs.Ends.{all_of, out_again, with_own}
 use Rattle.vbr_set.proofs.member.closing.end_gathered.Goals as goal
 
 pub tell-told-requires-clause-of_set : goal.tell-told-requires-clause-of_set
-tell-told-requires-clause-of_set g c = all_of c.args.set c.insert.new.self.items (with_own c.args.set c.args.passes.items c.insert.new.self.items c.who-who.result c.args.pass (search rules) c.requires.passes c.requires.ready.own)
+tell-told-requires-clause-of_set g c =
+    all_of c.args.set c.insert.new.self.items
+    (with_own c.args.set c.args.passes.items c.insert.new.self.items c.who-who.result c.args.pass (search rules)
+    c.requires.passes c.requires.ready.own)
 
 pub of-last-requires : goal.of-last-requires
 of-last-requires g c =
@@ -19,9 +22,12 @@ of-last-requires g c =
       part = record {
         own = subst (λ (p : PassView). IsOf p.trace c.args.set) (sym pass) c.requires.ready.own;
         empty_hand = ap (λ (p : PassView). p.hand) pass ∙ c.requires.ready.empty_hand;
-        comes_back = subst (λ (ps : List PassView). ArePassesOf c.args.set ps × AreOthers c.args.set ps) (sym passes) (c.requires.passes, c.requires.others);
+        comes_back =
+            subst (λ (ps : List PassView). ArePassesOf c.args.set ps × AreOthers c.args.set ps) (sym passes)
+            (c.requires.passes, c.requires.others);
       };
-      counted = to_z-of_z w64 c.args.balance (search rules) ∙ c.requires.counted ∙ sym (ap (λ (p : PassView). balance_of (as_member c.args.set p)) pass);
+      counted = to_z-of_z w64 c.args.balance (search rules) ∙ c.requires.counted
+          ∙ sym (ap (λ (p : PassView). balance_of (as_member c.args.set p)) pass);
     }
 
 pub returns-in-Ok-clause-same : goal.returns-in-Ok-clause-same
@@ -33,7 +39,8 @@ pub returns-in-Ok-clause-ended : goal.returns-in-Ok-clause-ended
 returns-in-Ok-clause-ended g c = record {
   passes = c.insert.new.self.items;
   all = record {
-    of_set = with_own c.args.set c.args.passes.items c.insert.new.self.items c.who-who.result c.args.pass (search rules) c.requires.passes c.requires.ready.own;
+    of_set = with_own c.args.set c.args.passes.items c.insert.new.self.items c.who-who.result c.args.pass (search rules)
+        c.requires.passes c.requires.ready.own;
     count = search rules;
     numbered = search rules;
   };

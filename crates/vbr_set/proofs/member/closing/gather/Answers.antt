@@ -14,7 +14,10 @@ loop-mailbox-preserved g c =
     let pass = c.in_ok-pass.pass in
     let more = c.in-Ok.ensures in
     record {
-      passes = one_more set mailbox.table.shared.key c.loop-mailbox.passes.items c.push.new.self.items pass (search rules) i.passes (mailbox_first set all rest mailbox (search rules) i.mailboxes) (search rules);
+      passes = one_more set mailbox.table.shared.key c.loop-mailbox.passes.items c.push.new.self.items pass
+          (search rules) i.passes (mailbox_first set all rest mailbox (search rules) i.mailboxes) (search rules);
       mailboxes = mailbox_rest set all rest mailbox (search rules) i.mailboxes;
-      room = room_left c.loop-mailbox.passes.items c.push.new.self.items pass all rest mailbox (vec_capacity c.loop-mailbox.passes) (vec_capacity c.push.new.self) (search rules) (search rules) (search rules) i.room;
+      room = room_left c.loop-mailbox.passes.items c.push.new.self.items pass all rest mailbox
+          (vec_capacity c.loop-mailbox.passes) (vec_capacity c.push.new.self) (search rules) (search rules)
+          (search rules) i.room;
     }

@@ -8,6 +8,7 @@ use Rattle.vbr_set.proofs.member.closing_all.put_together.Given as goal
 abbrev pub invariant-loop-pass : goal.invariant-loop-pass
 invariant-loop-pass g l = record {
   parts : AreParts (into_iter_items l.stakes) (into_iter_items l.pass-iterator);
-  made : l.members.items ++ members_of (into_iter_items l.stakes) (into_iter_items l.pass-iterator) ≡ members_of l.fn.stakes.items l.fn.passes.items;
+  made : l.members.items ++ members_of (into_iter_items l.stakes) (into_iter_items l.pass-iterator)
+      ≡ members_of l.fn.stakes.items l.fn.passes.items;
   room : length l.members.items + length (into_iter_items l.pass-iterator) ≤ vec_capacity l.members;
 }

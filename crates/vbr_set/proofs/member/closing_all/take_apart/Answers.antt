@@ -13,10 +13,16 @@ loop-member-preserved g c =
     let pass = c.into_parts-stake.result.1 in
     let one = c.in-Ok-Ok.ensures in
     let other = c.in-Ok-Ok.ensures' in
-    let more = taken c.loop-member.stakes.items c.push.new.self.items c.loop-member.passes.items c.push-in-loop-member.new.self.items stake pass all rest c.args.members.items c.in-Some.member (search rules) (search rules) (search rules) c.into_parts-stake.ensures.is i.parts c.into_parts-stake.ensures.stake i.members in
+    let more = taken c.loop-member.stakes.items c.push.new.self.items c.loop-member.passes.items
+    c.push-in-loop-member.new.self.items stake pass all rest c.args.members.items c.in-Some.member (search rules)
+    (search rules) (search rules) c.into_parts-stake.ensures.is i.parts c.into_parts-stake.ensures.stake i.members in
     record {
       parts = more.0;
       members = more.1;
-      stakes = room_after c.loop-member.stakes.items c.push.new.self.items stake all rest c.in-Some.member (vec_capacity c.loop-member.stakes) (vec_capacity c.push.new.self) (search rules) (search rules) (search rules) i.stakes;
-      passes = room_after c.loop-member.passes.items c.push-in-loop-member.new.self.items pass all rest c.in-Some.member (vec_capacity c.loop-member.passes) (vec_capacity c.push-in-loop-member.new.self) (search rules) (search rules) (search rules) i.passes;
+      stakes = room_after c.loop-member.stakes.items c.push.new.self.items stake all rest c.in-Some.member
+          (vec_capacity c.loop-member.stakes) (vec_capacity c.push.new.self) (search rules) (search rules)
+          (search rules) i.stakes;
+      passes = room_after c.loop-member.passes.items c.push-in-loop-member.new.self.items pass all rest c.in-Some.member
+          (vec_capacity c.loop-member.passes) (vec_capacity c.push-in-loop-member.new.self) (search rules)
+          (search rules) (search rules) i.passes;
     }

@@ -7,8 +7,11 @@ loop-preserved g c =
     let i = c.loop.invariant in
     let made = c.in_ok-mailbox.ensures.seat in
     record {
-      mailboxes = mailbox_of_set c.args.set.now c.loop.mailboxes.items c.push.new.self.items c.in_ok-mailbox.mailbox (search rules) i.mailboxes c.in_ok-mailbox.ensures.set;
-      seats = one_more c.loop.mailboxes.items c.push.new.self.items c.in_ok-mailbox.mailbox c.loop.seats.items c.push-in-loop.new.self.items c.in_ok-mailbox.seat (search rules) (search rules) i.same made.0 made.1 made.2 i.seats;
+      mailboxes = mailbox_of_set c.args.set.now c.loop.mailboxes.items c.push.new.self.items c.in_ok-mailbox.mailbox
+          (search rules) i.mailboxes c.in_ok-mailbox.ensures.set;
+      seats = one_more c.loop.mailboxes.items c.push.new.self.items c.in_ok-mailbox.mailbox c.loop.seats.items
+          c.push-in-loop.new.self.items c.in_ok-mailbox.seat (search rules) (search rules) i.same made.0 made.1 made.2
+          i.seats;
       same = search rules;
       count = search rules;
     }

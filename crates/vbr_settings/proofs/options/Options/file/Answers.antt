@@ -11,14 +11,16 @@ use Rattle.vbr_settings.proofs.options.Options.file.Goals.{in_default-via-in-Som
 abbrev of_first : Option Text → Option Text
 of_first = option_and_then (λ (name : Text). if bytes_eq name (codes "-") then None else Some name)
 
-named : (first : Option Text) (name : Text) → first ≡ Some name → not (bytes_eq name (codes "-")) ≡ true → Some name ≡ of_first first
+named : (first : Option Text) (name : Text) → first ≡ Some name → not (bytes_eq name (codes "-")) ≡ true →
+    Some name ≡ of_first first
 named first name is other = rw is (at (bytes_eq name (codes "-")) other)
   where
     at : (b : Bool) → not b ≡ true → Some name ≡ (if b then None else Some name)
     at true other = cc
     at false other = refl
 
-dash : (first : Option Text) (name : Text) → first ≡ Some name → not (bytes_eq name (codes "-")) ≡ false → None ≡ of_first first
+dash : (first : Option Text) (name : Text) → first ≡ Some name → not (bytes_eq name (codes "-")) ≡ false →
+    None ≡ of_first first
 dash first name is same = rw is (at (bytes_eq name (codes "-")) same)
   where
     at : (b : Bool) → not b ≡ false → None ≡ (if b then None else Some name)
@@ -39,6 +41,8 @@ unfolding file_among
 returns-in_default c =
     let read = first_value-rows (found_of c.args.self.now.matches) (codes "file") in
     elim c.in_default.branch [
-      | in_default-via-in-Some+else-ne w ↦ dash _ w.in-Some.name.now (sym read ∙ sym w.in-Some.ensures) (sym w.if-ne.ensures)
-      | in_default-via-in_default w ↦ none _ (sym read ∙ sym c.get_str.ensures ∙ ap (option_map (λ s. s.now)) w.in_default.is)
+      | in_default-via-in-Some+else-ne w ↦
+          dash _ w.in-Some.name.now (sym read ∙ sym w.in-Some.ensures) (sym w.if-ne.ensures)
+      | in_default-via-in_default w ↦
+          none _ (sym read ∙ sym c.get_str.ensures ∙ ap (option_map (λ s. s.now)) w.in_default.is)
     ]

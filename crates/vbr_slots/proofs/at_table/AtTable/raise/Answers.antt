@@ -5,7 +5,11 @@ use Rattle.vbr_slots.proofs.Pools.{let_gone, outside}
 use Rattle.vbr_slots.proofs.at_table.AtTable.raise.Goals as goal
 
 pub set_flag-requires-clause-outside : goal.set_flag-requires-clause-outside
-set_flag-requires-clause-outside g c = subst (λ (xs : List ℕ). ¬ (Contains xs c.args.slot)) (sym c.leave.ensures.pool) (outside c.args.slot c.args.self.now.stepper.now.pool)
+set_flag-requires-clause-outside g c =
+    subst (λ (xs : List ℕ). ¬ (Contains xs c.args.slot)) (sym c.leave.ensures.pool)
+    (outside c.args.slot c.args.self.now.stepper.now.pool)
 
 pub set_flag-requires-clause-apart : goal.set_flag-requires-clause-apart
-set_flag-requires-clause-apart g c = subst (λ (h : Option ℕ). h ≢ Some c.args.slot) (sym c.leave.ensures.hand) (let_gone c.args.slot c.args.self.now.stepper.now.hand)
+set_flag-requires-clause-apart g c =
+    subst (λ (h : Option ℕ). h ≢ Some c.args.slot) (sym c.leave.ensures.hand)
+    (let_gone c.args.slot c.args.self.now.stepper.now.hand)

@@ -13,9 +13,12 @@ invariant_of-stepper g c =
     let d = c.fetch_and_as-found.ensures in
     record {
       start = subst IsStart (sym d.same.1) c.stepper.invariant.start;
-      pool = pool_taken p.runner c.fetch_and_as-found.new.runner c.args.slot c.fetch_and_as-found.result p.pool.items p.hand c.stepper.invariant.start d c.stepper.invariant.pool;
+      pool = pool_taken p.runner c.fetch_and_as-found.new.runner c.args.slot c.fetch_and_as-found.result p.pool.items
+          p.hand c.stepper.invariant.start d c.stepper.invariant.pool;
       tried = sym (did_tried d);
-      low = subst (λ (s : Start). c.args.slot < s.shape.slots) (sym (d.same.1 ∙ ap (λ (v : PassView). v.trace.start) c.stepper.view_is ∙ c.args.self.now.own.1)) c.requires.slot;
+      low = subst (λ (s : Start). c.args.slot < s.shape.slots)
+          (sym (d.same.1 ∙ ap (λ (v : PassView). v.trace.start) c.stepper.view_is ∙ c.args.self.now.own.1))
+          c.requires.slot;
     }
 
 pub returns-then-has_flag-clause-taken : goal.returns-then-has_flag-clause-taken
@@ -24,7 +27,9 @@ returns-then-has_flag-clause-taken g c = record {
   did = search rules;
   there = search rules;
   outside = λ has. (let p = c.stepper.inside in
-      let new = taken_new p.runner c.fetch_and_as-found.new.runner c.args.slot c.fetch_and_as-found.result c.stepper.invariant.start c.fetch_and_as-found.ensures (sym c.has_flag.ensures ∙ c.if-has_flag.true) in
-      subst MayBear new (pooled_may p.runner.start (knows p.runner) c.args.slot p.pool.items p.hand c.stepper.invariant.pool has));
+      let new = taken_new p.runner c.fetch_and_as-found.new.runner c.args.slot c.fetch_and_as-found.result
+      c.stepper.invariant.start c.fetch_and_as-found.ensures (sym c.has_flag.ensures ∙ c.if-has_flag.true) in
+      subst MayBear new
+      (pooled_may p.runner.start (knows p.runner) c.args.slot p.pool.items p.hand c.stepper.invariant.pool has));
   keeps = search rules;
 }

@@ -14,9 +14,20 @@ invariant_of-stepper g c =
     let d = c.exchange-found.ensures in
     let step : Step = Unlink c.args.pred c.args.expected c.args.slot in
     let now = c.args.self.now.stepper.now.trace in
-    let ok : Accepts c.args.self.now.slots.now.start (knows now) step = record { in_shape = (c.requires.pred, c.requires.slot); owned = tt; held = c.requires.checked.held; in_range = c.requires.checked.in_range; below_last = tt } in
-    let mine : Accepts now.start (knows now) step = subst (λ (s : Start). Accepts s (knows now) step) (sym c.args.self.now.own.1) ok in
-    let accepted : Accepts p.runner.start (knows p.runner) step = subst (λ (t : Trace). Accepts t.start (knows t) step) (sym (ap (λ (v : PassView). v.trace) c.stepper.view_is)) mine in
+    let ok : Accepts c.args.self.now.slots.now.start (knows now) step =
+    record {
+      in_shape = (c.requires.pred, c.requires.slot);
+      owned = tt;
+      held = c.requires.checked.held;
+      in_range = c.requires.checked.in_range;
+      below_last = tt;
+    } in
+    let mine : Accepts now.start (knows now) step =
+    subst (λ (s : Start). Accepts s (knows now) step) (sym c.args.self.now.own.1) ok in
+    let accepted : Accepts p.runner.start (knows p.runner) step =
+    subst (λ (t : Trace). Accepts t.start (knows t) step) (sym (ap (λ (v : PassView). v.trace) c.stepper.view_is))
+    mine in
     well_after p p.hand d refl
-    (pool_unlinked p.runner c.exchange-found.new.runner c.args.pred c.args.expected c.args.slot c.exchange-found.result p.pool.items p.hand c.stepper.invariant.start accepted d c.stepper.invariant.pool)
+    (pool_unlinked p.runner c.exchange-found.new.runner c.args.pred c.args.expected c.args.slot c.exchange-found.result
+    p.pool.items p.hand c.stepper.invariant.start accepted d c.stepper.invariant.pool)
     c.stepper.invariant

@@ -9,4 +9,8 @@ returns-then-index-eq0 c =
     let p = c.self.inside in
     let here : 0 ≡ c.args.index = omega (arith, c.if-index-eq0.true) in
     let on : p.first + 1 ≡ suc p.first = omega arith in
-    record { items = ap (λ (n : ℕ). drop n p.cells.items) on ∙ first_left p.first p.cells.items ∙ ap (remove (drop p.first p.cells.items)) here ∙ ap (λ (v : PoolView). remove v.items c.args.index) c.self.view_is }
+    record {
+      items = ap (λ (n : ℕ). drop n p.cells.items) on ∙ first_left p.first p.cells.items
+          ∙ ap (remove (drop p.first p.cells.items)) here
+          ∙ ap (λ (v : PoolView). remove v.items c.args.index) c.self.view_is;
+    }

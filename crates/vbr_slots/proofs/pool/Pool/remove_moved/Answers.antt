@@ -7,4 +7,8 @@ use Rattle.vbr_slots.proofs.pool.Pool.remove_moved.Goals as goal
 pub returns : goal.returns
 returns c =
     let p = c.self.inside in
-    record { items = ap (drop p.first) c.remove.ensures.items ∙ later_left p.first c.args.index _ p.cells.items refl c.self.invariant.left ∙ ap (λ (v : PoolView). remove v.items c.args.index) c.self.view_is }
+    record {
+      items = ap (drop p.first) c.remove.ensures.items
+          ∙ later_left p.first c.args.index _ p.cells.items refl c.self.invariant.left
+          ∙ ap (λ (v : PoolView). remove v.items c.args.index) c.self.view_is;
+    }

@@ -8,4 +8,10 @@ abbrev pub invariant-loop-who : goal.invariant-loop-who
 invariant-loop-who g l =
     (l.seat.table_id ≡ l.table.shared.table_id)
     × (l.seat.me ≡ (witnesses (record { keys = l.keys; payloads = l.values }) l.who (l.opening.passes - l.who), []))
-    × (l.passes.items ≡ new_passes (record { table = l.table.shared.table_id; start = start_with l.opening.shape l.keys l.values; passes = l.opening.passes }) 0 l.who)
+    × (l.passes.items
+    ≡ new_passes
+    (record {
+      table = l.table.shared.table_id;
+      start = start_with l.opening.shape l.keys l.values;
+      passes = l.opening.passes;
+    }) 0 l.who)

@@ -22,29 +22,41 @@ pub load-requires : goal.load-requires
 load-requires g c =
     let w = c.args.runner.now in
     let m = c.token.inside.seat.me.0 in
-    let both = beside _ _ c.runner.inside.seat.me c.token.inside.seat.me c.join_seat.new.seat.me (known c.runner.inside w c.runner.invariant c.runner.view_is) c.token.invariant.alone c.join_seat.ensures.2 in
-    asks_to_catch c.self.inside c.args.self.now c.self.invariant c.self.view_is w (low_of c.runner.inside w c.runner.invariant c.runner.view_is) c.requires.own _ (c.join_seat.ensures.0 ∙ ap (λ (v : Trace). v.table) c.runner.view_is) _ c.join_seat.new.seat.me (noted m)
+    let both = beside _ _ c.runner.inside.seat.me c.token.inside.seat.me c.join_seat.new.seat.me
+    (known c.runner.inside w c.runner.invariant c.runner.view_is) c.token.invariant.alone c.join_seat.ensures.2 in
+    asks_to_catch c.self.inside c.args.self.now c.self.invariant c.self.view_is w
+    (low_of c.runner.inside w c.runner.invariant c.runner.view_is) c.requires.own _
+    (c.join_seat.ensures.0 ∙ ap (λ (v : Trace). v.table) c.runner.view_is) _ c.join_seat.new.seat.me (noted m)
     both (λ number other. token_not_counted number (first_opened m) (first_seen m) other) _ _ c.requires.named
 
 pub invariant_of-runner : goal.invariant_of-runner
 invariant_of-runner g c =
     let w = c.args.runner.now in
-    let both = beside _ _ c.runner.inside.seat.me c.token.inside.seat.me c.join_seat.new.seat.me (known c.runner.inside w c.runner.invariant c.runner.view_is) c.token.invariant.alone c.join_seat.ensures.2 in
-    let end = caught_up w c.args.self.now c.requires.own c.join_seat.new.seat.me c.load.new.seat.me (noted c.token.inside.seat.me.0) both _ _ c.requires.named c.load.ensures.2 in
-    caught_sound c.runner.inside w c.runner.invariant c.runner.view_is _ _ end (record c.runner.inside { seat = c.load.new.seat }) end.now (refl, refl, refl)
+    let both = beside _ _ c.runner.inside.seat.me c.token.inside.seat.me c.join_seat.new.seat.me
+    (known c.runner.inside w c.runner.invariant c.runner.view_is) c.token.invariant.alone c.join_seat.ensures.2 in
+    let end = caught_up w c.args.self.now c.requires.own c.join_seat.new.seat.me c.load.new.seat.me
+    (noted c.token.inside.seat.me.0) both _ _ c.requires.named c.load.ensures.2 in
+    caught_sound c.runner.inside w c.runner.invariant c.runner.view_is _ _ end
+    (record c.runner.inside { seat = c.load.new.seat }) end.now (refl, refl, refl)
 
 pub returns-clause-since : goal.returns-clause-since
 returns-clause-since g c =
     let w = c.args.runner.now in
-    let both = beside _ _ c.runner.inside.seat.me c.token.inside.seat.me c.join_seat.new.seat.me (known c.runner.inside w c.runner.invariant c.runner.view_is) c.token.invariant.alone c.join_seat.ensures.2 in
-    let end = caught_up w c.args.self.now c.requires.own c.join_seat.new.seat.me c.load.new.seat.me (noted c.token.inside.seat.me.0) both _ _ c.requires.named c.load.ensures.2 in
-    since c.runner.inside w c.runner.invariant c.runner.view_is _ _ end (record c.runner.inside { seat = c.load.new.seat }) end.now (refl, refl, refl) (c.load.ensures.0 ∙ c.join_seat.ensures.0)
+    let both = beside _ _ c.runner.inside.seat.me c.token.inside.seat.me c.join_seat.new.seat.me
+    (known c.runner.inside w c.runner.invariant c.runner.view_is) c.token.invariant.alone c.join_seat.ensures.2 in
+    let end = caught_up w c.args.self.now c.requires.own c.join_seat.new.seat.me c.load.new.seat.me
+    (noted c.token.inside.seat.me.0) both _ _ c.requires.named c.load.ensures.2 in
+    since c.runner.inside w c.runner.invariant c.runner.view_is _ _ end
+    (record c.runner.inside { seat = c.load.new.seat }) end.now (refl, refl, refl)
+    (c.load.ensures.0 ∙ c.join_seat.ensures.0)
 
 pub returns-clause-begins : goal.returns-clause-begins
 returns-clause-begins g c =
     let w = c.args.runner.now in
-    let both = beside _ _ c.runner.inside.seat.me c.token.inside.seat.me c.join_seat.new.seat.me (known c.runner.inside w c.runner.invariant c.runner.view_is) c.token.invariant.alone c.join_seat.ensures.2 in
-    let end = caught_up w c.args.self.now c.requires.own c.join_seat.new.seat.me c.load.new.seat.me (noted c.token.inside.seat.me.0) both _ _ c.requires.named c.load.ensures.2 in
+    let both = beside _ _ c.runner.inside.seat.me c.token.inside.seat.me c.join_seat.new.seat.me
+    (known c.runner.inside w c.runner.invariant c.runner.view_is) c.token.invariant.alone c.join_seat.ensures.2 in
+    let end = caught_up w c.args.self.now c.requires.own c.join_seat.new.seat.me c.load.new.seat.me
+    (noted c.token.inside.seat.me.0) both _ _ c.requires.named c.load.ensures.2 in
     let told = end.mates.0 in
     subst (λ es. Begins c.args.token.seen es) (sym (seen_in c.load.new.seat.me _ [] end.now))
     (subst (λ es. Begins es end.run) (ap (λ (v : SeenView). v.seen) c.token.view_is) (told.0, told.1))

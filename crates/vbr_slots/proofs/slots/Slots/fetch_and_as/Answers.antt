@@ -7,11 +7,18 @@ use Rattle.vbr_slots.proofs.slots.Slots.fetch_and_as.Goals as goal
 
 pub fetch_and-found-requires : goal.fetch_and-found-requires
 fetch_and-found-requires g c =
-    asks_alone c.self.invariant c.self.view_is c.runner.invariant c.runner.view_is c.requires.own c.requires.named _ c.args.place _ (λ n. bit_and n c.args.bits) (λ n. n) c.place_index_in-word.ensures.index c.requires.place
+    asks_alone c.self.invariant c.self.view_is c.runner.invariant c.runner.view_is c.requires.own c.requires.named _
+    c.args.place _ (λ n. bit_and n c.args.bits) (λ n. n) c.place_index_in-word.ensures.index c.requires.place
     (λ n. sym (ap (λ a. word_made a n) c.requires.access)) (shows_itself c.args.step) c.requires.accepted
 
 pub invariant_of-runner : goal.invariant_of-runner
-invariant_of-runner g c = (stepped c.runner.invariant c.runner.view_is c.requires.own c.requires.named (record c.runner.inside { seat = c.fetch_and-found.new.seat; epoch = c.keep_epoch.new.epoch }) c.fetch_and-found.ensures.2 c.fetch_and-found.ensures.0 (refl, refl, c.keep_epoch.ensures)).sound
+invariant_of-runner g c =
+    (stepped c.runner.invariant c.runner.view_is c.requires.own c.requires.named
+    (record c.runner.inside { seat = c.fetch_and-found.new.seat; epoch = c.keep_epoch.new.epoch })
+    c.fetch_and-found.ensures.2 c.fetch_and-found.ensures.0 (refl, refl, c.keep_epoch.ensures)).sound
 
 pub returns : goal.returns
-returns g c = (stepped c.runner.invariant c.runner.view_is c.requires.own c.requires.named (record c.runner.inside { seat = c.fetch_and-found.new.seat; epoch = c.keep_epoch.new.epoch }) c.fetch_and-found.ensures.2 c.fetch_and-found.ensures.0 (refl, refl, c.keep_epoch.ensures)).did
+returns g c =
+    (stepped c.runner.invariant c.runner.view_is c.requires.own c.requires.named
+    (record c.runner.inside { seat = c.fetch_and-found.new.seat; epoch = c.keep_epoch.new.epoch })
+    c.fetch_and-found.ensures.2 c.fetch_and-found.ensures.0 (refl, refl, c.keep_epoch.ensures)).did

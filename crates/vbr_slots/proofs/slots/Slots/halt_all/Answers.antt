@@ -14,9 +14,17 @@ pub join_seat-requires : goal.join_seat-requires
 join_seat-requires g c =
     let h = c.loop-pass.invariant.halting in
     let trace_is = c.runner.view_is ∙ ap (λ (w : PassView). w.trace) (c.stepper.view_is ∙ c.pass.view_is) in
-    let of = one_of c.args.self.now c.pop.new.self.items c.in-Some.pass h.taken (subst (AllOf c.args.self.now) (sym (parts_after c.loop-pass.passes.items c.pop.new.self.items h.taken c.args.passes.now.items c.in-Some.pass c.in-Some.ensures.items h.parts)) c.requires.of_table) in
-    let home = sym (ap (λ (q : TableView). q.table) c.self.view_is) in
-    (ap (λ (v : Trace). v.table) trace_is ∙ of.0 ∙ home, h.table ∙ home, ap (λ (m : Sat). m.1) h.me, wide c.self.inside c.self.invariant, joins _ _ _ _ _)
+    let of = one_of c.args.self.now c.pop.new.self.items c.in-Some.pass h.taken
+    (subst (AllOf c.args.self.now)
+    (sym (parts_after c.loop-pass.passes.items c.pop.new.self.items h.taken c.args.passes.now.items c.in-Some.pass
+    c.in-Some.ensures.items h.parts)) c.requires.of_table) in
+    let home = sym (ap (λ (q : TableView). q.table) c.self.view_is) in (
+      ap (λ (v : Trace). v.table) trace_is ∙ of.0 ∙ home,
+      h.table ∙ home,
+      ap (λ (m : Sat). m.1) h.me,
+      wide c.self.inside c.self.invariant,
+      joins _ _ _ _ _,
+    )
 
 pub loop-pass-preserved : goal.loop-pass-preserved
 loop-pass-preserved g c =
@@ -24,13 +32,19 @@ loop-pass-preserved g c =
     let h = i.halting in
     let pass_is = c.stepper.view_is ∙ c.pass.view_is in
     let trace_is = c.runner.view_is ∙ ap (λ (w : PassView). w.trace) pass_is in
-    let of = one_of c.args.self.now c.pop.new.self.items c.in-Some.pass h.taken (subst (AllOf c.args.self.now) (sym (parts_after c.loop-pass.passes.items c.pop.new.self.items h.taken c.args.passes.now.items c.in-Some.pass c.in-Some.ensures.items h.parts)) c.requires.of_table) in
-    let fewer = ap (λ ps. length ps) c.in-Some.ensures.items ∙ length-append c.pop.new.self.items (c.in-Some.pass ∷ []) in
+    let of = one_of c.args.self.now c.pop.new.self.items c.in-Some.pass h.taken
+    (subst (AllOf c.args.self.now)
+    (sym (parts_after c.loop-pass.passes.items c.pop.new.self.items h.taken c.args.passes.now.items c.in-Some.pass
+    c.in-Some.ensures.items h.parts)) c.requires.of_table) in
+    let fewer = ap (λ ps. length ps) c.in-Some.ensures.items
+    ∙ length-append c.pop.new.self.items (c.in-Some.pass ∷ []) in
     let longer = ap (λ hs. length hs) c.in-Ok.ensures.items ∙ length-append c.loop-pass.halted.items (_ ∷ []) in
     record {
       halting = one_more h c.in-Some.ensures.items
           (c.join_seat.ensures.0 ∙ ap (λ (v : Trace). v.table) trace_is ∙ of.0)
-          (c.join_seat.ensures.2 ∙ ap (λ (m : Sat). (m.0 ++ c.loop-pass.joined.me.0, m.1)) (known c.runner.inside c.in-Some.pass.trace c.runner.invariant trace_is))
+          (c.join_seat.ensures.2
+          ∙ ap (λ (m : Sat). (m.0 ++ c.loop-pass.joined.me.0, m.1))
+          (known c.runner.inside c.in-Some.pass.trace c.runner.invariant trace_is))
           c.in-Ok.ensures.items
           (record {
             runner = c.runner.inside;
@@ -39,7 +53,8 @@ loop-pass-preserved g c =
             same = (refl, refl, refl);
             pool = ap (λ (w : PassView). w.pool) pass_is;
             hand = ap (λ (w : PassView). w.hand) pass_is;
-            well = subst (λ (w : Trace). IsWell (record c.stepper.inside { runner = w })) (ap (λ (w : PassView). w.trace) pass_is) c.stepper.invariant;
+            well = subst (λ (w : Trace). IsWell (record c.stepper.inside { runner = w }))
+                (ap (λ (w : PassView). w.trace) pass_is) c.stepper.invariant;
             steps = c.pass.invariant.steps ∙ ap (λ (w : PassView). counted_steps (steps_of w.trace)) c.pass.view_is;
           });
       room = let room = i.room in let more = c.in-Ok.ensures.capacity in omega arith;
@@ -59,4 +74,5 @@ returns-clause-me g c =
 pub returns-clause-halted : goal.returns-clause-halted
 returns-clause-halted g c =
     let h = c.loop-pass.invariant.halting in
-    subst (λ ps. AreHalted ps c.loop-pass.halted.items) (all_taken h (sym c.loop-pass.passes.ok.0 ∙ c.in_default.ensures.cases.0)) h.kept
+    subst (λ ps. AreHalted ps c.loop-pass.halted.items)
+    (all_taken h (sym c.loop-pass.passes.ok.0 ∙ c.in_default.ensures.cases.0)) h.kept

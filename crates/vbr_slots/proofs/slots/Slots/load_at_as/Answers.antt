@@ -8,11 +8,19 @@ use Rattle.vbr_slots.proofs.slots.Slots.load_at_as.Goals as goal
 
 pub load-found-requires : goal.load-found-requires
 load-found-requires g c =
-    asks_alone c.self.invariant c.self.view_is c.runner.invariant c.runner.view_is c.requires.own c.requires.named _ (places.place_of c.args.holder) _ (λ n. n) (λ n. n) (c.link_index_in-word.ensures ∙ link_is c.self.inside.opening.shape c.args.holder) c.requires.place
+    asks_alone c.self.invariant c.self.view_is c.runner.invariant c.runner.view_is c.requires.own c.requires.named _
+    (places.place_of c.args.holder) _ (λ n. n) (λ n. n)
+    (c.link_index_in-word.ensures ∙ link_is c.self.inside.opening.shape c.args.holder) c.requires.place
     (λ n. sym (ap (λ a. word_made a n) c.requires.access)) (shows_itself c.args.step) c.requires.accepted
 
 pub invariant_of-runner : goal.invariant_of-runner
-invariant_of-runner g c = (stepped c.runner.invariant c.runner.view_is c.requires.own c.requires.named (record c.runner.inside { seat = c.load-found.new.seat; epoch = c.keep_epoch.new.epoch }) c.load-found.ensures.2 c.load-found.ensures.0 (refl, refl, c.keep_epoch.ensures)).sound
+invariant_of-runner g c =
+    (stepped c.runner.invariant c.runner.view_is c.requires.own c.requires.named
+    (record c.runner.inside { seat = c.load-found.new.seat; epoch = c.keep_epoch.new.epoch }) c.load-found.ensures.2
+    c.load-found.ensures.0 (refl, refl, c.keep_epoch.ensures)).sound
 
 pub returns : goal.returns
-returns g c = (stepped c.runner.invariant c.runner.view_is c.requires.own c.requires.named (record c.runner.inside { seat = c.load-found.new.seat; epoch = c.keep_epoch.new.epoch }) c.load-found.ensures.2 c.load-found.ensures.0 (refl, refl, c.keep_epoch.ensures)).did
+returns g c =
+    (stepped c.runner.invariant c.runner.view_is c.requires.own c.requires.named
+    (record c.runner.inside { seat = c.load-found.new.seat; epoch = c.keep_epoch.new.epoch }) c.load-found.ensures.2
+    c.load-found.ensures.0 (refl, refl, c.keep_epoch.ensures)).did

@@ -3,4 +3,5 @@ use Rattle.vbr_slots.specs.Views.{event_of}
 use Rattle.vbr_slots.proofs.slots.Slots.read_all.Given as goal
 
 abbrev pub ghosts-read_all_as : goal.ghosts-read_all_as
-ghosts-read_all_as g a = record { event = event_of 0 ReadEpoch; opening = record { start = a.self.now.start; passes = a.self.now.passes } }
+ghosts-read_all_as g a =
+    record { event = event_of 0 ReadEpoch; opening = record { start = a.self.now.start; passes = a.self.now.passes } }

@@ -8,9 +8,14 @@ pub load-found-requires : goal.load-found-requires
 load-found-requires g c =
     let i = c.loop-index.invariant in
     let table = c.args.self.now in
-    asks_to_read c.self.inside table c.self.invariant c.self.view_is _ (i.table ∙ c.requires.seat.table) _ c.loop-index.seat.me
-    (subst (λ (me : Sat). EachLow table.passes me.0) (sym i.me) c.requires.seat.low) (subst (λ (me : Sat). table.passes ≤ length me.0) (sym i.me) c.requires.all)
-    c.loop-index.index (let low = c.loop-index-test.true in let end = c.word_count-index-end.ensures in let auto = c.loop-index.auto in omega arith) _ c.requires.named
+    asks_to_read c.self.inside table c.self.invariant c.self.view_is _ (i.table ∙ c.requires.seat.table) _
+    c.loop-index.seat.me
+    (subst (λ (me : Sat). EachLow table.passes me.0) (sym i.me) c.requires.seat.low)
+    (subst (λ (me : Sat). table.passes ≤ length me.0) (sym i.me) c.requires.all)
+    c.loop-index.index (let low = c.loop-index-test.true in
+    let end = c.word_count-index-end.ensures in
+    let auto = c.loop-index.auto in
+    omega arith) _ c.requires.named
 
 pub returns-clause-read : goal.returns-clause-read
 returns-clause-read g c =

@@ -11,5 +11,6 @@ invariant-loop-index g l = record {
   me : l.seat.me ≡ l.fn.seat.me;
   count : length l.words.items ≡ l.index;
   room : words_in l.self.start.shape ≤ vec_capacity l.words;
-  each : (k : ℕ) → k < length l.words.items → IsWordAt record { start = l.self.start; passes = l.self.passes } l.fn.seat.me.0 k (slice_index l.words.items k);
+  each : (k : ℕ) → k < length l.words.items →
+      IsWordAt record { start = l.self.start; passes = l.self.passes } l.fn.seat.me.0 k (slice_index l.words.items k);
 }

@@ -12,42 +12,77 @@ pub load_new_seat-none-requires : goal.load_new_seat-none-requires
 load_new_seat-none-requires g c = (wide c.self.inside c.self.invariant, enters _ _ _)
 
 pub read_all-requires-clause-all : goal.read_all-requires-clause-all
-read_all-requires-clause-all g c = subst (λ (n : ℕ). c.args.self.now.passes ≤ n) (sym (ap (λ (m : Sat). length m.0) c.halt_all-joined.ensures.me ∙ as_many c.args.passes.now.items)) c.requires.all
+read_all-requires-clause-all g c =
+    subst (λ (n : ℕ). c.args.self.now.passes ≤ n)
+    (sym (ap (λ (m : Sat). length m.0) c.halt_all-joined.ensures.me ∙ as_many c.args.passes.now.items)) c.requires.all
 
 pub split_seat-others-requires : goal.split_seat-others-requires
-split_seat-others-requires g c = (c.loop-kept.invariant.halting.table ∙ sym (ap (λ (q : TableView). q.table) c.self.view_is), wide c.self.inside c.self.invariant, splits_first _ _ _)
+split_seat-others-requires g c = (
+  c.loop-kept.invariant.halting.table ∙ sym (ap (λ (q : TableView). q.table) c.self.view_is),
+  wide c.self.inside c.self.invariant,
+  splits_first _ _ _,
+)
 
 pub invariant_of-runner : goal.invariant_of-runner
 invariant_of-runner g c =
     let s = c.split_seat-others.ensures in
-    sound_again _ _ c.requires.of_table c.loop-kept.invariant.halting c.in-Some.ensures.items (record { seat = c.split_seat-others.new.seat; opening = c.in-Some.kept.opening; who = c.in-Some.kept.who; epoch = c.in-Some.kept.epoch }) s.0 s.2 (refl, refl, refl)
+    sound_again _ _ c.requires.of_table c.loop-kept.invariant.halting c.in-Some.ensures.items
+    (record {
+      seat = c.split_seat-others.new.seat;
+      opening = c.in-Some.kept.opening;
+      who = c.in-Some.kept.who;
+      epoch = c.in-Some.kept.epoch;
+    }) s.0 s.2 (refl, refl, refl)
 
 pub invariant_of-stepper : goal.invariant_of-stepper
 invariant_of-stepper g c =
     let s = c.split_seat-others.ensures in
-    well_again _ _ c.requires.of_table c.loop-kept.invariant.halting c.in-Some.ensures.items (record { seat = c.split_seat-others.new.seat; opening = c.in-Some.kept.opening; who = c.in-Some.kept.who; epoch = c.in-Some.kept.epoch }) s.0 s.2 (refl, refl, refl)
+    well_again _ _ c.requires.of_table c.loop-kept.invariant.halting c.in-Some.ensures.items
+    (record {
+      seat = c.split_seat-others.new.seat;
+      opening = c.in-Some.kept.opening;
+      who = c.in-Some.kept.who;
+      epoch = c.in-Some.kept.epoch;
+    }) s.0 s.2 (refl, refl, refl)
 
 pub invariant_of-push : goal.invariant_of-push
 invariant_of-push g c =
     let s = c.split_seat-others.ensures in
-    record { steps = exact_again _ _ c.requires.of_table c.loop-kept.invariant.halting c.in-Some.ensures.items (record { seat = c.split_seat-others.new.seat; opening = c.in-Some.kept.opening; who = c.in-Some.kept.who; epoch = c.in-Some.kept.epoch }) s.0 s.2 (refl, refl, refl) }
+    record {
+      steps =
+          exact_again _ _ c.requires.of_table c.loop-kept.invariant.halting c.in-Some.ensures.items
+          (record {
+            seat = c.split_seat-others.new.seat;
+            opening = c.in-Some.kept.opening;
+            who = c.in-Some.kept.who;
+            epoch = c.in-Some.kept.epoch;
+          }) s.0 s.2 (refl, refl, refl);
+    }
 
 pub loop-kept-preserved : goal.loop-kept-preserved
 loop-kept-preserved g c =
     let s = c.split_seat-others.ensures in
     let i = c.loop-kept.invariant in
     record {
-      halting = one_again _ _ c.requires.of_table i.halting c.in-Some.ensures.items (record { seat = c.split_seat-others.new.seat; opening = c.in-Some.kept.opening; who = c.in-Some.kept.who; epoch = c.in-Some.kept.epoch }) s.0 s.2 (refl, refl, refl)
+      halting = one_again _ _ c.requires.of_table i.halting c.in-Some.ensures.items
+          (record {
+            seat = c.split_seat-others.new.seat;
+            opening = c.in-Some.kept.opening;
+            who = c.in-Some.kept.who;
+            epoch = c.in-Some.kept.epoch;
+          }) s.0 s.2 (refl, refl, refl)
           c.in-Ok.ensures.items s.3 s.4;
       room = let room = i.room in let more = c.in-Ok.ensures.capacity in omega arith;
     }
 
 pub returns-clause-same : goal.returns-clause-same
-returns-clause-same g c = all_again c.loop-kept.invariant.halting (sym c.loop-kept.halted.ok.0 ∙ c.in_default.ensures.cases.0)
+returns-clause-same g c =
+    all_again c.loop-kept.invariant.halting (sym c.loop-kept.halted.ok.0 ∙ c.in_default.ensures.cases.0)
 
 pub returns-clause-words : goal.returns-clause-words
 returns-clause-words g c =
     let table = c.args.self.now in
     let words = c.read_all.new.words.items in
-    ends_so table c.args.passes.now.items words (subst (λ (q : TableView). IsStart q.start) c.self.view_is c.self.invariant.start)
+    ends_so table c.args.passes.now.items words
+    (subst (λ (q : TableView). IsStart q.start) c.self.view_is c.self.invariant.start)
     (subst (λ (m : Sat). AreReadBy table m.0 words) c.halt_all-joined.ensures.me c.read_all.ensures.read)

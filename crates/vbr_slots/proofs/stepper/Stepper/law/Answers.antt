@@ -15,4 +15,11 @@ returns c =
     let own : OwnPool p.trace.start (knows p.trace) p.pool p.hand = search rules in
     let room : length p.pool ≤ POOL = search rules in
     let is_run : IsRun p.trace.start p.trace.passes p.trace.seen = search rules in
-    record { start = start; low = low; room = room; is_run = is_run; own = own; safe = every_run p.trace.start p.trace.passes p.trace.seen start is_run }
+    record {
+      start = start;
+      low = low;
+      room = room;
+      is_run = is_run;
+      own = own;
+      safe = every_run p.trace.start p.trace.passes p.trace.seen start is_run;
+    }

@@ -9,7 +9,10 @@ loop-init c = record { here = refl; none = λ turns lt. absurd (omega arith) }
 pub returns-then-is_before : goal.returns-then-is_before
 returns-then-is_before c =
     let P : Option ℕ → Type 0 = IsBefore c.args.reads.now c.args.key in (
-      λ _. let m = reached P c.args.reads.now c.args.next c.loop.here c.loop.counter c.loop.invariant.here c.args.most (let h = c.loop-test.true in omega arith) (c.is_before.ensures.0 c.if-is_before.true) in record { turns = m.0; within = m.1; before = m.2 },
+      λ _. let m =
+          reached P c.args.reads.now c.args.next c.loop.here c.loop.counter c.loop.invariant.here c.args.most
+          (let h = c.loop-test.true in omega arith) (c.is_before.ensures.0 c.if-is_before.true) in
+          record { turns = m.0; within = m.1; before = m.2 },
       λ _. refl,
     )
 
@@ -17,15 +20,21 @@ pub returns-then-eq : goal.returns-then-eq
 returns-then-eq c =
     let P : Option ℕ → Type 0 = IsBefore c.args.reads.now c.args.key in
     let not : ¬ (P c.loop.here) = λ h. true≢false (sym (c.is_before.ensures.1 h) ∙ c.if-is_before.false) in
-    let still = sym c.past_marked-there.ensures ∙ same_slot c.past_marked-there.result c.loop.here (sym c.eq.ensures ∙ c.if-eq.true) in
-    (λ e. absurd (true≢false (sym e)), λ m. absurd (never P c.args.reads.now c.args.next c.loop.here c.loop.counter c.loop.invariant.here still not c.loop.invariant.none m.turns m.before))
+    let still = sym c.past_marked-there.ensures
+    ∙ same_slot c.past_marked-there.result c.loop.here (sym c.eq.ensures ∙ c.if-eq.true) in (
+      λ e. absurd (true≢false (sym e)),
+      λ m. absurd (never P c.args.reads.now c.args.next c.loop.here c.loop.counter c.loop.invariant.here still not
+          c.loop.invariant.none m.turns m.before),
+    )
 
 pub loop-preserved : goal.loop-preserved
 loop-preserved c =
     let P : Option ℕ → Type 0 = IsBefore c.args.reads.now c.args.key in
     record {
-      here = c.past_marked-there.ensures ∙ one_turn P c.args.reads.now c.args.next c.loop.here c.loop.counter c.loop.invariant.here;
-      none = none_yet P c.args.reads.now c.args.next c.loop.here c.loop.counter c.loop.invariant.here (λ h. true≢false (sym (c.is_before.ensures.1 h) ∙ c.if-is_before.false)) c.loop.invariant.none;
+      here = c.past_marked-there.ensures
+          ∙ one_turn P c.args.reads.now c.args.next c.loop.here c.loop.counter c.loop.invariant.here;
+      none = none_yet P c.args.reads.now c.args.next c.loop.here c.loop.counter c.loop.invariant.here
+          (λ h. true≢false (sym (c.is_before.ensures.1 h) ∙ c.if-is_before.false)) c.loop.invariant.none;
     }
 
 pub returns : goal.returns
@@ -33,6 +42,10 @@ returns c =
     let P : Option ℕ → Type 0 = IsBefore c.args.reads.now c.args.key in
     let e = c.loop.auto.counter-end in
     let f = c.loop-test.false in (
-      λ t. let m = reached P c.args.reads.now c.args.next c.loop.here c.loop.counter c.loop.invariant.here c.args.most e (c.is_before-2.ensures.0 t) in record { turns = m.0; within = m.1; before = m.2 },
-      λ m. c.is_before-2.ensures.1 (reached_here P c.args.reads.now c.args.next c.loop.here c.loop.counter c.loop.invariant.here c.loop.invariant.none m.turns (let le = m.within in omega arith) m.before),
+      λ t. let m =
+          reached P c.args.reads.now c.args.next c.loop.here c.loop.counter c.loop.invariant.here c.args.most e
+          (c.is_before-2.ensures.0 t) in record { turns = m.0; within = m.1; before = m.2 },
+      λ m. c.is_before-2.ensures.1
+          (reached_here P c.args.reads.now c.args.next c.loop.here c.loop.counter c.loop.invariant.here
+          c.loop.invariant.none m.turns (let le = m.within in omega arith) m.before),
     )

@@ -6,5 +6,6 @@ use Rattle.vbr_set.proofs.kind.entries.EntriesKind.read.Goals as goal
 pub returns : goal.returns
 returns c = λ opened run x i. (
   (ap (slice_index c.args.words.now) c.place_index.ensures.index ∙ key_read x c.args.slot c.requires.slot) i,
-  (ap (slice_index c.args.words.now) c.place_index-2.ensures.index ∙ value_read x c.args.slot (c.requires.slot, c.requires.values)) i,
+  (ap (slice_index c.args.words.now) c.place_index-2.ensures.index
+      ∙ value_read x c.args.slot (c.requires.slot, c.requires.values)) i,
 )

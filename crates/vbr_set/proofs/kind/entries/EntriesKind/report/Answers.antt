@@ -10,9 +10,12 @@ returns c = λ table passes all valued e.
     let entries = c.args.told.listed.items in
     let sorted = c.sort_unstable_by_key.new.self.items in
     let moved = c.sort_unstable_by_key.ensures.permutation in
-    closes as_map _ table passes c.args.told _ all e (c.a_run_is_a_map.ensures table.start table.passes e.ends.run e.after.is_start e.ends.is_run)
+    closes as_map _ table passes c.args.told _ all e
+    (c.a_run_is_a_map.ensures table.start table.passes e.ends.run e.after.is_start e.ends.is_run)
     (record {
-      listed = lists_entries e.after valued entries sorted e.holds.listed moved (IsNonDecreasingBy-from_sort_by_key (λ (entry : ℕ × ℕ). entry.0) sorted c.sort_unstable_by_key.ensures.sorted (λ a r q k. search rules));
+      listed = lists_entries e.after valued entries sorted e.holds.listed moved
+          (IsNonDecreasingBy-from_sort_by_key (λ (entry : ℕ × ℕ). entry.0) sorted c.sort_unstable_by_key.ensures.sorted
+          (λ a r q k. search rules));
       epoch = e.holds.epoch;
       live = e.holds.live;
       one_each = length_permutation entries sorted moved ∙ e.holds.one_each;

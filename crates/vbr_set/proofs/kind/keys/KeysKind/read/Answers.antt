@@ -4,4 +4,5 @@ use Rattle.vbr_set.proofs.ShownNodes.{key_read}
 use Rattle.vbr_set.proofs.kind.keys.KeysKind.read.Goals as goal
 
 pub returns : goal.returns
-returns c = λ opened run x. ap (slice_index c.args.words.now) c.place_index.ensures.index ∙ key_read x c.args.slot c.requires.slot
+returns c = λ opened run x.
+    ap (slice_index c.args.words.now) c.place_index.ensures.index ∙ key_read x c.args.slot c.requires.slot

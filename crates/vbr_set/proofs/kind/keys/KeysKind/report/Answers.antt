@@ -11,7 +11,8 @@ returns c = λ table passes all bare e.
     let sorted = c.sort_unstable.new.self.items in
     closes as_set _ table passes c.args.told _ all e e.ends.safe.legal
     (record {
-      listed = lists_keys e.after keys sorted e.holds.listed c.sort_unstable.ensures.permutation (IsNonDecreasingBy-from_sort (λ y. y) sorted c.sort_unstable.ensures.sorted);
+      listed = lists_keys e.after keys sorted e.holds.listed c.sort_unstable.ensures.permutation
+          (IsNonDecreasingBy-from_sort (λ y. y) sorted c.sort_unstable.ensures.sorted);
       epoch = e.holds.epoch;
       live = e.holds.live;
       one_each = length_permutation keys sorted c.sort_unstable.ensures.permutation ∙ e.holds.one_each;

@@ -7,5 +7,8 @@ use Rattle.vbr_set.proofs.set.iterating.VbrSet+Entries.entries_now.Goals as goal
 
 pub returns : goal.returns
 returns c =
-    let values = ap (λ (s : Start). s.shape.values) c.requires.own.1 ∙ sym (ap (λ (t : TableView). t.start.shape.values) c.self.view_is) ∙ c.kind.ensures in
-    lists_entries _ (as_member c.args.self.now c.args.pass.now) (as_member c.args.self.now c.go_over.new.pass) c.args.budget c.go_over.result values c.go_over.ensures
+    let values =
+    ap (λ (s : Start). s.shape.values) c.requires.own.1
+    ∙ sym (ap (λ (t : TableView). t.start.shape.values) c.self.view_is) ∙ c.kind.ensures in
+    lists_entries _ (as_member c.args.self.now c.args.pass.now) (as_member c.args.self.now c.go_over.new.pass)
+    c.args.budget c.go_over.result values c.go_over.ensures

@@ -16,8 +16,22 @@ returns c =
     let values : c.in_ok-values.values.items ≡ replicate slots 0 = search rules in
     let places : c.in_ok-places.places.items ≡ replicate slots Shared = search rules in
     let world = opened
-    (record { start = c.args.start; epoch = 1; heads = c.in_ok-heads.heads.items; links = c.in_ok-links.links.items; birth = c.in_ok-birth.birth.items; stamps = c.in_ok-stamps.stamps.items; keys = c.in_ok-keys.keys.items; values = c.in_ok-values.values.items; places = c.in_ok-places.places.items; passes = c.in_ok-passes.passes.items; births = 0; calls = c.new.result.items })
-    c.buckets-buckets.result slots c.slots.result refl heads links birth stamps keys values places c.in_ok-passes.ensures.new refl c.new.ensures.items in
+    (record {
+      start = c.args.start;
+      epoch = 1;
+      heads = c.in_ok-heads.heads.items;
+      links = c.in_ok-links.links.items;
+      birth = c.in_ok-birth.birth.items;
+      stamps = c.in_ok-stamps.stamps.items;
+      keys = c.in_ok-keys.keys.items;
+      values = c.in_ok-values.values.items;
+      places = c.in_ok-places.places.items;
+      passes = c.in_ok-passes.passes.items;
+      births = 0;
+      calls = c.new.result.items;
+    })
+    c.buckets-buckets.result slots c.slots.result refl heads links birth stamps keys values places
+    c.in_ok-passes.ensures.new refl c.new.ensures.items in
     record { world = world; start = search rules; passes = search rules }
 
 -- the lists are as long as the shape says
@@ -32,6 +46,9 @@ invariant_of-result c = record {
   keys = search rules;
   values = search rules;
   places = search rules;
-  owns = slots_known c.slots.result c.args.start.shape.slots c.in_ok-passes.passes.items c.slots.ensures.slots c.in_ok-passes.ensures.new;
-  fits = let birth : c.in_ok-birth.birth.items ≡ replicate c.slots-slots.result 0 = search rules in rw birth (births_fit c.slots-slots.result);
+  owns = slots_known c.slots.result c.args.start.shape.slots c.in_ok-passes.passes.items c.slots.ensures.slots
+      c.in_ok-passes.ensures.new;
+  fits =
+      let birth : c.in_ok-birth.birth.items ≡ replicate c.slots-slots.result 0 = search rules in
+      rw birth (births_fit c.slots-slots.result);
 }

@@ -13,7 +13,8 @@ loop-i-init c = sym (no_flags (is_flagged c.args.self.now.start (world_of c.args
 
 pub overflow_add-flags : goal.overflow_add-flags
 overflow_add-flags c =
-    let fit = flags_fit (is_flagged c.args.self.now.start (world_of c.args.self.now)) c.args.number c.loop-i.i c.loop-i-test.true in
+    let fit = flags_fit (is_flagged c.args.self.now.start (world_of c.args.self.now)) c.args.number c.loop-i.i
+    c.loop-i-test.true in
     Fits-of_lt {w = w64} (subst (λ (n : ℕ). n + 1 * 2 ^ c.loop-i.i % 2 ^ 64 < 2 ^ 64) (sym c.loop-i.invariant) fit)
 
 pub loop-i-preserved : goal.loop-i-preserved
@@ -21,9 +22,12 @@ loop-i-preserved c =
     let is_set = is_flagged c.args.self.now.start (world_of c.args.self.now) in
     elim c.if-is_flagged.branch [
       | then-is_flagged w ↦
-          w.flags-is ∙ ap (λ (n : ℕ). n + 1 * 2 ^ c.loop-i.i % 2 ^ 64) c.loop-i.invariant ∙ sym (flag_set is_set c.args.number c.loop-i.i c.loop-i-test.true (sym c.is_flagged.ensures ∙ w.if-is_flagged.true))
+          w.flags-is ∙ ap (λ (n : ℕ). n + 1 * 2 ^ c.loop-i.i % 2 ^ 64) c.loop-i.invariant
+          ∙ sym (flag_set is_set c.args.number c.loop-i.i c.loop-i-test.true
+          (sym c.is_flagged.ensures ∙ w.if-is_flagged.true))
       | else-is_flagged w ↦
-          w.flags-is ∙ c.loop-i.invariant ∙ sym (flag_clear is_set c.args.number c.loop-i.i (sym c.is_flagged.ensures ∙ w.if-is_flagged.false))
+          w.flags-is ∙ c.loop-i.invariant
+          ∙ sym (flag_clear is_set c.args.number c.loop-i.i (sym c.is_flagged.ensures ∙ w.if-is_flagged.false))
     ]
 
 pub returns : goal.returns

@@ -11,8 +11,11 @@ pub returns : goal.returns
 returns c = record {
   written =
       c.put_slot.ensures.written
-      ∙ put_after_link _ (world_of c.args.self.now) c.args.pred (link_of c.args.link) c.args.slot (Listed c.bucket_of-bucket.result) c.put_link.ensures.written
-      ∙ ap (λ (bucket : ℕ). with_link_and_place c.args.pred (link_of c.args.link) c.args.slot (Listed bucket) (world_of c.args.self.now)) c.bucket_of-bucket.ensures.bucket;
+      ∙ put_after_link _ (world_of c.args.self.now) c.args.pred (link_of c.args.link) c.args.slot
+      (Listed c.bucket_of-bucket.result) c.put_link.ensures.written
+      ∙ ap (λ (bucket : ℕ).
+      with_link_and_place c.args.pred (link_of c.args.link) c.args.slot (Listed bucket) (world_of c.args.self.now))
+      c.bucket_of-bucket.ensures.bucket;
   start = c.put_slot.ensures.start ∙ c.put_link.ensures.start;
   passes = c.put_slot.ensures.passes ∙ c.put_link.ensures.passes;
 }

@@ -11,18 +11,31 @@ use Rattle.vbr_world.proofs.world.lists.Lists.step.Goals.{then-succeeds, else-su
 
 pub write-requires-clause-room : goal.write-requires-clause-room
 write-requires-clause-room c =
-    let found = c.word-found.ensures ∙ ap (λ (place : Place). word_at c.args.self.now.start (world_of c.args.self.now) place) c.place_of_step.ensures in
-    rw (c.in-Ok.ensures.stays.start, c.in-Ok.ensures.epoch) (c.link_written-link.ensures.room (ap (λ word. succeeds c.args.event.step word) (sym found) ∙ sym c.if-succeeds.ensures))
+    let found = c.word-found.ensures
+    ∙ ap (λ (place : Place). word_at c.args.self.now.start (world_of c.args.self.now) place) c.place_of_step.ensures in
+    rw (c.in-Ok.ensures.stays.start, c.in-Ok.ensures.epoch)
+    (c.link_written-link.ensures.room
+    (ap (λ word. succeeds c.args.event.step word) (sym found) ∙ sym c.if-succeeds.ensures))
 
 pub returns-clause-made : goal.returns-clause-made
 returns-clause-made c =
     let old = c.args.self.now in
-    let found = c.word-found.ensures ∙ ap (λ (place : Place). word_at old.start (world_of old) place) c.place_of_step.ensures in
+    let found = c.word-found.ensures
+    ∙ ap (λ (place : Place). word_at old.start (world_of old) place) c.place_of_step.ensures in
     record {
       accepted = search rules;
       effect = search rules;
       after = elim c.if-succeeds.branch [
-        | then-succeeds w ↦ rw w.self-is (step_made old.start (world_of old) c.args.event.pass c.args.event.step c.word-found.result (world_of c.learn.new.self) found c.in-Ok.ensures.learned c.learn.new.self.start (world_of w.write.new.self) (link_of c.link_written-link.result) c.key_written-key.result c.in-Ok.ensures.stays.start (sym w.if-succeeds.ensures) c.link_written-link.ensures.link c.key_written-key.ensures w.write.ensures.written)
-        | else-succeeds w ↦ rw w.self-is (step_lost old.start (world_of old) c.args.event.pass c.args.event.step c.word-found.result (world_of c.learn.new.self) found c.in-Ok.ensures.learned (sym w.if-succeeds.ensures))
+        | then-succeeds w ↦
+            rw w.self-is
+            (step_made old.start (world_of old) c.args.event.pass c.args.event.step c.word-found.result
+            (world_of c.learn.new.self) found c.in-Ok.ensures.learned c.learn.new.self.start (world_of w.write.new.self)
+            (link_of c.link_written-link.result) c.key_written-key.result c.in-Ok.ensures.stays.start
+            (sym w.if-succeeds.ensures) c.link_written-link.ensures.link c.key_written-key.ensures
+            w.write.ensures.written)
+        | else-succeeds w ↦
+            rw w.self-is
+            (step_lost old.start (world_of old) c.args.event.pass c.args.event.step c.word-found.result
+            (world_of c.learn.new.self) found c.in-Ok.ensures.learned (sym w.if-succeeds.ensures))
       ];
     }

@@ -11,8 +11,12 @@ returns-clause-learned c =
     let between = know_of c.if-epoch-self.self in
     record {
       knows = elim c.if-epoch-self.branch [
-        | then-epoch-self+in_ok-confirm w ↦ read_epoch-same know between (know_of c.reread.new.self) c.args.epoch (search rules) (search rules) c.reread.ensures.knows
-        | else-epoch-self w ↦ read_epoch-moved know between (know_of c.reread.new.self) c.args.epoch (search rules) (search rules) c.reread.ensures.knows
+        | then-epoch-self+in_ok-confirm w ↦
+            read_epoch-same know between (know_of c.reread.new.self) c.args.epoch (search rules) (search rules)
+            c.reread.ensures.knows
+        | else-epoch-self w ↦
+            read_epoch-moved know between (know_of c.reread.new.self) c.args.epoch (search rules) (search rules)
+            c.reread.ensures.knows
       ];
       slots = search rules;
     }

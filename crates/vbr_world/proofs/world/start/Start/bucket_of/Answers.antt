@@ -6,4 +6,5 @@ use Rattle.vbr_world.proofs.world.start.Start.bucket_of.Goals as goal
 
 pub returns-clause-bucket : goal.returns-clause-bucket
 unfolding bucket_of
-returns-clause-bucket c = c.bucket_of.ensures.bucket ∙ ap (λ (start : Start). bucket_of start.shape c.args.key) c.self.view_is
+returns-clause-bucket c =
+    c.bucket_of.ensures.bucket ∙ ap (λ (start : Start). bucket_of start.shape c.args.key) c.self.view_is
