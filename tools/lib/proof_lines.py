@@ -4,7 +4,7 @@ here."""
 import re
 
 # COLUMNS: how many lines may be wider.
-LIMITS = {120: 7780, 240: 1241}
+LIMITS = {120: 27, 240: 4}
 
 
 def wider(texts):

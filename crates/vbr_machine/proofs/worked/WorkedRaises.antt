@@ -1,5 +1,5 @@
--- A run in which a slot is raised while it is in hand, computed: its incarnation is given up, and another pass,
--- which read an earlier epoch, bears there with a smaller birth.
+-- A run in which a slot is raised while it is in hand, computed.
+-- Its incarnation is given up, and another pass, which read an earlier epoch, bears there with a smaller birth.
 -- And the raises that are refused of a slot that was unlinked and isn't stamped.
 use Rattle.std.proofs.Common.{◌≡◌, ℕ, false, List, [], ◌∷◌, map, take, None, refl, rules, tests}
 use Rattle.vbr_words.specs.Buckets.{bucket_of}
