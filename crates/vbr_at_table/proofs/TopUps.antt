@@ -1,4 +1,4 @@
--- A pool that is topped up: the way goes on from the slot that was tried last, and then from slot 0.
+-- A pool that is topped up: the way goes on from the slot that was tried last.
 use Rattle.std.proofs.Common.{◌≡◌, ℕ, ◌+◌, ◌-◌, ◌*◌, ◌/◌, ◌%◌, ◌^◌, ◌<◌, ◌≤◌, ◌==◌, length, sym, ap, ◌∙◌, subst, inl}
 use Rattle.std.proofs.Common.{inr, ⊎_elim, arith}
 use Rattle.std.specs.Prelude.{◌⊎◌}
