@@ -63,13 +63,26 @@ fn closing_flags<N: Nodes>(
     Some((*words.get(last.checked_sub(1)?)?, *words.get(last)?))
 }
 
+// Compares the two flag words of a table that is closed with its passes.
+fn expect_closing_flags<N: Nodes>(
+    rt: &impl Abort,
+    alloc: Global,
+    slots: Slots<N>,
+    first: Pass,
+    second: Pass,
+    flags: (u64, u64),
+)
+    requires { IsOf first.trace slots × IsOf second.trace slots }
+{
+    assert_eq!(rt; closing_flags(alloc, slots, first, second), Some(flags));
+}
+
 // Pass 0 takes the slots 0 and 1, and pass 1 tries slot 0.
 fn lose_a_flag<R: Abort, N: Opened>(rt: &R, alloc: Global) {
     let (slots, mut a, mut b) = two_passes::<R, N>(rt, alloc, 70, 10);
     assert!(rt; take_all(&slots, &mut a, 0, 2));
     assert_eq!(rt; slots.take_flag(&mut b, 0), Err(18_446_744_073_709_551_612));
-    let flags = closing_flags(alloc, slots, a, b);
-    assert_eq!(rt; flags, Some((18_446_744_073_709_551_612, 63)));
+    expect_closing_flags(rt, alloc, slots, a, b, (18_446_744_073_709_551_612, 63));
 }
 
 #[test]
@@ -79,23 +92,24 @@ fn a_lost_flag_shows_the_others_of_its_word(rt: HostRuntime) {
 }
 
 // Pass 0 takes the first slots, so many, and then pass 1 takes one and gives it back to its own pool:
-// compares what it is told and how many steps that took, and gives the flag words of the closing.
+// compares what it is told and how many steps that took, and the flag words of the closing.
 fn take_behind<R: Abort, N: Opened>(
     rt: &R,
     alloc: Global,
     count: u32,
     wanted: Result<(u32, u64), TakeRefusal>,
     steps: u64,
-) -> Option<(u64, u64)>
+    flags: (u64, u64),
+)
     requires { count ≤ 70 }
 {
     let (slots, mut a, mut b) = two_passes::<R, N>(rt, alloc, 70, 10);
     assert!(rt; take_all(&slots, &mut a, 0, count));
     expect_taken(rt, &slots, &mut b, 100, wanted, steps);
-    closing_flags(alloc, slots, a, b)
+    expect_closing_flags(rt, alloc, slots, a, b, flags);
 }
 
-// The same on a set and on a map, which leaves the same flag words.
+// The same on a set and on a map.
 fn expect_behind<R: Abort>(
     rt: &R,
     alloc: Global,
@@ -106,10 +120,8 @@ fn expect_behind<R: Abort>(
 )
     requires { count ≤ 70 }
 {
-    let told = take_behind::<R, Keys>(rt, alloc, count, wanted, steps);
-    assert_eq!(rt; told, Some(flags));
-    let told = take_behind::<R, Entries>(rt, alloc, count, wanted, steps);
-    assert_eq!(rt; told, Some(flags));
+    take_behind::<R, Keys>(rt, alloc, count, wanted, steps, flags);
+    take_behind::<R, Entries>(rt, alloc, count, wanted, steps, flags);
 }
 
 #[test]
@@ -146,23 +158,33 @@ fn take_from_the_second_word<R: Abort, N: Opened>(
     expect_taken(rt, &slots, &mut b, 100, wanted, steps);
 }
 
+// The same on a set and on a map.
+fn expect_from_the_second_word<R: Abort>(
+    rt: &R,
+    alloc: Global,
+    first: u32,
+    wanted: Result<(u32, u64), TakeRefusal>,
+    steps: u64,
+)
+    requires { first ≤ 70 }
+{
+    take_from_the_second_word::<R, Keys>(rt, alloc, first, wanted, steps);
+    take_from_the_second_word::<R, Entries>(rt, alloc, first, wanted, steps);
+}
+
 #[test]
 fn a_search_begins_with_the_word_that_was_tried_last(rt: HostRuntime) {
-    take_from_the_second_word::<HostRuntime, Keys>(&rt, rt.alloc(), 70, Ok((64, 1)), 4);
-    take_from_the_second_word::<HostRuntime, Entries>(&rt, rt.alloc(), 70, Ok((64, 1)), 4);
+    expect_from_the_second_word(&rt, rt.alloc(), 70, Ok((64, 1)), 4);
 }
 
 #[test]
 fn behind_the_last_word_comes_the_first(rt: HostRuntime) {
-    take_from_the_second_word::<HostRuntime, Keys>(&rt, rt.alloc(), 64, Ok((0, 1)), 5);
-    take_from_the_second_word::<HostRuntime, Entries>(&rt, rt.alloc(), 64, Ok((0, 1)), 5);
+    expect_from_the_second_word(&rt, rt.alloc(), 64, Ok((0, 1)), 5);
 }
 
 #[test]
 fn a_search_ends_where_it_began(rt: HostRuntime) {
-    let none = Err(TakeRefusal::NoSlot);
-    take_from_the_second_word::<HostRuntime, Keys>(&rt, rt.alloc(), 0, none, 2);
-    take_from_the_second_word::<HostRuntime, Entries>(&rt, rt.alloc(), 0, none, 2);
+    expect_from_the_second_word(&rt, rt.alloc(), 0, Err(TakeRefusal::NoSlot), 2);
 }
 
 fn search_twice<R: Abort, N: Opened>(rt: &R, alloc: Global) {
@@ -192,8 +214,7 @@ fn raise_one<R: Abort, N: Opened>(rt: &R, alloc: Global) {
         panic!(rt; "not there")
     }
     slots.raise(&mut a, 65);
-    let flags = closing_flags(alloc, slots, a, b);
-    assert_eq!(rt; flags, Some((18_446_744_073_709_551_615, 63)));
+    expect_closing_flags(rt, alloc, slots, a, b, (18_446_744_073_709_551_615, 63));
 }
 
 /// A flag that is raised leaves those of its neighbours.

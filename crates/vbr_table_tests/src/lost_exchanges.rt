@@ -227,30 +227,30 @@ fn words_left(
     Ok(close_two(alloc, slots, a, b).ok_or("not closed")?)
 }
 
-// A store of 307 by pass 1 that goes on after its lost exchange, with what it is answered: the least budget that is
+// A store of 307 by pass 1 that goes on after its lost exchange to what pass 0 did first: the least budget that is
 // enough, and the steps that it makes with that.
-#[derive(Clone, Copy)]
-struct Stored {
-    wanted: Wanted,
-    there: Option<u64>,
-    least: u32,
-    steps: u64,
-}
+type Stored<'a> = (First<'a>, u32, u64);
 
 // Makes the store after the lost exchange, with each budget that is too few and with the least that is enough:
-// refused it leaves the map as it was.
-fn expect_after(rt: &impl Abort, alloc: Global, first: First, stored: Stored) -> Result<(), Fail> {
-    let there = Ok(stored.there);
-    for budget in 0..stored.least {
+// refused it leaves the map as it was, and else it answers the value that is there.
+fn expect_stored(
+    rt: &impl Abort,
+    alloc: Global,
+    wanted: Wanted,
+    there: Option<u64>,
+    stored: Stored,
+) -> Result<(), Fail> {
+    let (first, least, steps) = stored;
+    for budget in 0..least {
         let rows = [
-            Row::Call(1, budget, Made::Tired(7, 307, stored.wanted)),
-            Row::Call(0, 100, Made::Get(7, there)),
+            Row::Call(1, budget, Made::Tired(7, 307, wanted)),
+            Row::Call(0, 100, Made::Get(7, Ok(there))),
         ];
         words_left(rt, alloc, first, &rows)?;
     }
     let rows = [
-        Row::Call(1, stored.least, Made::Store(7, 307, stored.wanted, there)),
-        Row::Steps(stored.steps),
+        Row::Call(1, least, Made::Store(7, 307, wanted, Ok(there))),
+        Row::Steps(steps),
     ];
     words_left(rt, alloc, first, &rows)?;
     Ok(())
@@ -261,38 +261,20 @@ fn expect_after(rt: &impl Abort, alloc: Global, first: First, stored: Stored) ->
 /// the old node still stands, it is helped out first, in 8 steps.
 #[test]
 fn a_replacement_after_another(rt: HostRuntime) -> Result<(), Fail> {
-    let stored = Stored {
-        wanted: Wanted::Present,
-        there: Some(207),
-        least: 27,
-        steps: 25,
-    };
-    expect_after(&rt, rt.alloc(), REPLACED, stored)?;
-    let stored = Stored {
-        least: 35,
-        steps: 33,
-        ..stored
-    };
-    expect_after(&rt, rt.alloc(), STILL_LINKED, stored)
+    for stored in [(REPLACED, 27, 25), (STILL_LINKED, 35, 33)] {
+        expect_stored(&rt, rt.alloc(), Wanted::Present, Some(207), stored)?;
+    }
+    Ok(())
 }
 
 /// A compare_exchange that had found its value, and lost its exchange to a replacement, answers the value that it
 /// finds then, by a get: a search takes 8 steps, the value 2, and a load 1.
 #[test]
 fn a_compare_exchange_after_a_replacement(rt: HostRuntime) -> Result<(), Fail> {
-    let stored = Stored {
-        wanted: Wanted::Value(107),
-        there: Some(207),
-        least: 16,
-        steps: 11,
-    };
-    expect_after(&rt, rt.alloc(), REPLACED, stored)?;
-    let stored = Stored {
-        least: 24,
-        steps: 19,
-        ..stored
-    };
-    expect_after(&rt, rt.alloc(), STILL_LINKED, stored)
+    for stored in [(REPLACED, 16, 11), (STILL_LINKED, 24, 19)] {
+        expect_stored(&rt, rt.alloc(), Wanted::Value(107), Some(207), stored)?;
+    }
+    Ok(())
 }
 
 /// The same node comes back in the same slot, with the value that was expected: its birth is another one, so the
@@ -300,50 +282,27 @@ fn a_compare_exchange_after_a_replacement(rt: HostRuntime) -> Result<(), Fail> {
 /// second search 8, the value 2, and the exchange 4.
 #[test]
 fn a_compare_exchange_after_the_same_value(rt: HostRuntime) -> Result<(), Fail> {
-    let stored = Stored {
-        wanted: Wanted::Value(107),
-        there: Some(107),
-        least: 29,
-        steps: 27,
-    };
-    expect_after(&rt, rt.alloc(), BACK, stored)
+    let stored = (BACK, 29, 27);
+    expect_stored(&rt, rt.alloc(), Wanted::Value(107), Some(107), stored)
 }
 
 /// An insert behind the node changes its link, so the exchange is lost, but not what is there: the value is exchanged
 /// then, in 2 steps more, for the birth of the node behind.
 #[test]
 fn an_exchange_after_an_insert(rt: HostRuntime) -> Result<(), Fail> {
-    let stored = Stored {
-        wanted: Wanted::Value(107),
-        there: Some(107),
-        least: 29,
-        steps: 29,
-    };
-    expect_after(&rt, rt.alloc(), INSERTED, stored)?;
-    let stored = Stored {
-        wanted: Wanted::Present,
-        least: 27,
-        steps: 27,
-        ..stored
-    };
-    expect_after(&rt, rt.alloc(), INSERTED, stored)
+    for (wanted, least, steps) in [(Wanted::Value(107), 29, 29), (Wanted::Present, 27, 27)] {
+        expect_stored(&rt, rt.alloc(), wanted, Some(107), (INSERTED, least, steps))?;
+    }
+    Ok(())
 }
 
 /// The key was removed, so it is found absent, in a search of 3 steps, and a load answers a get.
 #[test]
 fn an_exchange_after_a_remove(rt: HostRuntime) -> Result<(), Fail> {
-    let stored = Stored {
-        wanted: Wanted::Value(107),
-        there: None,
-        least: 11,
-        steps: 4,
-    };
-    expect_after(&rt, rt.alloc(), REMOVED, stored)?;
-    let stored = Stored {
-        wanted: Wanted::Present,
-        ..stored
-    };
-    expect_after(&rt, rt.alloc(), REMOVED, stored)
+    for wanted in [Wanted::Value(107), Wanted::Present] {
+        expect_stored(&rt, rt.alloc(), wanted, None, (REMOVED, 11, 4))?;
+    }
+    Ok(())
 }
 
 // The words of the closing where pass 0's replacement alone has changed the map: 207 is in slot 2, and slot 0, which

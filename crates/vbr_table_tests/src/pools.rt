@@ -41,33 +41,58 @@ pub fn expect_taken<N: Nodes>(
     assert_eq!(rt; pass.steps().saturating_sub(before), steps);
 }
 
-fn take_and_give_back<R: Abort, N: Opened>(rt: &R, alloc: Global) {
-    let (slots, mut a, _b) = two_passes::<R, N>(rt, alloc, 2, 10);
-    expect_taken(rt, &slots, &mut a, 100, Ok((0, 1)), 4);
-    expect_pool(rt, &a, &[0]);
-    expect_taken(rt, &slots, &mut a, 100, Ok((0, 1)), 3);
+// A take: by which pass, with what budget, what it is told and in how many steps, and the slots that the pass has then.
+type Take<'a> = (u32, u32, Result<(u32, u64), TakeRefusal>, u64, &'a [u32]);
+
+// Makes a take by its pass.
+fn make_take<N: Nodes>(rt: &impl Abort, slots: &Slots<N>, pass: &mut Pass, take: Take)
+    requires own { IsOf pass.old.trace slots.now }
+    requires empty_hand { pass.old.hand ≡ None }
+    ensures own { IsOf pass.new.trace slots.now }
+    ensures empty_hand { pass.new.hand ≡ None }
+{
+    let (_, budget, wanted, steps, pool) = take;
+    expect_taken(rt, slots, pass, budget, wanted, steps);
+    expect_pool(rt, pass, pool);
+}
+
+// Makes takes one after another on a table of two slots.
+fn make_takes<R: Abort, N: Opened>(rt: &R, alloc: Global, takes: &[Take]) {
+    let (slots, mut a, mut b) = two_passes::<R, N>(rt, alloc, 2, 10);
+    for take in takes {
+        if take.0 == 0 {
+            make_take(rt, &slots, &mut a, *take);
+        } else {
+            make_take(rt, &slots, &mut b, *take);
+        }
+    }
+}
+
+// The same on a set and on a map.
+fn expect_takes<R: Abort>(rt: &R, alloc: Global, takes: &[Take]) {
+    make_takes::<R, Keys>(rt, alloc, takes);
+    make_takes::<R, Entries>(rt, alloc, takes);
 }
 
 #[test]
 fn a_slot_is_taken_and_given_back(rt: HostRuntime) {
-    take_and_give_back::<HostRuntime, Keys>(&rt, rt.alloc());
-    take_and_give_back::<HostRuntime, Entries>(&rt, rt.alloc());
-}
-
-fn take_with_few_steps<R: Abort, N: Opened>(rt: &R, alloc: Global) {
-    let (slots, mut a, mut b) = two_passes::<R, N>(rt, alloc, 2, 10);
-    let none = Err(TakeRefusal::OutOfSteps { used: 0 });
-    expect_taken(rt, &slots, &mut b, 0, none, 0);
-    expect_pool(rt, &b, &[]);
-    let three = Err(TakeRefusal::OutOfSteps { used: 3 });
-    expect_taken(rt, &slots, &mut a, 10, three, 3);
-    expect_pool(rt, &a, &[0]);
+    let slot = Ok((0, 1));
+    expect_takes(
+        &rt,
+        rt.alloc(),
+        &[(0, 100, slot, 4, &[0]), (0, 100, slot, 3, &[0])],
+    );
 }
 
 #[test]
 fn a_small_budget_takes_no_slot(rt: HostRuntime) {
-    take_with_few_steps::<HostRuntime, Keys>(&rt, rt.alloc());
-    take_with_few_steps::<HostRuntime, Entries>(&rt, rt.alloc());
+    let none = Err(TakeRefusal::OutOfSteps { used: 0 });
+    let three = Err(TakeRefusal::OutOfSteps { used: 3 });
+    expect_takes(
+        &rt,
+        rt.alloc(),
+        &[(1, 0, none, 0, &[]), (0, 10, three, 3, &[0])],
+    );
 }
 
 fn take_where_none_is<R: Abort, N: Opened>(rt: &R, alloc: Global) {

@@ -587,6 +587,16 @@ fn bear_alone<N: Nodes>(rt: &impl Abort, slots: &Slots<N>, pass: &mut Pass)
     slots.store_birth(pass, 0);
 }
 
+// Stores a link to none in slot 0, which was born in epoch 1.
+fn link_none<N: Nodes>(slots: &Slots<N>, pass: &mut Pass)
+    requires own { IsOf pass.old.trace slots.now }
+    requires hand { pass.old.hand ≡ Some 0 }
+    requires birth { birth_in_hand (holding_of pass.old 0) ≡ 1 }
+    ensures own { IsOf pass.new.trace slots.now }
+{
+    slots.store_link(pass, 0, 33_554_432);
+}
+
 // Stores a key and a link to none in slot 0, which was born in epoch 1.
 fn store_node(slots: &Slots, pass: &mut Pass)
     requires own { IsOf pass.old.trace slots.now }
@@ -595,7 +605,7 @@ fn store_node(slots: &Slots, pass: &mut Pass)
     ensures own { IsOf pass.new.trace slots.now }
 {
     slots.store_key(pass, 0, 7);
-    slots.store_link(pass, 0, 33_554_432);
+    link_none(slots, pass);
 }
 
 // Stores a key, a value and a link to none in slot 0, which was born in epoch 1.
@@ -608,7 +618,7 @@ fn store_entry(slots: &Slots<Entries>, pass: &mut Pass)
 {
     slots.store_key(pass, 0, 7);
     slots.store_value(pass, 0, 107);
-    slots.store_link(pass, 0, 33_554_432);
+    link_none(slots, pass);
 }
 
 // A node is born and stored by one of two passes. Compares the words of the closing.

@@ -20,171 +20,115 @@ const REMOVED: [Row<'static, Made>; 2] = [
     Row::Call(1, 18, Made::Remove(1, Ok(Some(101)))),
 ];
 
-// A store of key 1 by pass 0, with what it is answered: the least budget that is enough, and the steps
-// that it makes with that.
-#[derive(Clone, Copy)]
-struct Stored {
-    wanted: Wanted,
-    there: Option<u64>,
-    least: u32,
-    steps: u64,
-}
+// A store of key 1 by pass 0: what is wanted, the least budget that is enough, and the steps that it makes with that.
+type Stored = (Wanted, u32, u64);
 
-// Makes a store of 301 after two calls, with each budget that is too few and with the least that is enough:
-// refused it leaves the map as it was, though it may have helped a marked node out of the list.
+// Makes rows after two calls.
 fn expect_after(
     rt: &impl Abort,
     alloc: Global,
     before: [Row<'static, Made>; 2],
-    value: Option<u64>,
+    rows: &[Row<Made>],
+) -> Result<(), Fail> {
+    let mut all = Vec::new(alloc);
+    all.extend_from_slice(&before)?;
+    all.extend_from_slice(rows)?;
+    expect(rt, alloc, (3, 1, 10), &all)
+}
+
+// Makes a store of 301 after two calls, which answers the value that is there, with each budget that is too few and
+// with the least that is enough: refused it leaves the map as it was, though it may have helped a marked node out of
+// the list.
+fn expect_stored(
+    rt: &impl Abort,
+    alloc: Global,
+    before: [Row<'static, Made>; 2],
+    there: Option<u64>,
     stored: Stored,
 ) -> Result<(), Fail> {
-    let [first, second] = before;
-    for budget in 0..stored.least {
+    let (wanted, least, steps) = stored;
+    for budget in 0..least {
         let rows = [
-            first,
-            second,
-            Row::Call(0, budget, Made::Tired(1, 301, stored.wanted)),
-            Row::Call(1, 100, Made::Get(1, Ok(value))),
+            Row::Call(0, budget, Made::Tired(1, 301, wanted)),
+            Row::Call(1, 100, Made::Get(1, Ok(there))),
         ];
-        expect(rt, alloc, (3, 1, 10), &rows)?;
+        expect_after(rt, alloc, before, &rows)?;
     }
     let rows = [
-        first,
-        second,
-        Row::Call(
-            0,
-            stored.least,
-            Made::Store(1, 301, stored.wanted, Ok(stored.there)),
-        ),
-        Row::Steps(stored.steps),
+        Row::Call(0, least, Made::Store(1, 301, wanted, Ok(there))),
+        Row::Steps(steps),
     ];
-    expect(rt, alloc, (3, 1, 10), &rows)
+    expect_after(rt, alloc, before, &rows)
 }
 
 /// A search past a replaced node takes 16 steps: 3 to the head, 3 to the marked node, 5 to help it out, and 5 to
 /// the one that took its place. Its slot is then in the own pool, with the stamp of this epoch, so taking it
-/// takes 5, with an advance. A second search takes 8, the value 2, and the exchange 4.
+/// takes 5, with an advance. A second search takes 8, the value 2, and the exchange 4. What stores anything takes a
+/// slot first: two probes, the epoch, a stamp and a birth.
 #[test]
 fn stores_on_a_replaced_node(rt: HostRuntime) -> Result<(), Fail> {
-    let alloc = rt.alloc();
-    let there = Some(201);
-    let stored = Stored {
-        wanted: Wanted::Present,
-        there,
-        least: 37,
-        steps: 35,
-    };
-    expect_after(&rt, alloc, REPLACED, there, stored)?;
-    let stored = Stored {
-        wanted: Wanted::Value(201),
-        there,
-        least: 39,
-        steps: 37,
-    };
-    expect_after(&rt, alloc, REPLACED, there, stored)?;
-    let stored = Stored {
-        wanted: Wanted::Value(101),
-        there,
-        least: 24,
-        steps: 19,
-    };
-    expect_after(&rt, alloc, REPLACED, there, stored)?;
-    let stored = Stored {
-        wanted: Wanted::Absent,
-        there,
-        least: 24,
-        steps: 19,
-    };
-    expect_after(&rt, alloc, REPLACED, there, stored)?;
-    // it takes a slot first: two probes, the epoch, a stamp and a birth
-    let stored = Stored {
-        wanted: Wanted::Anything,
-        there,
-        least: 29,
-        steps: 27,
-    };
-    expect_after(&rt, alloc, REPLACED, there, stored)
+    let stores = [
+        (Wanted::Present, 37, 35),
+        (Wanted::Value(201), 39, 37),
+        (Wanted::Value(101), 24, 19),
+        (Wanted::Absent, 24, 19),
+        (Wanted::Anything, 29, 27),
+    ];
+    for stored in stores {
+        expect_stored(&rt, rt.alloc(), REPLACED, Some(201), stored)?;
+    }
+    Ok(())
 }
 
 /// A search past a removed node takes 9 steps: 3 to the head, 3 to the node, and 3 to help it out. A slot takes 5,
 /// a second search 3, and a link 4.
 #[test]
 fn stores_on_a_removed_node(rt: HostRuntime) -> Result<(), Fail> {
-    let alloc = rt.alloc();
-    let stored = Stored {
-        wanted: Wanted::Absent,
-        there: None,
-        least: 25,
-        steps: 21,
-    };
-    expect_after(&rt, alloc, REMOVED, None, stored)?;
-    let stored = Stored {
-        wanted: Wanted::Present,
-        there: None,
-        least: 17,
-        steps: 10,
-    };
-    expect_after(&rt, alloc, REMOVED, None, stored)?;
-    let stored = Stored {
-        wanted: Wanted::Value(101),
-        there: None,
-        least: 17,
-        steps: 10,
-    };
-    expect_after(&rt, alloc, REMOVED, None, stored)?;
-    let stored = Stored {
-        wanted: Wanted::Anything,
-        there: None,
-        least: 22,
-        steps: 18,
-    };
-    expect_after(&rt, alloc, REMOVED, None, stored)
+    let stores = [
+        (Wanted::Absent, 25, 21),
+        (Wanted::Present, 17, 10),
+        (Wanted::Value(101), 17, 10),
+        (Wanted::Anything, 22, 18),
+    ];
+    for stored in stores {
+        expect_stored(&rt, rt.alloc(), REMOVED, None, stored)?;
+    }
+    Ok(())
 }
 
 /// With eight steps more the second store's old node leaves too, and both slots are its pass's.
 #[test]
 fn both_old_nodes_leave(rt: HostRuntime) -> Result<(), Fail> {
-    let [first, second] = REPLACED;
     let rows = [
-        first,
-        second,
         Row::Call(0, 42, Made::Store(1, 301, Wanted::Present, Ok(Some(201)))),
         Row::Steps(35),
         Row::Pool(0, &[]),
         Row::Call(1, 100, Made::Get(1, Ok(Some(301)))),
     ];
-    expect(&rt, rt.alloc(), (3, 1, 10), &rows)?;
+    expect_after(&rt, rt.alloc(), REPLACED, &rows)?;
     let rows = [
-        first,
-        second,
         Row::Call(0, 43, Made::Store(1, 301, Wanted::Present, Ok(Some(201)))),
         Row::Steps(40),
         Row::Pool(0, &[1]),
         Row::Epoch(0, 2),
         Row::Call(1, 100, Made::Get(1, Ok(Some(301)))),
     ];
-    expect(&rt, rt.alloc(), (3, 1, 10), &rows)
+    expect_after(&rt, rt.alloc(), REPLACED, &rows)
 }
 
 /// A call for another key helps the replaced node out too, and finds its successor: a remove of an absent key, in
 /// 17 steps, and an insert behind the new node, in 33.
 #[test]
 fn a_helper_unlinks_a_replaced_node(rt: HostRuntime) -> Result<(), Fail> {
-    let [first, second] = REPLACED;
     let rows = [
-        first,
-        second,
         Row::Call(0, 100, Made::Remove(9, Ok(None))),
         Row::Steps(17),
         Row::Pool(0, &[0]),
         Row::Pool(1, &[]),
         Row::Call(1, 100, Made::Get(1, Ok(Some(201)))),
     ];
-    expect(&rt, rt.alloc(), (3, 1, 10), &rows)?;
+    expect_after(&rt, rt.alloc(), REPLACED, &rows)?;
     let rows = [
-        first,
-        second,
         Row::Call(0, 37, Made::Insert(2, 102, Ok(true))),
         Row::Steps(33),
         Row::Pool(0, &[]),
@@ -193,29 +137,24 @@ fn a_helper_unlinks_a_replaced_node(rt: HostRuntime) -> Result<(), Fail> {
         Row::Call(0, 100, Made::Remove(1, Ok(Some(201)))),
         Row::Call(1, 100, Made::Get(2, Ok(Some(102)))),
     ];
-    expect(&rt, rt.alloc(), (3, 1, 10), &rows)
+    expect_after(&rt, rt.alloc(), REPLACED, &rows)
 }
 
 /// A remove of the key takes the new value: 16 steps to it, 2 for the value, a mark, and 3 to unlink it.
 #[test]
 fn a_replaced_key_is_removed(rt: HostRuntime) -> Result<(), Fail> {
-    let [first, second] = REPLACED;
     let rows = [
-        first,
-        second,
         Row::Call(0, 26, Made::Remove(1, Ok(Some(201)))),
         Row::Steps(19),
         Row::Pool(0, &[0]),
         Row::Call(1, 100, Made::Get(1, Ok(None))),
     ];
-    expect(&rt, rt.alloc(), (3, 1, 10), &rows)?;
+    expect_after(&rt, rt.alloc(), REPLACED, &rows)?;
     let rows = [
-        first,
-        second,
         Row::Call(0, 27, Made::Remove(1, Ok(Some(201)))),
         Row::Steps(22),
         Row::Pool(0, &[0, 1]),
         Row::Call(1, 100, Made::Get(1, Ok(None))),
     ];
-    expect(&rt, rt.alloc(), (3, 1, 10), &rows)
+    expect_after(&rt, rt.alloc(), REPLACED, &rows)
 }

@@ -1,20 +1,10 @@
--- The link word names none, and its version is the birth.
-use Rattle.std.proofs.Common.{◌∙◌, sym, subst}
-use Rattle.vbr_machine.specs.Acceptance.{IsNextIn, IsNextHeld}
-use Rattle.vbr_slots.specs.Views.{knows}
-use Rattle.vbr_table_tests.proofs.running_table.OwnedSlots.{keyed_birth, valued_birth, names_none, is_word}
+-- The slot keeps its birth.
+use Rattle.std.proofs.Common.{◌∙◌}
+use Rattle.vbr_table_tests.proofs.running_table.OwnedSlots.{keyed_birth, valued_birth}
 use Rattle.vbr_table_tests.proofs.running_table.store_entry.Goals as goal
 
-pub store_link-requires-clause-next_in : goal.store_link-requires-clause-next_in
-store_link-requires-clause-next_in c = subst (IsNextIn c.args.slots.now.start) (sym names_none) tt
-
-pub store_link-requires-clause-next_held : goal.store_link-requires-clause-next_held
-store_link-requires-clause-next_held c =
-    subst (IsNextHeld (knows c.store_value.new.pass.trace).checked) (sym names_none) tt
-
-pub store_link-requires-clause-word : goal.store_link-requires-clause-word
-store_link-requires-clause-word c =
-    is_word (knows c.store_value.new.pass.trace).checked _ _ names_none
-    (valued_birth c.store_key.new.pass.trace c.store_value.new.pass.trace 0 107 107 c.store_value.ensures.step
+pub link_none-requires-clause-birth : goal.link_none-requires-clause-birth
+link_none-requires-clause-birth c =
+    valued_birth c.store_key.new.pass.trace c.store_value.new.pass.trace 0 107 107 c.store_value.ensures.step
     ∙ keyed_birth c.args.pass.now.trace c.store_key.new.pass.trace 0 7 7 c.store_key.ensures.step
-    ∙ c.requires.birth)
+    ∙ c.requires.birth
