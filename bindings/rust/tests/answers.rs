@@ -35,7 +35,7 @@ of_sets_and_maps! {
 fn spared_slots<K: Both>() {
     let open = || Table::<K>::handles(Shape::new(1, 1, 10).with_handles(2)).expect("a set");
     let is_enough = |steps: &u32| K::insert_within(&mut open()[0], 5, Steps::new(*steps)).is_ok();
-    let enough = (1..).find(is_enough).expect("a budget that is enough");
+    let enough = (1..=1000).find(is_enough).expect("a budget that is enough");
     let mut handles = open();
     assert_eq!(K::insert_within(&mut handles[0], 5, Steps::new(enough - 1)), Err(Refusal::OutOfSteps));
     assert_eq!(K::insert(&mut handles[1], 6), Err(Refusal::NoSlot));
