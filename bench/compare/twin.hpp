@@ -72,6 +72,7 @@ public:
 struct alignas(128) Pass {
     uint64_t epoch = 1, steps = 0; // the epoch that it read last, and the steps of all its calls
     uint32_t tried = 0;            // the slot that it tried last to take out of the shared pool
+    uint32_t reserve = 0;          // how many slots it keeps in its own pool, as far as there are so many
     Pool pool;
 };
 
@@ -107,6 +108,8 @@ template <class N> class Table {
     // in a slot, behind its link
     static constexpr uint64_t BIRTH = 1, STAMP = 2, KEY = 3, VALUE = 4, WORDS = N::VALUES ? 5 : 4;
     static constexpr unsigned POOL = 64;
+    // a reserve is no more than this, and where no more than this part of it is lacking it isn't topped up
+    static constexpr unsigned RESERVE = 32, PARTS = 8;
 
     const uint64_t slots, buckets, last_epoch, slots_at, flags_at;
     Word *words;
@@ -131,9 +134,10 @@ public:
     Table(const Table &) = delete;
     Table &operator=(const Table &) = delete;
 
-    // A pass of so many: they begin to look for a slot at words of flags that lie apart.
+    // A pass of so many: they begin to look for a slot at words of flags that lie apart. It keeps slots in reserve as a handle does.
     Pass pass(unsigned who, unsigned passes) const {
         Pass pass;
+        pass.reserve = static_cast<uint32_t>(std::min<uint64_t>(slots / passes / PARTS, RESERVE));
         pass.tried = static_cast<uint32_t>(who * ((slots + 63) / 64) / passes * 64);
         return pass;
     }
@@ -141,7 +145,10 @@ public:
     // The calls; where nodes have no values none is stored or given. As the library's they are called as functions, which begin at
     // a line of the cache.
     [[gnu::noinline, gnu::aligned(64)]] Answer insert(Pass &pass, uint64_t key, uint64_t value, uint32_t budget) {
-        return Call<N>(*this, pass, key, budget).insert(value);
+        uint64_t before = pass.steps;
+        Answer answer = Call<N>(*this, pass, key, budget).insert(value);
+        if (answer == YES) keep_reserve(pass, budget, before);
+        return answer;
     }
     // Where it answers YES it gives the value.
     [[gnu::noinline, gnu::aligned(64)]] Answer remove(Pass &pass, uint64_t key, uint32_t budget, uint64_t &value) {
@@ -160,11 +167,17 @@ public:
         return Call<N>(*this, pass, key, budget).template store<Wanted::present>(value, 0, old);
     }
     [[gnu::noinline, gnu::aligned(64)]] Answer put(Pass &pass, uint64_t key, uint64_t value, uint32_t budget, uint64_t &old) {
-        return Call<N>(*this, pass, key, budget).template store<Wanted::anything>(value, 0, old);
+        uint64_t before = pass.steps;
+        Answer answer = Call<N>(*this, pass, key, budget).template store<Wanted::anything>(value, 0, old);
+        if (answer == NO) keep_reserve(pass, budget, before);
+        return answer;
     }
     [[gnu::noinline, gnu::aligned(64)]] Answer get_or_insert(Pass &pass, uint64_t key, uint64_t value, uint32_t budget,
                                                              uint64_t &old) {
-        return Call<N>(*this, pass, key, budget).template store<Wanted::absent>(value, 0, old);
+        uint64_t before = pass.steps;
+        Answer answer = Call<N>(*this, pass, key, budget).template store<Wanted::absent>(value, 0, old);
+        if (answer == NO) keep_reserve(pass, budget, before);
+        return answer;
     }
     [[gnu::noinline, gnu::aligned(64)]] Answer compare_exchange(Pass &pass, uint64_t key, uint64_t expected, uint64_t value,
                                                                 uint32_t budget, uint64_t &old) {
@@ -254,6 +267,39 @@ private:
         pass.pool.remove(at);
         words[link_of(slot + uint64_t{1}) + BIRTH] = pass.epoch;
         return {YES, slot, pass.epoch, used + 1};
+    }
+
+    // After a call that added a key: takes slots out of the shared pool up to the reserve of the pass, in a few tries, and in no more
+    // than the steps that the call left of its budget. The pass had made so many when it began.
+    [[gnu::always_inline]] void keep_reserve(Pass &pass, uint32_t budget, uint64_t before) {
+        if (pass.pool.size() + pass.reserve / PARTS >= pass.reserve) return;
+        uint64_t used = pass.steps - before, left = used < budget ? budget - used : 0;
+        top_up(pass, std::min<uint64_t>(left, pass.reserve / PARTS + 1));
+    }
+
+    // Goes on after the slot tried last: up to the last one, and then from the first.
+    [[gnu::noinline]] void top_up(Pass &pass, uint64_t tries) {
+        uint32_t start = pass.tried + 1;
+        tries -= top_up_from(pass, start, static_cast<uint32_t>(slots), tries);
+        top_up_from(pass, 0, start, tries);
+    }
+
+    // Tries the slots from one up to another. Gives how many tries it made.
+    uint64_t top_up_from(Pass &pass, uint32_t from, uint32_t to, uint64_t tries) {
+        uint64_t made = 0;
+        for (uint32_t slot = from; slot < to && made < tries && pass.pool.size() < pass.reserve;) {
+            made++;
+            uint64_t flag = uint64_t{1} << slot % 64, found = words[flags_at + slot / 64].fetch_and(~flag);
+            pass.tried = slot;
+            pass.steps++;
+            if (found & flag) {
+                pass.pool.push(slot++);
+                continue;
+            }
+            uint64_t behind = found >> slot % 64;
+            slot = behind ? slot + static_cast<uint32_t>(__builtin_ctzll(behind)) : (slot / 64 + 1) * 64;
+        }
+        return made;
     }
 
     // Takes a slot out of the shared pool: goes once round the flag words, from that of the slot tried last.
