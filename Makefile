@@ -18,7 +18,8 @@ REALTIME ?= 100000000
 FUZZ ?= 9000000 1000000
 COMPARE ?=
 PREBUILT ?=
-export RT
+ANEW ?=
+export RT ANEW
 
 .DEFAULT_GOAL := help
 .PHONY: help run build lib both install install-lib copy-lib uninstall man docs prebuilt prebuilt-check check test gate docs-check clients faults soak fuzz bench plot compare clean
@@ -35,6 +36,7 @@ help:
 	@echo 'make test                prove what library and program stand on, run all tests, clients, refused memory, kept inputs'
 	@echo 'make check               for daily work: what has changed, the tests, the programs, edits of changed crates'
 	@echo 'make gate                the whole: every proof from nothing, those of tests too, edits that must be refused, the second compiler'
+	@echo '    ANEW=1               also what an earlier gate on this machine passed, of the same text'
 	@echo 'make man                 write the man pages: target/man'
 	@echo 'make docs                write the man pages, and the pages of doxygen and rustdoc where these are installed'
 	@echo 'make docs-check          see that the documents are true to the tree, and that contracts have their form'
@@ -165,7 +167,7 @@ gate:
 	@rm -f target/libvbr.so* # rt ci takes no links, and the library is built anew
 	@tools/docs-check
 	@tools/layout
-	@RT_JOBS="$${RT_JOBS:-$$(getconf _NPROCESSORS_ONLN)}" $(RT) ci
+	@RT_JOBS="$${RT_JOBS:-$$(getconf _NPROCESSORS_ONLN)}" $(RT) ci $(if $(filter 1,$(ANEW)),--anew)
 	@tools/after-gate
 	@tools/prebuilt --gate
 	@echo 'make gate: ok'

@@ -1,6 +1,6 @@
 //! The shape of a set: how many slots and buckets it has, its last epoch, and whether its nodes
 //! have values.
-ghost use Rattle.std.specs.Prelude.{◌≡◌, ◌<◌, ◌≤◌, ◌%◌, ◌^◌, ◌⊎◌, true, false, None, Some, IfSome, MatchOption, MatchResult, is_some};
+ghost use Rattle.std.specs.Prelude.{◌≡◌, ◌*◌, ◌/◌, ◌<◌, ◌≤◌, ◌%◌, ◌^◌, ◌⊎◌, true, false, None, Some, IfSome, MatchOption, MatchResult, is_some};
 ghost use Rattle.vbr_words.specs.declared.shape.TheConstants.{MAX_SPREAD_BUCKETS};
 ghost use Rattle.vbr_words.specs.Buckets.{bucket_of, mixed, multiplier_of};
 ghost use Rattle.vbr_words.specs.Dimensions.{IsShape};
@@ -271,12 +271,26 @@ impl Shape {
     {
         let buckets = u64::from(self.buckets);
         if let Some(multiplier) = self.spread {
-            (mixed(multiplier, key) * buckets >> 32) as u32
+            part_of(mixed(multiplier, key), self.buckets)
         } else if buckets.is_power_of_two() {
             (key & (buckets - 1)) as u32
         } else {
             (key % buckets) as u32
         }
+    }
+}
+
+// The part of so many buckets that mixed bits are of 2^32. A shift finds it where the number of buckets is a
+// power of two.
+#[inline]
+fn part_of(bits: u64, buckets: u32) -> u32
+    requires half { bits < 2 ^ 32 }
+    ensures part { result ≡ bits * buckets / 2 ^ 32 }
+{
+    if buckets.is_power_of_two() {
+        (bits >> (32 - buckets.trailing_zeros())) as u32
+    } else {
+        (bits * u64::from(buckets) >> 32) as u32
     }
 }
 

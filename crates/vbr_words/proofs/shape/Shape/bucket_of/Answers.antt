@@ -12,8 +12,8 @@ use Rattle.vbr_words.proofs.shape.Shape.bucket_of.Goals as goal
 pub returns-in-Some-clause-bucket : goal.returns-in-Some-clause-bucket
 returns-in-Some-clause-bucket c =
     let multiplier = c.in-Some.multiplier in
-    ap (λ (k : ℕ). k * c.from-buckets.result / 2 ^ 32) c.mixed.ensures.mixed
-    ∙ ap (λ (b : ℕ). mixed multiplier c.args.key * b / 2 ^ 32) c.from-buckets.ensures
+    c.part_of.ensures.part
+    ∙ ap (λ (k : ℕ). k * c.self.inside.buckets / 2 ^ 32) c.mixed.ensures.mixed
     ∙ subst (λ (shape : Dimensions).
     mixed multiplier c.args.key * c.self.inside.buckets / 2 ^ 32 ≡ bucket_of shape c.args.key) c.self.view_is
     (bucket_of-spread _ c.args.key multiplier c.in-Some.is)
