@@ -257,8 +257,8 @@ pub extern "C" fn vbr_balance(handle: &mut Handle) -> i64
 /// It has no budget, and makes no call of the set.
 ///
 /// Refusals: -4, the handle is empty; -8, it was the last one and there is no memory for the report, and
-/// the handle stays as it was; -9, it was the last one and a pass isn't there, so the set is gone; -11, it
-/// was the last one and the set has more keys than there is room for, and the handle stays as it was. With
+/// the handle stays full; -9, it was the last one and a pass isn't there, so the set is gone; -11, it
+/// was the last one and the set has more keys than there is room for, and the handle stays full. With
 /// -11 the report is written without the keys, so `live` tells how many they are; as many as slots always
 /// have room. With the others nothing is written.
 ///

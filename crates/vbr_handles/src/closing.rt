@@ -28,6 +28,8 @@ pub enum CloseRefusal<R = Report> {
 /// Gives the pass of a handle back and leaves the handle empty. While other handles of its set are
 /// full the answer is None; the last one is told what is in the set, where there is room for so many
 /// keys, and the set ends. So it is of a map, whose report has entries.
+///
+/// As [`Member::report_last`] it gives no slots back: [`crate::numbers::giving_back::close`] does so before.
 pub fn close<N: Kind, I: Listed<N>>(
     alloc: Global,
     owner: &mut Owner<Member<N>>,

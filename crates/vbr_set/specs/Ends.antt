@@ -1,6 +1,7 @@
 -- How a set ends by its members, and what the last one is told.
-use Rattle.std.specs.Prelude.{◌≡◌, ℕ, ◌<◌, List, length, slice_index_or, Option, None, Some, Result, Ok, Err}
+use Rattle.std.specs.Prelude.{◌≡◌, ℕ, ◌<◌, List, length, slice_index_or, Option, None, Some, Result, Ok, Err, IfOk, IfErr, IfSome}
 use Rattle.vbr_slots.specs.Views.{PassView, TableView}
+use Rattle.vbr_at_table.specs.GivingSlotsBack.{GivesSlotsBack}
 use Rattle.vbr_set.specs.Closing.{Closes, MapCloses}
 use Rattle.vbr_set.specs.Members.{MemberView}
 use Rattle.vbr_set.specs.Sharing.{ArePassesOf}
@@ -39,6 +40,15 @@ EndsMapWith = EndsBy MapCloses
 abbrev pub IsBack : TableView → PassView → EndError MemberView → Type 0
 IsBack set pass Lost = Unit {0}
 IsBack set pass (Memory member) = member ≡ record { set = set; pass = pass }
+
+module _ {R : Type 0} (tells : TableView → List PassView → R → Type 0) where
+  -- the pass of the member gave its slots back, and then the member was closed: a report tells the end of its set with the pass as it was between the two, and where there is no memory, the member comes back with it
+  pub record ClosesMember (m : MemberView) (answer : Result (Option R) (EndError MemberView)) : Type 0 where
+    pub between : PassView
+    pub count : ℕ
+    pub gives : GivesSlotsBack m.pass between count
+    pub report : IfOk answer (λ told. IfSome told (EndsBy tells m.set between))
+    pub stays : IfErr answer (IsBack m.set between)
 
 -- there is no memory, and no pass is lost
 abbrev pub EndLacksMemory : {M : Type 0} → EndError M → Type 0

@@ -130,6 +130,21 @@ fn a_dropped_member_leaves_its_slots(rt: HostRuntime) -> Result<(), Fail> {
     Ok(())
 }
 
+// Two slots are the first member's. It is closed, and then the other one has both.
+#[test]
+fn a_closed_member_leaves_its_slots(rt: HostRuntime) -> Result<(), Fail> {
+    let members = open_members(&rt, rt.alloc(), 2, 2);
+    let [mut one, mut other] = <[Member; 2]>::try_from(members)
+        .ok()
+        .expect(&rt, "two members");
+    expect_reserved(&rt, &mut one, 2, 2, 2);
+    assert_eq!(rt; other.insert(5, 100), Err(Refusal::NoSlot));
+    assert!(rt; one.close(rt.alloc())?.is_none());
+    expect_insert(&rt, &mut other, 5, true);
+    expect_insert(&rt, &mut other, 6, true);
+    Ok(())
+}
+
 // A reserve is what is wanted, what there is, and never more than 63.
 #[test]
 fn members_reserve_slots(rt: HostRuntime) -> Result<(), Fail> {

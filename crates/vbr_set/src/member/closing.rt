@@ -5,7 +5,7 @@ ghost use Rattle.std.specs.Vec.{vec_capacity};
 ghost use Rattle.vbr_slots.specs.Closing.{AllOf};
 ghost use Rattle.vbr_set.specs.Balances.{balance_of};
 ghost use Rattle.vbr_set.specs.Closing.{ClosesBy};
-ghost use Rattle.vbr_set.specs.Ends.{AreNumbered, EndsBy, IsBack, IsLast, EndLacksMemory};
+ghost use Rattle.vbr_set.specs.Ends.{AreNumbered, ClosesMember, EndsBy, IsBack, IsLast, EndLacksMemory};
 ghost use Rattle.vbr_set.specs.Mailboxes.{IsIdle};
 ghost use Rattle.vbr_set.specs.Members.{as_member};
 ghost use Rattle.vbr_set.specs.Sharing.{AreOthers, ArePassesOf, AreMailboxesOf, HasOthers, IsSeatOf};
@@ -25,12 +25,14 @@ use vbr_slots::Pass;
 use vbr_words::Nodes;
 
 impl<N: Kind> Member<N> {
-    /// Gives its pass back. While others have a share of the set, the answer is None. The last member
-    /// ends the set, and is told what is in it, as [`VbrSet::close`] tells it with all passes. The
-    /// member of a set that was opened for one is always the last.
+    /// Gives its slots back, as [`Member::give_slots_back`] does, so that the others have them, and then
+    /// its pass. While others have a share of the set, the answer is None. The last member ends the set,
+    /// and is told what is in it, as [`VbrSet::close`] tells it with all passes. The member of a set that
+    /// was opened for one is always the last.
     ///
     /// Only the last member needs memory: 9 bytes for each slot of a set and 17 of a map, for the report,
-    /// and the words once more while it runs. A close has no budget, and makes no call of the set.
+    /// and the words once more while it runs. A close has no budget, and makes no call of the set. Its
+    /// steps are one for each slot that it gives back.
     ///
     /// # Errors
     ///
@@ -38,8 +40,8 @@ impl<N: Kind> Member<N> {
     ///
     /// - Lost: a pass isn't there. The set is gone. A member that is dropped gives its pass back, so no
     ///   program is known to get it; a proof can't tell that all passes came.
-    /// - Memory: there is no room for the report. The member comes back as it was: it can make calls,
-    ///   and be closed again.
+    /// - Memory: there is no room for the report. The member comes back with an empty pool, as its slots
+    ///   are in the shared one: it can make calls, and be closed again.
     ///
     /// # Example
     ///
@@ -52,12 +54,12 @@ impl<N: Kind> Member<N> {
     ///
     /// [`VbrSet::close`]: crate::VbrSet::close
     pub fn close(self, alloc: Global) -> Result<Option<N::Report>, EndError<Member<N>>>
-        ensures report { IfOk result
-            (λ report. IfSome report (EndsBy (ClosesBy N.kind) self.set self.pass)) }
-        ensures stays { IfErr result (IsBack self.set self.pass) }
+        ensures closes { ClosesMember (ClosesBy N.kind) self result }
         ensures alone { self.set.passes ≡ 1 → IsLast result }
     {
-        match self.report_last(alloc)? {
+        let mut member = self;
+        member.give_slots_back();
+        match member.report_last(alloc)? {
             Some((report, last)) => {
                 drop(last);
                 Ok(Some(report))
@@ -71,7 +73,10 @@ impl<N: Kind> Member<N> {
     /// report, for want of room, say, loses nothing; the member can make calls, and be closed again. The
     /// set ends with it, also where it is dropped.
     ///
-    /// Memory and errors are those of a close.
+    /// It gives no slots back. A member that isn't the last keeps its own from the others, unless
+    /// [`Member::give_slots_back`] comes before.
+    ///
+    /// Memory is that of a close, and so are the errors, but that the member comes back as it was.
     pub fn report_last(
         self,
         alloc: Global,
