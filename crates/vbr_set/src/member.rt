@@ -75,8 +75,8 @@ impl<N: Nodes> Member<N> {
     }
 }
 
-/// One that is dropped gives its pass back as [`Member::close`] does, but is told nothing: so the last one
-/// that is closed is still told a report. The slots that it keeps go into the shared pool before, so the others
+/// One that is dropped gives its pass back as [`Member::close`] does, but gets nothing: so the last one
+/// that is closed still gets a report. The slots that it keeps go into the shared pool before, so the others
 /// may take them ([`Member::give_slots_back`]). It needs no memory.
 impl<N: Nodes> Drop for Member<N> {
     fn drop(self) {
