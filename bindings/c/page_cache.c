@@ -293,18 +293,18 @@ static long plain_hits(int count) {
     static uint64_t page_in[FRAMES];
     static int frame_of[PAGES], is_used[FRAMES]; /* frame_of: the number behind the frame's, or 0 */
     long sum = 0;
-    int at = 0;
+    int frame = 0;
     memset(frame_of, 0, sizeof frame_of);
     memset(is_used, 0, sizeof is_used);
     for (long i = 0; i < requests; i++) {
         uint64_t page = page_of(i);
         sum += frame_of[page] != 0;
         if (!frame_of[page]) {
-            for (; is_used[at]; at = (at + 1) % count) is_used[at] = 0;
-            if (frame_of[page_in[at]] == at + 1) frame_of[page_in[at]] = 0;
-            page_in[at] = page;
-            frame_of[page] = at + 1;
-            at = (at + 1) % count;
+            for (; is_used[frame]; frame = (frame + 1) % count) is_used[frame] = 0;
+            if (frame_of[page_in[frame]] == frame + 1) frame_of[page_in[frame]] = 0;
+            page_in[frame] = page;
+            frame_of[page] = frame + 1;
+            frame = (frame + 1) % count;
         }
         is_used[frame_of[page] - 1] = 1;
     }

@@ -109,7 +109,7 @@ static inline struct value_place *value_told(uint64_t key, uint64_t value, uint6
     return it;
 }
 
-/* A value is told, and stays where it is. */
+/* A value is returned, and stays where it is. */
 static inline void value_is_found(uint64_t key, uint64_t value, uint64_t began) {
     struct value_place *it = value_told(key, value, began);
     if (it) value_moves(it, PENDING, SEEN);
@@ -318,7 +318,7 @@ VBR_NODISCARD static inline vbr_answer value_open_many_seeded(vbr_map_handle *ha
     return value_opened(vbr_map_open_many_seeded(handles, count, slots, buckets, last_epoch, seed, opening_entries, key_count), key_count);
 }
 
-/* The entries of a report: each value is taken out, and its key is told. */
+/* The entries of a report: each value is taken out, and its key is returned. */
 static inline void value_report(uint64_t *keys, size_t count) {
     uint64_t now = value_read(&value_time);
     for (size_t i = 0; i < count; i++) {

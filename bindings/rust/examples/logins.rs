@@ -8,7 +8,7 @@
 //! still has the time that was seen, by `remove_if`.
 //!
 //! Beside the map it is noted of each user until when a call has promised that the login lives. The program sees that no login
-//! is told absent before that. With a careless sweeper, which removes whatever is there, it finds one that is.
+//! is found absent before that. With a careless sweeper, which removes whatever is there, it finds one that is.
 #![allow(clippy::cast_possible_truncation, reason = "the numbers are small")]
 use std::error::Error;
 use std::sync::atomic::AtomicU64;
@@ -70,7 +70,7 @@ impl Logins {
 struct Known {
     /// The time, which passes with each request.
     now: AtomicU64,
-    /// Until when the login of each user lives, as a call has told.
+    /// Until when the login of each user lives, as a call returned.
     promised: Vec<AtomicU64>,
     working: AtomicU64,
 }

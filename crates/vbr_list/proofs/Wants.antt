@@ -17,7 +17,7 @@ use Rattle.vbr_list.specs.Wanted.{WasWanted, WasWantedFor, steps_to_compare, wan
 use Rattle.vbr_list.specs.declared.call.PendingCall.{PendingCall}
 use Rattle.vbr_list.specs.declared.found.Found.{Found}
 use Rattle.vbr_list.specs.declared.storing.Met.{Met}
-use Rattle.vbr_list.specs.declared.storing.Met.TheVariants.{AsWanted, Told}
+use Rattle.vbr_list.specs.declared.storing.Met.TheVariants.{AsWanted, Otherwise}
 use Rattle.vbr_list.specs.declared.wanted.Wanted.{Wanted}
 use Rattle.vbr_list.specs.declared.wanted.Wanted.TheVariants.{Absent, Present, Anything, Value}
 use Rattle.vbr_list.proofs.FoundValues.{few_where}
@@ -150,4 +150,4 @@ pub met_as : {N : Type 0} {kind : Ghosts N} (c m d : PendingCall N kind) (wanted
     ((there : Option ℕ) → TellsOther wanted m d there → MeetsOther wanted c d there) → AsksMet wanted m d found met →
     IsMet wanted c d met
 met_as c m d wanted found AsWanted f g x = f x.0 x.1
-met_as c m d wanted found (Told there) f g x = g there x
+met_as c m d wanted found (Otherwise there) f g x = g there x

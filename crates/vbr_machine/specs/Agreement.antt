@@ -48,9 +48,9 @@ IsFrozen a None next = ⊥
 IsFrozen a (Some c) next = IsRemoved (a.state c) × (a.next c ≡ next)
 
 -- a link is good for an epoch: its version is no greater, the incarnation at its place and the one that it names are held, and if it is marked, they no longer change
-pub record IsGoodLink (a : Incarnations) (epoch : ℕ) (place : At) (link : Link) (of names : Option ℕ) : Type 0 where
+pub record IsGoodLink (a : Incarnations) (epoch : ℕ) (holder : At) (link : Link) (of names : Option ℕ) : Type 0 where
   pub version : link.version ≤ epoch
-  pub place : IsHeldAt a epoch place of
+  pub place : IsHeldAt a epoch holder of
   pub next : IsHeldNext a epoch link.slot names
   pub frozen : link.mark ≡ true → IsFrozen a of names
 

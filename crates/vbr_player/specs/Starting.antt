@@ -28,5 +28,5 @@ abbrev pub AreEndedBy : {N : Type 0} → Kind → List (PhaseWorker N) → List 
 AreEndedBy kind all_started workers = AllZip (EndsAs kind) all_started workers
 
 -- so they did where the wait for them is done
-abbrev pub EndsAll : {N E : Type 0} → Kind → List (PhaseWorker N) → Result (Vec (Worker N) Global) E → Type 0
-EndsAll kind all_started result = IfOk result (λ played. AreEndedBy kind all_started played.items)
+abbrev pub EndAll : {N E : Type 0} → Kind → List (PhaseWorker N) → Result (Vec (Worker N) Global) E → Type 0
+EndAll kind all_started result = IfOk result (λ played. AreEndedBy kind all_started played.items)

@@ -42,12 +42,12 @@ use Rattle.vbr_machine.specs.declared.knowledge.Holding.TheVariants.{Free, Unlin
 -- ---- a place in a list that is held in a bucket, and shows its known link
 
 -- the incarnation there, and what follows it, both in the bucket
-pub record StandsIn (start : Start) (a : Incarnations) (epoch bucket : ℕ) (place : At) (link : Link) : Type 0 where
+pub record StandsIn (start : Start) (a : Incarnations) (epoch bucket : ℕ) (holder : At) (link : Link) : Type 0 where
   pub of : Option ℕ
   pub names : Option ℕ
-  pub followed : IsFollowed a place of names
+  pub followed : IsFollowed a holder of names
   pub next : IsHeldNext a epoch link.slot names
-  pub place : IsPlaceOf start a place bucket
+  pub place : IsPlaceOf start a holder bucket
 
 place_of_bucket : (start : Start) (a : Incarnations) (epoch bucket : ℕ) (place : At) (of names : Option ℕ) →
     IsFollowed a place of names → IsHeldAt a epoch place of → IsOfBucket start a epoch place bucket →

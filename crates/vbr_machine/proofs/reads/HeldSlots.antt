@@ -112,7 +112,7 @@ link_held held [] place link r h = absurd (cc)
 link_held held (LinkAt here seen ∷ reads) place link r h = elim
     (cases_Bool (same_at here place && same_link seen link)) [
       | inl k ↦ let u = and_parts (same_at here place) (same_link seen link) k in rw (← same_at_true here place u.0) r.0
-      | inr k ↦ link_held held reads at link r.1 (rw k at h)
+      | inr k ↦ link_held held reads place link r.1 (rw k at h)
     ]
 link_held held (_ ∷ reads) place link r h = link_held held reads place link r.1 h
 

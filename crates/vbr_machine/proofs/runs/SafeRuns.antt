@@ -163,7 +163,7 @@ every_run start passes run is ok =
       values = rw g.calls g.tells.values;
       births = g.births;
       epoch = rw g.image.epoch g.fits.epoch;
-      links = λ at.
+      links = λ place.
           (let P : Link → Type 0 = IsLink in
           subst P (sym (stands w a place g.image)) (image_fits g.sound g.fits place));
       knows = λ p. record {
