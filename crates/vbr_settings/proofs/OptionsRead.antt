@@ -192,7 +192,7 @@ found_in (x ∷ xs) id has = by_case (bytes_eq x.0.now id) refl (found_in xs id)
         (HasIn xs id → is_some (option_map (λ e. e.1) (find (λ e. bytes_eq e.0.now id) xs)) ≡ true) →
         is_some (option_map (λ e. e.1) (find (λ e. bytes_eq e.0.now id) (x ∷ xs))) ≡ true
     by_case true is behind = rw is refl
-    at false is behind = rw is (behind (rest has.0 has.1 has.2 is))
+    by_case false is behind = rw is (behind (rest has.0 has.1 has.2 is))
 
 head_of : (parser : ValueParser) (how : Reading) (values : List (Bor (List ℕ))) →
     All (λ v. Accepts false parser v.now) values → 0 < length values →
@@ -250,7 +250,7 @@ switch_text old m p k a option plain globals = by_case (matched_of (found_of m) 
     by_case : (entry : Option MatchedArg) → matched_of (found_of m) a.id.now ≡ entry →
         IfSome (one_text (found_of m) a.id.now) (λ text. Accepts false value.Bool text)
     by_case None is = rw is tt
-    at (Some x) is =
+    by_case (Some x) is =
         let parsed = p.parsed (p.from.globals ∙ globals) in
         let entry = entry_by_id (EntryPasses p.built) (found_of m).entries.items a.id.now x parsed.values is in
         let name : entry.0.0.now ≡ a.id.now = (bytes_eq-Decides entry.0.0.now a.id.now).0 entry.2 in

@@ -176,7 +176,7 @@ pub fn knows_its_options()
         × (explained_of (name ∷ each_option) ≡ Some (codes "script-1")) }
     ensures file { (name : List ℕ) → AreOptions (name ∷ codes "a" ∷ codes "--epoch" ∷ [])
         × (file_of (name ∷ codes "a" ∷ codes "--epoch" ∷ []) ≡ Some (codes "a")) }
-    ensures behind { (name : List ℕ) → AreOptions (name ∷ codes "--" ∷ codes "--epoch" ∷ [])
+    ensures dashes { (name : List ℕ) → AreOptions (name ∷ codes "--" ∷ codes "--epoch" ∷ [])
         × (file_of (name ∷ codes "--" ∷ codes "--epoch" ∷ []) ≡ Some (codes "--epoch")) }
     ensures standard { (name : List ℕ) → AreOptions (name ∷ codes "-" ∷ [])
         × (file_of (name ∷ codes "-" ∷ []) ≡ None) }

@@ -44,7 +44,7 @@ read-set {A} xs i x d lt = λ k s. by_case s (cases_eq s i) k
   where
     by_case : (s : ℕ) → (s ≡ i) ⊎ (s ≢ i) → get_or (set xs i x) s d ≡ put (λ s. get_or xs s d) i x s
     by_case s (inl e) = rw (e, get_or-set_same xs i x d lt, eq-eqb i i refl) refl
-    at s (inr ne) = rw (get_or-set_other xs i s x d ne, ne_eqb s i ne) refl
+    by_case s (inr ne) = rw (get_or-set_other xs i s x d ne, ne_eqb s i ne) refl
 
 -- a slot of the list is put: the function is put at that slot
 pub know_of-put : (kept : KeptPass) (s : ℕ) (holding : Option Holding) → s < length kept.own →

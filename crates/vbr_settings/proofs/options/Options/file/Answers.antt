@@ -15,7 +15,7 @@ named : (first : Option Text) (name : Text) → first ≡ Some name → not (byt
     Some name ≡ of_first first
 named first name is other = rw is (by_case (bytes_eq name (codes "-")) other)
   where
-    at : (b : Bool) → not b ≡ true → Some name ≡ (if b then None else Some name)
+    by_case : (b : Bool) → not b ≡ true → Some name ≡ (if b then None else Some name)
     by_case true other = cc
     by_case false other = refl
 
@@ -23,7 +23,7 @@ dash : (first : Option Text) (name : Text) → first ≡ Some name → not (byte
     None ≡ of_first first
 dash first name is same = rw is (by_case (bytes_eq name (codes "-")) same)
   where
-    at : (b : Bool) → not b ≡ false → None ≡ (if b then None else Some name)
+    by_case : (b : Bool) → not b ≡ false → None ≡ (if b then None else Some name)
     by_case true same = refl
     by_case false same = cc
 
