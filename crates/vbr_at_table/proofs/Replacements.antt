@@ -107,7 +107,7 @@ module _ (p : PassView) (sound : PassLaw p) (node : Held) (s t key birth next : 
       let B : At → Type 0 = λ i. BirthAt (knows p.trace) i node.birth in
       written_is p.trace.start p.trace.passes p.trace.seen sound.start sound.is_run p.trace.who (Replace s node.word t)
       (marked (link_to (Some t) node.birth (birth_in_hand ((knows p.trace).own t))))
-      (node.birth, subst B place h.birth, refl)
+      (node.birth, subst B place_is h.birth, refl)
       ∙ ap (λ (o : Option Holding). marked (link_to (Some t) node.birth (birth_in_hand o))) f.holding_is
       ∙ ap (λ (b : ℕ). marked (link_to (Some t) node.birth b)) f.birth_is
 

@@ -23,7 +23,7 @@ lines_of-first text end found =
     position_or_len_is is_line_feed text end 0 (omega (arith, found.0.high))
     (λ k below. false_from_ne_true _ (found.0.before k (omega arith) below)) (λ _. found.1) in
     let inside : position_or_len is_line_feed text < length text = omega (arith, found.0.high) in
-    ap (map strip_carriage_return) (slice_split_first is_line_feed text 0 inside) ∙ rw at refl
+    ap (map strip_carriage_return) (slice_split_first is_line_feed text 0 inside) ∙ rw ends refl
 
 -- a text without a line feed is one line
 pub lines_of-only : (text : List ℕ) → Nowhere (Passes (is_byte 10) text) 0 (length text) →
