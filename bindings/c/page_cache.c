@@ -6,7 +6,7 @@
    Who asks for a page looks it up, and pins its frame while it reads or writes. Where the page is absent, a thread takes a frame by
    CLOCK: the hand goes round, past frames that are pinned, and those that were used since it came by last; the page of the first
    other one is written back, and leaves the map. Then the thread inserts the page that is wanted with this frame, and reads it from
-   disk. Where two threads miss the same page, one call of vbr_map_get_or_insert inserts it, and the other is told the frame that it
+   disk. Where two threads miss the same page, one call of vbr_map_get_or_insert inserts it, and the other gets the frame that it
    has; so a page has one frame, and is read once. A page leaves the map with the frame that it has, by vbr_map_remove_if, or stays.
 
    Now and then one thread makes a checkpoint, while the others go on: it walks over the map, and writes back each page that was

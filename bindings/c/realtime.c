@@ -12,8 +12,8 @@
    The search goes once over the stamps. For each key it keeps every way in which its calls can have gone so far: which of those
    that are open, so begun and not ended, have taken effect, and what the key then has. Before a call ends, any open call may
    take effect in any way that its answer allows, and after it another one; then the ways are dropped in which the call that
-   ends has not. If none is left, no order explains the answers, and the calls round that one are told. Nothing is left out:
-   what a call puts in and takes out is told by its answer, so the same calls leave the same in each order that explains them,
+   ends has not. If none is left, no order explains the answers, and the calls round that one are shown. Nothing is left out:
+   what a call puts in and takes out is known by its answer, so the same calls leave the same in each order that explains them,
    and a way is known by the open calls that have taken effect. Of four threads there are at most sixteen.
 
    Each round has a set or a map of its own, of up to eight keys in few buckets, opened with some of them or with none. At its

@@ -1,4 +1,4 @@
-// What the two fuzzers share: random numbers, kept inputs, and how a failure is told.
+// What the two fuzzers share: random numbers, kept inputs, and how a failure is reported.
 #pragma once
 #include <csignal>
 #include <cstdint>

@@ -371,7 +371,7 @@ static std::vector<uint64_t> play(Program &program, const Input &input) {
         if (status != wanted || answer.errors != line) fail(("wanted: " + line).c_str());
     };
     if (settings.kind == 'f') {
-        if (status != 2 || !starts(answer.errors, "error: ")) fail("a fault in the options isn't told");
+        if (status != 2 || !starts(answer.errors, "error: ")) fail("a fault in the options isn't reported");
     } else if (settings.kind == 'o') {
         shown = answer.out.size() % 7;
     } else if (shape) {

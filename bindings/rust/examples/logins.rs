@@ -84,7 +84,7 @@ impl Known {
         let until = if let Some(until) = found {
             until
         } else {
-            assert!(lives <= self.now.load(SeqCst), "a login that lives is told absent");
+            assert!(lives <= self.now.load(SeqCst), "a login that lives is found absent");
             let until = self.now.load(SeqCst) + LIFE;
             logins.log_in(user as u64, until)?;
             until
@@ -142,7 +142,7 @@ fn play(known: &Known, of: &mut [Logins], is_careless: bool) -> Result<(u64, [u6
         };
         let threads: Vec<_> = (0..).zip(workers).map(spawned).collect();
         let counts = known.sweep(sweeper, is_careless)?;
-        let logged_in = threads.into_iter().map(|thread| thread.join().expect("no login that lives is told absent"));
+        let logged_in = threads.into_iter().map(|thread| thread.join().expect("no login that lives is found absent"));
         Ok((logged_in.sum::<Result<u64, _>>()?, counts))
     })
 }

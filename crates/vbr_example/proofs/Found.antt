@@ -107,7 +107,7 @@ stands who call own (c ∷ cs) e = go (eqb c.who who) own e (λ own rest. stands
     go true (x ∷ own) e later = further call c cs (later own (ap rest_of e))
     go false own e later = further call c cs (later own e)
 
--- ---- what is told, and what is found
+-- ---- what is answered, and what is found
 
 -- a page whose insert was answered is claimed
 claimed : (page : ℕ) (reply : Bool) (p q : Trace) → Answers (set_call p.who Insert page reply) p q →
