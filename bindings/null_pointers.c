@@ -3,7 +3,7 @@
    or which value a key has, and nobody asks. And where no key is looked up, keys and answers may be null. The proved exports are of a
    pointer that is there; in the archive they have the names close_handle, drop_handle, map_close_handle, map_drop_handle,
    map_get_found, map_replace_found and so on, and these stand before them. So do those of look-ups of several keys, has_all_keys,
-   map_has_all_keys and map_get_all_keys, which are told how many the answers are: they are as many as the keys.
+   map_has_all_keys and map_get_all_keys, which get how many the answers are: they are as many as the keys.
 
    It includes nothing, so that the kit's compiler makes the same bytes of it on every machine. */
 enum { VBR_NO_HANDLE = -4 }; /* of vbr.h */

@@ -308,9 +308,9 @@ uint64_t number(const char *word, uint64_t least) {
 // The words between commas.
 std::vector<std::string> names(const std::string &words) {
     std::vector<std::string> names;
-    for (size_t at = 0, end = 0; end != std::string::npos; at = end + 1) {
-        end = words.find(',', at);
-        names.push_back(words.substr(at, end - at));
+    for (size_t begin = 0, end = 0; end != std::string::npos; begin = end + 1) {
+        end = words.find(',', begin);
+        names.push_back(words.substr(begin, end - begin));
     }
     return names;
 }

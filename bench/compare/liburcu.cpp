@@ -56,9 +56,9 @@ template <class Node> struct Liburcu {
 
     // Within a read section.
     cds_lfht_node *found(uint64_t key) {
-        cds_lfht_iter at;
-        cds_lfht_lookup(table, key, matches, &key, &at);
-        return cds_lfht_iter_get_node(&at);
+        cds_lfht_iter iter;
+        cds_lfht_lookup(table, key, matches, &key, &iter);
+        return cds_lfht_iter_get_node(&iter);
     }
     bool add(Node *node, uint64_t key) {
         cds_lfht_node_init(&node->link);
@@ -70,8 +70,8 @@ template <class Node> struct Liburcu {
     // In one read section.
     template <class F> void walk_nodes(F each) {
         Reading reading;
-        cds_lfht_iter at;
-        for (cds_lfht_first(table, &at); cds_lfht_node *link = cds_lfht_iter_get_node(&at); cds_lfht_next(table, &at)) each(link);
+        cds_lfht_iter iter;
+        for (cds_lfht_first(table, &iter); cds_lfht_node *link = cds_lfht_iter_get_node(&iter); cds_lfht_next(table, &iter)) each(link);
     }
     void free_later(cds_lfht_node *link) { call_rcu(&node_of(link)->head, free_node<Node>); }
     bool take_out(cds_lfht_node *link) {

@@ -64,26 +64,26 @@ struct LockedMap : Parts<std::unordered_map<uint64_t, uint64_t, Identity>, Lock,
     bool remove(Handle &, uint64_t key, uint64_t &value) {
         Part &part = this->part_of(key);
         std::lock_guard<Lock> guard(part.lock);
-        auto at = part.keys.find(key);
-        if (at == part.keys.end()) return false;
-        value = at->second;
-        part.keys.erase(at);
+        auto found = part.keys.find(key);
+        if (found == part.keys.end()) return false;
+        value = found->second;
+        part.keys.erase(found);
         return true;
     }
     bool replace(Handle &, uint64_t key, uint64_t value, uint64_t &old) {
         Part &part = this->part_of(key);
         std::lock_guard<Lock> guard(part.lock);
-        auto at = part.keys.find(key);
-        if (at == part.keys.end()) return false;
-        old = std::exchange(at->second, value);
+        auto found = part.keys.find(key);
+        if (found == part.keys.end()) return false;
+        old = std::exchange(found->second, value);
         return true;
     }
     bool get(Handle &, uint64_t key, uint64_t &value) {
         Part &part = this->part_of(key);
         ReadGuard guard(part.lock);
-        auto at = part.keys.find(key);
-        if (at == part.keys.end()) return false;
-        value = at->second;
+        auto found = part.keys.find(key);
+        if (found == part.keys.end()) return false;
+        value = found->second;
         return true;
     }
 };

@@ -137,7 +137,7 @@ template <class N> struct Plain {
     }
 };
 
-// What a call told: its answer, the value, and the epoch that its caller has read last.
+// What a call returned: its answer, the value, and the epoch that its caller has read last.
 struct Told {
     int answer;
     uint64_t value, epoch;

@@ -78,7 +78,7 @@ struct alignas(128) Pass {
 
 // A place whose link word was read: a bucket's head, whose birth is 0, or a node.
 struct Held {
-    uint64_t at, birth, word;
+    uint64_t place, birth, word;
     uint64_t named; // as a link has it; 0: a head
 };
 
@@ -218,7 +218,7 @@ private:
         }
         uint64_t expected = pred.word, link = link_to(next, pred.birth, birth);
         made++;
-        if (!words[pred.at].compare_exchange_strong(expected, link)) return {false, 0, made};
+        if (!words[pred.place].compare_exchange_strong(expected, link)) return {false, 0, made};
         return {true, link, made + retire(pass, static_cast<uint32_t>(marked.named - 1))};
     }
 
@@ -248,23 +248,23 @@ private:
         if (!affords(budget, used)) return {OUT_OF_STEPS, 0, 0, used};
         uint64_t epoch = read_epoch(pass);
         used++;
-        unsigned at = 0;
-        for (; at < pass.pool.size(); at++) {
+        unsigned index = 0;
+        for (; index < pass.pool.size(); index++) {
             if (!affords(budget, used)) return {OUT_OF_STEPS, 0, 0, used};
             used++;
-            if (words[link_of(pass.pool[at] + uint64_t{1}) + STAMP] < epoch) break;
+            if (words[link_of(pass.pool[index] + uint64_t{1}) + STAMP] < epoch) break;
         }
-        if (at == pass.pool.size()) {
+        if (index == pass.pool.size()) {
             if (!affords(budget, used)) return {OUT_OF_STEPS, 0, 0, used};
             if (epoch == last_epoch) return {EPOCH_SPENT, 0, 0, used};
             words[EPOCH].compare_exchange_strong(epoch, epoch + 1);
             read_epoch(pass);
             used += 2;
-            at = 0;
+            index = 0;
         }
         if (!affords(budget, used)) return {OUT_OF_STEPS, 0, 0, used};
-        uint32_t slot = pass.pool[at];
-        pass.pool.remove(at);
+        uint32_t slot = pass.pool[index];
+        pass.pool.remove(index);
         words[link_of(slot + uint64_t{1}) + BIRTH] = pass.epoch;
         return {YES, slot, pass.epoch, used + 1};
     }
@@ -360,7 +360,7 @@ public:
             if (end == End::again) continue;
             if (end == End::tired || !is_affordable()) return OUT_OF_STEPS;
             if (GIVES && found.present) {
-                uint64_t here = load(found.cur.at + Words::VALUE);
+                uint64_t here = load(found.cur.place + Words::VALUE);
                 used += 2;
                 if (!epoch_stays()) continue;
                 if (!stands(found.cur)) continue;
@@ -369,10 +369,10 @@ public:
             }
             // which of the two it is can't be foreseen, so it is chosen without a branch
             uint64_t mask = GIVES ? 0 : -static_cast<uint64_t>(found.present);
-            uint64_t at = found.pred.at ^ ((found.pred.at ^ found.cur.at) & mask);
+            uint64_t place = found.pred.place ^ ((found.pred.place ^ found.cur.place) & mask);
             uint64_t word = found.pred.word ^ ((found.pred.word ^ found.cur.word) & mask);
             used++;
-            if (load(at) == word) return found.present ? YES : NO;
+            if (load(place) == word) return found.present ? YES : NO;
         }
     }
 
@@ -386,11 +386,11 @@ public:
             }
             uint64_t here = 0;
             if (N::VALUES) {
-                here = load(found.cur.at + Words::VALUE);
+                here = load(found.cur.place + Words::VALUE);
                 used += 2;
                 if (!epoch_stays()) continue;
             }
-            if (!exchange(found.cur.at, found.cur.word, found.cur.word | MARK)) continue;
+            if (!exchange(found.cur.place, found.cur.word, found.cur.word | MARK)) continue;
             if (N::VALUES) value = here;
             found.cur.word |= MARK;
             if (is_affordable()) unlink_marked(found);
@@ -434,7 +434,7 @@ public:
             if (!read_value(found, here)) continue;
             bool takes_out = found.present && here == expected;
             if (takes_out) {
-                if (!exchange(found.cur.at, found.cur.word, found.cur.word | MARK)) continue;
+                if (!exchange(found.cur.place, found.cur.word, found.cur.word | MARK)) continue;
                 found.cur.word |= MARK;
                 if (is_affordable()) unlink_marked(found);
             } else if (!stands(found.present ? found.cur : found.pred)) {
@@ -446,7 +446,7 @@ public:
 
 private:
     bool is_affordable() const { return affords(budget, used); }
-    uint64_t load(uint64_t at) const { return words[at]; }
+    uint64_t load(uint64_t place) const { return words[place]; }
     uint64_t link_of(uint64_t named) const { return slots_at + Words::WORDS * (named - 1); }
 
     // Reads the epoch: whether it is the one of before.
@@ -460,7 +460,7 @@ private:
     // Reads the value of the node that was found, if the key is there; whether the epoch stayed.
     [[gnu::always_inline]] bool read_value(const Found &found, uint64_t &here) {
         if (!found.present) return true;
-        here = load(found.cur.at + Words::VALUE);
+        here = load(found.cur.place + Words::VALUE);
         used += 2;
         return epoch_stays();
     }
@@ -484,12 +484,12 @@ private:
     // A step: whether the link of a place is as it was read.
     bool stands(const Held &held) {
         used++;
-        return load(held.at) == held.word;
+        return load(held.place) == held.word;
     }
 
-    bool exchange(uint64_t at, uint64_t expected, uint64_t word) {
+    bool exchange(uint64_t place, uint64_t expected, uint64_t word) {
         used++;
-        return words[at].compare_exchange_strong(expected, word);
+        return words[place].compare_exchange_strong(expected, word);
     }
 
     // Takes a slot with what is left of the budget.
@@ -511,13 +511,13 @@ private:
     // Reads the node that a link names; whether it has the key.
     [[gnu::always_inline]] Node visit(uint64_t link, Held &node, bool &present) {
         node.named = named_by(link);
-        node.at = link_of(node.named);
-        node.birth = load(node.at + Words::BIRTH);
-        node.word = load(node.at);
+        node.place = link_of(node.named);
+        node.birth = load(node.place + Words::BIRTH);
+        node.word = load(node.place);
         used += 3;
         if (!epoch_stays()) return Node::unreadable;
         if (node.word & MARK) return Node::marked;
-        uint64_t here = load(node.at + Words::KEY);
+        uint64_t here = load(node.place + Words::KEY);
         used += 2;
         if (!epoch_stays()) return Node::unreadable;
         if (here < key) return Node::smaller;
@@ -529,7 +529,7 @@ private:
     [[gnu::always_inline]] End look(Found &found) {
         if (!is_affordable()) return End::tired;
         if (!start(found.pred)) return End::again;
-        found.cur = {found.pred.at, 0, 0, 0};
+        found.cur = {found.pred.place, 0, 0, 0};
         found.present = false;
         for (uint64_t link = found.pred.word; named_by(link); link = found.cur.word) {
             if (!is_affordable()) return End::tired;
@@ -613,12 +613,12 @@ private:
 
     // Links the slot in hand where the key was found absent; whether nothing came between.
     [[gnu::always_inline]] bool publish(uint64_t value, const Taken &hand, const Found &found) {
-        const uint64_t named = hand.slot + uint64_t{1}, at = link_of(named);
-        words[at + Words::KEY] = key;
-        if (N::VALUES) words[at + Words::VALUE] = value;
-        words[at] = link_to(named_by(found.pred.word), hand.birth, found.cur.birth);
+        const uint64_t named = hand.slot + uint64_t{1}, place = link_of(named);
+        words[place + Words::KEY] = key;
+        if (N::VALUES) words[place + Words::VALUE] = value;
+        words[place] = link_to(named_by(found.pred.word), hand.birth, found.cur.birth);
         used += N::VALUES ? 3 : 2;
-        return exchange(found.pred.at, found.pred.word, link_to(named, found.pred.birth, hand.birth));
+        return exchange(found.pred.place, found.pred.word, link_to(named, found.pred.birth, hand.birth));
     }
 
     // Stores a value by the slot in hand where what is there is as wanted then, else answers a get.
@@ -641,19 +641,19 @@ private:
 
     // Marks the node of the key and links the slot in hand behind it; whether nothing came between. Its link is the marked one then.
     [[gnu::always_inline]] bool take_place(uint64_t value, const Taken &hand, Held &node) {
-        const uint64_t named = hand.slot + uint64_t{1}, at = link_of(named), next = named_by(node.word);
+        const uint64_t named = hand.slot + uint64_t{1}, place = link_of(named), next = named_by(node.word);
         uint64_t birth = 0;
         if (next) {
             birth = load(link_of(next) + Words::BIRTH);
             used += 2;
             if (!epoch_stays()) return false;
         }
-        words[at + Words::KEY] = key;
-        words[at + Words::VALUE] = value;
-        words[at] = link_to(next, hand.birth, birth);
+        words[place + Words::KEY] = key;
+        words[place + Words::VALUE] = value;
+        words[place] = link_to(next, hand.birth, birth);
         used += 3;
         uint64_t marked = MARK | link_to(named, node.birth, hand.birth);
-        if (!exchange(node.at, node.word, marked)) return false;
+        if (!exchange(node.place, node.word, marked)) return false;
         node.word = marked;
         return true;
     }

@@ -35,17 +35,17 @@ template <class N> struct Beside {
     }
     void remove(uint64_t key) {
         uint64_t given = 0;
-        auto at = plain.find(key);
-        HOLDS(table.remove(pass, key, AMPLE, given) == (at != plain.end() ? YES : NO));
-        HOLDS(given == (at != plain.end() ? at->second : 0));
-        if (at != plain.end()) plain.erase(at);
+        auto found = plain.find(key);
+        HOLDS(table.remove(pass, key, AMPLE, given) == (found != plain.end() ? YES : NO));
+        HOLDS(given == (found != plain.end() ? found->second : 0));
+        if (found != plain.end()) plain.erase(found);
     }
     // A store, which was answered so and gave this: where the key is there and where it isn't it stores or doesn't.
     void stored(Answer answer, uint64_t given, uint64_t key, uint64_t value, bool if_there, bool if_absent) {
-        auto at = plain.find(key);
-        bool is_there = at != plain.end(), stores = is_there ? if_there : if_absent, has_room = plain.size() < slots;
+        auto found = plain.find(key);
+        bool is_there = found != plain.end(), stores = is_there ? if_there : if_absent, has_room = plain.size() < slots;
         HOLDS(answer == (stores && !has_room ? NO_SLOT : is_there ? YES : NO));
-        HOLDS(given == (is_there && answer == YES ? at->second : 0));
+        HOLDS(given == (is_there && answer == YES ? found->second : 0));
         if (stores && has_room) plain[key] = value;
     }
     void replace(uint64_t key, uint64_t value) {
@@ -66,15 +66,15 @@ template <class N> struct Beside {
     // With the value that the key has, and with another one.
     void change_if(uint64_t key, uint64_t value, bool is_expected, bool removes) {
         uint64_t given = 0;
-        auto at = plain.find(key);
-        uint64_t has = at != plain.end() ? at->second : 0, expected = is_expected ? has : has + 1;
+        auto found = plain.find(key);
+        uint64_t has = found != plain.end() ? found->second : 0, expected = is_expected ? has : has + 1;
         Answer answer = removes ? table.remove_if(pass, key, expected, AMPLE, given)
                                 : table.compare_exchange(pass, key, expected, value, AMPLE, given);
-        bool changes = at != plain.end() && is_expected, has_room = removes || plain.size() < slots;
-        HOLDS(answer == (at == plain.end() ? NO : !changes ? OTHER : has_room ? YES : NO_SLOT));
+        bool changes = found != plain.end() && is_expected, has_room = removes || plain.size() < slots;
+        HOLDS(answer == (found == plain.end() ? NO : !changes ? OTHER : has_room ? YES : NO_SLOT));
         HOLDS(given == (answer == NO_SLOT ? 0 : has));
-        if (answer == YES && removes) plain.erase(at);
-        else if (answer == YES) at->second = value;
+        if (answer == YES && removes) plain.erase(found);
+        else if (answer == YES) found->second = value;
     }
     void change(uint64_t kind, uint64_t key, uint64_t value) {
         switch (kind) {
@@ -86,10 +86,10 @@ template <class N> struct Beside {
     }
     void look_up(uint64_t key) {
         uint64_t given = 0;
-        auto at = plain.find(key);
-        HOLDS(table.has(pass, key, AMPLE) == (at != plain.end() ? YES : NO));
-        HOLDS(table.get(pass, key, AMPLE, given) == (at != plain.end() ? YES : NO));
-        HOLDS(given == (at != plain.end() ? at->second : 0));
+        auto found = plain.find(key);
+        HOLDS(table.has(pass, key, AMPLE) == (found != plain.end() ? YES : NO));
+        HOLDS(table.get(pass, key, AMPLE, given) == (found != plain.end() ? YES : NO));
+        HOLDS(given == (found != plain.end() ? found->second : 0));
     }
 };
 

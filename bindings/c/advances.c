@@ -81,7 +81,7 @@ static double share(const char *what, int threads, uint32_t kept, uint32_t batch
     for (int i = 0; i < threads; i++) CHECK(!pthread_join(ids[i], NULL));
     for (int i = 0; i < threads; i++) {
         made += workers[i].inserts;
-        /* the keys aren't wanted: the last handle is told the rest of the report, and dropped */
+        /* the keys aren't wanted: the last handle gets the rest of the report, and is dropped */
         CHECK(vbr_close(&workers[i].handle, none, 0, &report) == (i == threads - 1 ? VBR_NO_ROOM : VBR_NO));
         vbr_drop(&workers[i].handle);
     }

@@ -12,7 +12,7 @@ void *__real_realloc(void *block, size_t size);
 void __real_free(void *block);
 
 static long allowed = -1; /* how many allocations are granted before one is refused; below 0: all are */
-static int stays_short;   /* whether those behind it are refused too */
+static int stays_short;   /* whether those after it are refused too */
 static long blocks;       /* how many blocks are allocated */
 
 static int refuses(void) {

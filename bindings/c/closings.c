@@ -1,4 +1,4 @@
-/* Threads that close, drop or end their own handles at the same time: each gives its pass back, and the last one that closes is told
+/* Threads that close, drop or end their own handles at the same time: each gives its pass back, and the last one that closes gets
    what the calls of all leave. The calls are made by pointers to them, as a table of calls has them.
 
        closings [ROUNDS [FAULT]]

@@ -88,7 +88,7 @@ static void make_late(void) {
     late.handle = NULL;
 }
 
-/* What the last `has` of this thread told, for the twenty-second fault; of none where it has changed the key since. */
+/* What the last `has` of this thread returned, for the twenty-second fault; of none where it has changed the key since. */
 static _Thread_local struct {
     void *of; /* the handle's */
     uint64_t key;
@@ -194,18 +194,18 @@ vbr_answer __wrap_vbr_map_remove_if_within(vbr_map_handle *handle, uint64_t key,
 /* The key after a place of a walk of this thread, as it was found by the call before, for the sixteenth fault. */
 static _Thread_local struct {
     const vbr_cursor *of;
-    vbr_cursor at, after;
+    vbr_cursor place, after;
     an_item item;
 } ahead;
 
 static vbr_answer next_found_before(a_handle *handle, vbr_cursor *cursor, an_item *item, uint32_t budget) {
     vbr_answer answer = VBR_YES;
-    if (ahead.of == cursor && ahead.at.bucket == cursor->bucket && ahead.at.from == cursor->from) {
+    if (ahead.of == cursor && ahead.place.bucket == cursor->bucket && ahead.place.from == cursor->from) {
         *item = ahead.item, *cursor = ahead.after;
     } else {
         answer = REAL(next_within)(handle, cursor, item, budget);
     }
-    ahead.at = ahead.after = *cursor;
+    ahead.place = ahead.after = *cursor;
     ahead.of = NULL;
     if (answer == VBR_YES && REAL(next_within)(handle, &ahead.after, &ahead.item, budget) == VBR_YES) ahead.of = cursor;
     return answer;

@@ -180,7 +180,7 @@ static int outcomes_of_changes(void) {
                 if (it->has) CHECK(takes_out(&one, key, it->has));
             }
             CHECK(vbr_map_close(&one, all, OTHERS + 1, &report) == VBR_YES && report.live == OTHERS && report.marked == 0);
-            for (int at = 0; at < OTHERS; at++) CHECK(all[at].key == others[at].key && all[at].value == others[at].value);
+            for (int index = 0; index < OTHERS; index++) CHECK(all[index].key == others[index].key && all[index].value == others[index].value);
         }
     return 0;
 }

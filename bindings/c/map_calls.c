@@ -171,7 +171,7 @@ static int given_up(void) {
     vbr_map_handle map[2] = {{0}};
     vbr_report report = {0};
     if (vbr_map_open(map, 2, 1024 + 2 * 64, 1024, VBR_MAX_EPOCH) != VBR_OK) return 1;
-    vbr_map_drop(&map[0]); // the close of map[1] is told the report
+    vbr_map_drop(&map[0]); // the close of map[1] gets the report
     CHECK(vbr_map_close(&map[1], entries, 8, &report) == VBR_YES && report.live == 0);
     return 0;
 }

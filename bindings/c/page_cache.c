@@ -6,7 +6,7 @@
    Who asks for a page looks it up, and pins its frame while it reads or writes. Where the page is absent, a thread takes a frame by
    CLOCK: the hand goes round, past frames that are pinned, and those that were used since it came by last; the page of the first
    other one is written back, and leaves the map. Then the thread inserts the page that is wanted with this frame, and reads it from
-   disk. Where two threads miss the same page, one call of vbr_map_get_or_insert inserts it, and the other is told the frame that it
+   disk. Where two threads miss the same page, one call of vbr_map_get_or_insert inserts it, and the other gets the frame that it
    has; so a page has one frame, and is read once. A page leaves the map with the frame that it has, by vbr_map_remove_if, or stays.
 
    Now and then one thread makes a checkpoint, while the others go on: it walks over the map, and writes back each page that was
@@ -293,18 +293,18 @@ static long plain_hits(int count) {
     static uint64_t page_in[FRAMES];
     static int frame_of[PAGES], is_used[FRAMES]; /* frame_of: the number behind the frame's, or 0 */
     long sum = 0;
-    int at = 0;
+    int frame = 0;
     memset(frame_of, 0, sizeof frame_of);
     memset(is_used, 0, sizeof is_used);
     for (long i = 0; i < requests; i++) {
         uint64_t page = page_of(i);
         sum += frame_of[page] != 0;
         if (!frame_of[page]) {
-            for (; is_used[at]; at = (at + 1) % count) is_used[at] = 0;
-            if (frame_of[page_in[at]] == at + 1) frame_of[page_in[at]] = 0;
-            page_in[at] = page;
-            frame_of[page] = at + 1;
-            at = (at + 1) % count;
+            for (; is_used[frame]; frame = (frame + 1) % count) is_used[frame] = 0;
+            if (frame_of[page_in[frame]] == frame + 1) frame_of[page_in[frame]] = 0;
+            page_in[frame] = page;
+            frame_of[page] = frame + 1;
+            frame = (frame + 1) % count;
         }
         is_used[frame_of[page] - 1] = 1;
     }

@@ -77,7 +77,7 @@ static uint64_t next_random(struct worker *w) {
     return w->random >> 8;
 }
 
-/* What the others had told as a call began, and the most that they can have done until it ended. */
+/* What the others had recorded as a call began, and the most that they can have done until it ended. */
 struct others {
     uint64_t ended_inserts, stored[KINDS];
 };
@@ -146,7 +146,7 @@ static void tell_end(struct told *told, vbr_answer answer) {
 /* Takes what a call has marked out of its list. */
 static void sweep(struct worker *w) { CHECK(vbr_remove_within(&w->handle, last_key(), AMPLE) == VBR_NO); }
 
-/* Makes a call, which is told before and after it if it is an update. */
+/* Makes a call, which is recorded before and after it if it is an update. */
 static vbr_answer told_call(struct worker *w, enum kind kind, uint64_t key, uint32_t budget) {
     if (kind == LOOK_UP) return call(w, kind, key, budget);
     tell_begin(&w->told[kind]);
@@ -156,7 +156,7 @@ static vbr_answer told_call(struct worker *w, enum kind kind, uint64_t key, uint
     return answer;
 }
 
-/* In a map, now and then: gives a key another value, if it is there, which is told as a remove and an insert. */
+/* In a map, now and then: gives a key another value, if it is there, which is recorded as a remove and an insert. */
 static void change(struct worker *w, uint32_t budget) {
 #ifdef OF_VALUES
     if (next_random(w) % 8 > 0) return;

@@ -5,8 +5,8 @@
 
    First two threads write records and insert their keys. Two others read them: one looks each key up until it is there, and one
    walks until it is given all. Then four threads take records by removing their keys, change them, and give them back by inserting the keys: each
-   record is one thread's at a time, and no change is lost. With FAULT 1 a reader doesn't look up, with 2 it reads what it
-   was told is absent, with 3 a record is changed once more behind its insert, and with 4 both readers walk by one cursor: programs
+   record is one thread's at a time, and no change is lost. With FAULT 1 a reader doesn't look up, with 2 it reads what
+   it found absent, with 3 a record is changed once more after its insert, and with 4 both readers walk by one cursor: programs
    that are wrong, for ThreadSanitizer to find. */
 #include "vbr.h"
 

@@ -12,8 +12,8 @@
    The search goes once over the stamps. For each key it keeps every way in which its calls can have gone so far: which of those
    that are open, so begun and not ended, have taken effect, and what the key then has. Before a call ends, any open call may
    take effect in any way that its answer allows, and after it another one; then the ways are dropped in which the call that
-   ends has not. If none is left, no order explains the answers, and the calls round that one are told. Nothing is left out:
-   what a call puts in and takes out is told by its answer, so the same calls leave the same in each order that explains them,
+   ends has not. If none is left, no order explains the answers, and the calls round that one are shown. Nothing is left out:
+   what a call puts in and takes out is known by its answer, so the same calls leave the same in each order that explains them,
    and a way is known by the open calls that have taken effect. Of four threads there are at most sixteen.
 
    Each round has a set or a map of its own, of up to eight keys in few buckets, opened with some of them or with none. At its
@@ -41,7 +41,7 @@ enum {
     MAX_KEYS = 8,    /* the keys are the numbers below those of a round */
     ABSENT = 0,      /* in place of a value: the key isn't there */
     SHORT = 8,       /* the most calls of a short history */
-    SHOWN = 12,      /* how many calls are told of that ended before the one that can't be explained */
+    SHOWN = 12,      /* how many calls are shown that ended before the one that can't be explained */
     AMPLE = VBR_AMPLE_STEPS, /* no call runs out of it */
     WAYS = 1 << THREADS
 };
@@ -56,7 +56,7 @@ static const char *const names[OPS] = {"has", "insert",        "remove",        
 struct call {
     uint32_t begin, end;      /* its stamps */
     uint64_t value, expected; /* what it is given */
-    uint64_t found;           /* what it told that the key had, or ABSENT where it told nothing */
+    uint64_t found;           /* what it returned that the key had, or ABSENT where it returned nothing */
     uint32_t budget;
     vbr_answer answer;
     unsigned char op, key, thread;
@@ -81,7 +81,7 @@ struct worker {
     const struct round *round;
     union handle handle;
     uint64_t random;
-    uint64_t left[MAX_KEYS]; /* what its last call on a key that told of a value left there */
+    uint64_t left[MAX_KEYS]; /* what its last call on a key that returned a value left there */
     int number;
 };
 
@@ -371,7 +371,7 @@ static vbr_answer open_handles(const struct round *r, union handle *handles) {
     return answer;
 }
 
-/* Closes all handles: what each key has then, and whether the report could be told. */
+/* Closes all handles: what each key has then, and whether there was a report. */
 static int close_handles(union handle *handles, uint64_t *has) {
     vbr_report report = {0};
     vbr_entry entries[MAX_KEYS] = {{0}};

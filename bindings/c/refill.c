@@ -1,5 +1,5 @@
 /* Slots by the rule of vbr.h, the most keys at one time and 64 for each handle, are enough: a set is filled with that many
-   keys, four threads remove them all, and then one thread puts as many others in. No insert may be told VBR_NO_SLOT,
+   keys, four threads remove them all, and then one thread puts as many others in. No insert may get VBR_NO_SLOT,
    and the report counts the removed nodes that are still in a list.
 
        refill [RUNS [KEYS]]

@@ -6,7 +6,7 @@
 
 enum { HANDLES = 2, SLOTS = 8, BUCKETS = 4, LAST_EPOCH = 20 };
 
-/* Here all threads stand still. The last of the handles is told the keys. */
+/* Here all threads stand still. The last of the handles gets the keys. */
 static int renew(vbr_handle *handle, uint64_t *keys, int *renewals) {
     vbr_report report = {0};
     vbr_answer last = VBR_NO;

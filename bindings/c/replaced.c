@@ -79,7 +79,7 @@ static void read_records(struct worker *w) {
         vbr_answer there = vbr_map_get(w->map, key, &number);
         if (there == VBR_YES) read_record(w, key, number);
         else sched_yield();
-        if (fault == 1) w->read += records[turn % (uint64_t)count].number == turn; /* nobody told it this number */
+        if (fault == 1) w->read += records[turn % (uint64_t)count].number == turn; /* no call returned this number */
     }
 }
 

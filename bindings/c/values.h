@@ -91,7 +91,7 @@ static inline void value_ends(struct value_place *it, int is_stored) {
     if (is_stored) {
         if (!value_moves(it, PENDING, STORED)) value_moves(it, SEEN, STORED); /* or it is taken out by now */
     } else if (!value_moves(it, PENDING, REFUSED)) {
-        value_is_wrong("a value was told that isn't stored", value_read(&it->key), value_read(&it->value));
+        value_is_wrong("a value was returned that isn't stored", value_read(&it->key), value_read(&it->value));
     }
 }
 
@@ -109,7 +109,7 @@ static inline struct value_place *value_told(uint64_t key, uint64_t value, uint6
     return it;
 }
 
-/* A value is told, and stays where it is. */
+/* A value is returned, and stays where it is. */
 static inline void value_is_found(uint64_t key, uint64_t value, uint64_t began) {
     struct value_place *it = value_told(key, value, began);
     if (it) value_moves(it, PENDING, SEEN);
@@ -172,7 +172,7 @@ static inline vbr_answer value_remove_if(vbr_map_handle *handle, uint64_t key, u
     vbr_answer answer = vbr_map_remove_if_within(handle, key, expected, &found, budget);
     if (answer == VBR_YES) value_is_wrong("a value is taken out that nobody expects", key, found);
     while (answer == VBR_OTHER) {
-        if (found == expected) value_is_wrong("a value is told to be another one than it is", key, found);
+        if (found == expected) value_is_wrong("a value is said to be another one than it is", key, found);
         value_is_found(key, found, began);
         expected = found, found = 0, began = value_read(&value_time);
         answer = vbr_map_remove_if_within(handle, key, expected, &found, budget);
@@ -318,7 +318,7 @@ VBR_NODISCARD static inline vbr_answer value_open_many_seeded(vbr_map_handle *ha
     return value_opened(vbr_map_open_many_seeded(handles, count, slots, buckets, last_epoch, seed, opening_entries, key_count), key_count);
 }
 
-/* The entries of a report: each value is taken out, and its key is told. */
+/* The entries of a report: each value is taken out, and its key is returned. */
 static inline void value_report(uint64_t *keys, size_t count) {
     uint64_t now = value_read(&value_time);
     for (size_t i = 0; i < count; i++) {

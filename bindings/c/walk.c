@@ -67,10 +67,11 @@ static int nothing_to_give(void) {
     CHECK(vbr_next(&handle[0], &cursor, &key) == VBR_NO_HANDLE && key == 77);
     CHECK(!memcmp(&cursor, &as_it_was, sizeof cursor));
     CHECK(vbr_open_seeded(handle, 2, SLOTS, 4, VBR_MAX_EPOCH, 0, all, 0) == VBR_OK);
-    vbr_cursor begin = VBR_CURSOR_BEGIN, at = begin;
-    CHECK(!ends(&handle[0], &at, 3 + 3 + 3 + 8)); /* four buckets are entered */
-    at = begin;
-    CHECK(vbr_next_within(&handle[0], &at, &key, 3 + 3 + 3 + 7) == VBR_OUT_OF_STEPS && !ends(&handle[0], &at, 8)); /* it stood before the last */
+    vbr_cursor begin = VBR_CURSOR_BEGIN;
+    cursor = begin;
+    CHECK(!ends(&handle[0], &cursor, 3 + 3 + 3 + 8)); /* four buckets are entered */
+    cursor = begin;
+    CHECK(vbr_next_within(&handle[0], &cursor, &key, 3 + 3 + 3 + 7) == VBR_OUT_OF_STEPS && !ends(&handle[0], &cursor, 8)); /* it stood before the last */
     CHECK(close_both(handle, 0));
     return 0;
 }

@@ -254,7 +254,7 @@ static int ranges() {
     return 0;
 }
 
-// A handle to a set of the keys 1 to 9 in four buckets. With seed 0 the bucket of a key is told by the part behind the point of its
+// A handle to a set of the keys 1 to 9 in four buckets. With seed 0 the bucket of a key is found by the part after the point of its
 // product with 0.618034: below a quarter it is the first, and so on.
 static vbr::handle opened_with_nine() {
     return std::move(vbr::open_with(vbr::shape{9 + 64, 4, vbr::max_epoch, 0}, 1, {1, 2, 3, 4, 5, 6, 7, 8, 9}).value()[0]);
@@ -268,19 +268,19 @@ static int walks() {
     std::uint64_t sum = 0;
     for (std::uint64_t key : mine.keys()) sum += key;
     CHECK(sum == 45);
-    vbr::cursor at; // before the first key
-    CHECK(mine.next(at).value() == 2u && mine.next_within(at, vbr::steps{1000}) == 5u);
-    for (std::uint64_t key : mine.keys(at))
+    vbr::cursor from; // before the first key
+    CHECK(mine.next(from).value() == 2u && mine.next_within(from, vbr::steps{1000}) == 5u);
+    for (std::uint64_t key : mine.keys(from))
         if (key == 7) break;
-    CHECK(mine.next(at) == 1u);
-    for (std::uint64_t key : mine.keys(at)) sum += key;
-    CHECK(sum == 45 + 6 + 9 + 3 + 8 && mine.next(at) == std::nullopt);
-    at = vbr::cursor();
-    auto next = mine.next(at);
-    while (next == vbr::refusal::out_of_steps) next = mine.next(at); // from where it came to
+    CHECK(mine.next(from) == 1u);
+    for (std::uint64_t key : mine.keys(from)) sum += key;
+    CHECK(sum == 45 + 6 + 9 + 3 + 8 && mine.next(from) == std::nullopt);
+    from = vbr::cursor();
+    auto next = mine.next(from);
+    while (next == vbr::refusal::out_of_steps) next = mine.next(from); // from where it came to
     if (*next) sum += **next;
     CHECK(sum == 45 + 26 + 2);
-    while (std::optional<std::uint64_t> key = mine.next(at).value()) sum += *key;
+    while (std::optional<std::uint64_t> key = mine.next(from).value()) sum += *key;
     CHECK(sum == 45 + 26 + 45);
     for (std::uint64_t key : mine.keys_within(vbr::steps{1000})) CHECK(*mine.remove(key));
     CHECK(mine.close().value()->keys.empty());
@@ -330,23 +330,23 @@ static vbr::refusal walked(Walk walk, std::vector<std::uint64_t> &given) {
 // for the second key of a bucket. Then it throws the refusal, and goes on from there with more.
 static int refused_walks() {
     vbr::handle wide = std::move(vbr::open_with(vbr::shape{1 + 64, 4096, vbr::max_epoch, 0}, 1, {7}).value()[0]);
-    vbr::cursor at;
-    CHECK(wide.next_within(at, vbr::steps{11}) == vbr::refusal::out_of_steps);
+    vbr::cursor from;
+    CHECK(wide.next_within(from, vbr::steps{11}) == vbr::refusal::out_of_steps);
     std::vector<std::uint64_t> given;
     CHECK(walked(wide.keys_within(vbr::steps{11}), given) == vbr::refusal{} && given == std::vector<std::uint64_t>{7});
 
     vbr::handle mine = opened_with_nine();
-    at = vbr::cursor();
+    from = vbr::cursor();
     given.clear();
-    CHECK(walked(mine.keys_within(at, vbr::steps{11}), given) == vbr::refusal::out_of_steps && given == std::vector<std::uint64_t>{2});
-    CHECK(walked(mine.keys_within(at, vbr::steps{100}), given) == vbr::refusal{} && given == nine_by_bucket);
+    CHECK(walked(mine.keys_within(from, vbr::steps{11}), given) == vbr::refusal::out_of_steps && given == std::vector<std::uint64_t>{2});
+    CHECK(walked(mine.keys_within(from, vbr::steps{100}), given) == vbr::refusal{} && given == nine_by_bucket);
 
     vbr::handle none;
-    CHECK(walked(none.keys(), given) == vbr::refusal::no_handle && given == nine_by_bucket && none.next(at) == vbr::refusal::no_handle);
+    CHECK(walked(none.keys(), given) == vbr::refusal::no_handle && given == nine_by_bucket && none.next(from) == vbr::refusal::no_handle);
     return 0;
 }
 
-// Handles whose life ends lose nothing: the last one is told all, whichever it is, and in whatever thread.
+// Handles whose life ends lose nothing: the last one gets all, whichever it is, and in whatever thread.
 static int ends() {
     for (std::size_t last = 0; last < 3; last++) {
         std::vector<vbr::handle> handles = vbr::open(vbr::shape::for_keys(64, 3), 3).value();
@@ -388,7 +388,7 @@ static void inserts_and_throws(std::vector<vbr::handle> owned) {
     throw std::runtime_error("given up");
 }
 
-// An exception that ends handles loses nothing: the last close is told all, whichever handle is kept; and a loan is given back.
+// An exception that ends handles loses nothing: the last close gets all, whichever handle is kept; and a loan is given back.
 static int exceptions() {
     for (std::size_t last = 0; last < 3; last++) {
         std::vector<vbr::handle> handles = vbr::open(vbr::shape::for_keys(64, 3), 3).value();
@@ -465,7 +465,7 @@ static int loans() {
     return 0;
 }
 
-// A seed that is given, kept, drawn and told, and the order of a walk, which it tells.
+// A seed that is given, kept, drawn and returned, and the order of a walk, which follows from it.
 static int seeds() {
     const std::vector<std::uint64_t> keys{1, 2, 3, 4, 5, 6, 7, 8, 9};
     auto order = [](vbr::handle &mine) {

@@ -8,7 +8,7 @@
 // has the time that was seen, by remove_if.
 //
 // Beside the map it is noted of each user until when a call has promised that the login lives. The program sees that no login is
-// told absent before that. With a careless sweeper, which removes whatever is there, it finds one that is.
+// found absent before that. With a careless sweeper, which removes whatever is there, it finds one that is.
 #include "vbr.hpp"
 
 #include <algorithm>
@@ -73,7 +73,7 @@ private:
 };
 
 static std::atomic<moment> now{0};                     // time passes with each request
-static std::atomic<moment> promised[USERS];            // until when each login lives, as a call has told
+static std::atomic<moment> promised[USERS];            // until when each login lives, as a call returned
 static std::atomic<long> logged_in{0}, swept{0}, kept{0};
 static std::atomic<std::size_t> working{WORKERS};
 
@@ -87,7 +87,7 @@ static void serve(logins &mine, std::uint64_t user) {
     moment lives = promised[user], began = now++;
     std::optional<moment> until = mine.use(user, began);
     if (!until) {
-        CHECK(lives <= now); // or a login is told absent that lives
+        CHECK(lives <= now); // or a login is found absent that lives
         until = now + LIFE;
         mine.log_in(user, *until);
         logged_in++;

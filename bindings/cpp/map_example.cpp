@@ -23,7 +23,7 @@ static_assert(!std::is_convertible_v<vbr::map_loan, bool> && !std::is_convertibl
 
 static bool operator==(const vbr::entry &a, const vbr::entry &b) { return a.key == b.key && a.value == b.value; }
 
-// The entries that the last close of a map told.
+// The entries that the last close of a map returned.
 static std::vector<vbr::entry> told(vbr::map_handle &last) { return last.close().value().value().entries; }
 
 using list = std::vector<vbr::entry>;
@@ -187,19 +187,19 @@ static int walks() {
     CHECK(sum == 10 * (1 + 4 + 9 + 16 + 25 + 36 + 49 + 64 + 81));
     auto walk = mine.entries();
     CHECK(list(walk.begin(), walk.end()) == by_bucket && mine.entries().begin()->value == 20);
-    vbr::cursor at;
+    vbr::cursor from;
     vbr::refusal why{};
     try {
-        for (auto [key, value] : mine.entries_within(at, vbr::steps{11})) CHECK(key == 2 && value == 20);
+        for (auto [key, value] : mine.entries_within(from, vbr::steps{11})) CHECK(key == 2 && value == 20);
     } catch (const vbr::refused &refused) {
         why = refused.error();
     }
-    CHECK(why == vbr::refusal::out_of_steps && mine.next(at).value() == by_bucket[1]);
+    CHECK(why == vbr::refusal::out_of_steps && mine.next(from).value() == by_bucket[1]);
     sum = 0;
-    for (auto [key, value] : mine.entries(at)) sum += key * value;
-    CHECK(sum == 10 * (1 + 9 + 16 + 36 + 49 + 64 + 81) && !mine.next(at).value());
+    for (auto [key, value] : mine.entries(from)) sum += key * value;
+    CHECK(sum == 10 * (1 + 9 + 16 + 36 + 49 + 64 + 81) && !mine.next(from).value());
     for (vbr::entry each : mine.entries_within(vbr::steps{1000})) CHECK(mine.remove(each.key) == each.value);
-    CHECK(told(mine).empty() && mine.next(at).error() == vbr::refusal::no_handle);
+    CHECK(told(mine).empty() && mine.next(from).error() == vbr::refusal::no_handle);
     return 0;
 }
 
@@ -237,7 +237,7 @@ static int renewals() {
     return 0;
 }
 
-// Handles whose life ends lose nothing: the last one is told all, whichever it is, and in whatever thread.
+// Handles whose life ends lose nothing: the last one gets all, whichever it is, and in whatever thread.
 static int ends() {
     for (std::size_t last = 0; last < 3; last++) {
         std::vector<vbr::map_handle> handles = vbr::open_map(vbr::shape::for_keys(64, 3), 3).value();
@@ -270,7 +270,7 @@ static void inserts_and_throws(std::vector<vbr::map_handle> owned) {
     throw std::runtime_error("given up");
 }
 
-// An exception that ends handles loses nothing: the last close is told all, whichever handle is kept.
+// An exception that ends handles loses nothing: the last close gets all, whichever handle is kept.
 static int exceptions() {
     for (std::size_t last = 0; last < 3; last++) {
         std::vector<vbr::map_handle> handles = vbr::open_map(vbr::shape::for_keys(64, 3), 3).value();

@@ -5,7 +5,7 @@
 //
 // The map counts the requests of each session. To serve one, a thread borrows a handle and gives it back, so a renewal, which waits for
 // all loans, waits no longer than a request takes. Who wants a handle meanwhile waits until the map is there again. Where the last
-// epoch is spent before the clock comes, the thread that is told so gives its handle back and renews the map itself.
+// epoch is spent before the clock comes, the thread that gets that answer gives its handle back and renews the map itself.
 //
 // The last epoch is small here, so that the map is renewed often. The program sees that no request is lost: those of the sessions that
 // ended, and those that are in the map at its end, are all that were made.

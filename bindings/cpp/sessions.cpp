@@ -2,7 +2,7 @@
 //
 // The class is empty until it is opened; it is moved and assigned as its lender is, and waits for a handle, or for a time. Where the map
 // has no slot left, or its last epoch is spent, it goes on over a fresh one with the same entries, twice as large where that is
-// wanted: the thread that is told so gives its loan back first, since a renewal waits for all loans.
+// wanted: the thread that gets that answer gives its loan back first, since a renewal waits for all loans.
 #include "vbr.hpp"
 
 #include <cstdio>

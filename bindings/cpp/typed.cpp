@@ -93,9 +93,9 @@ static int as_keys(const std::vector<Key> &keys) {
     CHECK(numbers::handle::renew_all(handles, vbr::shape::for_keys(200, 2)) && other.has(keys[2]) == true);
     std::vector<Key> walked;
     for (Key key : other.keys()) walked.push_back(key);
-    vbr::cursor at;
-    for (std::size_t i = 0; i < 3; i++) CHECK(is_same(one.next(at).value().value(), walked[i]));
-    CHECK(!one.next(at).value());
+    vbr::cursor from;
+    for (std::size_t i = 0; i < 3; i++) CHECK(is_same(one.next(from).value().value(), walked[i]));
+    CHECK(!one.next(from).value());
     std::sort(walked.begin(), walked.end(), vbr::by_bits{});
     CHECK(are_same(walked, keys));
     typename numbers::lender lender(std::move(handles));
@@ -128,8 +128,8 @@ static int as_values(const Value (&of)[3]) {
     typename values::pass::found found[3];
     mine.get_all(asked, 3, found);
     CHECK(found[0] == of[2] && found[1] == std::nullopt && found[2] == of[2]);
-    vbr::cursor at;
-    while (std::optional<typename values::entry> next = mine.next(at).value()) CHECK(next->value == of[2]);
+    vbr::cursor from;
+    while (std::optional<typename values::entry> next = mine.next(from).value()) CHECK(next->value == of[2]);
     auto entries = mine.close().value()->entries;
     CHECK((entries == std::vector<typename values::entry>{{2, of[2]}, {-1, of[2]}}));
     return 0;

@@ -383,7 +383,7 @@ uint32_t vbr_reserve(vbr_handle *handle, uint32_t wanted) VBR_NOEXCEPT VBR_NONNU
 /* Reports, closes and renewals */
 
 /* Gives its slots back, as vbr_spare does, and its pass, and leaves the handle empty: VBR_NO while others of its set are open. The
-   last one ends the set: VBR_YES, with the report and its keys, ascending. Only then is memory needed, which is freed again. Behind
+   last one ends the set: VBR_YES, with the report and its keys, ascending. Only then is memory needed, which is freed again. After
    the keys of the report the array stays as it was: all `room` keys, and the report, are initialised before. VBR_NO_MEMORY and
    VBR_NO_ROOM leave the last handle full: close it again, drop it, or go on with it. As many keys as the set has slots always have
    room; where these have not, VBR_NO_ROOM writes the report and no key, and report->live is how many keys there are. Else nothing
@@ -397,9 +397,10 @@ VBR_NODISCARD vbr_answer vbr_close(vbr_handle *handle, uint64_t *keys, size_t ro
 
 /* Closes a set by all `count` handles that were opened with it, in any order, and leaves them empty: VBR_YES, with the report and
    its keys, as vbr_close writes them. No other thread is in a call on one of them. The keys are what all calls on these handles
-   leave. It takes the memory of a close. Else the handles stay as they were: VBR_NO_HANDLE, one is empty; VBR_MIXED, two are of
-   different sets; VBR_MISSING, they are fewer than were opened, or count is 0; VBR_NO_MEMORY; VBR_NO_ROOM, as in a close. Handles
-   of different sets are found by a probe, which is tested and not proved: do not rely on it.
+   leave. It takes the memory of a close. Else the handles stay as they were, by the first of these tests that fails:
+   VBR_NO_HANDLE, one is empty; VBR_MISSING, they are fewer than were opened, or count is 0; VBR_MIXED, two are of different sets;
+   VBR_NO_MEMORY; VBR_NO_ROOM, as in a close. Handles of different sets are found by a probe, which is tested and not proved: do
+   not rely on it.
 
        vbr_answer closed = vbr_close_all(handle, 2, keys, 8, &report); // VBR_YES: report.live is 3, keys are 2, 5, 9 */
 VBR_NODISCARD vbr_answer vbr_close_all(vbr_handle *handles, size_t count, uint64_t *keys, size_t room,
@@ -417,7 +418,7 @@ VBR_NODISCARD vbr_answer vbr_report_all(vbr_handle *handles, size_t count, uint6
    set keeps its seed. The epoch is 1 again, the first handle's balance is the number of keys, and that of the others is 0. No other
    thread is in a call on one of them. It takes the memory of a report and of an opening with the keys, while the set is still
    there, whose memory is freed then. Else the handles stay as they were, and go on: VBR_BAD_SHAPE; VBR_NO_HANDLE, one is empty;
-   VBR_MIXED, two are of different sets, by a probe as in vbr_close_all; VBR_MISSING, they are not as many as were opened;
+   VBR_MISSING, they are not as many as were opened; VBR_MIXED, two are of different sets, by a probe as in vbr_close_all;
    VBR_NO_ROOM, there are more keys than slots; VBR_NO_MEMORY.
 
        vbr_answer renewed = vbr_renew_all(handle, 2, 2048 + 2 * 64, 2048, VBR_MAX_EPOCH); // VBR_OK: twice as large */
@@ -763,7 +764,7 @@ uint32_t vbr_map_reserve(vbr_map_handle *handle, uint32_t wanted) VBR_NOEXCEPT V
 /* Reports, closes and renewals of maps */
 
 /* Gives its slots and its pass back and leaves the handle empty: VBR_NO while others of its map are open. The last one ends the
-   map: VBR_YES, with the report and its entries, ascending by key. Only then is memory needed, which is freed again. Behind the
+   map: VBR_YES, with the report and its entries, ascending by key. Only then is memory needed, which is freed again. After the
    entries of the report the array stays as it was: all `room` entries, and the report, are initialised before. VBR_NO_MEMORY and
    VBR_NO_ROOM leave the last handle full, as of vbr_close: as many entries as the map has slots always have room; where these have
    not, VBR_NO_ROOM writes the report and no entry, and report->live is how many entries there are. Else nothing is written.
@@ -776,9 +777,10 @@ VBR_NODISCARD vbr_answer vbr_map_close(vbr_map_handle *handle, vbr_entry *entrie
 
 /* Closes a map by all `count` handles that were opened with it, in any order, and leaves them empty: VBR_YES, with the report and
    its entries, as vbr_map_close writes them. No other thread is in a call on one of them. The entries are what all calls on these
-   handles leave. It takes the memory of a close. Else the handles stay as they were: VBR_NO_HANDLE, one is empty; VBR_MIXED, two
-   are of different maps; VBR_MISSING, they are fewer than were opened, or count is 0; VBR_NO_MEMORY; VBR_NO_ROOM, as in a close.
-   Handles of different maps are found by a probe, which is tested and not proved: do not rely on it.
+   handles leave. It takes the memory of a close. Else the handles stay as they were, by the first of these tests that
+   fails: VBR_NO_HANDLE, one is empty; VBR_MISSING, they are fewer than were opened, or count is 0; VBR_MIXED, two are of different
+   maps; VBR_NO_MEMORY; VBR_NO_ROOM, as in a close. Handles of different maps are found by a probe, which is tested and not proved:
+   do not rely on it.
 
        vbr_answer closed = vbr_map_close_all(map, 2, entries, 8, &report); // VBR_YES: three entries, {2, 20} the first of them */
 VBR_NODISCARD vbr_answer vbr_map_close_all(vbr_map_handle *handles, size_t count, vbr_entry *entries, size_t room,
@@ -806,7 +808,7 @@ VBR_NODISCARD vbr_answer vbr_map_renew_all_seeded(vbr_map_handle *handles, size_
    made: the last handle of the map that is closed still gets it, and with the last one dropped the map ends. It needs no memory.
    With a null pointer it does nothing.
 
-       vbr_map_drop(&map[0]); // the close of map[1] is told the report */
+       vbr_map_drop(&map[0]); // the close of map[1] gets the report */
 void vbr_map_drop(vbr_map_handle *handle) VBR_NOEXCEPT;
 
 /* Gives all these handles up, in any order, each as vbr_map_drop does, and leaves them empty. With the last of a map its memory is

@@ -452,7 +452,7 @@ struct basic_map_report {
 /* Where a walk stands: before the first key, or after the one that was given last. A copy keeps the place. With another handle, or
    a set of another shape, the walk from there is another one, and does no harm.
 
-       vbr::cursor at; // before the first key */
+       vbr::cursor from; // before the first key */
 struct cursor {
     vbr_cursor raw = VBR_CURSOR_BEGIN;
 };
@@ -468,8 +468,8 @@ struct set_calls {
     static void has_all(raw *handle, const std::uint64_t *keys, std::size_t count, vbr_answer *answers, std::uint32_t steps) noexcept {
         vbr_has_all_within(handle, keys, count, answers, steps);
     }
-    static vbr_answer next(raw *handle, vbr_cursor *at, words *key, std::uint32_t steps) noexcept {
-        return vbr_next_within(handle, at, key, steps);
+    static vbr_answer next(raw *handle, vbr_cursor *cursor, words *key, std::uint32_t steps) noexcept {
+        return vbr_next_within(handle, cursor, key, steps);
     }
     static std::uint64_t epoch(const raw *handle) noexcept { return vbr_epoch(handle); }
     static std::uint64_t last_epoch(const raw *handle) noexcept { return vbr_last_epoch(handle); }
@@ -507,8 +507,8 @@ struct map_calls {
     static void has_all(raw *handle, const std::uint64_t *keys, std::size_t count, vbr_answer *answers, std::uint32_t steps) noexcept {
         vbr_map_has_all_within(handle, keys, count, answers, steps);
     }
-    static vbr_answer next(raw *handle, vbr_cursor *at, words *entry, std::uint32_t steps) noexcept {
-        return vbr_map_next_within(handle, at, entry, steps);
+    static vbr_answer next(raw *handle, vbr_cursor *cursor, words *entry, std::uint32_t steps) noexcept {
+        return vbr_map_next_within(handle, cursor, entry, steps);
     }
     static std::uint64_t epoch(const raw *handle) noexcept { return vbr_map_epoch(handle); }
     static std::uint64_t last_epoch(const raw *handle) noexcept { return vbr_map_last_epoch(handle); }
@@ -693,12 +693,12 @@ private:
 
     /* Whether there is a next item. */
     bool goes_on(typename Kind::words &next) {
-        vbr_cursor &at = kept ? kept->raw : own.raw, before;
+        vbr_cursor &now = kept ? kept->raw : own.raw, before;
         vbr_answer told;
         do {
-            before = at;
-            told = Kind::next(handle, &at, &next, budget.count());
-        } while (told == VBR_OUT_OF_STEPS && (at.bucket != before.bucket || at.from != before.from));
+            before = now;
+            told = Kind::next(handle, &now, &next, budget.count());
+        } while (told == VBR_OUT_OF_STEPS && (now.bucket != before.bucket || now.from != before.from));
         if (told < 0) detail::refuse(refusal{told});
         return told == VBR_YES;
     }
@@ -757,13 +757,13 @@ public:
     /* The next key of a walk, and of a map the next entry; none at the end. The cursor is then after it; where the call is refused
        for want of steps, as among very many empty buckets, it keeps how far it has come.
 
-           auto next = mine.next(at);
-           while (next == vbr::refusal::out_of_steps) next = mine.next(at); // from where it came to
+           auto next = mine.next(from);
+           while (next == vbr::refusal::out_of_steps) next = mine.next(from); // from where it came to
            if (*next) sum += **next; */
-    result<std::optional<item_type>> next(cursor &at) noexcept { return next_within(at, steps()); }
-    result<std::optional<item_type>> next_within(cursor &at, vbr::steps budget) noexcept {
+    result<std::optional<item_type>> next(cursor &from) noexcept { return next_within(from, steps()); }
+    result<std::optional<item_type>> next_within(cursor &from, vbr::steps budget) noexcept {
         typename Kind::words words = {};
-        vbr_answer told = Kind::next(&raw, &at.raw, &words, budget.count());
+        vbr_answer told = Kind::next(&raw, &from.raw, &words, budget.count());
         if (told < 0) return refusal{told};
         return told == VBR_NO ? std::nullopt : std::optional<item_type>(Kind::item_of(words));
     }
@@ -812,7 +812,7 @@ protected:
     static constexpr std::size_t part = 64; /* so many keys of a batch are looked up at once */
     basic_pass() noexcept = default;
     ~basic_pass() = default;
-    basic_walk<Kind> walk(cursor *at, vbr::steps budget) noexcept { return {&raw, at, budget}; }
+    basic_walk<Kind> walk(cursor *from, vbr::steps budget) noexcept { return {&raw, from, budget}; }
 
     // Calls with some keys after others, each time with where they begin and how many they are.
     template <class Call>
@@ -865,9 +865,9 @@ public:
 
     /* The same from a cursor on, which moves along: a walk that was left, or came to no end, goes on from there.
 
-           for (std::uint64_t key : mine.keys(at)) sum += key; */
-    basic_walk<kind> keys(cursor &at) noexcept { return this->walk(&at, this->steps()); }
-    basic_walk<kind> keys_within(cursor &at, vbr::steps budget) noexcept { return this->walk(&at, budget); }
+           for (std::uint64_t key : mine.keys(from)) sum += key; */
+    basic_walk<kind> keys(cursor &from) noexcept { return this->walk(&from, this->steps()); }
+    basic_walk<kind> keys_within(cursor &from, vbr::steps budget) noexcept { return this->walk(&from, budget); }
 };
 
 /* That of a handle to a map.
@@ -1010,9 +1010,9 @@ public:
 
     /* The same from a cursor on, which moves along: a walk that was left, or came to no end, goes on from there.
 
-           for (auto [key, value] : mine.entries(at)) sum += key * value; */
-    basic_walk<kind> entries(cursor &at) noexcept { return this->walk(&at, this->steps()); }
-    basic_walk<kind> entries_within(cursor &at, vbr::steps budget) noexcept { return this->walk(&at, budget); }
+           for (auto [key, value] : mine.entries(from)) sum += key * value; */
+    basic_walk<kind> entries(cursor &from) noexcept { return this->walk(&from, this->steps()); }
+    basic_walk<kind> entries_within(cursor &from, vbr::steps budget) noexcept { return this->walk(&from, budget); }
 };
 
 /* What a handle to a set and one to a map have in common; each may be empty. One thread at a time makes calls with it, by its pass. Its
@@ -1059,10 +1059,10 @@ public:
 
            vbr::report now = vbr::handle::report_all(both).value(); // now.keys is {5, 7} */
     static result<report_type> report_all(std::vector<basic_handle> &handles) {
-        auto at = in_order(handles);
-        if (result<void> are = are_all(handles.size(), at); !are) return are.error();
+        auto nth = in_order(handles);
+        if (result<void> are = are_all(handles.size(), nth); !are) return are.error();
         detail::report_room<kind> room(handles.front().shared->slots);
-        vbr_answer code = with_all(handles.size(), at, [&](auto *all) {
+        vbr_answer code = with_all(handles.size(), nth, [&](auto *all) {
             return room.fill([&](auto *items, std::size_t size, vbr_report *totals) {
                 return kind::report_all(all, handles.size(), items, size, totals);
             });
@@ -1098,33 +1098,33 @@ private:
     }
 
     /* Whether these are all handles of one set; `at` gives each by its number. */
-    template <class At>
-    static result<void> are_all(std::size_t count, const At &at) noexcept {
+    template <class Nth>
+    static result<void> are_all(std::size_t count, const Nth &nth) noexcept {
         if (count == 0) return refusal::missing;
         for (std::size_t i = 0; i < count; i++)
-            if (!at(i).is_open()) return refusal::no_handle;
+            if (!nth(i).is_open()) return refusal::no_handle;
         for (std::size_t i = 0; i < count; i++)
-            if (at(i).shared != at(0).shared) return refusal::mixed;
-        return at(0).shared->count == count ? result<void>(std::in_place) : refusal::missing;
+            if (nth(i).shared != nth(0).shared) return refusal::mixed;
+        return nth(0).shared->count == count ? result<void>(std::in_place) : refusal::missing;
     }
 
     /* Makes a call with all of them side by side, and then each has what is at its place. */
-    template <class At, class Call>
-    static vbr_answer with_all(std::size_t count, const At &at, const Call &call) noexcept {
-        auto &all = at(0).shared->parked; // all are open, so each place is empty
-        for (std::size_t i = 0; i < count; i++) std::swap(all[i], at(i).raw);
+    template <class Nth, class Call>
+    static vbr_answer with_all(std::size_t count, const Nth &nth, const Call &call) noexcept {
+        auto &all = nth(0).shared->parked; // all are open, so each place is empty
+        for (std::size_t i = 0; i < count; i++) std::swap(all[i], nth(i).raw);
         vbr_answer code = call(all.data());
-        for (std::size_t i = 0; i < count; i++) std::swap(all[i], at(i).raw);
+        for (std::size_t i = 0; i < count; i++) std::swap(all[i], nth(i).raw);
         return code;
     }
 
-    template <class At>
-    static result<void> renew_all(std::size_t count, const At &at, const shape &wanted) noexcept {
-        if (result<void> are = are_all(count, at); !are) return are;
-        std::uint64_t seed = wanted.seed ? *wanted.seed : at(0).seed();
-        vbr_answer code = with_all(count, at, [&](auto *all) { return kind::renew_all(all, count, wanted, seed); });
-        if (code == VBR_OK) at(0).shared->slots = wanted.slots;
-        for (std::size_t i = 0; i < count && code == VBR_OK && wanted.steps; i++) at(i).set_steps(*wanted.steps);
+    template <class Nth>
+    static result<void> renew_all(std::size_t count, const Nth &nth, const shape &wanted) noexcept {
+        if (result<void> are = are_all(count, nth); !are) return are;
+        std::uint64_t seed = wanted.seed ? *wanted.seed : nth(0).seed();
+        vbr_answer code = with_all(count, nth, [&](auto *all) { return kind::renew_all(all, count, wanted, seed); });
+        if (code == VBR_OK) nth(0).shared->slots = wanted.slots;
+        for (std::size_t i = 0; i < count && code == VBR_OK && wanted.steps; i++) nth(i).set_steps(*wanted.steps);
         return detail::done_by(code);
     }
 
@@ -1150,14 +1150,14 @@ private:
     }
 
     /* Closes handles of one set, which are open, all of them or none; `at` gives each by its number. */
-    template <class At>
-    static result<std::optional<report_type>> close_all(std::size_t count, const At &at) {
-        basic_handle &last = at(count - 1);
+    template <class Nth>
+    static result<std::optional<report_type>> close_all(std::size_t count, const Nth &nth) {
+        basic_handle &last = nth(count - 1);
         detail::report_room<kind> room(last.shared->slots);
-        for (std::size_t i = 0; i + 1 < count; i++) at(i).is_last(); // parked, since the last one is open
+        for (std::size_t i = 0; i + 1 < count; i++) nth(i).is_last(); // parked, since the last one is open
         if (!last.is_last()) return std::optional<report_type>();
         auto told = last.close_last(std::move(room));
-        for (std::size_t i = 0; i + 1 < count && told == refusal::no_memory; i++) at(i).open_again(last);
+        for (std::size_t i = 0; i + 1 < count && told == refusal::no_memory; i++) nth(i).open_again(last);
         return told;
     }
 

@@ -193,7 +193,7 @@ public:
 
     std::size_t handles() const noexcept { return count.load(std::memory_order_relaxed); }
     const shared_shape &opened_with() const noexcept { return opened; }
-    std::size_t number_of(const place_type *at) const noexcept { return static_cast<std::size_t>(at - places.get()); }
+    std::size_t number_of(const place_type *place) const noexcept { return static_cast<std::size_t>(place - places.get()); }
 
     /* A free handle, which is lent now, or none where each was lent at a moment of the call, or none is to be lent. */
     place_type *take() noexcept {
@@ -209,8 +209,8 @@ public:
         return taken;
     }
 
-    void give_back(place_type &at) noexcept {
-        at.is_lent.store(false, std::memory_order_release);
+    void give_back(place_type &place) noexcept {
+        place.is_lent.store(false, std::memory_order_release);
         waiting.wake_one();
     }
 
@@ -339,7 +339,7 @@ public:
     using pass_type = typename Handle::pass_type;
 
     basic_loan() noexcept = default;
-    basic_loan(basic_loan &&other) noexcept : owner(std::move(other.owner)), at(std::exchange(other.at, nullptr)) {}
+    basic_loan(basic_loan &&other) noexcept : owner(std::move(other.owner)), place(std::exchange(other.place, nullptr)) {}
     ~basic_loan() { give_back(); }
 
     /* Gives back what it has before it takes the other one.
@@ -349,33 +349,33 @@ public:
         if (this != &other) {
             give_back();
             owner = std::move(other.owner);
-            at = std::exchange(other.at, nullptr);
+            place = std::exchange(other.place, nullptr);
         }
         return *this;
     }
 
-    explicit operator bool() const noexcept { return at != nullptr; }
-    pass_type &operator*() const noexcept { return at->handle; }
-    pass_type *operator->() const noexcept { return &at->handle; }
+    explicit operator bool() const noexcept { return place != nullptr; }
+    pass_type &operator*() const noexcept { return place->handle; }
+    pass_type *operator->() const noexcept { return &place->handle; }
 
     /* The number of the handle, below lender.handles(): for data that lies beside each handle. No other loan has this number
        meanwhile.
 
            beside[mine.number()]++; // nobody else writes it meanwhile */
-    std::size_t number() const noexcept { return owner->number_of(at); }
+    std::size_t number() const noexcept { return owner->number_of(place); }
 
 private:
     template <class>
     friend class basic_lender;
     basic_loan(Owner from, typename detail::lending<Handle>::place_type *which) noexcept
-        : owner(which ? std::move(from) : Owner()), at(which) {}
+        : owner(which ? std::move(from) : Owner()), place(which) {}
 
     void give_back() noexcept {
-        if (at) owner->give_back(*std::exchange(at, nullptr));
+        if (place) owner->give_back(*std::exchange(place, nullptr));
     }
 
     Owner owner = {};
-    typename detail::lending<Handle>::place_type *at = nullptr;
+    typename detail::lending<Handle>::place_type *place = nullptr;
 };
 
 /* Lends handles of a set or a map to threads that come and go. A call by a loan has the budget of its handle.
@@ -479,14 +479,14 @@ private:
     place_type *taken() noexcept { return all ? all->take() : nullptr; }
 
     place_type *awaited() {
-        place_type *at = taken();
-        return at || !all ? at : all->take(std::nullopt);
+        place_type *place = taken();
+        return place || !all ? place : all->take(std::nullopt);
     }
 
     template <class Rep, class Period>
     place_type *taken_within(const std::chrono::duration<Rep, Period> &limit) {
-        place_type *at = taken();
-        return at || !all ? at : all->take(detail::after(limit));
+        place_type *place = taken();
+        return place || !all ? place : all->take(detail::after(limit));
     }
 
     shared_lending all;

@@ -10,7 +10,7 @@
    For maps it says the same, where a get is a look-up, and besides that a value was written. A call that may give a key
    another value counts as a remove and an insert. A call of a walk counts as a write of its cursor, and one that gives a key finds
    it, and writes it. So a right program is silent, and one that reads what it didn't look up, or what is absent, is reported.
-   What the library itself copies and frees while it closes, drops, reports and renews isn't told, since the sanitizer doesn't
+   What the library itself copies and frees while it closes, drops, reports and renews isn't reported, since the sanitizer doesn't
    see the steps that order it: threads may close and drop handles of their own at the same time. The names of the calls within
    steps and of the others stand for the functions, and those without a budget call these; so pointers to calls go through them
    too, and members of these names keep one name. The sanitizer has a place for each of 16,384 groups of keys, whatever the set,

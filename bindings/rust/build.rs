@@ -1,5 +1,5 @@
 //! Finds the static library: in the directory that `VBR_LIB_DIR` names, or else by pkg-config, where it has this crate's version, or
-//! else among the files that were built before, where the crate lies in its repository and that has them. What is linked is told.
+//! else among the files that were built before, where the crate lies in its repository and that has them. What is linked is printed.
 //! Pages (`DOCS_RS`) need none.
 use std::env;
 use std::path::{Path, PathBuf};

@@ -253,32 +253,32 @@ struct Model {
 
     // How far a call comes from a cursor on: with no marked node in any list; or with as many as there may be, before the key that
     // it gives, and one of them the last where it gives none.
-    Reached reach(vbr_cursor at, uint64_t budget, bool with_marked) const {
+    Reached reach(vbr_cursor cursor, uint64_t budget, bool with_marked) const {
         auto lists = this->lists();
         if (with_marked)
             for (auto &[bucket, count] : marked) lists[bucket];
         Steps steps{budget};
-        while (at.bucket < buckets) {
-            auto list = lists.lower_bound(at.bucket);
-            uint64_t empty = (list == lists.end() ? buckets : list->first) - at.bucket;
+        while (cursor.bucket < buckets) {
+            auto list = lists.lower_bound(cursor.bucket);
+            uint64_t empty = (list == lists.end() ? buckets : list->first) - cursor.bucket;
             if (empty > 0) {
                 uint64_t passed = steps.take_threes(empty);
-                if (passed > 0) at = {static_cast<uint32_t>(at.bucket + passed), 0};
-                if (passed < empty) return {VBR_OUT_OF_STEPS, 0, at, steps.needed};
+                if (passed > 0) cursor = {static_cast<uint32_t>(cursor.bucket + passed), 0};
+                if (passed < empty) return {VBR_OUT_OF_STEPS, 0, cursor, steps.needed};
                 continue;
             }
-            uint64_t marks = with_marked ? marked_in(at.bucket) : 0;
+            uint64_t marks = with_marked ? marked_in(cursor.bucket) : 0;
             bool takes = steps.take(3);
             for (uint64_t i = 0; takes && i < marks; i++) takes = steps.take(3);
             for (uint64_t key : list->second) {
                 takes = takes && steps.take(5);
-                if (takes && key >= at.from) return {VBR_YES, key, after(key, key == list->second.back() && marks == 0), steps.needed};
+                if (takes && key >= cursor.from) return {VBR_YES, key, after(key, key == list->second.back() && marks == 0), steps.needed};
             }
             if (takes && marks > 0) takes = steps.took_three();
-            if (!takes) return {VBR_OUT_OF_STEPS, 0, at, steps.needed};
-            at = {at.bucket + 1, 0};
+            if (!takes) return {VBR_OUT_OF_STEPS, 0, cursor, steps.needed};
+            cursor = {cursor.bucket + 1, 0};
         }
-        return {VBR_NO, 0, at, steps.needed};
+        return {VBR_NO, 0, cursor, steps.needed};
     }
 
     // Where the cursor stands after a key: before the next bucket where its node is the last of its list, or no number is greater.
@@ -297,7 +297,7 @@ public:
     std::vector<uint64_t> features;  // what it showed; nothing where a set was large, so that such inputs stay few
 
     void play() {
-        while (at < input.size()) step();
+        while (position < input.size()) step();
         for (size_t cell = 0; cell < CELLS; cell++) close(cell, MOST_KEYS);
         if (blocks != 0) fail("a block of memory is left behind");
         if (large > 0) features.clear();
@@ -305,7 +305,7 @@ public:
 
 private:
     const std::string &input;
-    size_t at = 0;
+    size_t position = 0;
     int large = 0;
     uint64_t values = 0;  // how many were stored
     typename Of::Handle cells[CELLS] = {};
@@ -314,7 +314,7 @@ private:
     uint32_t budgets[CELLS] = {};  // what the program wrote into each handle, which no call changes
     vbr_cursor cursors[CELLS] = {};  // of each cell's walk, which goes on when another set is in the cell
 
-    uint8_t byte() { return at < input.size() ? static_cast<uint8_t>(input[at++]) : 0; }
+    uint8_t byte() { return position < input.size() ? static_cast<uint8_t>(input[position++]) : 0; }
 
     void saw(int what, int answer, uint64_t more) {
         features.push_back((static_cast<uint64_t>(what) << 32) ^ (static_cast<uint64_t>(answer + 16) << 24) ^ more);
@@ -551,14 +551,14 @@ private:
 
     static bool same(vbr_cursor a, vbr_cursor b) { return a.bucket == b.bucket && a.from == b.from; }
 
-    uint32_t budget_of_walk(const Model &m, vbr_cursor at) {
+    uint32_t budget_of_walk(const Model &m, vbr_cursor cursor) {
         uint8_t x = byte();
-        uint64_t least = m.reach(at, UINT64_MAX, false).needed, most = m.reach(at, UINT64_MAX, true).needed;
+        uint64_t least = m.reach(cursor, UINT64_MAX, false).needed, most = m.reach(cursor, UINT64_MAX, true).needed;
         uint64_t budget = x < 64    ? most
                           : x < 128 ? std::max<uint64_t>(least, 1) - 1
                           : x < 144 ? UINT32_MAX - (x & 3)
                           : x < 176 ? x - 144u
-                          : x < 208 ? 5 * m.nodes_in(at.bucket) + 11
+                          : x < 208 ? 5 * m.nodes_in(cursor.bucket) + 11
                                     : most * (x - 208) / 48;
         return static_cast<uint32_t>(budget);
     }
@@ -605,12 +605,12 @@ private:
         const Model &m = *models[cell];
         std::vector<uint64_t> wanted, given;
         for (auto &[bucket, list] : m.lists()) wanted.insert(wanted.end(), list.begin(), list.end());
-        vbr_cursor &at = cursors[cell], before = VBR_CURSOR_BEGIN;
-        at = before;
+        vbr_cursor &cursor = cursors[cell], before = VBR_CURSOR_BEGIN;
+        cursor = before;
         uint64_t key = 0, value = 0;
-        for (int answer; (answer = Of::next(&cells[cell], &at, budget, &key, &value)) != VBR_NO; before = at) {
+        for (int answer; (answer = Of::next(&cells[cell], &cursor, budget, &key, &value)) != VBR_NO; before = cursor) {
             if (answer == VBR_YES) given.push_back(key);
-            else if (same(at, before)) budget = 2 * budget + 1;
+            else if (same(cursor, before)) budget = 2 * budget + 1;
             if (given.size() > wanted.size()) break;
         }
         if (given != wanted) fail("the keys of a walk");
@@ -772,12 +772,12 @@ static std::string fresh(fuzz::Random &random) {
 static std::string changed(fuzz::Random &random, const std::vector<std::string> &from) {
     std::string input = random.one_of(from);
     for (uint64_t n = 1 + random.below(4); n > 0 && !input.empty(); n--) {
-        size_t at = random.below(input.size()), size = 1 + random.below(12);
+        size_t position = random.below(input.size()), size = 1 + random.below(12);
         switch (random.below(5)) {
-            case 0: input[at] = static_cast<char>(random.below(256)); break;
-            case 1: input.insert(at, 1, static_cast<char>(random.below(256))); break;
-            case 2: input.erase(at, size); break;
-            case 3: input.insert(at, input.substr(random.below(input.size()), size)); break;
+            case 0: input[position] = static_cast<char>(random.below(256)); break;
+            case 1: input.insert(position, 1, static_cast<char>(random.below(256))); break;
+            case 2: input.erase(position, size); break;
+            case 3: input.insert(position, input.substr(random.below(input.size()), size)); break;
             default: input += random.one_of(from).substr(0, 64);
         }
     }

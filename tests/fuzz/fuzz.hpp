@@ -1,4 +1,4 @@
-// What the two fuzzers share: random numbers, kept inputs, and how a failure is told.
+// What the two fuzzers share: random numbers, kept inputs, and how a failure is reported.
 #pragma once
 #include <csignal>
 #include <cstdint>
@@ -109,12 +109,12 @@ template <class Input> struct Kept {
             return fresh.size();
         };
         while (best.size() < most) {
-            size_t at = 0, gained = 0;
+            size_t index = 0, gained = 0;
             for (size_t i = 0; i < inputs.size(); i++)
-                if (size_t more = gain(features[i]); more > gained) at = i, gained = more;
+                if (size_t more = gain(features[i]); more > gained) index = i, gained = more;
             if (gained == 0) break;
-            best.push_back(inputs[at]);
-            covered.insert(features[at].begin(), features[at].end());
+            best.push_back(inputs[index]);
+            covered.insert(features[index].begin(), features[index].end());
         }
         return best;
     }

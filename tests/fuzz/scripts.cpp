@@ -183,10 +183,10 @@ static bool is_operation(const std::string &name, bool map, bool has_value) {
 
 static Script script_of(const std::string &text, const Settings &settings) {
     Script script;
-    size_t at = 0;
+    size_t begin = 0;
     for (uint64_t number = 1;; number++) {
-        size_t end = std::min(text.find('\n', at), text.size());
-        std::string line = text.substr(at, end - at);
+        size_t end = std::min(text.find('\n', begin), text.size());
+        std::string line = text.substr(begin, end - begin);
         if (!line.empty() && line.back() == '\r') line.pop_back();
         Words words;
         std::string word;
@@ -209,7 +209,7 @@ static Script script_of(const std::string &text, const Settings &settings) {
             return faulty(1);
         }
         if (end == text.size()) return script;
-        at = end + 1;
+        begin = end + 1;
     }
 }
 
@@ -318,20 +318,20 @@ static void check_reply(const Settings &settings, const Script &script, const Li
     }
 }
 
-static void check_totals(const Settings &settings, const Totals &totals, const Told &told, const Words &lines, size_t at) {
+static void check_totals(const Settings &settings, const Totals &totals, const Told &told, const Words &lines, size_t index) {
     auto is = [&](const char *name, uint64_t number) {
-        if (at >= lines.size() || lines[at++] != std::string(name) + ' ' + std::to_string(number)) fail("the totals");
+        if (index >= lines.size() || lines[index++] != std::string(name) + ' ' + std::to_string(number)) fail("the totals");
     };
     is("inserted", totals.inserted), is("removed", totals.removed), is("found", totals.found), is("refused", totals.refused);
     std::string listed = settings.map ? "entries" : "keys";
     for (auto [key, value] : told.left()) listed += ' ' + std::to_string(key) + (settings.map ? '=' + std::to_string(value) : "");
-    if (at >= lines.size() || lines[at++] != listed) fail("the keys, or the entries");
+    if (index >= lines.size() || lines[index++] != listed) fail("the keys, or the entries");
     if (settings.epoch) {
-        if (at >= lines.size() || !starts(lines[at], "epoch ")) fail("the epoch");
-        std::optional<uint64_t> epoch = number_of(lines[at++].substr(6));
+        if (index >= lines.size() || !starts(lines[index], "epoch ")) fail("the epoch");
+        std::optional<uint64_t> epoch = number_of(lines[index++].substr(6));
         if (!epoch || *epoch < 1 || *epoch > settings["last-epoch"]) fail("the epoch");
     }
-    if (at != lines.size()) fail("more lines than operations and totals");
+    if (index != lines.size()) fail("more lines than operations and totals");
 }
 
 static uint64_t check_played(const Settings &settings, const Script &script, const std::string &out) {
@@ -371,7 +371,7 @@ static std::vector<uint64_t> play(Program &program, const Input &input) {
         if (status != wanted || answer.errors != line) fail(("wanted: " + line).c_str());
     };
     if (settings.kind == 'f') {
-        if (status != 2 || !starts(answer.errors, "error: ")) fail("a fault in the options isn't told");
+        if (status != 2 || !starts(answer.errors, "error: ")) fail("a fault in the options isn't reported");
     } else if (settings.kind == 'o') {
         shown = answer.out.size() % 7;
     } else if (shape) {
@@ -446,12 +446,12 @@ static std::string random_script(fuzz::Random &random, uint64_t workers, bool ma
 static void change(fuzz::Random &random, std::string &script, const std::string &other) {
     static const Words pieces{"sync\n", "insert", "\n", " ", "\t", "\r", std::string(1, '\0'), "18446744073709551616", "\xc3\xa9", "0 has 1\n"};
     for (uint64_t n = 1 + random.below(3); n > 0; n--) {
-        size_t at = random.below(script.size() + 1), size = 1 + random.below(12);
+        size_t position = random.below(script.size() + 1), size = 1 + random.below(12);
         switch (random.below(5)) {
-            case 0: if (at < script.size()) script[at] = static_cast<char>(random.below(256)); break;
-            case 1: script.insert(at, random.one_of(pieces)); break;
-            case 2: script.erase(at, size); break;
-            case 3: script.insert(at, script.substr(random.below(script.size() + 1), size * 4)); break;
+            case 0: if (position < script.size()) script[position] = static_cast<char>(random.below(256)); break;
+            case 1: script.insert(position, random.one_of(pieces)); break;
+            case 2: script.erase(position, size); break;
+            case 3: script.insert(position, script.substr(random.below(script.size() + 1), size * 4)); break;
             default: script += other.substr(0, 200);
         }
     }

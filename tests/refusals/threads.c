@@ -24,9 +24,9 @@ static void pause_for(long milliseconds) {
     nanosleep(&time, NULL);
 }
 
-static void *begin(void *at) {
-    struct work work = *(struct work *)at;
-    free(at);
+static void *begin(void *argument) {
+    struct work work = *(struct work *)argument;
+    free(argument);
     pause_for(500);
     void *result = work.run(work.given);
     atomic_fetch_add(&ended, 1);

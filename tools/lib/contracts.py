@@ -43,36 +43,36 @@ CLAUSE = re.compile(r"\s*(?:requires|ensures)\b")
 STATED = re.compile(r"\s*(?:pub )?ghost (?!use\b)")
 
 
-def clause_end(lines, at):
+def clause_end(lines, index):
     """The number of the line at which the clause ends that begins in this one."""
     depth = 0
     while True:
-        depth += lines[at].count("{") - lines[at].count("}")
-        if depth <= 0 or at + 1 == len(lines):
-            return at
-        at += 1
+        depth += lines[index].count("{") - lines[index].count("}")
+        if depth <= 0 or index + 1 == len(lines):
+            return index
+        index += 1
 
 
 def form_faults(path, text):
     """What is too long or too wide in a source file: (line, what is wrong)."""
-    lines, function, clauses, at = text.split("\n"), "", [], 0
-    while at < len(lines):
-        line = lines[at]
+    lines, function, clauses, index = text.split("\n"), "", [], 0
+    while index < len(lines):
+        line = lines[index]
         found = FUNCTION.match(line)
         function = found.group(1) if found else function
         if CLAUSE.match(line) or STATED.match(line):
-            end = clause_end(lines, at)
-            for number in range(at, end + 1):
+            end = clause_end(lines, index)
+            for number in range(index, end + 1):
                 if len(lines[number]) > COLUMNS:
                     yield number + 1, f"a line of a contract has {len(lines[number])} columns, and may have {COLUMNS}: break it, or give what it says a name in specs/"
             if CLAUSE.match(line):
-                clauses.append(at + 1)
-            at = end
+                clauses.append(index + 1)
+            index = end
         elif line.strip() and not line.lstrip().startswith("//"):
             if len(clauses) > CLAUSES:
                 yield clauses[0], f"{function} has {len(clauses)} clauses, and may have {CLAUSES}: put what belongs together into one record of specs/"
             clauses = []
-        at += 1
+        index += 1
 
 
 def check_form(texts):
@@ -92,19 +92,19 @@ def check_form(texts):
 
 def bodies(text):
     """Each function of a source file, by the layout of `rt fmt`: (name, line, its text without contracts and comments)."""
-    lines, name, at = text.split("\n"), None, 0
-    while at < len(lines):
-        line, found = lines[at], FUNCTION.match(lines[at])
+    lines, name, index = text.split("\n"), None, 0
+    while index < len(lines):
+        line, found = lines[index], FUNCTION.match(lines[index])
         if name is None and found:
-            name, start, indent, kept = found.group(1), at + 1, line[: len(line) - len(line.lstrip())], []
+            name, start, indent, kept = found.group(1), index + 1, line[: len(line) - len(line.lstrip())], []
         if name is not None and CLAUSE.match(line):
-            at = clause_end(lines, at)
+            index = clause_end(lines, index)
         elif name is not None and not line.lstrip().startswith("//"):
             kept.append(line)
             if line.startswith(indent) and not line.startswith(indent + " ") and line.endswith((";", "}")):
                 yield name, start, "\n".join(kept)
                 name = None
-        at += 1
+        index += 1
 
 
 def on_shared_words(body):

@@ -21,9 +21,9 @@ class Crate:
     def files(self):
         """The files that its proof reads."""
         for part in ("src", "specs", "proofs"):
-            for at, folders, names in os.walk(f"{self.folder}/{part}"):
+            for folder, folders, names in os.walk(f"{self.folder}/{part}"):
                 folders.sort()
-                yield from (f"{at}/{name}" for name in sorted(names))
+                yield from (f"{folder}/{name}" for name in sorted(names))
 
     def lines(self):
         return sum(text_of(it).count("\n") for it in self.files())

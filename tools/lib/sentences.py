@@ -90,30 +90,30 @@ def of_markdown(text):
 
 def comments(text):
     """The comments of a header: of each the line where it begins, and its text without what marks it as a comment."""
-    lines, at = text.split("\n"), 0
-    while at < len(lines):
-        begin, line = at, lines[at]
+    lines, index = text.split("\n"), 0
+    while index < len(lines):
+        begin, line = index, lines[index]
         if re.search(r"^\s*/\*|\s/\* ", line):
-            while "*/" not in lines[at]:
-                at += 1
+            while "*/" not in lines[index]:
+                index += 1
             column = line.index("/*") + 3
-            kept = [line[column:]] + [it[column:] if not it[:column].strip(" */") else it.strip() for it in lines[begin + 1 : at + 1]]
+            kept = [line[column:]] + [it[column:] if not it[:column].strip(" */") else it.strip() for it in lines[begin + 1 : index + 1]]
             yield begin + 1, "\n".join(kept).replace("*/", ""), column > 3 and bool(line[: column - 3].strip())
         elif re.match(r"\s*// ", line):
-            while at + 1 < len(lines) and re.match(r"\s*// ", lines[at + 1]):
-                at += 1
-            yield begin + 1, "\n".join(re.sub(r"^\s*// ", "", it) for it in lines[begin : at + 1]), False
-        at += 1
+            while index + 1 < len(lines) and re.match(r"\s*// ", lines[index + 1]):
+                index += 1
+            yield begin + 1, "\n".join(re.sub(r"^\s*// ", "", it) for it in lines[begin : index + 1]), False
+        index += 1
 
 
 def of_header(text):
     """The sentences of the comments of a header; a comment behind code may be a name alone."""
     for begin, comment, is_part in comments(text):
-        at = begin
+        index = begin
         for part in re.split(r"(\n[ \t]*\n)", comment):
             if part.strip() and not part.startswith("    "):
-                yield from of_unit(at, part, is_part)
-            at += part.count("\n")
+                yield from of_unit(index, part, is_part)
+            index += part.count("\n")
 
 
 def of(path, text):

@@ -82,7 +82,7 @@ def begin(ready, running, behind, lanes, memory, say):
     """Starts what can be started of these, those with the longest chains first. The first has the processors; the others share
     what it can't use, and half as many again, by their chains."""
     ready = sorted(ready, key=lambda it: -behind[it.name])
-    for at, task in enumerate(ready):
+    for index, task in enumerate(ready):
         is_first = not any(it.is_first for it in running)
         if is_first:
             jobs = min(task.most, lanes)
@@ -91,7 +91,7 @@ def begin(ready, running, behind, lanes, memory, say):
             idle = max(lanes - first, lanes // 2) - sum(it.jobs for it in running if not it.is_first)
             if idle < 1:
                 return
-            share = round(idle * behind[task.name] / sum(behind[it.name] for it in ready[at:]))
+            share = round(idle * behind[task.name] / sum(behind[it.name] for it in ready[index:]))
             jobs = max(1, min(task.most, share, idle))
         room = memory - sum(it.takes(it.jobs) for it in running)
         while jobs > 1 and task.takes(jobs) > room:

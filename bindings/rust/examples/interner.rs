@@ -56,7 +56,7 @@ impl Interner<'_> {
         self.numbers.entry(word).or_insert(number)
     }
 
-    /// The word of a number that was told.
+    /// The word of a number that was returned.
     fn word(&self, number: u32) -> Word {
         Word::from_bits(self.words.by_number[number as usize].load(Relaxed))
     }

@@ -8,7 +8,7 @@
 //! still has the time that was seen, by `remove_if`.
 //!
 //! Beside the map it is noted of each user until when a call has promised that the login lives. The program sees that no login
-//! is told absent before that. With a careless sweeper, which removes whatever is there, it finds one that is.
+//! is found absent before that. With a careless sweeper, which removes whatever is there, it finds one that is.
 #![allow(clippy::cast_possible_truncation, reason = "the numbers are small")]
 use std::error::Error;
 use std::sync::atomic::AtomicU64;
@@ -70,7 +70,7 @@ impl Logins {
 struct Known {
     /// The time, which passes with each request.
     now: AtomicU64,
-    /// Until when the login of each user lives, as a call has told.
+    /// Until when the login of each user lives, as a call returned.
     promised: Vec<AtomicU64>,
     working: AtomicU64,
 }
@@ -84,7 +84,7 @@ impl Known {
         let until = if let Some(until) = found {
             until
         } else {
-            assert!(lives <= self.now.load(SeqCst), "a login that lives is told absent");
+            assert!(lives <= self.now.load(SeqCst), "a login that lives is found absent");
             let until = self.now.load(SeqCst) + LIFE;
             logins.log_in(user as u64, until)?;
             until
@@ -142,7 +142,7 @@ fn play(known: &Known, of: &mut [Logins], is_careless: bool) -> Result<(u64, [u6
         };
         let threads: Vec<_> = (0..).zip(workers).map(spawned).collect();
         let counts = known.sweep(sweeper, is_careless)?;
-        let logged_in = threads.into_iter().map(|thread| thread.join().expect("no login that lives is told absent"));
+        let logged_in = threads.into_iter().map(|thread| thread.join().expect("no login that lives is found absent"));
         Ok((logged_in.sum::<Result<u64, _>>()?, counts))
     })
 }

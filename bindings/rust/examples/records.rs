@@ -4,9 +4,9 @@
 //!
 //! The value of a key says where its record is, in an array of fixed memory, and of which generation: an index and a number. A
 //! record is written once, before its value is in the map, and isn't changed then. To change an account a thread writes another
-//! record and puts it in the place of the first by `compare_exchange`; to end one it takes the key out by `remove_if`. Whoever is
-//! told that it did so has the old record for itself, and frees it. A record that is used again has another generation, so no value
-//! comes twice.
+//! record and puts it in the place of the first by `compare_exchange`; to end one it takes the key out by `remove_if`. Whoever
+//! gets the answer that it did so has the old record for itself, and frees it. A record that is used again has another
+//! generation, so no value comes twice.
 //!
 //! Who reads a record copies it, and then sees whether it still has the generation of the value. If not, it was used again
 //! meanwhile, so the key has another value by now, or is gone: the reader gets it again. No reader holds anybody up.

@@ -7,7 +7,7 @@
 //! removes the route and inserts it anew, and then a look-up falls in between.
 //!
 //! The program counts packets that found no route, and sees that each found a way that its prefix had at a time of the look-up:
-//! routes are numbered, and a reader is never told an older one than it was told before.
+//! routes are numbered, and a reader never gets an older one than it got before.
 #![allow(clippy::cast_possible_truncation, reason = "the numbers are small")]
 use std::error::Error;
 use std::sync::atomic::{AtomicBool, Ordering::Relaxed};

@@ -184,21 +184,21 @@ impl<T: Kind> HandleOf<T> {
     }
 
     /// Takes the handle, which was parked, back from the last one that is open.
-    fn open_again(&mut self, at: NonNull<Shared>) {
+    fn open_again(&mut self, ptr: NonNull<Shared>) {
         // SAFETY: it is freed by the handle that is closed last, and one is open.
-        let shared = unsafe { at.as_ref() };
+        let shared = unsafe { ptr.as_ref() };
         self.give_owned(shared.unpark(self.number));
         shared.open.fetch_add(1, Ordering::Relaxed);
-        self.shared = Some(at);
+        self.shared = Some(ptr);
     }
 
     /// What the handles share, if all others are closed. If not, this one is closed then too: it is parked.
     fn last(&mut self) -> Option<NonNull<Shared>> {
-        let at = self.shared?;
+        let ptr = self.shared?;
         // SAFETY: it is freed by the handle that is closed last, and this one is open.
-        let shared = unsafe { at.as_ref() };
+        let shared = unsafe { ptr.as_ref() };
         if shared.open.load(Ordering::Acquire) == 1 {
-            return Some(at);
+            return Some(ptr);
         }
         // Those that are open can have its slots.
         // SAFETY: `&mut` is exclusive.
@@ -207,7 +207,7 @@ impl<T: Kind> HandleOf<T> {
         if shared.open.fetch_sub(1, Ordering::AcqRel) == 1 {
             self.give_owned(shared.unpark(self.number));
             shared.open.store(1, Ordering::Relaxed);
-            return Some(at);
+            return Some(ptr);
         }
         self.shared = None;
         None
@@ -263,16 +263,16 @@ impl<T: Kind> fmt::Debug for HandleOf<T> {
 
 impl<T: Kind> Drop for HandleOf<T> {
     fn drop(&mut self) {
-        let Some(at) = self.last() else {
+        let Some(ptr) = self.last() else {
             return;
         };
         // SAFETY: all others are closed, so nothing else reaches what they shared, which was one boxed value; and `&mut`
         // is exclusive. After a close all are empty, and stay so.
         unsafe {
-            let shared = at.as_ref();
+            let shared = ptr.as_ref();
             shared.park(self.number, self.take_owned());
             order::of_all(|| T::END_ALL(shared.all(), shared.count));
-            drop(Box::from_raw(at.as_ptr()));
+            drop(Box::from_raw(ptr.as_ptr()));
         }
     }
 }

@@ -3,7 +3,7 @@
 //!
 //! What a thread did before it inserted a key comes before what a thread does that then finds it, and what it did before it removed
 //! one before what a thread does that then finds it absent. A call that gives a key another value counts as a remove and an insert.
-#![allow(unused_variables, reason = "a key is told with the feature alone")]
+#![allow(unused_variables, reason = "a key is reported with the feature alone")]
 
 #[cfg(feature = "tsan")]
 mod told {

@@ -52,7 +52,7 @@ impl<T: Kind> Room<T> {
         }
     }
 
-    /// What was told, once the room is filled.
+    /// What was returned, once the room is filled.
     pub(crate) fn report(mut self, ReportNumbers { epoch, live, marked, free }: ReportNumbers) -> T::Report {
         self.plain.truncate(live as usize);
         T::report(Contents { items: self.items(), epoch, marked, free })

@@ -10,7 +10,7 @@ const THREADS: u64 = 4;
 const KEYS: u64 = 64;
 const ROUNDS: u64 = 100_000;
 
-/// What a thread has, and what it was told.
+/// What a thread has, and what it got.
 struct Worker {
     number: u64,
     random: u64,

@@ -36,7 +36,7 @@ accepted_checked {t} {p} {step} own ok = record {
 
 -- the slot that the link of what is held names is held
 pub named_slot : {know : Know} (held : Held) (s : ℕ) → IsHeld know held → Names held s → IsHeldSlot know s
-named_slot held s h names = record { at = held.at; link = link_of held.word; known = h.link; names = names }
+named_slot held s h names = record { place = held.at; link = link_of held.word; known = h.link; names = names }
 
 module _ (p : PassView) (sound : PassLaw p) where
   -- the place of what is held is one of the shape, and is held
@@ -72,37 +72,37 @@ module _ (p : PassView) (sound : PassLaw p) where
 
   pub node_in : {t : TableView} (held : Held) (s : ℕ) → IsOf p.trace t → IsHeld (knows p.trace) held →
       held.at ≡ Slot s → s < t.start.shape.slots
-  node_in held s own h at =
+  node_in held s own h place_is =
       let Q : At → Type 0 = IsAtIn p.trace.start in
-      subst (λ (start : Start). s < start.shape.slots) own.1 (subst Q at (place_in held h))
+      subst (λ (start : Start). s < start.shape.slots) own.1 (subst Q place_is (place_in held h))
 
   pub node_found : (held : Held) (s : ℕ) → IsHeld (knows p.trace) held → held.at ≡ Slot s →
       IsTrue (holds (knows p.trace).checked s)
-  node_found held s h at =
-      let Q : At → Type 0 = IsHeldPlace (knows p.trace) in slot_found s (subst Q at (place_held held h))
+  node_found held s h place_is =
+      let Q : At → Type 0 = IsHeldPlace (knows p.trace) in slot_found s (subst Q place_is (place_held held h))
 
   -- a node is one of the shape, its link is known, and its key
   node : (held : Held) (s : ℕ) → IsHeld (knows p.trace) held → held.at ≡ Slot s →
       ((key : ℕ) × KeyAt (knows p.trace) held.at key) →
       (s < p.trace.start.shape.slots) × Knows (knows p.trace) (LinkAt (Slot s) (link_of held.word)) ×
       ((key : ℕ) × Knows (knows p.trace) (KeyOf s key))
-  node held s h at k =
+  node held s h place_is k =
       let P : At → Type 0 = IsAtIn p.trace.start in
       let Q : At → Type 0 = λ i. Knows (knows p.trace) (LinkAt i (link_of held.word)) in
       let R : At → Type 0 = λ i. KeyAt (knows p.trace) i k.0 in
-      (subst P at (place_in held h), subst Q at h.link, (k.0, subst R at k.1))
+      (subst P place_is (place_in held h), subst Q place_is h.link, (k.0, subst R place_is k.1))
 
   pub mark_accepted : (held : Held) (s : ℕ) → IsHeld (knows p.trace) held → held.at ≡ Slot s →
       ((key : ℕ) × KeyAt (knows p.trace) held.at key) → (link_of held.word).mark ≡ false → IsValued p.trace held.at →
       Accepts p.trace.start (knows p.trace) (Mark s held.word)
-  mark_accepted held s h at k unmarked valued =
-      let n = node held s h at k in
+  mark_accepted held s h place_is k unmarked valued =
+      let n = node held s h place_is k in
       let V : At → Type 0 = IsValued p.trace in
       known_accepts p.trace.start p.trace.passes p.trace.seen sound.start sound.is_run p.trace.who (Mark s held.word)
       (record {
         in_shape = n.0;
         owned = tt;
-        known = (n.1, n.2, value_known p.trace.start.shape.values (knows p.trace) s (subst V at valued));
+        known = (n.1, n.2, value_known p.trace.start.shape.values (knows p.trace) s (subst V place_is valued));
         in_range = unmarked;
         below_last = tt;
       })
@@ -110,10 +110,10 @@ module _ (p : PassView) (sound : PassLaw p) where
   pub present_accepted : (op : Op) (held : Held) (s : ℕ) → IsHeld (knows p.trace) held → held.at ≡ Slot s →
       ((key : ℕ) × KeyAt (knows p.trace) held.at key) → (link_of held.word).mark ≡ false → op ≢ Remove →
       IsAsked p.trace op held.at → Accepts p.trace.start (knows p.trace) (ConfirmPresent op s held.word)
-  present_accepted op held s h at k unmarked not asked =
-      let n = node held s h at k in
+  present_accepted op held s h place_is k unmarked not asked =
+      let n = node held s h place_is k in
       let V : At → Type 0 = IsAsked p.trace op in
-      let asks = subst V at asked in
+      let asks = subst V place_is asked in
       known_accepts p.trace.start p.trace.passes p.trace.seen sound.start sound.is_run p.trace.who
       (ConfirmPresent op s held.word) (record {
         in_shape = (n.0, op_asked p.trace.start op (λ get. (asks get).0));

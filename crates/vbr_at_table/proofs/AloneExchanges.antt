@@ -40,9 +40,9 @@ module _ {p q : Trace} {expected s : ℕ} {pred : At} (is : IsStart p.start)
       image pred (run_agrees q.start q.passes q.seen (shape_on d is) (did_run d))
       ∙ ap (λ (start : Start). machine.link_at (world_after start q.seen) pred) d.same.1 ∙ link_after d ∙ is_new
     where
-      image : (at : At) →
+      image : (place : At) →
           Agrees q.start (world_after q.start q.seen) (incarnations_after q.start q.seen) (notes_after q.start q.seen) →
-          link_shown_at (nodes q) at ≡ machine.link_at (world_after q.start q.seen) at
+          link_shown_at (nodes q) place ≡ machine.link_at (world_after q.start q.seen) place
       image (Head b) g = sym (g.image.head b)
       image (Slot t) g = sym (g.image.link t)
 
@@ -51,10 +51,11 @@ module _ {p q : Trace} {expected s : ℕ} {pred : At} (is : IsStart p.start)
   won_now : found p.start (world_after p.start p.seen) (Unlink pred expected s) ≡ expected
   won_now = sym (found_now d alone) ∙ won expected _ d.shows.answers
 
-  ahead_is : (bucket : ℕ) (at : At) →
-      ahead q bucket at
-      ≡ behind p.start (incarnations_after p.start (p.seen ++ event_of p.who (Unlink pred expected s) ∷ [])) bucket at
-  ahead_is bucket at = (λ i. behind (d.same.1 i) (nodes_next d alone i) bucket at)
+  ahead_is : (bucket : ℕ) (place : At) →
+      ahead q bucket place
+      ≡ behind p.start (incarnations_after p.start (p.seen ++ event_of p.who (Unlink pred expected s) ∷ [])) bucket
+      place
+  ahead_is bucket place = (λ i. behind (d.same.1 i) (nodes_next d alone i) bucket place)
 
 pub unlinked_alone : {p q : Trace} {s : ℕ} (held : Held) (new : ℕ) → IsStart p.start →
     (d : Did (Unlink held.at held.word s) p q held.word) → IsAlone p q →

@@ -50,8 +50,8 @@ pub present_keeps : {op : Op} {s expected r : ℕ} {p q : PassView} →
     Did (ConfirmPresent op s expected) p.trace q.trace r → KeepsPool p q → KeepsByLoad p q
 present_keeps d pool = keeps_by_load d (λ know. refl) refl pool d.know
 
-pub absent_keeps : {op : Op} {key expected r : ℕ} {at : At} {p q : PassView} →
-    Did (ConfirmAbsent op key at expected) p.trace q.trace r → KeepsPool p q → KeepsByLoad p q
+pub absent_keeps : {op : Op} {key expected r : ℕ} {place : At} {p q : PassView} →
+    Did (ConfirmAbsent op key place expected) p.trace q.trace r → KeepsPool p q → KeepsByLoad p q
 absent_keeps d pool = keeps_by_load d (λ know. refl) refl pool d.know
 
 -- ---- the call
@@ -62,8 +62,8 @@ pub present_answered : {op : Op} {s expected : ℕ} {p q : Trace} → IsStart p.
 present_answered start run d key value k v =
     record { made = present_made start run d key value k v; adds = present_adds start run d key value k v }
 
-pub absent_answered : {op : Op} {key expected : ℕ} {at : At} {p q : Trace} →
-    Did (ConfirmAbsent op key at expected) p q expected → IsAnswered p q (set_call p.who op key false)
+pub absent_answered : {op : Op} {key expected : ℕ} {place : At} {p q : Trace} →
+    Did (ConfirmAbsent op key place expected) p q expected → IsAnswered p q (set_call p.who op key false)
 absent_answered d = record { made = absent_made d; adds = absent_adds d }
 
 -- ---- another link
@@ -71,14 +71,14 @@ absent_answered d = record { made = absent_made d; adds = absent_adds d }
 module _ {p q : Trace} {found : ℕ} (held : Held) (other : found ≢ held.word) where
   pub present_finds : {op : Op} (s : ℕ) → held.at ≡ Slot s → Did (ConfirmPresent op s held.word) p q found →
       FindsAnother p q held (LostExchange found)
-  present_finds {op} s at d =
-      let F : At → Type 0 = λ at. WasFound p q at found in
+  present_finds {op} s place_is d =
+      let F : At → Type 0 = λ place. WasFound p q place found in
       record {
         quiet = present_failed d other;
         adds_none = present_adds_none d other;
         lost = (
           other,
-          subst F (sym at)
+          subst F (sym place_is)
               (record {
                 moment = p.seen ++ d.rest;
                 within = did_moment d;
@@ -88,10 +88,11 @@ module _ {p q : Trace} {found : ℕ} (held : Held) (other : found ≢ held.word)
         );
       }
 
-  pub absent_finds : {op : Op} {key : ℕ} (at : At) → held.at ≡ at → Did (ConfirmAbsent op key at held.word) p q found →
+  pub absent_finds : {op : Op} {key : ℕ} (place : At) → held.at ≡ place →
+      Did (ConfirmAbsent op key place held.word) p q found →
       FindsAnother p q held (LostExchange found)
-  absent_finds {op} {key} at is d =
-      let F : At → Type 0 = λ at. WasFound p q at found in
+  absent_finds {op} {key} place is d =
+      let F : At → Type 0 = λ place. WasFound p q place found in
       record {
         quiet = absent_failed d other;
         adds_none = absent_adds_none d other;

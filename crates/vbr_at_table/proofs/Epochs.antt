@@ -70,7 +70,7 @@ later start w p (StoreBirth s birth) t low ok = same_epoch_and_stamps w (after s
 later start w p (StoreKey s key) t low ok = same_epoch_and_stamps w (after start w p (StoreKey s key)) refl t
 later start w p (StoreValue s value) t low ok = same_epoch_and_stamps w (after start w p (StoreValue s value)) refl t
 later start w p (StoreLink s next) t low ok = same_epoch_and_stamps w (after start w p (StoreLink s next)) refl t
-later start w p (LoadLink at) t low ok = same_epoch_and_stamps w (after start w p (LoadLink at)) refl t
+later start w p (LoadLink place) t low ok = same_epoch_and_stamps w (after start w p (LoadLink place)) refl t
 later start w p (LoadBirth s) t low ok = same_epoch_and_stamps w (after start w p (LoadBirth s)) refl t
 later start w p (LoadKey s) t low ok = same_epoch_and_stamps w (after start w p (LoadKey s)) refl t
 later start w p (LoadValue s) t low ok = same_epoch_and_stamps w (after start w p (LoadValue s)) refl t
@@ -95,9 +95,9 @@ later start w p (Unlink (Slot v) expected s) t low ok =
 later start w p (ConfirmPresent op s expected) t low ok =
     same_epoch_and_stamps w (after start w p (ConfirmPresent op s expected))
     (by_both (word_of (w.link s) == expected) epoch_and_stamps _ w (epoch_and_stamps w) refl refl) t
-later start w p (ConfirmAbsent op key at expected) t low ok =
-    same_epoch_and_stamps w (after start w p (ConfirmAbsent op key at expected))
-    (by_both (found start w (ConfirmAbsent op key at expected) == expected) epoch_and_stamps _ w (epoch_and_stamps w)
+later start w p (ConfirmAbsent op key place expected) t low ok =
+    same_epoch_and_stamps w (after start w p (ConfirmAbsent op key place expected))
+    (by_both (found start w (ConfirmAbsent op key place expected) == expected) epoch_and_stamps _ w (epoch_and_stamps w)
     refl refl) t
 
 -- the epoch that is read in a timely world is at least 1
@@ -113,7 +113,7 @@ some_read start w (StoreBirth s birth) e t some = some
 some_read start w (StoreKey s key) e t some = some
 some_read start w (StoreValue s value) e t some = some
 some_read start w (StoreLink s next) e t some = some
-some_read start w (LoadLink at) e t some = some
+some_read start w (LoadLink place) e t some = some
 some_read start w (LoadBirth s) e t some = some
 some_read start w (LoadKey s) e t some = some
 some_read start w (LoadValue s) e t some = some
@@ -122,7 +122,7 @@ some_read start w (Mark s expected) e t some = some
 some_read start w (Replace s expected v) e t some = some
 some_read start w (Unlink pred expected s) e t some = some
 some_read start w (ConfirmPresent op s expected) e t some = some
-some_read start w (ConfirmAbsent op key at expected) e t some = some
+some_read start w (ConfirmAbsent op key place expected) e t some = some
 
 read_after : (start : Start) (w : World) (p : ℕ) (step : Step) → IsTimely w → (q : ℕ) →
     1 ≤ ((after start w p step).know q).epoch

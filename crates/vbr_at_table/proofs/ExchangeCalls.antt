@@ -71,25 +71,25 @@ pub mark_told : {p q : Trace} {s word : ℕ} (node : Held) → IsStart p.start �
     IsHeld (knows p) node → node.at ≡ Slot s → Did (Mark s node.word) p q node.word →
     link_of word ≡ marked (link_of node.word)
     → MarksEntry p q node (record { slot = s; birth = node.birth; word = word; epoch = node.epoch })
-mark_told {p} {q} {s} {word} node start is_run held at d link =
-    let B : At → Type 0 = λ at. BirthAt (knows q) at node.birth in
+mark_told {p} {q} {s} {word} node start is_run held place_is d link =
+    let B : At → Type 0 = λ place. BirthAt (knows q) place node.birth in
     let L : Link → Type 0 = λ link. Knows (knows q) (LinkAt (Slot s) link) in
     let h = held_kept node (mark_keeps d) held in
     record {
       made = (λ key value k v.
-          let K : At → Type 0 = λ at. KeyAt (knows p) at key in
-          let V : At → Type 0 = λ at. ValueAt (knows p) at value in
-          mark_made start is_run d key value (subst K at k) (λ has. subst V at (v has)));
-      at = sym at;
+          let K : At → Type 0 = λ place. KeyAt (knows p) place key in
+          let V : At → Type 0 = λ place. ValueAt (knows p) place value in
+          mark_made start is_run d key value (subst K place_is k) (λ has. subst V place_is (v has)));
+      place = sym place_is;
       link = link;
       held = record {
         held =
-            record { epoch = h.epoch; link = subst L (sym link) (mark_known d); birth = subst B at h.birth };
+            record { epoch = h.epoch; link = subst L (sym link) (mark_known d); birth = subst B place_is h.birth };
         mark = ap (λ (l : Link). l.mark) link;
       };
       out = mark_takes_out d start;
-      leaves = marked_leaves node start at d;
-      alone = λ alone. marked_alone node start at d alone;
+      leaves = marked_leaves node start place_is d;
+      alone = λ alone. marked_alone node start place_is d alone;
     }
 
 -- ---- a publication, after what filled the hand
@@ -141,7 +141,7 @@ module _ {p q r : PassView} {n : ℕ} (pred : Held) (gone : Marked) (named : Lin
         keeps = keeps_on read.keeps (unlink_keeps d);
         slot = same;
         owned = owned;
-        at = refl;
+        place = refl;
         read = read_after reads.quiet
             (new_read q law pred gone named birth held still_marked is_named read.birth new link d);
         still = ap (λ (l : Link). l.mark) link;

@@ -155,13 +155,13 @@ pub ready : {p q r : PassView} {s key one value : ℕ} (hand : HandView) (pred :
     BirthNamed (knows p.trace) (link_of pred.word).slot next → Did (StoreKey s key) p.trace q.trace one →
     PutsValue q r s value → Keeps (knows q.trace) (knows r.trace) → IsReady r pred s hand.birth next
 ready {p} {q} {r} {s} {key} {one} {value} hand pred next law is same held named d put more =
-    let at = hand_at p law hand is s same in
+    let in_hand = hand_at p law hand is s same in
     let keeps = keeps_on (key_stored_keeps d) more in
     let P : Start → Type 0 = λ start. s < start.shape.slots in
     record {
-      low = subst P (sym (put.quiet.same.start ∙ d.same.1)) at.0;
+      low = subst P (sym (put.quiet.same.start ∙ d.same.1)) in_hand.0;
       hand = valued_hand q.trace.start.shape.values ((knows q.trace).own s) ((knows r.trace).own s) value hand.birth
-          put.holding (keyed_hand d at.1 at.2);
+          put.holding (keyed_hand d in_hand.1 in_hand.2);
       held = held_kept pred keeps held;
       named = birth_named_kept (link_of pred.word).slot next keeps named;
     }

@@ -64,7 +64,7 @@ had_spent p q spent hand same = (spent, go)
     go slot (inl in_pool) other = inl (subst (λ (l : List ℕ). Contains l slot) (sym same) in_pool)
     go slot (inr in_hand) other = absurd (other cc)
 
--- a call behind what was kept before it
+-- a call after what was kept before it
 pub had_then : {E : Type 0} (p q r : PassView) (answer : Result Bool E) → HasStill p q → HasUnpublished q r answer →
     HasUnpublished p r answer
 had_then p q r (Ok true) first then = (then.0, λ slot has other. then.1 slot (first slot has) other)

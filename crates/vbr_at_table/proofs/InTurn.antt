@@ -71,11 +71,11 @@ turn_more start run who step none turn before later pred expected s h =
   where
     last : (m : List Event) → before ≡ run ++ m → event_of who step ∷ [] ≡ m ++ unlinking who pred expected s ∷ later →
         number_at start before (Unstamped who) ≡ 0
-    last [] at e =
+    last [] stands e =
         let is : event_of who step ≡ unlinking who pred expected s = first_same _ _ [] later e in
         let P : List Event → Type 0 = λ r. number_at start r (Unstamped who) ≡ 0 in
-        subst P (sym (at ∙ append-nil run)) (none pred expected s (ap (λ (v : Event). v.step) is))
-    last (x ∷ m) at e = absurd (empty m (rest_same _ _ [] (m ++ unlinking who pred expected s ∷ later) e))
+        subst P (sym (stands ∙ append-nil run)) (none pred expected s (ap (λ (v : Event). v.step) is))
+    last (x ∷ m) stands e = absurd (empty m (rest_same _ _ [] (m ++ unlinking who pred expected s ∷ later) e))
       where
         empty : (m : List Event) → [] ≡ m ++ unlinking who pred expected s ∷ later → ⊥
         empty [] e = absurd (cc)

@@ -23,13 +23,14 @@ keeps_on x y = record { epoch = y.epoch ∙ x.epoch; reads = λ read k. y.reads 
 -- ---- what is held
 
 pub slot_kept : {a b : Know} (s : ℕ) → Keeps a b → IsHeldSlot a s → IsHeldSlot b s
-slot_kept s k h = record { at = h.at; link = h.link; known = k.reads (LinkAt h.at h.link) h.known; names = h.names }
+slot_kept s k h = record
+    { place = h.place; link = h.link; known = k.reads (LinkAt h.place h.link) h.known; names = h.names }
 
-pub place_kept : {a b : Know} (at : At) → Keeps a b → IsHeldPlace a at → IsHeldPlace b at
+pub place_kept : {a b : Know} (place : At) → Keeps a b → IsHeldPlace a place → IsHeldPlace b place
 place_kept (Head b) k h = tt
 place_kept (Slot s) k h = slot_kept s k h
 
-pub birth_kept : {a b : Know} (at : At) (birth : ℕ) → Keeps a b → BirthAt a at birth → BirthAt b at birth
+pub birth_kept : {a b : Know} (place : At) (birth : ℕ) → Keeps a b → BirthAt a place birth → BirthAt b place birth
 birth_kept (Head b) birth k h = h
 birth_kept (Slot s) birth k h = k.reads _ h
 
@@ -38,15 +39,15 @@ pub birth_named_kept : {a b : Know} (named : Option ℕ) (birth : ℕ) → Keeps
 birth_named_kept None birth k h = h
 birth_named_kept (Some s) birth k h = k.reads _ h
 
-pub key_kept : {a b : Know} (at : At) (key : ℕ) → Keeps a b → KeyAt a at key → KeyAt b at key
+pub key_kept : {a b : Know} (place : At) (key : ℕ) → Keeps a b → KeyAt a place key → KeyAt b place key
 key_kept (Head b) key k h = h
 key_kept (Slot s) key k h = k.reads _ h
 
 -- a place that is held in a bucket stays held there
-pub held_in_kept : {a b : Know} (at : At) (bucket : ℕ) → Keeps a b → HeldIn a at bucket → HeldIn b at bucket
+pub held_in_kept : {a b : Know} (place : At) (bucket : ℕ) → Keeps a b → HeldIn a place bucket → HeldIn b place bucket
 held_in_kept _ _ k (at_head bucket) = at_head bucket
-held_in_kept _ _ k (at_slot at link s bucket h known names) =
-    at_slot at link s bucket (held_in_kept at bucket k h) (k.reads (LinkAt at link) known) names
+held_in_kept _ _ k (at_slot place link s bucket h known names) =
+    at_slot place link s bucket (held_in_kept place bucket k h) (k.reads (LinkAt place link) known) names
 
 -- and so is what its link names
 pub held_in_next : {know : Know} (held : Held) (s bucket : ℕ) → IsHeld know held → (link_of held.word).slot ≡ Some s →
@@ -62,8 +63,8 @@ marked_kept marked k h = record { held = held_kept (held_of marked) k h.held; ma
 
 -- ---- where keys stand
 
-pub behind_kept : {a b : Know} (start : Start) (at : At) (key : ℕ) → Keeps a b → StandsBehind start a at key →
-    StandsBehind start b at key
+pub behind_kept : {a b : Know} (start : Start) (place : At) (key : ℕ) → Keeps a b → StandsBehind start a place key →
+    StandsBehind start b place key
 behind_kept start (Head b) key k h = h
 behind_kept start (Slot s) key k h = (h.0, k.reads _ h.1, h.2, h.3)
 

@@ -32,25 +32,26 @@ no_get e = absurd (cc)
 
 -- it is one that answers by presence, or one that answers by absence
 either_step : (P : At → Step → Type 0) (key word : ℕ) → ((s : ℕ) → P (Slot s) (ConfirmPresent Has s word)) →
-    ((at : At) → P at (ConfirmAbsent Has key at word)) → (present : Bool) (at : At) → P at (look_up present key at word)
+    ((place : At) → P place (ConfirmAbsent Has key place word)) → (present : Bool) (place : At) →
+    P place (look_up present key place word)
 either_step P key word there gone true (Slot s) = there s
 either_step P key word there gone true (Head b) = gone (Head b)
-either_step P key word there gone false at = gone at
+either_step P key word there gone false place = gone place
 
-pub look_up_keeps : {p q : PassView} {r : ℕ} (present : Bool) (key : ℕ) (at : At) (word : ℕ) →
-    Did (look_up present key at word) p.trace q.trace r → KeepsPool p q → KeepsByLoad p q
-look_up_keeps {p} {q} {r} present key at word d pool =
-    let P : At → Step → Type 0 = λ at step. Did step p.trace q.trace r → KeepsByLoad p q in
-    either_step P key word (λ s d. present_keeps d pool) (λ at d. absent_keeps d pool) present at d
+pub look_up_keeps : {p q : PassView} {r : ℕ} (present : Bool) (key : ℕ) (place : At) (word : ℕ) →
+    Did (look_up present key place word) p.trace q.trace r → KeepsPool p q → KeepsByLoad p q
+look_up_keeps {p} {q} {r} present key place word d pool =
+    let P : At → Step → Type 0 = λ place step. Did step p.trace q.trace r → KeepsByLoad p q in
+    either_step P key word (λ s d. present_keeps d pool) (λ place d. absent_keeps d pool) present place d
 
 module _ (p : PassView) (sound : PassLaw p) (key : ℕ) (held : Held) where
-  accepted_at : IsHeld (knows p.trace) held → (link_of held.word).mark ≡ false → (at : At) → held.at ≡ at →
+  accepted_at : IsHeld (knows p.trace) held → (link_of held.word).mark ≡ false → (place : At) → held.at ≡ place →
       (present : Bool) → DecidesKey p.trace.start (knows p.trace) key held present →
-      Accepts p.trace.start (knows p.trace) (look_up present key at held.word)
+      Accepts p.trace.start (knows p.trace) (look_up present key place held.word)
   accepted_at h unmarked (Slot s) e true a =
       present_accepted p sound Has held s h e (key, a.1) unmarked no_remove (λ get. absurd (no_get get))
   accepted_at h unmarked (Head b) e true a = absurd (subst IsSlot e a.0)
-  accepted_at h unmarked at e false a =
+  accepted_at h unmarked place e false a =
       subst (λ (x : At). Accepts p.trace.start (knows p.trace) (ConfirmAbsent Has key x held.word)) e
       (absent_accepted p sound Has key held h a.0 a.1 unmarked no_insert (λ get. absurd (no_get get)))
 
@@ -59,15 +60,15 @@ module _ (p : PassView) (sound : PassLaw p) (key : ℕ) (held : Held) where
       Accepts p.trace.start (knows p.trace) (look_up present key held.at held.word)
   look_up_accepted h unmarked present a = accepted_at h unmarked held.at refl present a
 
-  answered_at : (q : PassView) (at : At) → held.at ≡ at → (present : Bool) →
+  answered_at : (q : PassView) (place : At) → held.at ≡ place → (present : Bool) →
       DecidesKey p.trace.start (knows p.trace) key held present →
-      Did (look_up present key at held.word) p.trace q.trace held.word →
+      Did (look_up present key place held.word) p.trace q.trace held.word →
       IsAnswered p.trace q.trace (set_call p.trace.who Has key present)
   answered_at q (Slot s) e true a d =
       present_answered sound.start sound.is_run d key 0 (subst (λ (x : At). KeyAt (knows p.trace) x key) e a.1)
       (λ get. absurd (no_get get))
   answered_at q (Head b) e true a d = absurd (subst IsSlot e a.0)
-  answered_at q at e false a d = absent_answered d
+  answered_at q place e false a d = absent_answered d
 
   pub look_up_answered : (q : PassView) (present : Bool) → DecidesKey p.trace.start (knows p.trace) key held present →
       Did (look_up present key held.at held.word) p.trace q.trace held.word →
@@ -79,7 +80,7 @@ module _ (p : PassView) (sound : PassLaw p) (key : ℕ) (held : Held) where
       FindsAnother p.trace q.trace held (LostExchange found)
   look_up_finds q present found d other =
       let P : At → Step → Type 0 =
-      λ at step. held.at ≡ at → Did step p.trace q.trace found →
+      λ place step. held.at ≡ place → Did step p.trace q.trace found →
       FindsAnother p.trace q.trace held (LostExchange found) in
       either_step P key held.word (λ s is d. present_finds held other s is d)
-      (λ at is d. absent_finds held other at is d) present held.at refl d
+      (λ place is d. absent_finds held other place is d) present held.at refl d

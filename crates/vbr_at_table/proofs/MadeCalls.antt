@@ -120,15 +120,15 @@ pub present_failed : {op : Op} {s expected found : ℕ} {p q : Trace} → Did (C
 present_failed {op} {s} {expected} {found} d ne =
     failed d (other expected found _ ne (unanswered (present_reply op) expected found _ ne d.shows.answers))
 
-pub absent_made : {op : Op} {key : ℕ} {at : At} {expected : ℕ} {p q : Trace} →
-    Did (ConfirmAbsent op key at expected) p q expected → Made (set_call p.who op key false) p q
-absent_made {op} {key} {at} {expected} {p} d =
+pub absent_made : {op : Op} {key : ℕ} {place : At} {expected : ℕ} {p q : Trace} →
+    Did (ConfirmAbsent op key place expected) p q expected → Made (set_call p.who op key false) p q
+absent_made {op} {key} {place} {expected} {p} d =
     succeeded d (set_call p.who op key false) (λ w. refl)
     (eq-eqb _ expected (answers_same false expected _ d.shows.answers)) refl
 
-pub absent_failed : {op : Op} {key : ℕ} {at : At} {expected found : ℕ} {p q : Trace} →
-    Did (ConfirmAbsent op key at expected) p q found → found ≢ expected → Quiet p q
-absent_failed {op} {key} {at} {expected} {found} d ne =
+pub absent_failed : {op : Op} {key : ℕ} {place : At} {expected found : ℕ} {p q : Trace} →
+    Did (ConfirmAbsent op key place expected) p q found → found ≢ expected → Quiet p q
+absent_failed {op} {key} {place} {expected} {found} d ne =
     failed d (other expected found _ ne (unanswered false expected found _ ne d.shows.answers))
 
 -- ---- what confirming loads add to the chronicle
@@ -162,9 +162,9 @@ present_adds_none {op} {s} {expected} {found} {p} {q} d ne =
           []) f ∙ append-nil (entries_of p);
     }
 
-pub absent_adds : {op : Op} {key : ℕ} {at : At} {expected : ℕ} {p q : Trace} →
-    Did (ConfirmAbsent op key at expected) p q expected → AddsAnswer (set_call p.who op key false) p q
-absent_adds {op} {key} {at} {expected} {p} d =
+pub absent_adds : {op : Op} {key : ℕ} {place : At} {expected : ℕ} {p q : Trace} →
+    Did (ConfirmAbsent op key place expected) p q expected → AddsAnswer (set_call p.who op key false) p q
+absent_adds {op} {key} {place} {expected} {p} d =
     let t = eq-eqb _ expected (answers_same false expected _ d.shows.answers) in
     record {
       entries = did_entries d
@@ -172,9 +172,9 @@ absent_adds {op} {key} {at} {expected} {p} d =
           entries_of p ++ cond b (entries.entry_of_call p.who (Some (set_call p.who op key false))) []) t;
     }
 
-pub absent_adds_none : {op : Op} {key : ℕ} {at : At} {expected found : ℕ} {p q : Trace} →
-    Did (ConfirmAbsent op key at expected) p q found → found ≢ expected → AddsNone p q
-absent_adds_none {op} {key} {at} {expected} {found} {p} d ne =
+pub absent_adds_none : {op : Op} {key : ℕ} {place : At} {expected found : ℕ} {p q : Trace} →
+    Did (ConfirmAbsent op key place expected) p q found → found ≢ expected → AddsNone p q
+absent_adds_none {op} {key} {place} {expected} {found} {p} d ne =
     let f = other expected found _ ne (unanswered false expected found _ ne d.shows.answers) in
     record {
       entries = did_entries d

@@ -37,7 +37,7 @@ module _ (start : Start) (w : World) (p s expected : ℕ) where
   epoch_left : (after start w p (Mark s expected)).epoch ≡ w.epoch
   epoch_left = by_both (found start w (Mark s expected) == expected) (λ v. v.epoch) _ w w.epoch refl refl
 
-  link_left : (at : At) → at ≢ Slot s → link_at (after start w p (Mark s expected)) at ≡ link_at w at
+  link_left : (place : At) → place ≢ Slot s → link_at (after start w p (Mark s expected)) place ≡ link_at w place
   link_left (Head b) other =
       by_both (found start w (Mark s expected) == expected) (λ v. v.head b) _ w (w.head b) refl refl
   link_left (Slot t) other =
@@ -46,14 +46,14 @@ module _ (start : Start) (w : World) (p s expected : ℕ) where
 
 -- ---- in what a pass that was alone has seen
 
-link_is : {start : Start} {w : World} {a : Incarnations} {notes : ℕ → Notes} → Agrees start w a notes → (at : At) →
-    link_shown_at a at ≡ link_at w at
+link_is : {start : Start} {w : World} {a : Incarnations} {notes : ℕ → Notes} → Agrees start w a notes → (place : At) →
+    link_shown_at a place ≡ link_at w place
 link_is g (Head b) = sym (g.image.head b)
 link_is g (Slot t) = sym (g.image.link t)
 
 pub marked_alone : {p q : Trace} {s r : ℕ} (node : Held) → IsStart p.start → node.at ≡ Slot s →
     Did (Mark s node.word) p q r → IsAlone p q → MarksAlone p q node
-marked_alone {p} {q} {s} node is at d alone =
+marked_alone {p} {q} {s} node is place_is d alone =
     let before = run_agrees p.start p.passes p.seen is (run_was d alone) in
     let now = run_agrees q.start q.passes q.seen (shape_on d is) (did_run d) in
     let w = world_after p.start p.seen in
@@ -65,7 +65,7 @@ marked_alone {p} {q} {s} node is at d alone =
           ∙ before.image.epoch;
       others = λ place other.
           link_is now place ∙ ap (λ (v : World). link_at v place) next
-          ∙ link_left p.start w p.who s node.word place (λ e. other (e ∙ sym at)) ∙ sym (link_is before place);
+          ∙ link_left p.start w p.who s node.word place (λ e. other (e ∙ sym place_is)) ∙ sym (link_is before place);
       listed = λ bucket h.
           (λ i. behind (d.same.1 i) (nodes_next d alone i) bucket (Head h))
           ∙ mark_leaves p.start p.passes p.seen is (run_was d alone) p.who bucket h s node.word (accepted_now d alone);
@@ -99,13 +99,13 @@ leaves_by {p} {q} step node is left d =
 
 pub marked_leaves : {p q : Trace} {s r : ℕ} (node : Held) → IsStart p.start → node.at ≡ Slot s →
     Did (Mark s node.word) p q r → LeavesOthers p q node
-marked_leaves {p} {q} {s} node is at d =
+marked_leaves {p} {q} {s} node is place_is d =
     leaves_by (Mark s node.word) node is
-    (λ w place other. link_left p.start w p.who s node.word place (λ e. other (e ∙ sym at))) d
+    (λ w place other. link_left p.start w p.who s node.word place (λ e. other (e ∙ sym place_is))) d
 
 -- a replacement does so
-replaced_link : (start : Start) (w : World) (p s expected t : ℕ) (at : At) → at ≢ Slot s →
-    link_at (after start w p (Replace s expected t)) at ≡ link_at w at
+replaced_link : (start : Start) (w : World) (p s expected t : ℕ) (place : At) → place ≢ Slot s →
+    link_at (after start w p (Replace s expected t)) place ≡ link_at w place
 replaced_link start w p s expected t (Head b) other =
     by_both (found start w (Replace s expected t) == expected) (λ v. v.head b) _ w (w.head b) refl refl
 replaced_link start w p s expected t (Slot i) other =
@@ -114,9 +114,9 @@ replaced_link start w p s expected t (Slot i) other =
 
 pub replaced_leaves : {p q : Trace} {s t r : ℕ} (node : Held) → IsStart p.start → node.at ≡ Slot s →
     Did (Replace s node.word t) p q r → LeavesOthers p q node
-replaced_leaves {p} {q} {s} {t} node is at d =
+replaced_leaves {p} {q} {s} {t} node is place_is d =
     leaves_by (Replace s node.word t) node is
-    (λ w place other. replaced_link p.start w p.who s node.word t place (λ e. other (e ∙ sym at))) d
+    (λ w place other. replaced_link p.start w p.who s node.word t place (λ e. other (e ∙ sym place_is))) d
 
 -- and so it is since what changed no list
 pub leaves_since : {p q r : Trace} (node : Held) → Quiet p q → ChangesNone p q → LeavesOthers q r node →

@@ -102,17 +102,17 @@ run_before {step} {p} {q} d =
     (let P : List Event → Type 0 = IsRun p.start p.passes in subst P d.seen d.is_run)
 
 -- the link that a load read stood there at the load
-stood_here : {p q : Trace} (at : At) (birth word epoch : ℕ) → IsStart p.start → IsHeldPlace (knows p) at →
-    (knows p).epoch ≡ epoch → Did (LoadLink at) p q word →
-    Stood p q (record { at = at; birth = birth; word = word; epoch = epoch })
-stood_here {p} {q} at birth word epoch start held same d =
+stood_here : {p q : Trace} (place : At) (birth word epoch : ℕ) → IsStart p.start → IsHeldPlace (knows p) place →
+    (knows p).epoch ≡ epoch → Did (LoadLink place) p q word →
+    Stood p q (record { at = place; birth = birth; word = word; epoch = epoch })
+stood_here {p} {q} place birth word epoch start held same d =
     let know = others_leave_know p.start p.seen d.rest p.who d.none in
     record {
       moment = p.seen ++ d.rest;
       within = did_moment d;
       epoch = ap (λ (k : Know). k.epoch) know ∙ same;
-      place = let P : Know → Type 0 = λ k. IsHeldPlace k at in subst P (sym know) held;
-      shown = link_loaded p.start p.passes (p.seen ++ d.rest) start (run_before d) p.who at
+      place = let P : Know → Type 0 = λ k. IsHeldPlace k place in subst P (sym know) held;
+      shown = link_loaded p.start p.passes (p.seen ++ d.rest) start (run_before d) p.who place
           ∙ ap link_of (value_is word _ d.shows.answers);
     }
 
@@ -134,13 +134,14 @@ module _ {p q : Trace} (same : IsSame p q) where
     shown = ap (λ (s : Start). link_at (world_after s x.moment) held.at) (sym same.start) ∙ x.shown;
   }
 
-pub stood_at_load : {p q r s : Trace} (at : At) (birth word epoch : ℕ) → IsStart p.start → Quiet p q →
-    IsHeldPlace (knows q) at → (knows q).epoch ≡ epoch → Did (LoadLink at) q r word → Quiet r s →
-    Stood p s (record { at = at; birth = birth; word = word; epoch = epoch })
-stood_at_load {p} {q} {r} {s} at birth word epoch start a held same d b =
+pub stood_at_load : {p q r s : Trace} (place : At) (birth word epoch : ℕ) → IsStart p.start → Quiet p q →
+    IsHeldPlace (knows q) place → (knows q).epoch ≡ epoch → Did (LoadLink place) q r word → Quiet r s →
+    Stood p s (record { at = place; birth = birth; word = word; epoch = epoch })
+stood_at_load {p} {q} {r} {s} place birth word epoch start a held same d b =
     stood_before
     (stood_after a.same a.seen
-    (stood_here at birth word epoch (let P : Start → Type 0 = IsStart in subst P (sym a.same.start) start) held same d))
+    (stood_here place birth word epoch (let P : Start → Type 0 = IsStart in subst P (sym a.same.start) start) held
+    same d))
     b
 
 -- ---- where a word was found
@@ -158,11 +159,12 @@ unlink_found {pred} {expected} {s} {word} {p} d other =
     record { moment = p.seen ++ d.rest; within = did_moment d; found = lost expected word _ other d.shows.answers }
 
 -- what was found in a part of what the pass did was found in the whole
-pub found_after : {p q r : Trace} {at : At} {word : ℕ} → Quiet p q → WasFound q r at word → WasFound p r at word
-found_after {p} {q} {r} {at} {word} a x = record {
+pub found_after : {p q r : Trace} {place : At} {word : ℕ} → Quiet p q → WasFound q r place word →
+    WasFound p r place word
+found_after {p} {q} {r} {place} {word} a x = record {
   moment = x.moment;
   within = moment_after a.seen x.within;
-  found = ap (λ (s : Start). found s (world_after s x.moment) (LoadLink at)) (sym a.same.start) ∙ x.found;
+  found = ap (λ (s : Start). found s (world_after s x.moment) (LoadLink place)) (sym a.same.start) ∙ x.found;
 }
 
 -- ---- what was in the set
@@ -209,9 +211,9 @@ module _ {p q : Trace} (held : Held) (start : IsStart p.start) (same : IsSame p 
   pub was_entry : (s key value : ℕ) → held.at ≡ Slot s → Knows (knows q) (KeyOf s key) →
       Knows (knows q) (ValueOf s value) → p.start.shape.values ≡ true → WasEntry p q key value
   unfolding was_present
-  was_entry s key value at k m values =
+  was_entry s key value place_is k m values =
       let P : At → Type 0 = λ place. KeyAt (knows q) place key in
-      let there = was_present key (subst P (sym at) k) in
+      let there = was_present key (subst P (sym place_is) k) in
       record {
         moment = there.moment;
         within = there.within;
@@ -220,7 +222,7 @@ module _ {p q : Trace} (held : Held) (start : IsStart p.start) (same : IsSame p 
             ap (λ (t : Start). values_after (opening_payloads t) (world_after t read.stood.moment).calls key)
             (sym same.start)
             ∙ value_at_load q.start q.passes read.stood.moment q.seen shape_now read.stood.within.is_run q.who held.at
-            (link_of held.word) was_shown s key value at k m
+            (link_of held.word) was_shown s key value place_is k m
             ∙ ap (λ (t : Start). payload_kept t (Some value)) same.start
             ∙ (rw values refl);
       }

@@ -22,12 +22,12 @@ use Rattle.vbr_at_table.proofs.NoValues.{none_kept, not_valued}
 -- ---- what they ask
 
 -- no value has to be known there
-pub key_valued : (p : Trace) (at : At) → p.start.shape.values ≡ false → IsValued p at
-key_valued p at bare has = not_valued bare has
+pub key_valued : (p : Trace) (place : At) → p.start.shape.values ≡ false → IsValued p place
+key_valued p place bare has = not_valued bare has
 
 -- nor does an operation ask for one that is no get
-pub key_asked : (p : Trace) (op : Op) (at : At) → op ≢ Get → IsAsked p op at
-key_asked p op at other get = absurd (other get)
+pub key_asked : (p : Trace) (op : Op) (place : At) → op ≢ Get → IsAsked p op place
+key_asked p op place other get = absurd (other get)
 
 -- ---- what they tell
 
@@ -45,7 +45,7 @@ key_removed p q node (Ok now) bare removed = record {
   made = λ key k.
       subst (λ (call : Call). Made call p q) (key_call p Remove key 0 bare)
       (removed.made key 0 k (λ has. not_valued bare has));
-  at = removed.at;
+  place = removed.place;
   link = removed.link;
   held = removed.held;
   out = removed.out;

@@ -35,7 +35,7 @@ use Rattle.vbr_machine.proofs.Lemmas.{birth_held, know_other, know_own, run_agre
 
 -- a read is of a place of the shape
 abbrev IsReadIn : Start → Read → Type 0
-IsReadIn start (LinkAt at link) = IsAtIn start at
+IsReadIn start (LinkAt place link) = IsAtIn start place
 IsReadIn start (BirthOf s birth) = s < start.shape.slots
 IsReadIn start (KeyOf s key) = s < start.shape.slots
 IsReadIn start (ValueOf s value) = s < start.shape.slots
@@ -89,8 +89,8 @@ reads_learned start know (StoreBirth s birth) found stamp r ok = record { checke
 reads_learned start know (StoreKey s key) found stamp r ok = record { checked = r.checked; pending = r.pending }
 reads_learned start know (StoreValue s value) found stamp r ok = record { checked = r.checked; pending = r.pending }
 reads_learned start know (StoreLink s next) found stamp r ok = record { checked = r.checked; pending = r.pending }
-reads_learned start know (LoadLink at) found stamp r ok =
-    pending_more start know (LinkAt at (link_of found)) r ok.in_shape
+reads_learned start know (LoadLink place) found stamp r ok =
+    pending_more start know (LinkAt place (link_of found)) r ok.in_shape
 reads_learned start know (LoadBirth s) found stamp r ok = pending_more start know (BirthOf s found) r ok.in_shape
 reads_learned start know (LoadKey s) found stamp r ok = pending_more start know (KeyOf s found) r ok.in_shape
 reads_learned start know (LoadValue s) found stamp r ok = pending_more start know (ValueOf s found) r ok.in_shape.0
@@ -120,7 +120,7 @@ reads_learned start know (Unlink pred expected s) found stamp r ok = elim (cases
   | inr k ↦ rw k r
 ]
 reads_learned start know (ConfirmPresent op s expected) found stamp r ok = r
-reads_learned start know (ConfirmAbsent op key at expected) found stamp r ok = r
+reads_learned start know (ConfirmAbsent op key place expected) found stamp r ok = r
 
 reads_on : (start : Start) (passes : ℕ) (w : World) (events : List Event) → ((p : ℕ) → ReadsIn start (w.know p)) →
     AreAccepted start passes w events → (p : ℕ) → ReadsIn start ((world_from start w events).know p)
@@ -163,8 +163,8 @@ module _ (start : Start) (passes : ℕ) (run : List Event) (is : IsStart start) 
       (reads_on start passes (opening start) run (λ p. record { checked = tt; pending = tt }) ok p).checked) k.among
 
   -- the place of a known link
-  pub link_in : (at : At) (link : Link) → Knows (know_after start run p) (LinkAt at link) → IsAtIn start at
-  link_in at link k = read_in (LinkAt at link) k
+  pub link_in : (place : At) (link : Link) → Knows (know_after start run p) (LinkAt place link) → IsAtIn start place
+  link_in place link k = read_in (LinkAt place link) k
 
   -- a held slot
   pub held_in : (s : ℕ) → IsHeldSlot (know_after start run p) s → s < start.shape.slots

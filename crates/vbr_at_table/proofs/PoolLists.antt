@@ -38,7 +38,7 @@ without_one slot (x ∷ xs) apart =
     (without_one slot xs (λ i j d less low. apart (suc i) (suc j) d (omega arith) (omega arith)))
   where
     out : x ≡ slot → ¬ (Contains xs slot)
-    out is (k, low, at) = apart 0 (suc k) slot (omega arith) (omega arith) (is ∙ sym at)
+    out is (k, low, at_index) = apart 0 (suc k) slot (omega arith) (omega arith) (is ∙ sym at_index)
 
     either : (x ≡ slot) ⊎ (x ≢ slot) → length xs ≤ suc (length (without slot xs)) →
         length (x ∷ xs) ≤ suc (length (without slot (x ∷ xs)))

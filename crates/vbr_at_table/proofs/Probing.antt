@@ -82,19 +82,19 @@ module _ {q r : Trace} {slot n : ℕ} (is : IsStart q.start) (d : Did (TakeFlag 
   -- so many probes were made before it at the most
   pub probed_lost : (from turn used : ℕ) → Probed q from turn used slot →
       from + used ≤ turn + word_of_flag slot + gained_by_now r
-  probed_lost from turn used at =
+  probed_lost from turn used probing =
       ⊎_elim (λ (first : from + used ≤ turn + word_of_flag slot + gained_by_now q). omega (arith, first, grown))
       (λ (again : (from + used ≤ turn + word_of_flag slot + gained_by_now q + 1) ×
       (has_flag (flags_seen q slot) slot ≡ true)).
-      (let more = won_by_other again.1 in let most = again.0 in omega (arith, most, more))) at
+      (let more = won_by_other again.1 in let most = again.0 in omega (arith, most, more))) probing
 
   -- after it, either the next one was seen set in the same word, or the next word comes
   pub probed_next : (from turn used next : ℕ) → Probed q from turn used slot → IsNextFlag n slot next →
       Probed r from turn (used + 1) next
-  probed_next from turn used next at then = next_of then.place
+  probed_next from turn used next probing then = next_of then.place
     where
       before : from + used ≤ turn + word_of_flag slot + gained_by_now r
-      before = probed_lost from turn used at
+      before = probed_lost from turn used probing
 
       next_of : ((word_of_flag next ≡ word_of_flag slot) × (has_flag n next ≡ true)) ⊎
           ((n ≡ 0) × (next ≡ 64 * (word_of_flag slot + 1))) → Probed r from turn (used + 1) next
@@ -114,7 +114,7 @@ probed_first p start = inl (omega arith)
 -- have taken
 pub probed_few : (q : Trace) (from turn used slot : ℕ) → Probed q from turn used slot →
     from + used ≤ turn + word_of_flag slot + gained_by_now q + 1
-probed_few q from turn used slot at =
+probed_few q from turn used slot probing =
     ⊎_elim (λ (first : from + used ≤ turn + word_of_flag slot + gained_by_now q). omega (arith, first))
     (λ (again : (from + used ≤ turn + word_of_flag slot + gained_by_now q + 1) ×
-    (has_flag (flags_seen q slot) slot ≡ true)). again.0) at
+    (has_flag (flags_seen q slot) slot ≡ true)). again.0) probing

@@ -168,7 +168,7 @@ pub head_told : {p q : PassView} {bucket word epoch : ℕ} → PassLaw p → Rea
     IsHeadRead p q bucket (record { at = Head bucket; birth = 0; word = word; epoch = epoch })
 head_told law x same = record {
   keeps = head_keeps x.loaded x.read same;
-  at = refl;
+  place = refl;
   read = head_read x.loaded x.read same law.start;
   unmarked = head_is_unmarked x.loaded x.read same law.start;
   fresh = fresh_read (shape_on x.loaded law.start) x.read ((head_keeps x.loaded x.read same).epoch ∙ sym same);
@@ -184,10 +184,10 @@ node_told {s = s} held law is names x same = record {
       ((node_keeps x.born x.reads.loaded x.reads.read same).epoch ∙ sym same);
 }
 
-pub key_told : {p q : PassView} {s key epoch : ℕ} (at : At) → PassLaw p → at ≡ Slot s →
-    Reads (LoadKey s) p q key epoch → epoch ≡ (knows p.trace).epoch → IsKeyRead p q at key
-key_told {p} {q} {s} {key} at law is x same =
-    let P : At → Type 0 = λ at. IsKeyRead p q at key in
+pub key_told : {p q : PassView} {s key epoch : ℕ} (place : At) → PassLaw p → place ≡ Slot s →
+    Reads (LoadKey s) p q key epoch → epoch ≡ (knows p.trace).epoch → IsKeyRead p q place key
+key_told {p} {q} {s} {key} place law is x same =
+    let P : At → Type 0 = λ place. IsKeyRead p q place key in
     let keeps = checked_keeps (loads_key s key) x.loaded x.read same in
     subst P (sym is)
     (record {
@@ -197,10 +197,11 @@ key_told {p} {q} {s} {key} at law is x same =
       bucket = λ b h. key_of_bucket x.loaded x.read same law.start b h;
     })
 
-pub value_told : {p q : PassView} {s value epoch : ℕ} (at : At) → at ≡ Slot s → Reads (LoadValue s) p q value epoch →
-    epoch ≡ (knows p.trace).epoch → IsValueRead p q at value
-value_told {p} {q} {s} {value} at is x same =
-    let P : At → Type 0 = λ at. IsValueRead p q at value in
+pub value_told : {p q : PassView} {s value epoch : ℕ} (place : At) → place ≡ Slot s →
+    Reads (LoadValue s) p q value epoch →
+    epoch ≡ (knows p.trace).epoch → IsValueRead p q place value
+value_told {p} {q} {s} {value} place is x same =
+    let P : At → Type 0 = λ place. IsValueRead p q place value in
     subst P (sym is)
     (record {
       keeps = checked_keeps (loads_value s value) x.loaded x.read same;

@@ -51,8 +51,8 @@ pub record Loads (step : Step) (found : ℕ) (read : Read) : Type 0 where
   pub no_gift : advances_or_gives step ≡ false
   pub teaches : (know : Know) (stamp : ℕ) → learn step found stamp know ≡ with_pending know read
 
-pub loads_link : (at : At) (word : ℕ) → Loads (LoadLink at) word (LinkAt at (link_of word))
-loads_link at word =
+pub loads_link : (place : At) (word : ℕ) → Loads (LoadLink place) word (LinkAt place (link_of word))
+loads_link place word =
     record {
       is_load = λ know. refl;
       no_call = λ start who know. refl;

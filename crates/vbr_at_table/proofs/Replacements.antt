@@ -63,7 +63,7 @@ use Rattle.vbr_at_table.proofs.WonExchanges.{lost_test, more_keeps, more_new, wo
 -- ---- the step is accepted
 
 module _ (p : PassView) (sound : PassLaw p) (node : Held) (s t key birth next : ℕ) (h : IsHeld (knows p.trace) node)
-    (at : node.at ≡ Slot s)
+    (place_is : node.at ≡ Slot s)
     (f : IsFilled ((knows p.trace).own t) birth key (link_to (link_of node.word).slot birth next)) where
   in_hand : IsInHand ((knows p.trace).own t)
   in_hand = let P : Option Holding → Type 0 = IsInHand in subst P (sym f.holding_is) tt
@@ -82,14 +82,14 @@ module _ (p : PassView) (sound : PassLaw p) (node : Held) (s t key birth next : 
       let V : At → Type 0 = λ i. ValueAt (knows p.trace) i old in
       known_accepts p.trace.start p.trace.passes p.trace.seen sound.start sound.is_run p.trace.who
       (Replace s node.word t) (record {
-        in_shape = (subst I at (place_in p sound node h), low, has);
+        in_shape = (subst I place_is (place_in p sound node h), low, has);
         owned = in_hand;
-        known = (subst L at h.link, (node.birth, subst B at h.birth), (old, subst V at v));
+        known = (subst L place_is h.link, (node.birth, subst B place_is h.birth), (old, subst V place_is v));
         in_range = (
           unmarked,
           subst P (sym f.holding_is) (record {
             key = key;
-            key_known = subst K at k;
+            key_known = subst K place_is k;
             key_is = f.key_is;
             named = next;
             named_known = named;
@@ -107,7 +107,7 @@ module _ (p : PassView) (sound : PassLaw p) (node : Held) (s t key birth next : 
       let B : At → Type 0 = λ i. BirthAt (knows p.trace) i node.birth in
       written_is p.trace.start p.trace.passes p.trace.seen sound.start sound.is_run p.trace.who (Replace s node.word t)
       (marked (link_to (Some t) node.birth (birth_in_hand ((knows p.trace).own t))))
-      (node.birth, subst B at h.birth, refl)
+      (node.birth, subst B place_is h.birth, refl)
       ∙ ap (λ (o : Option Holding). marked (link_to (Some t) node.birth (birth_in_hand o))) f.holding_is
       ∙ ap (λ (b : ℕ). marked (link_to (Some t) node.birth b)) f.birth_is
 
@@ -268,12 +268,12 @@ replace_found {s} {expected} {t} {word} {p} d ne =
 pub replace_lost : {p q r : Trace} {s t word : ℕ} (node : Held) → node.at ≡ Slot s → IsStart q.start → Quiet p q →
     ChangesNone p q → Keeps (knows p) (knows q) → Did (Replace s node.word t) q r word → word ≢ node.word →
     LosesExchange p r node (LostExchange word)
-replace_lost {q = q} {r = r} {word = word} node at start fill same keeps d ne = record {
+replace_lost {q = q} {r = r} {word = word} node place_is start fill same keeps d ne = record {
   quiet = quiet_on fill (replace_failed d ne);
   lost = (
     ne,
     found_after fill
-        (let P : At → Type 0 = λ i. WasFound q r i word in subst P (sym at) (replace_found d ne)),
+        (let P : At → Type 0 = λ i. WasFound q r i word in subst P (sym place_is) (replace_found d ne)),
     keeps_on keeps (replace_lost_keeps d ne),
   );
   unchanged = unchanged_on same
@@ -330,7 +330,7 @@ replaced_since {epoch} {s} p q r is quiet x =
 
 module _ (p q r : PassView) (node : Held) (s t key birth next value word : ℕ) (start : IsStart p.trace.start)
     (law : PassLaw q) (fill : Quiet p.trace q.trace) (keeps : Keeps (knows p.trace) (knows q.trace))
-    (h : IsHeld (knows q.trace) node) (at : node.at ≡ Slot s)
+    (h : IsHeld (knows q.trace) node) (place_is : node.at ≡ Slot s)
     (f : IsFilled ((knows q.trace).own t) birth key (link_to (link_of node.word).slot birth next)) where
   pub replace_told : ChangesNone p.trace q.trace → q.trace.start.shape.values ≡ true →
       value_in_hand ((knows q.trace).own t) ≡ Some value → KeyAt (knows p.trace) node.at key →
@@ -351,23 +351,23 @@ module _ (p q r : PassView) (node : Held) (s t key birth next value word : ℕ) 
             r.trace in
             let one : C q.trace.who q.trace.start =
             two_on fill (replace_made q.trace law.start law.is_run has f valued
-            (keeps.reads (KeyOf s key) (subst K at k)) (keeps.reads (ValueOf s old) (subst V at v)) d) in
+            (keeps.reads (KeyOf s key) (subst K place_is k)) (keeps.reads (ValueOf s old) (subst V place_is v)) d) in
             let D : Start → Type 0 = C q.trace.who in
             let E : ℕ → Type 0 = λ who. C who p.trace.start in
             subst E fill.same.who (subst D fill.same.start one);
-        at = sym at;
+        place = sym place_is;
         held = record {
           held = record {
             epoch = now.epoch;
-            link = subst L (replace_writes q law node s t key birth next h at f ∙ sym link) (replace_known d);
-            birth = subst B at now.birth;
+            link = subst L (replace_writes q law node s t key birth next h place_is f ∙ sym link) (replace_known d);
+            birth = subst B place_is now.birth;
           };
           mark = ap (λ (l : Link). l.mark) link;
         };
         spent = spent;
         old = replaced_since p.trace q.trace r.trace start fill
             (replaced_at law.start (knows r.trace).epoch (sym ((replace_keeps d).epoch)) d);
-        leaves = leaves_since node fill none (replaced_leaves node law.start at d);
+        leaves = leaves_since node fill none (replaced_leaves node law.start place_is d);
       }
 
 -- ---- what was known stays known

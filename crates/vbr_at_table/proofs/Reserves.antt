@@ -224,19 +224,19 @@ has_room {p} {q} takes low full = let more = longer p q takes.grows in omega (ar
 pub reserving_won : {p q r : PassView} {from slot to most probes used : ℕ} →
     Reserving p q from slot to most probes used → slot < to → used < probes → TakesFlags q r 1 →
     r.pool ≡ q.pool ++ slot ∷ [] → length q.pool < most → Reserving p r from (slot + 1) to most probes (used + 1)
-reserving_won {p} {q} {r} {from} {slot} {to} {most} {probes} {used} at below_to room b pool low = record {
-  takes = takes_on used 1 at.takes b;
+reserving_won {p} {q} {r} {from} {slot} {to} {most} {probes} {used} reserving below_to room b pool low = record {
+  takes = takes_on used 1 reserving.takes b;
   most = inr (let e : length r.pool ≡ length q.pool + 1 = ap length pool ∙ length-append q.pool (slot ∷ []) in
       omega (arith, e, low));
   tries = omega (arith, room);
-  idle = λ full. absurd (has_room at.takes low full);
+  idle = λ full. absurd (has_room reserving.takes low full);
   ahead = λ s in_shape above below. dite (ℕ_discrete s slot)
       (λ (is : s ≡ slot).
       inl (subst (λ xs. Contains xs s) (sym pool)
       (subst (λ x. Contains (q.pool ++ slot ∷ []) x) (sym is) (Contains-push q.pool slot))))
-      (λ (other : s ≢ slot). missed_on p (at.ahead s in_shape above (omega (arith, below, other))) b);
-  few = let f = at.few in omega (arith, f);
-  within = let f = at.few in omega (arith, f, below_to);
+      (λ (other : s ≢ slot). missed_on p (reserving.ahead s in_shape above (omega (arith, below, other))) b);
+  few = let f = reserving.few in omega (arith, f);
+  within = let f = reserving.few in omega (arith, f, below_to);
 }
 
 -- one that was outside, and those up to the next one
@@ -245,24 +245,25 @@ pub reserving_lost : {p q r : PassView} {from slot next to most probes used n : 
     Did (TakeFlag slot) q.trace r.trace n → has_flag n slot ≡ false → KeepsPool q r → slot < next →
     ((s : ℕ) → s < q.trace.start.shape.slots → slot ≤ s → s < next → WasOutside q.trace r.trace s)
     → Reserving p r from next to most probes (used + 1)
-reserving_lost {p} {q} {r} {from} {slot} {next} {to} {most} {probes} {used} at below_to room low d lost keeps on
+reserving_lost {p} {q} {r} {from} {slot} {next} {to} {most} {probes} {used} reserving below_to room low d lost keeps on
     outside =
     let b = takes_lost d lost keeps in
     record {
-      takes = takes_on used 1 at.takes b;
+      takes = takes_on used 1 reserving.takes b;
       most = ⊎_elim (λ same. inl (keeps.0 ∙ same)) (λ few. inr (subst (λ xs. length xs ≤ most) (sym keeps.0) few))
-          at.most;
+          reserving.most;
       tries = omega (arith, room);
-      idle = λ full. absurd (has_room at.takes low full);
+      idle = λ full. absurd (has_room reserving.takes low full);
       ahead = λ s in_shape above below. ⊎_elim
-          (λ (earlier : s < slot). missed_on p (at.ahead s in_shape above earlier) b)
+          (λ (earlier : s < slot). missed_on p (reserving.ahead s in_shape above earlier) b)
           (λ (later : slot ≤ s).
-          inr (missed_after at.takes.quiet
-          (outside s (subst (λ (start : Start). s < start.shape.slots) (sym at.takes.quiet.same.start) in_shape) later
+          inr (missed_after reserving.takes.quiet
+          (outside s (subst (λ (start : Start). s < start.shape.slots) (sym reserving.takes.quiet.same.start)
+          in_shape) later
           below)))
           (cases_lt s slot);
-      few = let f = at.few in omega (arith, f, on);
-      within = let f = at.few in omega (arith, f, below_to);
+      few = let f = reserving.few in omega (arith, f, on);
+      within = let f = reserving.few in omega (arith, f, below_to);
     }
 
 -- the slots up to the next one whose flag is set in the word
@@ -283,15 +284,15 @@ up_to_it {p} {q} {slot} {n} d lost s low above below =
 -- at the end
 pub reserves_from : {p q : PassView} {from next to most probes used : ℕ} → Reserving p q from next to most probes used →
     (most ≤ length q.pool) ⊎ (probes ≤ used) ⊎ (to ≤ next) → ReservesFrom p q from to most probes used
-reserves_from {p} {q} {from} {next} {to} {most} at ends = record {
-  takes = at.takes;
-  most = at.most;
-  tries = at.tries;
-  idle = at.idle;
+reserves_from {p} {q} {from} {next} {to} {most} reserving ends = record {
+  takes = reserving.takes;
+  most = reserving.most;
+  tries = reserving.tries;
+  idle = reserving.idle;
   next = next;
-  few = at.few;
-  within = at.within;
-  each = at.ahead;
+  few = reserving.few;
+  within = reserving.within;
+  each = reserving.ahead;
   ends = ends;
 }
 

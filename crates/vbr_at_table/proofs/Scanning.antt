@@ -31,18 +31,24 @@ pub record Scanned (p q : PassView) (epoch budget before looked used : ℕ) : Ty
   pub within : used ≤ budget
   pub above : (k d : ℕ) → k < looked → epoch ≤ stamp_in ((knows p.trace).own (get_or p.pool k d))
 
-module _ {p q : PassView} {epoch budget before looked used : ℕ} (at : Scanned p q epoch budget before looked used) where
+module _ {p q : PassView} {epoch budget before looked used : ℕ}
+    (scanned : Scanned p q epoch budget before looked used) where
   pub scans : Scans p q
-  scans = record { quiet = at.quiet; takes_no_slot = at.none; pool = at.pool; known = at.known }
+  scans = record { quiet = scanned.quiet; takes_no_slot = scanned.none; pool = scanned.pool; known = scanned.known }
 
   pub scan_short : looked ≤ length p.pool → budget < used + PIECE → ScansPart p q budget before (OutOfSteps used, used)
   scan_short low short = record {
-    uses = record { counts = at.counts; within = at.within; at_most = (let s = at.sum in omega (arith, s, low)) };
+    uses = record {
+      counts = scanned.counts;
+      within = scanned.within;
+      at_most = (let s = scanned.sum in omega (arith, s, low));
+    };
     why = refl;
     short = short;
   }
 
-module _ {p q r : PassView} {epoch budget before looked used n : ℕ} (at : Scanned p q epoch budget before looked used)
+module _ {p q r : PassView} {epoch budget before looked used n : ℕ}
+    (scanned : Scanned p q epoch budget before looked used)
     (pool : List ℕ) (shown : pool ≡ q.pool) (own : OwnPool q.trace.start (knows q.trace) q.pool q.hand)
     (low : looked < length pool)
     (room : used + PIECE ≤ budget) (d : Did (LoadStamp (get_or pool looked 0)) q.trace r.trace n)
@@ -57,14 +63,14 @@ module _ {p q r : PassView} {epoch budget before looked used n : ℕ} (at : Scan
   -- the stamp that was loaded is the one that the pass knew at the beginning
   loaded : n ≡ stamp_in ((knows p.trace).own slot)
   loaded = known (All-contains (IsPooled q.trace.start (knows q.trace)) q.pool slot own.pooled there).1
-      ∙ ap (λ (k : Know). stamp_in (k.own slot)) at.known
+      ∙ ap (λ (k : Know). stamp_in (k.own slot)) scanned.known
 
   pub scans_found : Scans p r
   scans_found = record {
-    quiet = quiet_on at.quiet (did_quiet d (λ know. refl));
-    takes_no_slot = none_on at.none (did_none d refl stays);
-    pool = (stays.0 ∙ at.pool.0, stays.1 ∙ at.pool.1);
-    known = d.know ∙ at.known;
+    quiet = quiet_on scanned.quiet (did_quiet d (λ know. refl));
+    takes_no_slot = none_on scanned.none (did_none d refl stays);
+    pool = (stays.0 ∙ scanned.pool.0, stays.1 ∙ scanned.pool.1);
+    known = d.know ∙ scanned.known;
   }
 
   pub scan_next : epoch ≤ n → Scanned p r epoch budget before (looked + 1) (used + 1)
@@ -73,43 +79,44 @@ module _ {p q r : PassView} {epoch budget before looked used n : ℕ} (at : Scan
     pool = scans_found.pool;
     known = scans_found.known;
     none = scans_found.takes_no_slot;
-    counts = counts_on at.counts (counts_one used d);
-    sum = (let s = at.sum in omega arith);
+    counts = counts_on scanned.counts (counts_one used d);
+    sum = (let s = scanned.sum in omega arith);
     within = omega arith;
     above = λ k x less.
         ⊎_elim (λ (is : k ≡ looked).
         subst (λ (s : ℕ). epoch ≤ stamp_in ((knows p.trace).own s)) (here k x is)
         (subst (λ (m : ℕ). epoch ≤ m) loaded above))
-        (λ (other : k < looked). at.above k x other) (either k less);
+        (λ (other : k < looked). scanned.above k x other) (either k less);
   }
     where
       either : (k : ℕ) → k < looked + 1 → (k ≡ looked) ⊎ (k < looked)
       either k less = grind arith
 
       here : (k x : ℕ) → k ≡ looked → get_or pool looked 0 ≡ get_or p.pool k x
-      here k x is = get_or_default pool looked 0 x low ∙ (λ i. get_or ((shown ∙ at.pool.0) i) (sym is i) x)
+      here k x is = get_or_default pool looked 0 x low ∙ (λ i. get_or ((shown ∙ scanned.pool.0) i) (sym is i) x)
 
   oldest : IsOldest (knows p.trace) p.pool slot epoch
   oldest = record {
     place = looked;
-    low = subst (λ (l : List ℕ). looked < length l) (shown ∙ at.pool.0) low;
-    is = sym (ap (λ (l : List ℕ). get_or l looked 0) (shown ∙ at.pool.0));
-    before = λ k less. at.above k 0 less;
+    low = subst (λ (l : List ℕ). looked < length l) (shown ∙ scanned.pool.0) low;
+    is = sym (ap (λ (l : List ℕ). get_or l looked 0) (shown ∙ scanned.pool.0));
+    before = λ k less. scanned.above k 0 less;
   }
 
   pub scan_found : n < epoch → IsScanned p r epoch budget before (Some slot, used + 1)
   scan_found below = record {
     uses = record {
-      counts = counts_on at.counts (counts_one used d);
+      counts = counts_on scanned.counts (counts_one used d);
       within = omega arith;
-      at_most = (let s = at.sum in
-          let l : looked < length p.pool = subst (λ (l : List ℕ). looked < length l) (shown ∙ at.pool.0) low in
+      at_most = (let s = scanned.sum in
+          let l : looked < length p.pool = subst (λ (l : List ℕ). looked < length l) (shown ∙ scanned.pool.0) low in
           omega (arith, s, l));
     };
     below = (
       subst (λ (l : List ℕ). Contains l slot) (sym stays.0) there,
-      subst (λ (m : ℕ). m < epoch) (loaded ∙ sym (ap (λ (k : Know). stamp_in (k.own slot)) (d.know ∙ at.known))) below,
+      subst (λ (m : ℕ). m < epoch) (loaded ∙ sym (ap (λ (k : Know). stamp_in (k.own slot)) (d.know ∙ scanned.known)))
+          below,
       subst (λ (x : Know × List ℕ). IsOldest x.0 x.1 slot epoch)
-          (λ i. (sym (d.know ∙ at.known) i, sym (stays.0 ∙ at.pool.0) i)) oldest,
+          (λ i. (sym (d.know ∙ scanned.known) i, sym (stays.0 ∙ scanned.pool.0) i)) oldest,
     );
   }

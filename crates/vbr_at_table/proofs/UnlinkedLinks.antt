@@ -21,14 +21,14 @@ use Rattle.vbr_at_table.specs.Moments.{Stood}
 use Rattle.vbr_at_table.proofs.Moments.{won}
 
 -- a link that was written stands there
-link_put : (w : World) (at : At) (link : Link) (s p : ℕ) →
-    link_at (record (with_link_at w at link) { place = put w.place s (Own p) }) at ≡ link
+link_put : (w : World) (place : At) (link : Link) (s p : ℕ) →
+    link_at (record (with_link_at w place link) { place = put w.place s (Own p) }) place ≡ link
 link_put w (Head b) link s p = put_here w.head b link
 link_put w (Slot t) link s p = put_here w.link t link
 
-test_won : (b : Bool) (at : At) (x y : World) (link : Link) → b ≡ true → link_at x at ≡ link →
-    link_at (cond b x y) at ≡ link
-test_won b at x y link t e = ap (λ (b : Bool). link_at (cond b x y) at) t ∙ e
+test_won : (b : Bool) (place : At) (x y : World) (link : Link) → b ≡ true → link_at x place ≡ link →
+    link_at (cond b x y) place ≡ link
+test_won b place x y link t e = ap (λ (b : Bool). link_at (cond b x y) place) t ∙ e
 
 unlinked : (start : Start) (w : World) (p : ℕ) (pred : At) (expected s : ℕ) →
     found start w (Unlink pred expected s) ≡ expected →

@@ -32,12 +32,12 @@ use Rattle.vbr_at_table.proofs.Shown.{came, missed, missed_before, missed_after}
 -- probes after probes, where the own pool was empty
 probes_on : {p q r : PassView} → LooksForSlot p q → p.pool ≡ [] → Quiet q.trace r.trace →
     advances r.trace ≡ advances q.trace → KeepsSlots q r → PoolGrows q r → SharesWhereFull 1 q r → LooksForSlot p r
-probes_on {p} {q} {r} at empty quiet still kept grows shared = record {
-  quiet = quiet_on at.quiet quiet;
-  count = still ∙ at.count;
-  kept = slots_kept_on p q r at.kept kept;
-  grows = grows_on p q r at.grows grows;
-  shared = shared_on p q r 1 at.shared (longer q r grows) shared;
+probes_on {p} {q} {r} tried empty quiet still kept grows shared = record {
+  quiet = quiet_on tried.quiet quiet;
+  count = still ∙ tried.count;
+  kept = slots_kept_on p q r tried.kept kept;
+  grows = grows_on p q r tried.grows grows;
+  shared = shared_on p q r 1 tried.shared (longer q r grows) shared;
   tries = inr (empty, tt);
 }
 
@@ -76,7 +76,7 @@ next_low word slot next is =
     (λ (past : (word ≡ 0) × (next ≡ 64 * (slot / 64 + 1))). (let e = past.1 in omega arith)) is.place
 
 -- one more flag was lost
-module _ {p q r : PassView} {budget used start slot n : ℕ} (at : Tried p q budget used start)
+module _ {p q r : PassView} {budget used start slot n : ℕ} (tried : Tried p q budget used start)
     (room : used + PIECE ≤ budget) (d : Did (TakeFlag slot) q.trace r.trace n) (lost : has_flag n slot ≡ false)
     (stays : KeepsPool q r) where
   lost_flag : (a b : Know) → cond (has_flag n slot) a b ≡ b
@@ -87,25 +87,25 @@ module _ {p q r : PassView} {budget used start slot n : ℕ} (at : Tried p q bud
 
   probes_lost : LooksForSlot p r
   probes_lost =
-      probes_on at.probes at.empty quiet_lost (same_advances d refl)
+      probes_on tried.probes tried.empty quiet_lost (same_advances d refl)
       (keeps_known q r stays (did_turn d) (λ s. ap (λ (k : Know). k.own s) (d.know ∙ lost_flag _ (knows q.trace))))
       (grows_same q r stays.0) (inl (same_flags d refl))
 
   pub win_tried : Tried p r budget (used + 1) start
   win_tried = record {
-    quiet = quiet_on at.quiet quiet_lost;
-    empty = at.empty;
-    pool = (stays.0 ∙ at.pool.0, stays.1 ∙ at.pool.1);
+    quiet = quiet_on tried.quiet quiet_lost;
+    empty = tried.empty;
+    pool = (stays.0 ∙ tried.pool.0, stays.1 ∙ tried.pool.1);
     probes = probes_lost;
-    counts = counts_on at.counts (counts_one used d);
+    counts = counts_on tried.counts (counts_one used d);
     within = omega arith;
-    begins = at.begins;
-    low = at.low;
-    opens = at.opens;
+    begins = tried.begins;
+    low = tried.low;
+    opens = tried.opens;
   }
 
--- it told of all slots of its word
-module _ {p q r : PassView} {budget used start slot end next n : ℕ} (at : Winning p q budget used start slot end)
+-- it showed all slots of its word
+module _ {p q r : PassView} {budget used start slot end next n : ℕ} (winning : Winning p q budget used start slot end)
     (below : slot < end) (room : used + PIECE ≤ budget) (d : Did (TakeFlag slot) q.trace r.trace n)
     (lost : has_flag n slot ≡ false) (then : IsNextFlag n slot next) (stays : KeepsPool q r) where
   more : Quiet q.trace r.trace
@@ -119,67 +119,69 @@ module _ {p q r : PassView} {budget used start slot end next n : ℕ} (at : Winn
   told s in_shape from less =
       let past = next_low n slot next then in
       let same : s / 64 ≡ slot / 64 = omega (arith, past, from, less) in
-      missed_after at.tried.quiet
-      (missed d lost s (subst (λ (start : Start). s < start.shape.slots) (sym at.tried.quiet.same.start) in_shape) same
+      missed_after winning.tried.quiet
+      (missed d lost s (subst (λ (start : Start). s < start.shape.slots) (sym winning.tried.quiet.same.start)
+      in_shape) same
       (then.before s same less))
 
   ahead_next : (s : ℕ) → s < p.trace.start.shape.slots → start ≤ s → s < next → WasOutside p.trace r.trace s
   ahead_next s in_shape from less =
-      ⊎_elim (λ (earlier : s < slot). still (at.ahead s in_shape from earlier))
+      ⊎_elim (λ (earlier : s < slot). still (winning.ahead s in_shape from earlier))
       (λ (later : slot ≤ s). told s in_shape later less) (cases_lt s slot)
 
   round_next : end ≡ start → (s : ℕ) → s < p.trace.start.shape.slots → (start ≤ s) ⊎ (s < next) →
       WasOutside p.trace r.trace s
-  round_next over s in_shape (inl from) = still (at.round over s in_shape (inl from))
+  round_next over s in_shape (inl from) = still (winning.round over s in_shape (inl from))
   round_next over s in_shape (inr less) =
-      ⊎_elim (λ (earlier : s < slot). still (at.round over s in_shape (inr earlier)))
+      ⊎_elim (λ (earlier : s < slot). still (winning.round over s in_shape (inr earlier)))
       (λ (later : slot ≤ s). told s in_shape later less) (cases_lt s slot)
 
   slot_low : slot < q.trace.start.shape.slots
   slot_low =
       let same : q.trace.start.shape.slots ≡ p.trace.start.shape.slots =
-      ap (λ (start : Start). start.shape.slots) at.tried.quiet.same.start in
+      ap (λ (start : Start). start.shape.slots) winning.tried.quiet.same.start in
       ⊎_elim (λ (first : (end ≡ p.trace.start.shape.slots) × (start ≤ slot) × (slot < p.trace.start.shape.slots)).
       (let less = first.2 in omega (arith, same, less)))
-      (λ (over : end ≡ start). (let less = at.tried.low in omega (arith, same, over, less, below))) at.turn
+      (λ (over : end ≡ start). (let less = winning.tried.low in omega (arith, same, over, less, below))) winning.turn
 
   opens_here : IsStart q.trace.start
-  opens_here = subst IsStart (sym at.tried.quiet.same.start) at.tried.opens
+  opens_here = subst IsStart (sym winning.tried.quiet.same.start) winning.tried.opens
 
   -- the search goes on there, if that is a slot
   pub win_next : next < p.trace.start.shape.slots → Winning p r budget (used + 1) start next end
   win_next in_shape = record {
-    tried = win_tried at.tried room d lost stays;
+    tried = win_tried winning.tried room d lost stays;
     turn = ⊎_elim
         (λ (first : (end ≡ p.trace.start.shape.slots) × (start ≤ slot) × (slot < p.trace.start.shape.slots)).
         inl (
           first.0,
           ⊎_elim (λ (here : (word_of_flag next ≡ word_of_flag slot) × (has_flag n next ≡ true)).
-              (let same = here.0 in let b = at.tried.begins in let f = first.1 in omega (arith, same, b, f)))
+              (let same = here.0 in let b = winning.tried.begins in let f = first.1 in omega (arith, same, b, f)))
               (λ (past : (n ≡ 0) × (next ≡ 64 * (slot / 64 + 1))).
               (let e = past.1 in let f = first.1 in omega (arith, e, f))) then.place,
           in_shape,
-        )) (λ (over : end ≡ start). inr over) at.turn;
+        )) (λ (over : end ≡ start). inr over) winning.turn;
     ahead = ahead_next;
     round = round_next;
     first = λ is.
-        probed_next opens_here d slot_low lost (word_of_flag start + gained_by_now p.trace) 0 used next (at.first is)
+        probed_next opens_here d slot_low lost (word_of_flag start + gained_by_now p.trace) 0 used next
+        (winning.first is)
         then;
     second = λ over.
         probed_next opens_here d slot_low lost (word_of_flag start + gained_by_now p.trace)
-        (flag_words p.trace.start.shape.slots) used next (at.second over) then;
+        (flag_words p.trace.start.shape.slots) used next (winning.second over) then;
   }
 
   -- or with slot 0, if there is none behind the last one
   pub win_round : p.trace.start.shape.slots ≤ next → Winning p r budget (used + 1) start 0 start
   win_round past = record {
-    tried = win_tried at.tried room d lost stays;
+    tried = win_tried winning.tried room d lost stays;
     turn = inr refl;
     ahead = λ s in_shape from less. absurd (omega (arith, less));
     round = λ over s in_shape which.
         ⊎_elim (λ (from : start ≤ s). ahead_next s in_shape from (omega (arith, in_shape, past)))
         (λ (less : s < 0). absurd (omega (arith, less))) which;
-    first = λ is. absurd (omega (arith, is, at.tried.low));
+    first = λ is. absurd (omega (arith, is, winning.tried.low));
     second = λ over. inl few;
   }
     where
@@ -189,37 +191,38 @@ module _ {p q r : PassView} {budget used start slot end next n : ℕ} (at : Winn
           (λ (first : (end ≡ p.trace.start.shape.slots) × (start ≤ slot) × (slot < p.trace.start.shape.slots)). first)
           (λ (over : end ≡ start).
           (let low = next_low n slot next then in
-          let b = at.tried.begins in
-          let l = at.tried.low in
-          absurd (omega (arith, low, b, l, over, below, past)))) at.turn
+          let b = winning.tried.begins in
+          let l = winning.tried.low in
+          absurd (omega (arith, low, b, l, over, below, past)))) winning.turn
 
       few : word_of_flag start + gained_by_now p.trace + (used + 1)
           ≤ flag_words p.trace.start.shape.slots + word_of_flag 0 + gained_by_now r.trace
       few =
           let lost_first =
           probed_lost opens_here d slot_low lost (word_of_flag start + gained_by_now p.trace) 0 used
-          (at.first first.0) in let low = first.2 in omega (arith, lost_first, low)
+          (winning.first first.0) in let low = first.2 in omega (arith, lost_first, low)
 
 -- no more probes were made than there are flag words, and one for each slot that others took out of the shared
 -- pool; and one more that won
 few : {p q : PassView} {budget used start slot end : ℕ} → Winning p q budget used start slot end → slot < end →
     used ≤ flag_words p.trace.start.shape.slots + gained p.trace q.trace
-few {p} {q} {used = used} {start = start} {slot = slot} {end = end} at below =
-    let same = gained_same at.tried.quiet.same in
+few {p} {q} {used = used} {start = start} {slot = slot} {end = end} winning below =
+    let same = gained_same winning.tried.quiet.same in
     ⊎_elim
     (λ (first : (end ≡ p.trace.start.shape.slots) × (start ≤ slot) × (slot < p.trace.start.shape.slots)).
-    (let most = probed_few q.trace (word_of_flag start + gained_by_now p.trace) 0 used slot (at.first first.0) in
+    (let most = probed_few q.trace (word_of_flag start + gained_by_now p.trace) 0 used slot (winning.first first.0) in
     let low = first.2 in
     omega (arith, most, low, same)))
     (λ (over : end ≡ start).
     (let most = probed_few q.trace (word_of_flag start + gained_by_now p.trace) (flag_words p.trace.start.shape.slots)
-    used slot (at.second over) in let b = at.tried.begins in omega (arith, most, b, over, below, same))) at.turn
+    used slot (winning.second over) in let b = winning.tried.begins in omega (arith, most, b, over, below, same)))
+    winning.turn
 
 win_few : {p q : PassView} {t : Trace} {budget used start slot end n : ℕ} → Winning p q budget used start slot end →
     slot < end → Did (TakeFlag slot) q.trace t n →
     used + 1 ≤ flag_words p.trace.start.shape.slots + 1 + gained p.trace t
-win_few {p} {q} {t} at below d =
-    let most = few at below in let more = gained_on p.trace q.trace t (did_seen d) in omega (arith, most, more)
+win_few {p} {q} {t} winning below d =
+    let most = few winning below in let more = gained_on p.trace q.trace t (did_seen d) in omega (arith, most, more)
 
 -- a flag was won
 pub win_done : {p q r t : PassView} {budget used start slot end n : ℕ} → Winning p q budget used start slot end →
@@ -227,30 +230,32 @@ pub win_done : {p q r t : PassView} {budget used start slot end n : ℕ} → Win
     has_flag n slot ≡ true → KeepsPool q r → t.trace ≡ r.trace → t.pool ≡ r.pool ++ slot ∷ [] →
     t.hand ≡ hand_without slot r.hand →
     HasSlots p t budget (used + 1)
-win_done {p} {q} {r} {t} {budget} {used} {start} {slot} {end} at below empty no_hand room d set stays same pool hand =
-    let one : t.pool ≡ slot ∷ [] = pool ∙ ap (λ (l : List ℕ). l ++ slot ∷ []) (stays.0 ∙ at.tried.pool.0 ∙ empty) in
+win_done {p} {q} {r} {t} {budget} {used} {start} {slot} {end} winning below empty no_hand room d set stays same pool
+    hand =
+    let one : t.pool ≡ slot ∷ [] = pool
+    ∙ ap (λ (l : List ℕ). l ++ slot ∷ []) (stays.0 ∙ winning.tried.pool.0 ∙ empty) in
     record {
       uses = record {
         counts =
             subst (λ (x : Trace). CountsSteps p.trace x 0 (used + 1)) (sym same)
-            (counts_on at.tried.counts (counts_one used d));
+            (counts_on winning.tried.counts (counts_one used d));
         within = omega arith;
         at_most = omega arith;
       };
-      hand = hand ∙ ap (hand_without slot) (stays.1 ∙ at.tried.pool.1 ∙ no_hand);
+      hand = hand ∙ ap (hand_without slot) (stays.1 ∙ winning.tried.pool.1 ∙ no_hand);
       won = inr (
         empty,
         slot,
         one,
         subst (λ (x : Trace). CameByFlag p.trace x slot) (sym same)
-            (came at.tried.quiet d set
+            (came winning.tried.quiet d set
             (λ s in_shape before. missed_before (first s in_shape before) (did_quiet d (λ know. refl)))),
       );
       some = λ none. not_empty slot (sym one ∙ none);
       room = (let e = ap length one in omega (arith, e));
       few = λ empty.
           subst (λ (x : Trace). used + 1 ≤ flag_words p.trace.start.shape.slots + 1 + gained p.trace x) (sym same)
-          (win_few at below d);
+          (win_few winning below d);
     }
   where
     not_empty : (s : ℕ) → s ∷ [] ≡ [] → ⊥
@@ -259,21 +264,22 @@ win_done {p} {q} {r} {t} {budget} {used} {start} {slot} {end} at below empty no_
     first : (s : ℕ) → s < p.trace.start.shape.slots → ComesBefore (word_of_flag (last_tried p.trace)) s slot →
         WasOutside p.trace q.trace s
     first s in_shape (inl here) =
-        let b = at.tried.begins in let from = here.0 in at.ahead s in_shape (omega (arith, b, from)) here.1
+        let b = winning.tried.begins in let from = here.0 in winning.ahead s in_shape (omega (arith, b, from)) here.1
     first s in_shape (inr past) = ⊎_elim
         (λ (first : (end ≡ p.trace.start.shape.slots) × (start ≤ slot) × (slot < p.trace.start.shape.slots)).
-        (let b = at.tried.begins in let f = first.1 in let early = past.0 in absurd (omega (arith, b, f, early))))
+        (let b = winning.tried.begins in let f = first.1 in let early = past.0 in absurd (omega (arith, b, f, early))))
         (λ (over : end ≡ start).
-        at.round over s in_shape
+        winning.round over s in_shape
         (⊎_elim (λ (from : 64 * word_of_flag (last_tried p.trace) ≤ s).
-        (let b = at.tried.begins in inl (omega (arith, b, from)))) (λ (less : s < slot). inr less) past.1)) at.turn
+        (let b = winning.tried.begins in inl (omega (arith, b, from)))) (λ (less : s < slot). inr less) past.1))
+        winning.turn
 
 -- the slot is all that the pass could take
 pub win_probes : {p q r t : PassView} {budget used start slot end n : ℕ} → Winning p q budget used start slot end →
     Did (TakeFlag slot) q.trace r.trace n → has_flag n slot ≡ true → KeepsPool q r → t.trace ≡ r.trace →
     t.pool ≡ r.pool ++ slot ∷ [] → t.hand ≡ hand_without slot r.hand → LooksForSlot p t
-win_probes {p} {q} {r} {t} {slot = slot} {n = n} at d set stays same pool hand =
-    probes_on at.tried.probes at.tried.empty (subst (Quiet q.trace) (sym same) (did_quiet d (λ know. refl)))
+win_probes {p} {q} {r} {t} {slot = slot} {n = n} winning d set stays same pool hand =
+    probes_on winning.tried.probes winning.tried.empty (subst (Quiet q.trace) (sym same) (did_quiet d (λ know. refl)))
     (given_count d refl refl refl others stays same pool hand) (given_kept d refl refl refl others stays same pool hand)
     (given_grows d refl refl refl others stays same pool hand)
     (given_shared d refl refl refl others stays same pool hand)
@@ -289,42 +295,42 @@ win_probes {p} {q} {r} {t} {slot = slot} {n = n} at d set stays same pool hand =
 -- or none was won: for want of steps, or once round
 pub unwon_probes : {p q : PassView} {budget used start slot end : ℕ} → Winning p q budget used start slot end →
     LooksForSlot p q
-unwon_probes at = at.tried.probes
+unwon_probes winning = winning.tried.probes
 
 pub win_short : {p q : PassView} {budget used start slot end : ℕ} → Winning p q budget used start slot end →
     slot < end → p.pool ≡ [] → budget < used + PIECE → WinsNone p q budget (OutOfSteps used, used)
-win_short at below empty short = record {
+win_short winning below empty short = record {
   uses = record {
-    counts = at.tried.counts;
-    within = at.tried.within;
-    at_most = (let w = at.tried.within in omega (arith, w));
+    counts = winning.tried.counts;
+    within = winning.tried.within;
+    at_most = (let w = winning.tried.within in omega (arith, w));
   };
   empty = empty;
-  pool = at.tried.pool;
-  why = record { took = took_all at.tried.counts; within = at.tried.within; short = short };
-  enough = (let most = few at below in omega (arith, most, short));
+  pool = winning.tried.pool;
+  why = record { took = took_all winning.tried.counts; within = winning.tried.within; short = short };
+  enough = (let most = few winning below in omega (arith, most, short));
 }
 
 pub win_no_slot : {p q : PassView} {budget used start slot end : ℕ} → Winning p q budget used start slot end →
     end ≤ slot → p.pool ≡ [] → WinsNone p q budget (NoSlot, used)
-win_no_slot {p} {q} {start = start} {slot = slot} {end = end} at behind empty =
+win_no_slot {p} {q} {start = start} {slot = slot} {end = end} winning behind empty =
     let over : end ≡ start =
     ⊎_elim (λ (first : (end ≡ p.trace.start.shape.slots) × (start ≤ slot) × (slot < p.trace.start.shape.slots)).
     (let e = first.0 in let low = first.2 in absurd (omega (arith, e, low, behind)))) (λ (over : end ≡ start). over)
-    at.turn in
+    winning.turn in
     record {
       uses = record {
-        counts = at.tried.counts;
-        within = at.tried.within;
-        at_most = (let w = at.tried.within in omega (arith, w));
+        counts = winning.tried.counts;
+        within = winning.tried.within;
+        at_most = (let w = winning.tried.within in omega (arith, w));
       };
       empty = empty;
-      pool = at.tried.pool;
+      pool = winning.tried.pool;
       why = record {
         empty = empty;
-        still = at.tried.pool.0 ∙ empty;
+        still = winning.tried.pool.0 ∙ empty;
         outside = λ s in_shape.
-            at.round over s in_shape
+            winning.round over s in_shape
             (⊎_elim (λ (earlier : s < start). inr (omega (arith, earlier, behind, over)))
             (λ (later : start ≤ s). inl later) (cases_lt s start));
       };

@@ -19,7 +19,8 @@ use Rattle.vbr_at_table.proofs.PlacesInShape.{birth_in, hand_in}
 
 module _ (p : PassView) (sound : PassLaw p) where
   -- known births are epochs of the shape
-  pub birth_at_low : (at : At) (birth : ℕ) → BirthAt (knows p.trace) at birth → birth ≤ p.trace.start.shape.last_epoch
+  pub birth_at_low : (place : At) (birth : ℕ) → BirthAt (knows p.trace) place birth →
+      birth ≤ p.trace.start.shape.last_epoch
   birth_at_low (Head b) birth k = omega (arith, k)
   birth_at_low (Slot s) birth k =
       birth_in p.trace.start p.trace.passes p.trace.seen sound.start sound.is_run p.trace.who s birth k

@@ -86,7 +86,7 @@ pub record UnlinksNode (p q : PassView) (pred : Held) (gone : Marked) (told : Un
   pub keeps : Keeps (knows p.trace) (knows q.trace)
   pub slot : told.0.slot ≡ gone.slot
   pub owned : IsUnlinked ((knows q.trace).own gone.slot)
-  pub at : told.1.at ≡ pred.at
+  pub place : told.1.at ≡ pred.at
   pub read : IsRead p.trace q.trace told.1
   pub still : (link_of told.1.word).mark ≡ false
   pub next : (link_of told.1.word).slot ≡ (link_of gone.word).slot

@@ -15,4 +15,4 @@ pub record LeavesOthers (p q : Trace) (node : Held) : Type 0 where
   pub from : Begins p.seen moment
   pub to : Begins moment q.seen
   pub own : (bucket : ℕ) → own_changes p.start moment p.who bucket ≡ own_changes p.start p.seen p.who bucket
-  pub links : (at : At) → at ≢ node.at → link_shown_at (incarnations_after p.start q.seen) at ≡ link_shown_at (incarnations_after p.start moment) at
+  pub links : (place : At) → place ≢ node.at → link_shown_at (incarnations_after p.start q.seen) place ≡ link_shown_at (incarnations_after p.start moment) place

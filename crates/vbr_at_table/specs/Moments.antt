@@ -41,10 +41,10 @@ pub record IsEpochRead (p q : Trace) (epoch : ℕ) : Type 0 where
   pub read : Begins (moment ++ event_of p.who ReadEpoch ∷ []) q.seen
 
 -- at a moment of what the pass did, this link word stood at the place
-pub record WasFound (p q : Trace) (at : At) (word : ℕ) : Type 0 where
+pub record WasFound (p q : Trace) (place : At) (word : ℕ) : Type 0 where
   pub moment : List Event
   pub within : Moment p q moment
-  pub found : found p.start (world_after p.start moment) (LoadLink at) ≡ word
+  pub found : found p.start (world_after p.start moment) (LoadLink place) ≡ word
 
 -- at a moment of what the pass did, the key was in the set, or wasn't
 pub record WasSo (p q : Trace) (key : ℕ) (present : Bool) : Type 0 where

@@ -39,7 +39,7 @@ pub record IsCheckpoint (p q : PassView) (epoch : ℕ) : Type 0 where
 -- what is held is the head of the bucket, read in the epoch that the pass had, which none has followed in what it has seen, and unmarked
 pub record IsHeadRead (p q : PassView) (bucket : ℕ) (head : Held) : Type 0 where
   pub keeps : Keeps (knows p.trace) (knows q.trace)
-  pub at : head.at ≡ Head bucket
+  pub place : head.at ≡ Head bucket
   pub read : IsRead p.trace q.trace head
   pub unmarked : (link_of head.word).mark ≡ false
   pub fresh : IsFresh q.trace
@@ -56,11 +56,11 @@ pub record IsNextRead (p q : PassView) (held : Held) (next : Option Held) : Type
   pub fresh : NextFresh q.trace next
 
 -- this is the key of the node at a place, read in the epoch that the pass had, which none has followed, and one of each bucket in which the place was held
-pub record IsKeyRead (p q : PassView) (at : At) (found : ℕ) : Type 0 where
+pub record IsKeyRead (p q : PassView) (place : At) (found : ℕ) : Type 0 where
   pub keeps : Keeps (knows p.trace) (knows q.trace)
-  pub key : KeyAt (knows q.trace) at found
+  pub key : KeyAt (knows q.trace) place found
   pub fresh : IsFresh q.trace
-  pub bucket : (b : ℕ) → HeldIn (knows p.trace) at b → bucket_of p.trace.start.shape found ≡ b
+  pub bucket : (b : ℕ) → HeldIn (knows p.trace) place b → bucket_of p.trace.start.shape found ≡ b
 
 -- this is the birth of what the link of this word names, 0 of none
 pub record IsBirthRead (p q : PassView) (word found : ℕ) : Type 0 where

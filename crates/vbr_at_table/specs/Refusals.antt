@@ -40,7 +40,7 @@ pub record IsOutOfSteps (p q : PassView) (budget used : ℕ) : Type 0 where
   pub within : used ≤ budget
   pub short : budget < used + PIECE
 
--- what a refusal says of a call; that the epoch is spent is told only where the budget had room for the piece that would advance it
+-- what a refusal says of a call; that the epoch is spent is returned only where the budget had room for the piece that would advance it
 abbrev pub TakeIsRefused : PassView → PassView → ℕ → Refusal → Type 0
 TakeIsRefused p q budget (OutOfSteps used) = IsOutOfSteps p q budget used
 TakeIsRefused p q budget NoSlot = HasNoSlot p q

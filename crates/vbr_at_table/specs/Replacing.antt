@@ -40,7 +40,7 @@ pub record IsReplaceable (p : Trace) (node : Held) (key next_birth : ℕ) : Type
 -- the pass removed the key of the node that was held with the value that was known of it, and inserted it with this one; its hand is empty, and the node is held by its marked link: it is the one that was replaced; and the step leaves all other links
 pub record ReplacesHeld (p q : PassView) (node : Held) (key value : ℕ) (now : Marked) : Type 0 where
   pub made : (old : ℕ) → ValueAt (knows p.trace) node.at old → MadeTwo (entry_call p.trace.start p.trace.who Remove key true old) (entry_call p.trace.start p.trace.who Insert key true value) p.trace q.trace
-  pub at : (held_of now).at ≡ node.at
+  pub place : (held_of now).at ≡ node.at
   pub held : HoldsMarked (knows q.trace) now
   pub spent : q.hand ≡ None
   pub old : ReplacedAt p.trace.start p.trace.seen q.trace.seen p.trace.who (knows q.trace).epoch now.slot

@@ -39,11 +39,11 @@ ValueAt know (Slot s) value = Knows know (ValueOf s value)
 
 -- a value is known at a place, where nodes have values
 abbrev pub IsValued : Trace → At → Type 0
-IsValued p at = p.start.shape.values ≡ true → (value : ℕ) × ValueAt (knows p) at value
+IsValued p place = p.start.shape.values ≡ true → (value : ℕ) × ValueAt (knows p) place value
 
 -- what a get asks: nodes have values, and one is known at the place
 abbrev pub IsAsked : Trace → Op → At → Type 0
-IsAsked p op at = op ≡ Get → (p.start.shape.values ≡ true) × ((value : ℕ) × ValueAt (knows p) at value)
+IsAsked p op place = op ≡ Get → (p.start.shape.values ≡ true) × ((value : ℕ) × ValueAt (knows p) place value)
 
 -- the operation is another one than this, and a get only where nodes have values
 pub record IsOtherIn (start : Start) (refused op : Op) : Type 0 where
@@ -63,19 +63,19 @@ found_call who op key value = record { who = who; op = op; key = key; reply = pr
 -- ---- what calls tell
 
 -- this is the value of the node at a place, read in the epoch that the pass had
-pub record IsValueRead (p q : PassView) (at : At) (found : ℕ) : Type 0 where
+pub record IsValueRead (p q : PassView) (place : At) (found : ℕ) : Type 0 where
   pub keeps : Keeps (knows p.trace) (knows q.trace)
-  pub value : ValueAt (knows q.trace) at found
+  pub value : ValueAt (knows q.trace) place found
 
 -- the call that removed a node is a set's, of its key, or one of its entry
 abbrev pub IsRemoval : Bool → Trace → Trace → At → Type 0
-IsRemoval false p q at = (key : ℕ) → KeyAt (knows p) at key → Made (set_call p.who Remove key true) p q
-IsRemoval true p q at = (key value : ℕ) → KeyAt (knows p) at key → (p.start.shape.values ≡ true → ValueAt (knows p) at value) → Made (entry_call p.start p.who Remove key true value) p q
+IsRemoval false p q place = (key : ℕ) → KeyAt (knows p) place key → Made (set_call p.who Remove key true) p q
+IsRemoval true p q place = (key value : ℕ) → KeyAt (knows p) place key → (p.start.shape.values ≡ true → ValueAt (knows p) place value) → Made (entry_call p.start p.who Remove key true value) p q
 
 -- the pass made the call that removes the node that was held, of its entry or of its key, and the node's link is marked now, and it is taken out; the mark leaves all other links, and so does a pass that was alone
 pub record RemovesNode (entry : Bool) (p q : Trace) (node : Held) (now : Marked) : Type 0 where
   pub made : IsRemoval entry p q node.at
-  pub at : (held_of now).at ≡ node.at
+  pub place : (held_of now).at ≡ node.at
   pub link : link_of now.word ≡ marked (link_of node.word)
   pub held : HoldsMarked (knows q) now
   pub out : IsTakenOut (nodes q) (knows q).epoch now.slot

@@ -23,5 +23,5 @@ pub record UnlinksAlone (p q : Trace) (pred place : Held) : Type 0 where
 -- what a won mark leaves to a pass that was alone: the epoch stands, and so does the link of each other place than the node's; and as many nodes are in each list
 pub record MarksAlone (p q : Trace) (node : Held) : Type 0 where
   pub epoch : (nodes q).epoch ≡ (nodes p).epoch
-  pub others : (at : At) → at ≢ node.at → link_shown_at (nodes q) at ≡ link_shown_at (nodes p) at
+  pub others : (place : At) → place ≢ node.at → link_shown_at (nodes q) place ≡ link_shown_at (nodes p) place
   pub listed : (bucket h : ℕ) → ahead q bucket (Head h) ≡ ahead p bucket (Head h)

@@ -10,7 +10,7 @@ use vbr_slots::AtTable;
 use vbr_words::Nodes;
 
 /// Puts the slot in the hand of a pass at the end of its own pool, which has room for it. It is no
-/// step; that the incarnation there is given up is told at the next birth in the slot.
+/// step; that the incarnation there is given up is recorded at the next birth in the slot.
 #[inline]
 pub fn give_back<N: Nodes>(at: &mut AtTable<'_, N>, hand: Hand)
     requires hand { IsHandOf (pass_of at.old) hand }

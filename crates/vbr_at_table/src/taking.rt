@@ -193,7 +193,7 @@ fn bear<N: Nodes>(
     if !affords(budget, used) {
         return Err((Refusal::OutOfSteps { used }, used));
     }
-    // What is known of the slots of the pool is told with it.
+    // What is known of the slots of the pool comes with it.
     let _pool = at.pool();
     at.store_birth(slot);
     Ok((Hand::of(slot, at.epoch()), used + 1))

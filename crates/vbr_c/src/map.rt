@@ -488,7 +488,7 @@ pub extern "C" fn vbr_map_renew_all_seeded(
 /// Drops what the handle has, and leaves it empty, as [`crate::set::vbr_drop`] does.
 ///
 /// ```c file=bindings/c/map_calls.c
-/// vbr_map_drop(&map[0]); // the close of map[1] is told the report
+/// vbr_map_drop(&map[0]); // the close of map[1] gets the report
 /// ```
 #[unsafe(no_mangle)]
 pub extern "C" fn vbr_map_drop(alloc: Global, handle: &mut MapHandle)

@@ -146,11 +146,11 @@ pub extern "C" fn vbr_has_within(handle: &mut Handle, key: u64, budget: u32) -> 
 }
 
 /// Looks keys up in their order, each in at most `budget` steps, and writes at the place of each what [`vbr_has_within`]
-/// answers to it: 1, 0, or a refusal, which says nothing of the keys behind it. There are as many answers as
+/// answers to it: 1, 0, or a refusal, which says nothing of the keys after it. There are as many answers as
 /// keys. It is for many keys of a large set: what the look-ups begin with is loaded before, for several keys at
 /// once, by loads that are no steps.
 ///
-/// In C the number of keys is given once, and the answers stand behind it: `bindings/null_pointers.c` has the
+/// In C the number of keys is given once, and the answers come after it: `bindings/null_pointers.c` has the
 /// export of that form.
 ///
 /// ```c file=bindings/c/calls.c
@@ -369,7 +369,7 @@ pub extern "C" fn vbr_renew_all_seeded(
 }
 
 /// Drops what the handle has, and leaves it empty. Its slots and its pass are given back, as by a close, so the
-/// last handle of its set that is closed is still told the report; with the last one dropped the set ends
+/// last handle of its set that is closed still gets the report; with the last one dropped the set ends
 /// without. It needs no memory, and can't fail.
 ///
 /// ```c file=bindings/c/answers.c

@@ -6,12 +6,12 @@ use Rattle.vbr_machine.specs.declared.event.Effect.TheVariants.{Done}
 use Rattle.vbr_machine.specs.declared.event.Step.{Step}
 use Rattle.vbr_machine.specs.declared.event.Step.TheVariants.{StoreKey, StoreValue}
 
--- the row that stores a value behind a step that stores a key: 100 more than the key, up to the greatest number
+-- the row that stores a value after a step that stores a key: 100 more than the key, up to the greatest number
 abbrev pub value_row : ℕ → Step → Option (ℕ × Step × Effect)
 value_row pass (StoreKey s key) = Some (pass, StoreValue s (min (key + 100) (2 ^ 64 - 1)), Done)
 value_row pass _ = None
 
--- rows behind one more, if there is one
+-- rows after one more, if there is one
 abbrev pub after_row : Option (ℕ × Step × Effect) → List (ℕ × Step × Effect) → List (ℕ × Step × Effect)
 after_row None rows = rows
 after_row (Some row) rows = row ∷ rows

@@ -38,11 +38,11 @@ macro_rules! rows {
             $($later)*)
     };
     (@ $kind:ident [$($made:tt)*]
-        $pass:literal visits { slot: $slot:literal, at: $at:expr, link: $link:literal, epoch: $epoch:literal, key: $key:literal
+        $pass:literal visits { slot: $slot:literal, at: $place:expr, link: $link:literal, epoch: $epoch:literal, key: $key:literal
             $(, value: $value:literal)?, birth: $birth:literal $(, next: $next:literal)? };
         $($later:tt)*) => {
         rows!(@ $kind [$($made)*]
-            $pass LoadLink { at: $at } => Value($link);
+            $pass LoadLink { at: $place } => Value($link);
             $pass ReadEpoch => Value($epoch);
             $pass LoadKey { slot: $slot } => Value($key);
             $($pass LoadValue { slot: $slot } => Value($value);)?

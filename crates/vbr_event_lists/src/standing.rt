@@ -1,4 +1,4 @@
-//! A worked list of events with a step of each kind, behind each of which a pass may stand still.
+//! A worked list of events with a step of each kind, after each of which a pass may stand still.
 use crate::lists::Row;
 use crate::rows::rows;
 use vbr_machine::{Effect, Op, Step};

@@ -29,7 +29,7 @@ pub const STORED_VALUE: [Row; 21] = rows![valued:
 /// The link words that the callers of its steps name.
 pub const STORED_VALUE_WORDS: [u64; 2] = [33_554_432, 33_554_433];
 
-// The row that stores a value behind a step that stores a key.
+// The row that stores a value after a step that stores a key.
 fn value_row(pass: u32, step: Step) -> Option<Row>
     ensures { result ≡ value_row pass step }
 {

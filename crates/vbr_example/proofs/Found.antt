@@ -107,7 +107,7 @@ stands who call own (c ∷ cs) e = go (eqb c.who who) own e (λ own rest. stands
     go true (x ∷ own) e later = further call c cs (later own (ap rest_of e))
     go false own e later = further call c cs (later own e)
 
--- ---- what is told, and what is found
+-- ---- what is answered, and what is found
 
 -- a page whose insert was answered is claimed
 claimed : (page : ℕ) (reply : Bool) (p q : Trace) → Answers (set_call p.who Insert page reply) p q →
@@ -115,13 +115,13 @@ claimed : (page : ℕ) (reply : Bool) (p q : Trace) → Answers (set_call p.who 
 claimed page reply p q answers none =
     let keys : Keys = opening_keys q.start in
     let call : Call = (set_call p.who Insert page reply) in
-    let at = stands q.who call _ (calls_of q.start q.seen) answers.once in
-    let first : List Call = at.0 in
-    let more : List Call = at.1 in
-    let legal : IsLegal keys (first ++ call ∷ more) = subst (IsLegal keys) at.2 answers.legal in
+    let stood = stands q.who call _ (calls_of q.start q.seen) answers.once in
+    let first : List Call = stood.0 in
+    let more : List Call = stood.1 in
+    let legal : IsLegal keys (first ++ call ∷ more) = subst (IsLegal keys) stood.2 answers.legal in
     let there = inserted (set_after keys first) page reply (reply_at keys first call more legal) in
-    let none_more : RemoveNone (call ∷ more) = none_rest first (call ∷ more) (subst RemoveNone at.2 none) in
-    ap (λ l. set_after keys l page) at.2 ∙ ap (λ (k : Keys). k page) (after_both keys first (call ∷ more))
+    let none_more : RemoveNone (call ∷ more) = none_rest first (call ∷ more) (subst RemoveNone stood.2 none) in
+    ap (λ l. set_after keys l page) stood.2 ∙ ap (λ (k : Keys). k page) (after_both keys first (call ∷ more))
     ∙ stays (keys_after (set_after keys first) Insert page reply) page more none_more.1 there
 
 pub tells : (set : TableView) (message : Message) (reply : Bool) (p q : Trace) →

@@ -1,4 +1,4 @@
--- What is told of owners in turn is told of their members.
+-- What holds of owners in turn holds of their members.
 use Rattle.std.proofs.Common.{ℕ, List, [], ◌∷◌, ap}
 use Rattle.vbr_set.specs.Batches.{InTurn}
 

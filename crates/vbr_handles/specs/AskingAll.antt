@@ -10,8 +10,8 @@ use Rattle.vbr_handles.specs.declared.asking_all.AskRefusal.{AskRefusal}
 use Rattle.vbr_handles.specs.declared.asking_all.AskRefusal.TheVariants as asking
 use Rattle.vbr_handles.specs.declared.asking_all.Question.{Question}
 use Rattle.vbr_handles.specs.declared.asking_all.Question.TheVariants as question
-use Rattle.vbr_handles.specs.declared.asking_all.Told.{Told}
-use Rattle.vbr_handles.specs.declared.asking_all.Told.TheVariants as told
+use Rattle.vbr_handles.specs.declared.asking_all.Answer.{Answer}
+use Rattle.vbr_handles.specs.declared.asking_all.Answer.TheVariants as answer
 
 -- there are fewer members than a report wants, or not as many as a renewal does
 abbrev pub Lack : Question → List Member → Type 0
@@ -20,7 +20,7 @@ Lack (question.Renew shape) members = AreNotAll members
 
 module _ {Item R : Type 0} (kind : KindOf Item R) where
   -- members that are asked for their report come back as they were, with it or with why there is none; those that are to be renewed are, or come back as they were with why not
-  abbrev pub AnswersQuestion : Question → List Member → List Member → Told R → Type 0
+  abbrev pub AnswersQuestion : Question → List Member → List Member → Answer R → Type 0
   AnswersQuestion question.Report members back (told.Report report) = (back ≡ members) × ReportsAllBy (ClosesBy kind) members report
   AnswersQuestion question.Report members back told.Memory = back ≡ members
   AnswersQuestion question.Report members back _ = ⊥
@@ -31,7 +31,7 @@ module _ {Item R : Type 0} (kind : KindOf Item R) where
 
   module _ {H : Type 0} (member : H → Option Member) (asked : Question) where
     -- the members of handles, of which none lack, were asked, and each handle has the one that came back for it
-    pub record AsksThem (before after : List H) (answer : Told R) : Type 0 where
+    pub record AsksThem (before after : List H) (answer : Answer R) : Type 0 where
       pub enough : ¬ (Lack asked (members_by member before))
       pub came : List Member
       pub tells : AnswersQuestion asked (members_by member before) came answer
@@ -45,6 +45,6 @@ module _ {Item R : Type 0} (kind : KindOf Item R) where
     IsWhyUnasked handles asking.Memory = AreFull member handles × ¬ (Lack asked (members_by member handles))
 
     -- the members of handles were asked; and else the handles are as they were
-    abbrev pub AsksAllOf : List H → List H → Result (Told R) AskRefusal → Type 0
+    abbrev pub AsksAllOf : List H → List H → Result (Answer R) AskRefusal → Type 0
     AsksAllOf before after (Ok answer) = AreFull member before × AsksThem before after answer
     AsksAllOf before after (Err refusal) = (after ≡ before) × IsWhyUnasked before refusal

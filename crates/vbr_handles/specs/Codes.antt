@@ -47,7 +47,7 @@ close_code (Err closing.Memory) = negsuc 7
 close_code (Err closing.Lost) = negsuc 8
 close_code (Err (closing.Room report)) = negsuc 10
 
--- of a report or a close by all: 1 told, -4 one is empty, -8 no memory, -11 no room, -12 some are missing, -13 they are of several sets
+-- of a report or a close by all: 1 returned, -4 one is empty, -8 no memory, -11 no room, -12 some are missing, -13 they are of several sets
 abbrev pub close_all_code : {R : Type 0} → Result R (CloseAllRefusal R) → ℤ
 close_all_code (Ok report) = pos 1
 close_all_code (Err closing_all.Empty) = negsuc 3

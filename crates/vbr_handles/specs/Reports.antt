@@ -22,7 +22,7 @@ module _ {R I : Type 0} (L : Listing R I) where
     pub numbers : told ≡ L.numbers report
     pub items : after ≡ L.items report ++ drop (length (L.items report)) before
 
-  -- a report is told; of one that has no room the numbers are, and else nothing is written
+  -- a report is written; of one that has no room the numbers are, and else nothing is written
   abbrev pub WritesReport : Result (Option R) (CloseRefusal R) → List I → List I → ReportNumbers → ReportNumbers → Type 0
   WritesReport (Ok (Some report)) before after old new = IsReported report before after new
   WritesReport (Ok None) before after old new = (after ≡ before) × (new ≡ old)
@@ -31,7 +31,7 @@ module _ {R I : Type 0} (L : Listing R I) where
   WritesReport (Err Memory) before after old new = (after ≡ before) × (new ≡ old)
   WritesReport (Err (Room report)) before after old new = (after ≡ before) × (new ≡ L.numbers report)
 
-  -- so it is where all handles tell a report, or are closed, at once; a report is told; of one that has no room the numbers are, and else nothing is written
+  -- so it is where all handles tell a report, or are closed, at once; a report is written; of one that has no room the numbers are, and else nothing is written
   abbrev pub WritesAll : Result R (CloseAllRefusal R) → List I → List I → ReportNumbers → ReportNumbers → Type 0
   WritesAll (Ok report) before after old new = IsReported report before after new
   WritesAll (Err closing_all.Empty) before after old new = (after ≡ before) × (new ≡ old)
@@ -41,14 +41,14 @@ module _ {R I : Type 0} (L : Listing R I) where
   WritesAll (Err (closing_all.Room report)) before after old new = (after ≡ before) × (new ≡ L.numbers report)
 
   module _ (tells : TableView → List PassView → R → Type 0) where
-    -- the code is that of an answer to the close, and a report is told
+    -- the code is that of an answer to the close, and a report is written
     pub record TellsCloseBy (m n : Option Member) (before after : List I) (old new : ReportNumbers) (code : ℤ) : Type 0 where
       pub answer : Result (Option R) (CloseRefusal R)
       pub is : code ≡ close_code answer
       pub closes : ClosesAs tells L m n (length before) answer
       pub writes : WritesReport answer before after old new
 
-    -- the code is that of an answer to the close, and a report is told
+    -- the code is that of an answer to the close, and a report is written
     pub record TellsCloseAllBy {H : Type 0} (member : H → Option Member) (handles left : List H) (before after : List I) (old new : ReportNumbers) (code : ℤ) : Type 0 where
       pub answer : Result R (CloseAllRefusal R)
       pub is : code ≡ close_all_code answer

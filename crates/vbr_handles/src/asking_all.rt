@@ -37,9 +37,9 @@ pub(crate) enum Question {
     Renew(Shape),
 }
 
-/// What they tell.
+/// What they answer.
 #[derive(Drop)]
-pub(crate) enum Told<R> {
+pub(crate) enum Answer<R> {
     /// The report.
     Report(R),
     /// That they were renewed.
@@ -56,7 +56,7 @@ pub(crate) fn ask_all<N: Kind, H: HandleOf<N>>(
     alloc: Global,
     handles: &mut [H],
     question: Question,
-) -> Result<Told<N::Report>, AskRefusal>
+) -> Result<Answer<N::Report>, AskRefusal>
     requires { AreOfOneSet (members_by H.member handles.old) }
     ensures asks { AsksAllOf N.kind H.member question handles.old handles.new result }
     ensures steps { map H.steps handles.new ≡ map H.steps handles.old }
@@ -155,7 +155,7 @@ fn ask<N: Kind>(
     alloc: Global,
     members: Vec<Member<N>>,
     question: Question,
-) -> (Told<N::Report>, Vec<Member<N>>)
+) -> (Answer<N::Report>, Vec<Member<N>>)
     requires one_set { AreOfOneSet members.items }
     requires enough { ¬ (Lack question members.items) }
     ensures many { length result.1.items ≡ length members.items }
@@ -163,15 +163,15 @@ fn ask<N: Kind>(
 {
     match question {
         Question::Report => match Member::<N>::report_all(alloc, members) {
-            Ok((report, members)) => (Told::Report(report), members),
+            Ok((report, members)) => (Answer::Report(report), members),
             Err(CloseAllError::Missing(_)) => unreachable!(),
-            Err(CloseAllError::Memory(members)) => (Told::Memory, members),
+            Err(CloseAllError::Memory(members)) => (Answer::Memory, members),
         },
         Question::Renew(shape) => match Member::<N>::renew_all(alloc, members, shape) {
-            Ok(fresh) => (Told::Renewed, fresh),
+            Ok(fresh) => (Answer::Renewed, fresh),
             Err(RenewAllError::Missing(_)) => unreachable!(),
-            Err(RenewAllError::Room(members)) => (Told::Room, members),
-            Err(RenewAllError::Memory(members)) => (Told::Memory, members),
+            Err(RenewAllError::Room(members)) => (Answer::Room, members),
+            Err(RenewAllError::Memory(members)) => (Answer::Memory, members),
         },
     }
 }

@@ -26,7 +26,7 @@ pub enum CloseRefusal<R = Report> {
 }
 
 /// Gives the pass of a handle back and leaves the handle empty. While other handles of its set are
-/// full the answer is None; the last one is told what is in the set, where there is room for so many
+/// full the answer is None; the last one gets what is in the set, where there is room for so many
 /// keys, and the set ends. So it is of a map, whose report has entries.
 ///
 /// As [`Member::report_last`] it gives no slots back: [`crate::numbers::giving_back::close`] does so before.
@@ -66,7 +66,7 @@ pub fn close<N: Kind, I: Listed<N>>(
 }
 
 /// Drops what a handle has, and leaves it empty. Its pass is given back, as by a close, so the last handle
-/// of its set that is closed is still told a report; with the last one dropped the set ends without. It
+/// of its set that is closed still gets a report; with the last one dropped the set ends without. It
 /// needs no memory.
 pub fn abandon<N: Nodes>(alloc: Global, owner: &mut Owner<Member<N>>)
     ensures { owner.new.member ≡ None }

@@ -5,7 +5,7 @@ ghost use Rattle.vbr_set.specs.Closing.{ClosesBy};
 ghost use Rattle.vbr_handles.specs.AllHandles.{ClosesAll, ReportsAllOf, members_by};
 ghost use Rattle.vbr_handles.specs.Opening.{AreEmpty};
 
-use crate::asking_all::{AskRefusal, Question, Told, ask_all};
+use crate::asking_all::{Answer, AskRefusal, Question, ask_all};
 use crate::handle_of::HandleOf;
 use crate::listed::Listed;
 use crate::owner::Owner;
@@ -45,9 +45,9 @@ pub fn report_all<N: Kind, I: Listed<N>, H: HandleOf<N>>(
     ensures steps { map H.steps handles.new ≡ map H.steps handles.old }
 {
     let report = match ask_all::<N, H>(alloc, handles, Question::Report) {
-        Ok(Told::Report(report)) => report,
-        Ok(Told::Memory) => return Err(CloseAllRefusal::Memory),
-        Ok(Told::Renewed | Told::Room) => unreachable!(),
+        Ok(Answer::Report(report)) => report,
+        Ok(Answer::Memory) => return Err(CloseAllRefusal::Memory),
+        Ok(Answer::Renewed | Answer::Room) => unreachable!(),
         Err(AskRefusal::Empty) => return Err(CloseAllRefusal::Empty),
         Err(AskRefusal::Missing) => return Err(CloseAllRefusal::Missing),
         Err(AskRefusal::Mixed) => return Err(CloseAllRefusal::Mixed),

@@ -3,7 +3,7 @@
 //! A [`Handle`] is one pointer to a member on the heap, and null while it is empty; beside it stands the budget of
 //! its calls, which is the caller's. A handle is moved and never copied, and one call at a time has it. A
 //! [`MapHandle`] is the same, with a member of a map.
-//! What both are, an [`Owner`] of a member of any type, makes the calls; what C gives and is told of keys
+//! What both are, an [`Owner`] of a member of any type, makes the calls; what C gives and gets of keys
 //! ([`Listed`]) has entries in place of keys where it is a map.
 #![tactic(auto)]
 

@@ -4,7 +4,7 @@ ghost use Rattle.vbr_set.specs.AllMembers.{AreOfOneSet};
 ghost use Rattle.vbr_handles.specs.AllHandles.{members_by};
 ghost use Rattle.vbr_handles.specs.RenewingAll.{RenewsAll};
 
-use crate::asking_all::{AskRefusal, Question, Told, ask_all};
+use crate::asking_all::{Answer, AskRefusal, Question, ask_all};
 use crate::handle_of::HandleOf;
 use crate::listed::Listed;
 use crate::opening::ShapeNumbers;
@@ -47,10 +47,10 @@ pub fn renew_all<N: Kind, I: Listed<N>, H: HandleOf<N>>(
         return Err(RenewAllRefusal::Shape);
     };
     match ask_all::<N, H>(alloc, handles, Question::Renew(shape)) {
-        Ok(Told::Renewed) => Ok(()),
-        Ok(Told::Room) => Err(RenewAllRefusal::Room),
-        Ok(Told::Memory) => Err(RenewAllRefusal::Memory),
-        Ok(Told::Report(_)) => unreachable!(),
+        Ok(Answer::Renewed) => Ok(()),
+        Ok(Answer::Room) => Err(RenewAllRefusal::Room),
+        Ok(Answer::Memory) => Err(RenewAllRefusal::Memory),
+        Ok(Answer::Report(_)) => unreachable!(),
         Err(AskRefusal::Empty) => Err(RenewAllRefusal::Empty),
         Err(AskRefusal::Missing) => Err(RenewAllRefusal::Missing),
         Err(AskRefusal::Mixed) => Err(RenewAllRefusal::Mixed),

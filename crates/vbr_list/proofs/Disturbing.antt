@@ -266,7 +266,7 @@ pub opened : (p q r : Trace) (pred : Held) (gone : Marked) (place : Held) → Qu
     IsRun q.start q.passes q.seen → Keeps (knows p) (knows q) → place.at ≡ pred.at → IsHeld (knows q) place →
     (link_of place.word).mark ≡ false → StandsNow q place → (link_of place.word).slot ≡ (link_of gone.word).slot →
     ChangesNone q r → OpensPlace p r pred gone place
-opened p q r pred gone place a b is ok keeps at known unmarked stands next none =
+opened p q r pred gone place a b is ok keeps same known unmarked stands next none =
     let whole = quiet_on a b in
     record {
       moment = q.seen;
@@ -276,7 +276,7 @@ opened p q r pred gone place a b is ok keeps at known unmarked stands next none 
           ∙ stands;
       is_open = λ bucket inside.
           let H : At → Type 0 = λ t. HeldIn (knows q) t bucket in
-          let there = subst H (sym at) (held_in_kept pred.at bucket keeps inside) in
+          let there = subst H (sym same) (held_in_kept pred.at bucket keeps inside) in
           let P : Start → Type 0 = λ start. IsOpenIn start (incarnations_after start q.seen) bucket place.at in
           subst P a.same.start
           (known_open q.start q.passes q.seen is ok q.who bucket place.at (link_of place.word) known.link unmarked
@@ -430,7 +430,7 @@ module _ (p r : Trace) (is : IsStart p.start) (ok : IsRun p.start p.passes r.see
   loses_found_disturb q told sq b k pred cur (inl x) = loses_place_disturb q told.pred sq b k pred x
   loses_found_disturb q told sq b k pred cur (inr x) = next told.cur cur x
     where
-      next : (at : Option Held) → NextStandsStill p q bucket at → LosesNext q r at →
+      next : (stopped : Option Held) → NextStandsStill p q bucket stopped → LosesNext q r stopped →
           disturbed_at p bucket p.seen < disturbed_at p bucket r.seen
       next None still y = absurd y
       next (Some node) still y = loses_place_disturb q node sq b k still y

@@ -211,10 +211,10 @@ tells_next {p} {q} {r} s {bucket} {from} {a} {b} {c} {budget} {pred} {here} next
     let whole = quiet_on first quiet in
     let n = m.reads in
     let k = m.visits.0 in
-    let P : At → Type 0 = λ at. KeyAt (knows s.trace) at next.key in
-    let Q : At → Type 0 = λ at. ValueAt (knows s.trace) at next.value in
+    let P : At → Type 0 = λ place. KeyAt (knows s.trace) place next.key in
+    let Q : At → Type 0 = λ place. ValueAt (knows s.trace) place next.value in
     let there = key_kept node.at next.key v.keeps k.keyed in
-    let keyed : KeyAt (knows s.trace) (Slot n.slot) next.key = subst P n.at there in
+    let keyed : KeyAt (knows s.trace) (Slot n.slot) next.key = subst P n.place there in
     let of_bucket : bucket_of p.trace.start.shape next.key ≡ bucket =
     ap (λ (t : Start). bucket_of t.shape next.key) (sym (quiet_on first visit).same.start)
     ∙ k.of_bucket bucket x.inside.inside in
@@ -228,8 +228,8 @@ tells_next {p} {q} {r} s {bucket} {from} {a} {b} {c} {budget} {pred} {here} next
           between = λ other is high low.
               passed_by s start x quiet keeps other is high (rw n.named (next.key, keyed, low));
         },
-        λ values. was_entry node start whole.same read k.unmarked n.slot next.key next.value n.at keyed
-            (subst Q n.at (v.value (ap (λ (t : Start). t.shape.values) (quiet_on first visit).same.start ∙ values)))
+        λ values. was_entry node start whole.same read k.unmarked n.slot next.key next.value n.place keyed
+            (subst Q n.place (v.value (ap (λ (t : Start). t.shape.values) (quiet_on first visit).same.start ∙ values)))
             values,
       ),
       λ last. record {
@@ -240,14 +240,14 @@ tells_next {p} {q} {r} s {bucket} {from} {a} {b} {c} {budget} {pred} {here} next
             let now = subst S (sym whole.same.start) same_bucket in
             let none = no_slot (link_of node.word).slot (sym is_last ∙ last) in
             was_absent node start whole.same read k.unmarked other
-            (behind_node s.trace.start (knows s.trace) node.at n.slot next.key other n.at there now
+            (behind_node s.trace.start (knows s.trace) node.at n.slot next.key other n.place there now
             (omega (arith, high))) (rw none tt);
       },
     )
 
 -- ---- again
 
--- what a later part of what the pass did tells is told of the whole
+-- what holds of a later part of what the pass did holds of the whole
 pub tells_since : {p q : Trace} (r : Trace) (bucket from : ℕ) (told : Option NextNode) → Quiet p q →
     TellsNode q r bucket from told → TellsNode p r bucket from told
 tells_since {p} {q} r bucket from told a x =

@@ -189,4 +189,4 @@ succ_found know key pred None cur present same x =
 succ_found know key pred (Some node) cur present same x =
     let P : Option Held → Type 0 = λ cur. IsEnd know key pred cur present in
     let y : IsCur know key pred node.now present = subst P (sym same) x in
-    (y.held, (y.slot, y.named, y.at))
+    (y.held, (y.slot, y.named, y.place))

@@ -53,8 +53,8 @@ walked c d found x tired = grind arith
 -- ---- a mark
 
 -- the node of a key isn't the place before the key
-pub apart : (p : Trace) → IsStart p.start → IsRun p.start p.passes p.seen → (at node : At) (key : ℕ) →
-    StandsBehind p.start (knows p) at key → KeyAt (knows p) node key → at ≢ node
+pub apart : (p : Trace) → IsStart p.start → IsRun p.start p.passes p.seen → (place node : At) (key : ℕ) →
+    StandsBehind p.start (knows p) place key → KeyAt (knows p) node key → place ≢ node
 apart p is ok (Head b) node key behind there e =
     let P : At → Type 0 = λ t. KeyAt (knows p) t key in subst P (sym e) there
 apart p is ok (Slot s) node key behind there e =

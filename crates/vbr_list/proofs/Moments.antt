@@ -37,8 +37,8 @@ pub before_cur : (know : Know) (key : ℕ) (pred cur : Held) → IsCur know key 
     StandsBefore know key (link_of pred.word).slot
 before_cur know key pred cur y =
     let l : key < y.here = let u = y.says in let v = y.not_smaller in grind (arith, nat_tests) in
-    let P : At → Type 0 = λ at. KeyAt know at y.here in
-    rw y.named (y.here, subst P y.at y.read, l)
+    let P : At → Type 0 = λ place. KeyAt know place y.here in
+    rw y.named (y.here, subst P y.place y.read, l)
 
 -- an absent key stands before what the place names
 pub stands_before : (know : Know) (key : ℕ) (pred : Held) (cur : Option Held) → IsEnd know key pred cur false →

@@ -118,7 +118,7 @@ takes_after p q r quiet some x more (EpochSpent epoch) y =
       room = y.room;
     }
 
--- a refusal behind no steps is one of the whole call
+-- a refusal after no steps is one of the whole call
 pub refused_first : (p q : PassView) (key budget : ℕ) (refusal : Refusal) → TakesNone p q 0 budget refusal →
     WasWantedFor Absent p.trace q.trace key refusal → IsRefusedInsert p q key budget refusal
 refused_first p q key budget (OutOfSteps used) x so =

@@ -32,7 +32,8 @@ pred_on {p} {q} key held s keeps x =
     }
 
 -- a key that is known at a place stays known
-pub key_kept : {know later : Know} (at : At) (key : ℕ) → Keeps know later → KeyAt know at key → KeyAt later at key
+pub key_kept : {know later : Know} (place : At) (key : ℕ) → Keeps know later → KeyAt know place key →
+    KeyAt later place key
 key_kept (Head b) key keeps k = k
 key_kept (Slot s) key keeps k = keeps.reads (KeyOf s key) k
 
@@ -51,10 +52,10 @@ head_before {p} {q} bucket from head x =
     record {
       is = record {
         held = x.known;
-        inside = subst P (sym x.at) (at_head bucket);
+        inside = subst P (sym x.place) (at_head bucket);
         unmarked = x.unmarked;
         behind = λ key is high.
-            let Q : At → Type 0 = λ place. StandsBehind q.start (knows q) place key in subst Q (sym x.at) is;
+            let Q : At → Type 0 = λ place. StandsBehind q.start (knows q) place key in subst Q (sym x.place) is;
       };
       stood = stood_after x.reads.checks.same x.reads.checks.from x.reads.stood;
     }
@@ -63,14 +64,14 @@ head_before {p} {q} bucket from head x =
 pub next_inside : {p q : Trace} (bucket : ℕ) (here node : Held) → IsPlaceIn (knows p) bucket here →
     Keeps (knows p) (knows q) → ReadsNext p q here node → HeldIn (knows q) node.at bucket
 next_inside {p} {q} bucket here node x keeps n =
-    let P : At → Type 0 = λ at. HeldIn (knows q) at bucket in
-    subst P (sym n.at)
+    let P : At → Type 0 = λ place. HeldIn (knows q) place bucket in
+    subst P (sym n.place)
     (held_in_next here n.slot bucket (held_kept here keeps x.held) n.named (held_in_kept here.at bucket keeps x.inside))
 
 -- keys of its bucket stand behind a node with a key below them
-pub behind_node : (start : Start) (know : Know) (at : At) (s here key : ℕ) → at ≡ Slot s → KeyAt know at here →
-    bucket_of start.shape key ≡ bucket_of start.shape here → here < key → StandsBehind start know at key
-behind_node start know at s here key e x b l =
+pub behind_node : (start : Start) (know : Know) (place : At) (s here key : ℕ) → place ≡ Slot s → KeyAt know place here →
+    bucket_of start.shape key ≡ bucket_of start.shape here → here < key → StandsBehind start know place key
+behind_node start know place s here key e x b l =
     let P : At → Type 0 = λ y. KeyAt know y here → StandsBehind start know y key in
     subst P (sym e) (λ h. (here, h, b, l)) x
 
@@ -84,7 +85,7 @@ node_before {p} {q} bucket from key here node x keeps n k low = record {
     inside = next_inside bucket here node x keeps n;
     unmarked = k.unmarked;
     behind = λ other is high.
-        behind_node q.start (knows q) node.at n.slot key other n.at k.keyed (is ∙ sym (k.of_bucket bucket x.inside))
+        behind_node q.start (knows q) node.at n.slot key other n.place k.keyed (is ∙ sym (k.of_bucket bucket x.inside))
         (omega (arith, low, high));
   };
   stood = n.stood;
@@ -124,7 +125,7 @@ node_found key here present pred node n k high says =
       unmarked = k.unmarked;
       slot = n.slot;
       named = n.named;
-      at = n.at;
+      place = n.place;
       here = here;
       read = k.keyed;
       not_smaller = high;
@@ -158,7 +159,7 @@ retired_keeps know later slot kept is same =
 pub helped : {p q r : Trace} (key : ℕ) (pred place : Held) → IsPred p.start (knows p) key pred →
     Keeps (knows p) (knows q) → place.at ≡ pred.at → (link_of place.word).mark ≡ false → IsRead p q place → Quiet p q →
     Quiet q r → Keeps (knows q) (knows r) → HasComeTo p r key place
-helped {p} {q} {r} key pred place x keeps at unmarked read a b keeps2 =
+helped {p} {q} {r} key pred place x keeps same unmarked read a b keeps2 =
     let z = pred_on key pred a.same keeps x in
     let P : At → Type 0 = λ t. HeldIn (knows q) t (bucket_of q.start.shape key) in
     let Q : At → Type 0 = λ t. StandsBehind q.start (knows q) t key in
@@ -166,8 +167,8 @@ helped {p} {q} {r} key pred place x keeps at unmarked read a b keeps2 =
     record {
       held = read.known;
       unmarked = unmarked;
-      inside = subst P (sym at) z.inside;
-      behind = subst Q (sym at) z.behind;
+      inside = subst P (sym same) z.inside;
+      behind = subst Q (sym same) z.behind;
     } in
     record { is = pred_on key place b.same keeps2 w; stood = stood_before read.stood b }
 

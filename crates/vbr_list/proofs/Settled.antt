@@ -1,4 +1,4 @@
--- What a store told once it had read what was there, told from before that.
+-- What a store returns once it has read what was there, seen from before that.
 use Rattle.vbr_list.proofs.Names.{◌≡◌, ℕ, ◌+◌, ◌≤◌, Bool, true, false, List, Option, None, inl, inr, arith, sym, ◌∙◌}
 use Rattle.vbr_list.proofs.Names.{subst}
 use Rattle.vbr_list.proofs.Names.{AddsNone, Call, counts_on, Ghosts, IsStart, Keeps, knows, none_on, PassLaw, PIECE}

@@ -6,8 +6,8 @@ use Rattle.vbr_list.specs.Places.{IsSight, sighted, is_present}
 use Rattle.vbr_list.specs.declared.looking.Sight.{Sight}
 use Rattle.vbr_list.specs.declared.looking.Sight.TheVariants.{Present, Absent}
 
-pub keyed_slot : (know : Know) (at : At) (key : ℕ) → KeyAt know at key → IsSlot at
-keyed_slot know at key k = grind arith
+pub keyed_slot : (know : Know) (place : At) (key : ℕ) → KeyAt know place key → IsSlot place
+keyed_slot know place key k = grind arith
 
 module _ (start : Start) (know : Know) (key : ℕ) where
   pub sight_held : (sight : Sight) → IsSight start know key sight → IsHeld know (sighted sight)

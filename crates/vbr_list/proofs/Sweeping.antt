@@ -56,12 +56,12 @@ module _ {p q : Trace} (key : ℕ) (start : IsStart p.start) (ok : IsRun p.start
       had_key x.stood.moment pred.at (link_of pred.word) shown x.stood.within.from x.locates.pred.behind before)
       (λ cur y z.
       (let there = was_shown cur start quiet.same (record { known = y.held; stood = z }) y.unmarked in
-      let P : At → Type 0 = λ at. WasShown q.start z.moment q.seen q.who at (link_of cur.word) in
-      let K : At → Type 0 = λ at. KeyAt (knows q) at key in
+      let P : At → Type 0 = λ place. WasShown q.start z.moment q.seen q.who place (link_of cur.word) in
+      let K : At → Type 0 = λ place. KeyAt (knows q) place key in
       found_left q.start q.passes p.seen q.seen is_start (quiet.is_run ok) q.who key node was_removed had_key
-      x.stood.moment z.moment pred.at (link_of pred.word) (link_of cur.word) y.slot shown (subst P y.at there)
+      x.stood.moment z.moment pred.at (link_of pred.word) (link_of cur.word) y.slot shown (subst P y.place there)
       x.stood.within.from z.within.from x.locates.pred.behind y.named
-      (subst K y.at (key_known (knows q) key pred cur y))))
+      (subst K y.place (key_known (knows q) key pred cur y))))
 
 pub swept_found : {p q : Trace} (key : ℕ) (found : Found) → IsStart p.start → IsRun p.start p.passes p.seen →
     Quiet p q → IsFound p q key found → Sweeps p q key

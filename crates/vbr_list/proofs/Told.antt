@@ -127,7 +127,7 @@ calls_entry (Err refusal) law x = record { calls = x; gives = tt }
 
 -- ---- what a call promises besides
 
--- of an answer, told as another, and of a refusal
+-- of an answer, returned as another, and of a refusal
 look_up_read : {A B : Type 0} {f : A → Call} {g : B → Call} {reading : ℕ} {p q : PassView} {key budget : ℕ} (reply : A)
     (given : B) → f reply ≡ g given → BoundsOfLookUp f reading p q key budget (Ok reply) →
     BoundsOfLookUp g reading p q key budget (Ok given)

@@ -67,4 +67,4 @@ cur_is know key pred cur o present y e =
 
 pub slot_at : {know : Know} {key : ℕ} {pred cur : Held} {present : Bool} → IsCur know key pred cur present →
     IsSlot cur.at
-slot_at x = let P : At → Type 0 = IsSlot in subst P (sym x.at) tt
+slot_at x = let P : At → Type 0 = IsSlot in subst P (sym x.place) tt

@@ -116,12 +116,13 @@ module _ {p : PassView} {r : Trace} (law : PassLaw p) (bucket : ℕ) (quiet : Qu
       record {
         knew = knows_now p.trace r quiet.same quiet.seen found.reads.fresh;
         stands = stood_open law.start ok c.same c.from x bucket p.trace.seen c.from unmoved
-            (subst P (sym found.at) refl);
+            (subst P (sym found.place) refl);
         visited = 0;
         steps = omega (arith, sum);
         ahead = head_visited p.trace.start p.trace.passes p.trace.seen q.seen x.moment r.seen law.start ok c.from
             x.within.from x.within.to (knows r).epoch bucket (link_of head.word) now
-            (sym (ap (link_at (world_after p.trace.start x.moment)) found.at) ∙ loaded_at law.start ok c.same c.from x);
+            (sym (ap (link_at (world_after p.trace.start x.moment)) found.place)
+            ∙ loaded_at law.start ok c.same c.from x);
       }
 
 -- ---- a walk so far
@@ -247,7 +248,7 @@ module _ {p : PassView} {q r : Trace} (law : PassLaw p) (bucket : ℕ) (first : 
           w.knew.was (fresh_at p.trace r whole.same m.fresh ∙ m.keeps.epoch)
 
       loaded : link_at (world_after p.trace.start reads.stood.moment) (Slot reads.slot) ≡ link_of node.word
-      loaded = sym (ap (link_at (world_after p.trace.start reads.stood.moment)) reads.at)
+      loaded = sym (ap (link_at (world_after p.trace.start reads.stood.moment)) reads.place)
           ∙ loaded_at law.start visited_run first.same first.seen reads.stood
 
       -- an unmarked one stood open
@@ -256,7 +257,7 @@ module _ {p : PassView} {q r : Trace} (law : PassLaw p) (bucket : ℕ) (first : 
           let P : At → Type 0 = IsOpenIn p.trace.start (nodes_after p.trace reads.stood.moment) bucket in
           stood_open law.start visited_run first.same first.seen reads.stood bucket q.seen (begins_refl q.seen)
           visit_changes_none
-          (subst P (sym reads.at)
+          (subst P (sym reads.place)
           (unmarked_open p.trace.start p.trace.passes p.trace.seen q.seen reads.stood.moment r.seen law.start
           visited_run first.seen reads.stood.within.from reads.stood.within.to (knows q).epoch bucket w.visited
           reads.slot (link_of node.word) node_ahead (known_low p.trace q law.start run_before w.knew) now loaded u))

@@ -17,7 +17,7 @@ use Rattle.vbr_list.specs.Wanted.{WasWanted, WasWantedFor, steps_to_compare, wan
 use Rattle.vbr_list.specs.declared.call.PendingCall.{PendingCall}
 use Rattle.vbr_list.specs.declared.found.Found.{Found}
 use Rattle.vbr_list.specs.declared.storing.Met.{Met}
-use Rattle.vbr_list.specs.declared.storing.Met.TheVariants.{AsWanted, Told}
+use Rattle.vbr_list.specs.declared.storing.Met.TheVariants.{AsWanted, Otherwise}
 use Rattle.vbr_list.specs.declared.wanted.Wanted.{Wanted}
 use Rattle.vbr_list.specs.declared.wanted.Wanted.TheVariants.{Absent, Present, Anything, Value}
 use Rattle.vbr_list.proofs.FoundValues.{few_where}
@@ -73,12 +73,12 @@ found_entry {p} {m} {r} key value found start same then keeps values x known =
     go (Some cur) present is there y z =
         let C : Bool → Type 0 = λ b. IsCur (knows m) key found.pred cur b in
         let k : IsCur (knows m) key found.pred cur true = subst C there y in
-        let K : At → Type 0 = λ at. KeyAt (knows r) at key in
-        let V : At → Type 0 = λ at. ValueAt (knows r) at value in
+        let K : At → Type 0 = λ place. KeyAt (knows r) place key in
+        let V : At → Type 0 = λ place. ValueAt (knows r) place value in
         was_entry cur start same (record { known = held_kept cur keeps k.held; stood = stood_before z then }) k.unmarked
-        k.slot key value k.at
-        (subst K k.at (key_kept cur.at key keeps (key_known (knows m) key found.pred cur k)))
-        (subst V k.at (known.known cur is)) values
+        k.slot key value k.place
+        (subst K k.place (key_kept cur.at key keeps (key_known (knows m) key found.pred cur k)))
+        (subst V k.place (known.known cur is)) values
 
 -- by its value
 pub was_compared : {p m r : Trace} (key : ℕ) (found : Found) (wanted : Wanted) (there : Option ℕ) → IsStart p.start →
@@ -150,4 +150,4 @@ pub met_as : {N : Type 0} {kind : Ghosts N} (c m d : PendingCall N kind) (wanted
     ((there : Option ℕ) → TellsOther wanted m d there → MeetsOther wanted c d there) → AsksMet wanted m d found met →
     IsMet wanted c d met
 met_as c m d wanted found AsWanted f g x = f x.0 x.1
-met_as c m d wanted found (Told there) f g x = g there x
+met_as c m d wanted found (Otherwise there) f g x = g there x

@@ -48,7 +48,7 @@ pub record OpensPlace (p q : Trace) (pred : Held) (gone : Marked) (place : Held)
 
 -- the place is where it was, in the epoch that the pass had, and the pass came on to it with its new link, if it stood before a key
 pub record Helps (p q : PassView) (pred : Held) (gone : Marked) (place : Held) : Type 0 where
-  pub at : place.at ≡ pred.at
+  pub same_place : place.at ≡ pred.at
   pub epoch : (knows q.trace).epoch ≡ (knows p.trace).epoch
   pub opens : OpensPlace p.trace q.trace pred gone place
   pub come : (key : ℕ) → IsPred p.trace.start (knows p.trace) key pred → HasComeTo p.trace q.trace key place

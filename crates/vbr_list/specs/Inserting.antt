@@ -52,7 +52,7 @@ pub record InsertShowsSpent (p q : PassView) (before budget epoch : ℕ) : Type 
   pub counts : CountsWithin p.trace q.trace before since budget
   pub room : since + PIECE ≤ budget
 
--- what a refusal to take a slot says, behind so many steps
+-- what a refusal to take a slot says, after so many steps
 abbrev pub TakesNone : PassView → PassView → ℕ → ℕ → Refusal → Type 0
 TakesNone p q before budget (OutOfSteps used) = RunsShort p.trace q.trace before used budget
 TakesNone p q before budget NoSlot = HasNoSlot p q

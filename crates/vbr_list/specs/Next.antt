@@ -1,4 +1,4 @@
--- The next key of a bucket, from a number on: what is told of it.
+-- The next key of a bucket, from a number on: what is returned of it.
 use Rattle.std.specs.Prelude.{◌≡◌, ℕ, ◌+◌, ◌*◌, ◌<◌, ◌≤◌, true, false, Option, Some, None, Result, IfOk, IfErr}
 use Rattle.vbr_words.specs.Buckets.{bucket_of}
 use Rattle.vbr_slots.specs.Alone.{IsAlone}
@@ -12,7 +12,7 @@ use Rattle.vbr_list.specs.Disturbed.{disturbed_in, enough_among, seek_costs_amon
 use Rattle.vbr_list.specs.Refusals.{IsTired}
 use Rattle.vbr_at_table.specs.declared.refusal.Refusal.{Refusal}
 
--- ---- what is told
+-- ---- what is returned
 
 -- a key of the bucket that is no less than the number, which was there at a moment of what the pass did; and each key of the bucket between the two was absent at a moment of it
 pub record IsNextKey (p q : Trace) (bucket from key : ℕ) : Type 0 where
@@ -50,7 +50,7 @@ enough_to_seek p bucket = 5 * nodes_listed_in p bucket + 11
 abbrev pub seek_costs : Trace → ℕ → ℕ
 seek_costs p bucket = 5 * nodes_listed_in p bucket + 3 + steps_to_value_of p.start
 
--- the pass told what it was to tell, or was refused for want of steps alone
+-- the pass returned what it was to return, or was refused for want of steps alone
 -- It made no call, and loads alone, added nothing to the chronicle, and has the slots that it had. It made no more steps than its budget.
 -- Alone it has steps enough with a budget that is known before, and what it tells costs no more than is known before.
 -- That holds of a pass that was disturbed so often, too.

@@ -41,7 +41,7 @@ pub record IsCur (know : Know) (key : ℕ) (pred cur : Held) (present : Bool) : 
   pub unmarked : (link_of cur.word).mark ≡ false
   pub slot : ℕ
   pub named : Names pred slot
-  pub at : cur.at ≡ Slot slot
+  pub place : cur.at ≡ Slot slot
   pub here : ℕ
   pub read : KeyAt know cur.at here
   pub not_smaller : key ≤ here

@@ -51,6 +51,10 @@ ReplacesAndLeaves value c d found = (old : ℕ) → KnowsThere c found (Some old
 abbrev pub ReplacesPaid : {N : Type 0} {kind : Ghosts N} → PendingCall N kind → PendingCall N kind → Found → Type 0
 ReplacesPaid c d found = SettlesIn 6 true c d found
 
+-- a removed node has left its list, if the budget has room for a piece more
+abbrev pub LeavesWithRoom : {N : Type 0} {kind : Ghosts N} → PendingCall N kind → PendingCall N kind → ℕ → Type 0
+LeavesWithRoom c d slot = HasRoomForPiece d → LeavesAt (trace_in c) (trace_in d) slot
+
 -- the old node is unlinked in six steps at most, if the budget has room for a piece
 pub record UnlinksAtOnce {N : Type 0} {kind : Ghosts N} (c d : PendingCall N kind) (slot : ℕ) : Type 0 where
   pub few : d.used ≤ c.used + 6

@@ -20,9 +20,9 @@ use Rattle.vbr_list.specs.Wanted.{WasWanted, WasWantedFor, steps_to_compare, wan
 use Rattle.vbr_list.specs.declared.call.PendingCall.{PendingCall}
 use Rattle.vbr_list.specs.declared.found.Found.{Found}
 use Rattle.vbr_list.specs.declared.storing.Met.{Met}
-use Rattle.vbr_list.specs.declared.storing.Met.TheVariants.{AsWanted, Told}
+use Rattle.vbr_list.specs.declared.storing.Met.TheVariants.{AsWanted, Otherwise}
 use Rattle.vbr_list.specs.declared.storing.Prepared.{Prepared}
-use Rattle.vbr_list.specs.declared.storing.Prepared.TheVariants.{Ready, Told as Answered}
+use Rattle.vbr_list.specs.declared.storing.Prepared.TheVariants.{Ready, Answered}
 use Rattle.vbr_list.specs.declared.wanted.Wanted.{Wanted}
 use Rattle.vbr_list.specs.declared.wanted.Wanted.TheVariants.{Absent, Present, Anything, Value}
 use Rattle.vbr_at_table.specs.declared.refusal.Refusal.{Refusal}
@@ -59,7 +59,7 @@ pub record TellsOther {N : Type 0} {kind : Ghosts N} (wanted : Wanted) (c d : Pe
 -- the one or the other
 abbrev pub AsksMet : {N : Type 0} {kind : Ghosts N} → Wanted → PendingCall N kind → PendingCall N kind → Found → Met → Type 0
 AsksMet wanted c d found AsWanted = (there : Option ℕ) × ReadsWanted wanted c d found there
-AsksMet wanted c d found (Told there) = TellsOther wanted c d there
+AsksMet wanted c d found (Otherwise there) = TellsOther wanted c d there
 
 -- neither, in one step or more, as what was found is lost
 pub record AskLoses {N : Type 0} {kind : Ghosts N} (c d : PendingCall N kind) (found : Found) : Type 0 where
@@ -87,7 +87,7 @@ pub record MeetsOther {N : Type 0} {kind : Ghosts N} (wanted : Wanted) (c d : Pe
 -- the one or the other
 abbrev pub IsMet : {N : Type 0} {kind : Ghosts N} → Wanted → PendingCall N kind → PendingCall N kind → Met → Type 0
 IsMet wanted c d AsWanted = MeetsWanted wanted c d
-IsMet wanted c d (Told there) = MeetsOther wanted c d there
+IsMet wanted c d (Otherwise there) = MeetsOther wanted c d there
 
 -- neither: the budget has no room for one more piece
 pub record MeetTires {N : Type 0} {kind : Ghosts N} (c d : PendingCall N kind) : Type 0 where

@@ -61,7 +61,7 @@ pub record WantedWithoutSlot (wanted : Wanted) (p q : PassView) (key : ℕ) : Ty
   pub was : WasWanted wanted p.trace q.trace key
   pub none : HasNoSlot p q
 
--- at a moment it was as wanted, and the epoch is spent, which was told where the budget had room for the piece that would advance it
+-- at a moment it was as wanted, and the epoch is spent, which was returned where the budget had room for the piece that would advance it
 pub record WantedAndSpent (wanted : Wanted) (p q : PassView) (key budget epoch : ℕ) : Type 0 where
   pub was : WasWanted wanted p.trace q.trace key
   pub spent : IsSpent q epoch

@@ -8,9 +8,9 @@ use Rattle.vbr_at_table.specs.Values.{ValueAt}
 use Rattle.vbr_at_table.specs.declared.rollback.Rollback.{Rollback}
 
 -- the value of the node at a place is known, where nodes have values, and what the pass knew it knows
-pub record ReadsValue (p q : PassView) (at : At) (found : ℕ) : Type 0 where
+pub record ReadsValue (p q : PassView) (place : At) (found : ℕ) : Type 0 where
   pub keeps : Keeps (knows p.trace) (knows q.trace)
-  pub value : p.trace.start.shape.values ≡ true → ValueAt (knows q.trace) at found
+  pub value : p.trace.start.shape.values ≡ true → ValueAt (knows q.trace) place found
 
 -- nodes have values, and the epoch has moved
 pub record LosesValue (p q : PassView) (rollback : Rollback) : Type 0 where

@@ -20,7 +20,7 @@ use Rattle.vbr_list.specs.declared.visiting.Visited.TheVariants.{Beyond, Marked,
 pub record StartsAt (p q : Trace) (bucket : ℕ) (head : Held) : Type 0 where
   pub known : IsHeld (knows q) head
   pub unmarked : (link_of head.word).mark ≡ false
-  pub at : head.at ≡ Head bucket
+  pub place : head.at ≡ Head bucket
   pub reads : ReadsFresh p q head
 
 -- it didn't start, as the epoch moved since it was read

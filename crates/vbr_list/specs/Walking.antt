@@ -53,7 +53,7 @@ pub record MovesSince (p q : Trace) : Type 0 where
 pub record ReadsNext (p q : Trace) (pred node : Held) : Type 0 where
   pub slot : ℕ
   pub named : Names pred slot
-  pub at : node.at ≡ Slot slot
+  pub place : node.at ≡ Slot slot
   pub stood : Stood p q node
 
 -- at a moment of what the pass did another epoch stood than the one that it knew

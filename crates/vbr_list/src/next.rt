@@ -21,7 +21,7 @@ use vbr_words::{Entries, Nodes};
 /// and two more for the last one where nodes have values. It confirms nothing.
 ///
 /// OutOfSteps is its one refusal. While the other passes stand still, a budget of 5n + 11 is enough,
-/// with n nodes in the bucket, and what is told took at most 5n + 3 steps, or 5n + 5 with values. A call
+/// with n nodes in the bucket, and what it returns took at most 5n + 3 steps, or 5n + 5 with values. A call
 /// that others disturb m times there makes at most m walks more, each among at most n + m nodes.
 pub fn next_key<N: Nodes>(
     slots: &Slots<N>,

@@ -2,9 +2,8 @@
 ghost use Rattle.std.specs.Prelude.{◌+◌, ◌≡◌, ◌≤◌, IfOk, IfErr};
 ghost use Rattle.vbr_at_table.specs.StepCosts.{steps_to_birth};
 ghost use Rattle.vbr_list.specs.Inserting.{GivesHandBack, HasHandAndRoom};
-ghost use Rattle.vbr_list.specs.Leaving.{LeavesAt};
-ghost use Rattle.vbr_list.specs.Pieces.{GoesOn, HasRoomForPiece, pass_in, trace_in};
-ghost use Rattle.vbr_list.specs.Replacing.{HasUnused, IsOldNode, KnowsFoundValue, MayStoreNode, ReplacesFound, ReplacesAndLeaves, ReplacesPaid, UnlinksReplaced};
+ghost use Rattle.vbr_list.specs.Pieces.{GoesOn, pass_in};
+ghost use Rattle.vbr_list.specs.Replacing.{HasUnused, IsOldNode, KnowsFoundValue, LeavesWithRoom, MayStoreNode, ReplacesFound, ReplacesAndLeaves, ReplacesPaid, UnlinksReplaced};
 ghost use Rattle.vbr_list.specs.Settling.{MaySettle, SettlesNone};
 
 use crate::call::PendingCall;
@@ -59,8 +58,7 @@ impl<N: Nodes> PendingCall<'_, N> {
     fn unlink_replaced(&mut self, pred: &Held, marked: Marked)
         requires old { IsOldNode self.old pred.now marked }
         ensures goes { GoesOn self.old self.new }
-        ensures leaves { HasRoomForPiece self.new → LeavesAt (trace_in self.old) (trace_in self.new)
-            marked.slot }
+        ensures leaves { LeavesWithRoom self.old self.new marked.slot }
         ensures paid { UnlinksReplaced self.old self.new pred.now marked.slot }
     {
         self.at.law();

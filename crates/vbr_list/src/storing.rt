@@ -25,7 +25,7 @@ pub(crate) enum Met {
     /// As it is wanted.
     AsWanted,
     /// Otherwise: it has answered a get with what was there.
-    Told(Option<u64>),
+    Otherwise(Option<u64>),
 }
 
 /// What a store has before it changes anything.
@@ -33,7 +33,7 @@ pub(crate) enum Prepared {
     /// A slot in hand.
     Ready(Hand),
     /// Its answer.
-    Told(Option<u64>),
+    Answered(Option<u64>),
 }
 
 // Whether a key is as it is wanted that is there, or isn't, whatever value it has.
@@ -69,7 +69,7 @@ impl<N: Nodes> PendingCall<'_, N> {
             return Ok(Met::AsWanted);
         }
         self.tell_found(found, there)?;
-        Ok(Met::Told(there))
+        Ok(Met::Otherwise(there))
     }
 
     // Looks for the key until it is found as it is wanted, or a get was answered, as it is otherwise;
@@ -116,7 +116,7 @@ impl<N: Nodes> PendingCall<'_, N> {
             return Err(Refusal::OutOfSteps { used: self.used });
         };
         match met {
-            Met::Told(there) => Ok(Prepared::Told(there)),
+            Met::Otherwise(there) => Ok(Prepared::Answered(there)),
             Met::AsWanted => {
                 let hand = self.provide()?;
                 Ok(Prepared::Ready(hand))
@@ -392,7 +392,7 @@ fn store_by(
     call.at.law();
     match call.prepare_store(wanted) {
         Err(refusal) => (Err(refusal), call.used),
-        Ok(Prepared::Told(there)) => (Ok(there), call.used),
+        Ok(Prepared::Answered(there)) => (Ok(there), call.used),
         Ok(Prepared::Ready(hand)) => (call.store_with(value, wanted, hand), call.used),
     }
 }

@@ -46,7 +46,7 @@ IsInShape start (StoreBirth s birth) = s < start.shape.slots
 IsInShape start (StoreKey s key) = s < start.shape.slots
 IsInShape start (StoreValue s value) = (s < start.shape.slots) × (start.shape.values ≡ true)
 IsInShape start (StoreLink s next) = (s < start.shape.slots) × IsNextIn start next
-IsInShape start (LoadLink at) = IsAtIn start at
+IsInShape start (LoadLink place) = IsAtIn start place
 IsInShape start (LoadBirth s) = s < start.shape.slots
 IsInShape start (LoadKey s) = s < start.shape.slots
 IsInShape start (LoadValue s) = (s < start.shape.slots) × (start.shape.values ≡ true)
@@ -55,7 +55,7 @@ IsInShape start (Mark s expected) = s < start.shape.slots
 IsInShape start (Replace s expected t) = (s < start.shape.slots) × (t < start.shape.slots) × (start.shape.values ≡ true)
 IsInShape start (Unlink pred expected s) = IsAtIn start pred × (s < start.shape.slots)
 IsInShape start (ConfirmPresent op s expected) = (s < start.shape.slots) × IsOpIn start op
-IsInShape start (ConfirmAbsent op key at expected) = IsAtIn start at × IsOpIn start op
+IsInShape start (ConfirmAbsent op key place expected) = IsAtIn start place × IsOpIn start op
 
 -- ---- what the pass owns
 
@@ -149,7 +149,7 @@ next_of_marked (Some link) = link.slot
 -- the reads that the step asks for are checked
 abbrev pub HasChecked : Start → Know → Step → Type 0
 HasChecked start know (StoreLink s next) = IsNextHeld know.checked next
-HasChecked start know (LoadLink at) = IsTrue (holds_at know.checked at)
+HasChecked start know (LoadLink place) = IsTrue (holds_at know.checked place)
 HasChecked start know (LoadBirth s) = IsTrue (holds know.checked s)
 HasChecked start know (LoadKey s) = IsTrue (holds know.checked s)
 HasChecked start know (LoadValue s) = IsTrue (holds know.checked s)
@@ -168,8 +168,8 @@ HasChecked start know (Unlink pred expected s) =
     × IsSome (birth_at know.checked pred)
     × IsSome (birth_of know.checked (next_of_marked (marked_in know.checked s)))
 HasChecked start know (ConfirmPresent op s expected) = IsTrue (knows_link know.checked (Slot s) (link_of expected)) × IsSome (key_in know.checked s) × HasValueFor op (value_in know.checked s)
-HasChecked start know (ConfirmAbsent op key at expected) =
-    IsTrue (knows_link know.checked at (link_of expected)) × KnowsKeyAt know.checked at × LeadsToKey start.shape.slots know.checked (link_of expected).slot
+HasChecked start know (ConfirmAbsent op key place expected) =
+    IsTrue (knows_link know.checked place (link_of expected)) × KnowsKeyAt know.checked place × LeadsToKey start.shape.slots know.checked (link_of expected).slot
 HasChecked start know _ = Unit {0}
 
 -- ---- the numbers
@@ -236,8 +236,8 @@ IsInRange start know (Mark s expected) = (link_of expected).mark ≡ false
 IsInRange start know (Replace s expected t) = ((link_of expected).mark ≡ false) × MayReplace start know.checked s (link_of expected) (know.own t)
 IsInRange start know (Unlink pred expected s) = ((link_of expected).mark ≡ false) × ((link_of expected).slot ≡ Some s)
 IsInRange start know (ConfirmPresent op s expected) = ((link_of expected).mark ≡ false) × (op ≢ Remove)
-IsInRange start know (ConfirmAbsent op key at expected) =
-    ((link_of expected).mark ≡ false) × (op ≢ Insert) × IsBehind start know.checked at key × LeadsAbove start.shape.slots know.checked key (link_of expected).slot
+IsInRange start know (ConfirmAbsent op key place expected) =
+    ((link_of expected).mark ≡ false) × (op ≢ Insert) × IsBehind start know.checked place key × LeadsAbove start.shape.slots know.checked key (link_of expected).slot
 IsInRange start know _ = Unit {0}
 
 -- the epoch that the step would advance is below the last
@@ -256,10 +256,10 @@ pub record Accepts (start : Start) (know : Know) (step : Step) : Type 0 where
   pub below_last : IsBelowLast start step
 
 -- the key stands between a place and the very slot that its link names, if it names one, by a checked link and checked keys
-pub record IsBetween (start : Start) (reads : List Read) (key : ℕ) (at : At) (link : Link) : Type 0 where
-  pub known : IsTrue (knows_link reads at link)
-  pub here : KnowsKeyAt reads at
+pub record IsBetween (start : Start) (reads : List Read) (key : ℕ) (place : At) (link : Link) : Type 0 where
+  pub known : IsTrue (knows_link reads place link)
+  pub here : KnowsKeyAt reads place
   pub there : KnowsKeyOf reads link.slot
   pub unmarked : link.mark ≡ false
-  pub behind : IsBehind start reads at key
+  pub behind : IsBehind start reads place key
   pub before : IsBefore reads key link.slot

@@ -15,7 +15,7 @@ use Rattle.vbr_machine.specs.declared.knowledge.SlotPlace.TheVariants.{Shared, O
 -- it was unlinked by the pass, and is not stamped yet
 abbrev pub WasUnlinkedBy : Incarnations → ℕ → Option ℕ → Type 0
 WasUnlinkedBy a pass None = ⊥
-WasUnlinkedBy a pass (Some c) = (at : ℕ) × (a.state c ≡ state.Unlinked pass at)
+WasUnlinkedBy a pass (Some c) = (unlinked : ℕ) × (a.state c ≡ state.Unlinked pass unlinked)
 
 -- it is in hand of the pass
 abbrev pub LiesInHand : Incarnations → ℕ → Option ℕ → Type 0

@@ -48,9 +48,9 @@ IsFrozen a None next = ⊥
 IsFrozen a (Some c) next = IsRemoved (a.state c) × (a.next c ≡ next)
 
 -- a link is good for an epoch: its version is no greater, the incarnation at its place and the one that it names are held, and if it is marked, they no longer change
-pub record IsGoodLink (a : Incarnations) (epoch : ℕ) (at : At) (link : Link) (of names : Option ℕ) : Type 0 where
+pub record IsGoodLink (a : Incarnations) (epoch : ℕ) (holder : At) (link : Link) (of names : Option ℕ) : Type 0 where
   pub version : link.version ≤ epoch
-  pub place : IsHeldAt a epoch at of
+  pub place : IsHeldAt a epoch holder of
   pub next : IsHeldNext a epoch link.slot names
   pub frozen : link.mark ≡ true → IsFrozen a of names
 
@@ -71,7 +71,7 @@ IsOfHeldOne a epoch s values value (Some c) = IsHeldIncarnation a epoch s c × (
 
 -- a read is good for an epoch, as one of this incarnation and, for a link, naming this one
 abbrev pub IsGoodRead : Incarnations → ℕ → Read → Option ℕ → Option ℕ → Type 0
-IsGoodRead a epoch (LinkAt at link) of names = IsGoodLink a epoch at link of names
+IsGoodRead a epoch (LinkAt place link) of names = IsGoodLink a epoch place link of names
 IsGoodRead a epoch (BirthOf s birth) of names = IsOfHeldOne a epoch s a.birth birth of
 IsGoodRead a epoch (KeyOf s key) of names = IsOfHeldOne a epoch s a.key key of
 IsGoodRead a epoch (ValueOf s value) of names = IsOfHeldOne a epoch s a.value value of
@@ -121,9 +121,9 @@ IsStored stored value (Some known) = (stored ≡ true) × (value ≡ known)
 pub record IsUnlinkedBy (a : Incarnations) (pass epoch : ℕ) (reread : Bool) (last : Option ℕ) : Type 0 where
   pub node : ℕ
   pub last_is : last ≡ Some node
-  pub at : ℕ
-  pub state : a.state node ≡ state.Unlinked pass at
-  pub seen : reread ≡ true → at ≤ epoch
+  pub unlinked : ℕ
+  pub state : a.state node ≡ state.Unlinked pass unlinked
+  pub seen : reread ≡ true → unlinked ≤ epoch
 
 -- the last incarnation of a slot is in hand of the pass, was born by its epoch, and has the birth, the key, the value and the link that the pass knows
 pub record IsInHandOf (a : Incarnations) (pass epoch : ℕ) (known : Unpublished) (last : Option ℕ) : Type 0 where

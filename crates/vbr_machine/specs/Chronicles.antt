@@ -47,7 +47,7 @@ pub record Entry : Type 0 where
 
 -- dead: stamped, or given up
 abbrev pub IsDead : State → Type 0
-IsDead (Stamped at stamp) = Unit {0}
+IsDead (Stamped unlinked stamp) = Unit {0}
 IsDead GivenUp = Unit {0}
 IsDead _ = ⊥
 
@@ -110,7 +110,7 @@ pub record MayTakePlace (start : Start) (a : Incarnations) (pass old node : ℕ)
 
 -- an incarnation that the pass unlinked may be stamped with an epoch since then
 abbrev pub MayStamp : State → ℕ → ℕ → ℕ → Type 0
-MayStamp (Unlinked by at) pass stamp epoch = (by ≡ pass) × (at ≤ stamp) × (stamp ≤ epoch)
+MayStamp (Unlinked by unlinked) pass stamp epoch = (by ≡ pass) × (unlinked ≤ stamp) × (stamp ≤ epoch)
 MayStamp _ pass stamp epoch = ⊥
 
 -- a call that changes nothing: a look-up, an insert answered no, or a remove answered no
@@ -162,8 +162,8 @@ next_with successors (AtNode c) next = put successors c next
 
 -- the epoch at which an incarnation was unlinked
 abbrev pub unlinked_at : State → ℕ
-unlinked_at (Unlinked pass at) = at
-unlinked_at (Stamped at stamp) = at
+unlinked_at (Unlinked pass unlinked) = unlinked
+unlinked_at (Stamped unlinked stamp) = unlinked
 unlinked_at _ = 0
 
 -- the incarnations once one more event has happened

@@ -65,14 +65,14 @@ own_changes start run who bucket = own_changes_in start who bucket (at_opening s
 abbrev pub is_inserted : State → Bool
 is_inserted Linked = true
 is_inserted Marked = true
-is_inserted (Unlinked pass at) = true
-is_inserted (Stamped at stamp) = true
+is_inserted (Unlinked pass unlinked) = true
+is_inserted (Stamped unlinked stamp) = true
 is_inserted _ = false
 
 -- whether it has left all lists, after it was in one
 abbrev pub has_left : State → Bool
-has_left (Unlinked pass at) = true
-has_left (Stamped at stamp) = true
+has_left (Unlinked pass unlinked) = true
+has_left (Stamped unlinked stamp) = true
 has_left _ = false
 
 -- whether an incarnation has been in the list of a bucket since an earlier moment: it is inserted, and hadn't left then

@@ -35,8 +35,8 @@ link_to_next a holder_birth next = link_to (slot_shown a next) holder_birth (bir
 abbrev pub link_in_state : Incarnations → ℕ → State → Link
 link_in_state a c Linked = link_to_next a (a.birth c) (a.next c)
 link_in_state a c Marked = marked (link_to_next a (a.birth c) (a.next c))
-link_in_state a c (Unlinked pass at) = marked (link_to_next a (a.birth c) (a.next c))
-link_in_state a c (Stamped at stamp) = marked (link_to_next a (a.birth c) (a.next c))
+link_in_state a c (Unlinked pass unlinked) = marked (link_to_next a (a.birth c) (a.next c))
+link_in_state a c (Stamped unlinked stamp) = marked (link_to_next a (a.birth c) (a.next c))
 link_in_state a c _ = a.link c
 
 -- the link that an incarnation shows; a slot where nothing was born shows the opening link

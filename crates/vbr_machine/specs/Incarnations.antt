@@ -14,8 +14,8 @@ pub data State : Type 0 where
   GivenUp : State
   Linked : State
   Marked : State
-  Unlinked : (pass : ℕ) → (at : ℕ) → State
-  Stamped : (at : ℕ) → (stamp : ℕ) → State
+  Unlinked : (pass : ℕ) → (unlinked : ℕ) → State
+  Stamped : (unlinked : ℕ) → (stamp : ℕ) → State
 
 -- all incarnations so far. Each has a number, which is never given twice; an incarnation has at first the key, the value and the link that its slot showed before its birth
 pub record Incarnations : Type 0 where
@@ -78,8 +78,8 @@ payload_of start a c = payload_kept start (Some (a.value c))
 abbrev pub IsLate : State → ℕ → Type 0
 IsLate Linked epoch = Unit {0}
 IsLate Marked epoch = Unit {0}
-IsLate (Unlinked pass at) epoch = epoch ≤ at
-IsLate (Stamped at stamp) epoch = epoch ≤ at
+IsLate (Unlinked pass unlinked) epoch = epoch ≤ unlinked
+IsLate (Stamped unlinked stamp) epoch = epoch ≤ unlinked
 IsLate _ epoch = ⊥
 
 -- the last incarnation of a slot, where one was born

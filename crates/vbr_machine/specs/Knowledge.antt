@@ -23,9 +23,9 @@ same_at _ _ = false
 
 -- whether a link is among the reads at a place
 abbrev pub knows_link : List Read → At → Link → Bool
-knows_link [] at link = false
-knows_link (LinkAt here found ∷ reads) at link = if (same_at here at && same_link found link) then true else knows_link reads at link
-knows_link (_ ∷ reads) at link = knows_link reads at link
+knows_link [] place link = false
+knows_link (LinkAt here found ∷ reads) place link = if (same_at here place && same_link found link) then true else knows_link reads place link
+knows_link (_ ∷ reads) place link = knows_link reads place link
 
 -- the first birth of a slot among the reads
 abbrev pub birth_in : List Read → ℕ → Option ℕ
@@ -48,7 +48,7 @@ value_in (_ ∷ reads) s = value_in reads s
 -- the first marked link of a slot among the reads
 abbrev pub marked_in : List Read → ℕ → Option Link
 marked_in [] s = None
-marked_in (LinkAt at link ∷ reads) s = if (same_at at (Slot s) && link.mark) then Some link else marked_in reads s
+marked_in (LinkAt place link ∷ reads) s = if (same_at place (Slot s) && link.mark) then Some link else marked_in reads s
 marked_in (_ ∷ reads) s = marked_in reads s
 
 -- whether a link names a slot
@@ -59,7 +59,7 @@ names (Some n) s = n == s
 -- whether a slot is held: a link among the reads names it
 abbrev pub holds : List Read → ℕ → Bool
 holds [] s = false
-holds (LinkAt at link ∷ reads) s = if names link.slot s then true else holds reads s
+holds (LinkAt place link ∷ reads) s = if names link.slot s then true else holds reads s
 holds (_ ∷ reads) s = holds reads s
 
 -- whether a place is held: a head always is

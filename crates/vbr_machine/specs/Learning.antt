@@ -34,7 +34,7 @@ succeeds (Mark s expected) found = found == expected
 succeeds (Replace s expected t) found = found == expected
 succeeds (Unlink pred expected s) found = found == expected
 succeeds (ConfirmPresent op s expected) found = found == expected
-succeeds (ConfirmAbsent op key at expected) found = found == expected
+succeeds (ConfirmAbsent op key place expected) found = found == expected
 succeeds _ found = true
 
 -- the reply that the presence of the key gives to an operation: yes to a look-up, no to an insert
@@ -58,7 +58,7 @@ effect_where_it_succeeds (Mark s expected) found = Won
 effect_where_it_succeeds (Replace s expected t) found = Won
 effect_where_it_succeeds (Unlink pred expected s) found = Won
 effect_where_it_succeeds (ConfirmPresent op s expected) found = Answered (present_reply op)
-effect_where_it_succeeds (ConfirmAbsent op key at expected) found = Answered false
+effect_where_it_succeeds (ConfirmAbsent op key place expected) found = Answered false
 effect_where_it_succeeds _ found = Value found
 
 -- the effect of a step, from the word that it found
@@ -153,7 +153,7 @@ with_own know s holding = record know { own = put know.own s holding }
 
 -- what a load reads of the set
 abbrev pub read_loaded : Step → ℕ → Option Read
-read_loaded (LoadLink at) found = Some (LinkAt at (link_of found))
+read_loaded (LoadLink place) found = Some (LinkAt place (link_of found))
 read_loaded (LoadBirth s) found = Some (BirthOf s found)
 read_loaded (LoadKey s) found = Some (KeyOf s found)
 read_loaded (LoadValue s) found = Some (ValueOf s found)
@@ -184,7 +184,7 @@ learn (StoreBirth s birth) found stamp know = with_own know s (Some (InHand (new
 learn (StoreKey s key) found stamp know = with_own know s (with_key (know.own s) key)
 learn (StoreValue s value) found stamp know = with_own know s (with_value (know.own s) value)
 learn (StoreLink s next) found stamp know = with_own know s (with_link (know.own s) (link_written know (StoreLink s next)))
-learn (LoadLink at) found stamp know = with_pending know (LinkAt at (link_of found))
+learn (LoadLink place) found stamp know = with_pending know (LinkAt place (link_of found))
 learn (LoadBirth s) found stamp know = with_pending know (BirthOf s found)
 learn (LoadKey s) found stamp know = with_pending know (KeyOf s found)
 learn (LoadValue s) found stamp know = with_pending know (ValueOf s found)
@@ -216,5 +216,5 @@ call_of start pass know (Mark s expected) = Some (record { who = pass; op = Remo
 call_of start pass know (Replace s expected t) = Some (record { who = pass; op = Insert; key = key_in_hand (know.own t); reply = true; value = payload_kept start (value_in_hand (know.own t)) })
 call_of start pass know (ConfirmPresent op s expected) =
     Some (record { who = pass; op = op; key = unwrap_or (key_in know.checked s) 0; reply = present_reply op; value = present_value op (value_in know.checked s) })
-call_of start pass know (ConfirmAbsent op key at expected) = Some (record { who = pass; op = op; key = key; reply = false; value = None })
+call_of start pass know (ConfirmAbsent op key place expected) = Some (record { who = pass; op = op; key = key; reply = false; value = None })
 call_of start pass know _ = None

@@ -102,7 +102,7 @@ place_of_step (StoreBirth s birth) = place.Birth s
 place_of_step (StoreKey s key) = place.Key s
 place_of_step (StoreValue s value) = place.Value s
 place_of_step (StoreLink s next) = place.LinkOf s
-place_of_step (LoadLink at) = places.place_of at
+place_of_step (LoadLink holder) = places.place_of holder
 place_of_step (LoadBirth s) = place.Birth s
 place_of_step (LoadKey s) = place.Key s
 place_of_step (LoadValue s) = place.Value s
@@ -111,7 +111,7 @@ place_of_step (Mark s expected) = place.LinkOf s
 place_of_step (Replace s expected t) = place.LinkOf s
 place_of_step (Unlink pred expected s) = places.place_of pred
 place_of_step (ConfirmPresent op s expected) = place.LinkOf s
-place_of_step (ConfirmAbsent op key at expected) = places.place_of at
+place_of_step (ConfirmAbsent op key holder expected) = places.place_of holder
 
 -- an atomic operation on one word: a load, a store of a word, an exchange of an expected word for a new one, or one that sets bits or keeps them alone
 pub data Access : Type 0 where
@@ -195,7 +195,7 @@ abbrev pub learned : Start → World → ℕ → Step → World
 learned start w p (Advance from) = w
 learned start w p (LoadStamp s) = w
 learned start w p (ConfirmPresent op s expected) = w
-learned start w p (ConfirmAbsent op key at expected) = w
+learned start w p (ConfirmAbsent op key place expected) = w
 learned start w p step = with_learning start w p step
 
 -- the world after an accepted step of a pass: where the step succeeds, its pass has learned, the words and places are written, and its calls are made; else nothing has changed

@@ -29,9 +29,9 @@ pub record Knows (know : Know) (read : Read) : Type 0 where
 
 -- a slot is held: a known link names it
 pub record IsHeldSlot (know : Know) (s : ℕ) : Type 0 where
-  pub at : At
+  pub place : At
   pub link : Link
-  pub known : Knows know (LinkAt at link)
+  pub known : Knows know (LinkAt place link)
   pub names : link.slot ≡ Some s
 
 -- a place is held: a head always is
@@ -42,7 +42,7 @@ IsHeldPlace know (Slot s) = IsHeldSlot know s
 -- a place is held in a bucket: the head of the bucket is, and so is a slot that is named by a known link at a place that is held in the bucket
 pub data HeldIn (know : Know) : At → ℕ → Type 0 where
   at_head : (b : ℕ) → HeldIn know (Head b) b
-  at_slot : (at : At) → (link : Link) → (s : ℕ) → (b : ℕ) → HeldIn know at b → Knows know (LinkAt at link) → link.slot ≡ Some s → HeldIn know (Slot s) b
+  at_slot : (place : At) → (link : Link) → (s : ℕ) → (b : ℕ) → HeldIn know place b → Knows know (LinkAt place link) → link.slot ≡ Some s → HeldIn know (Slot s) b
 
 -- known marked links lead from a link to another: to itself, and to a known marked link of the slot that is named by one to which they lead
 pub data LeadsTo (know : Know) (link : Link) : Link → Type 0 where
@@ -124,7 +124,7 @@ KnowsValueFor _ know s = Unit {0}
 -- the reads that the step asks for are known
 abbrev pub IsKnown : Start → Know → Step → Type 0
 IsKnown start know (StoreLink s next) = IsNextKnown know next
-IsKnown start know (LoadLink at) = IsHeldPlace know at
+IsKnown start know (LoadLink place) = IsHeldPlace know place
 IsKnown start know (LoadBirth s) = IsHeldSlot know s
 IsKnown start know (LoadKey s) = IsHeldSlot know s
 IsKnown start know (LoadValue s) = IsHeldSlot know s
@@ -133,7 +133,7 @@ IsKnown start know (Mark s expected) = Knows know (LinkAt (Slot s) (link_of expe
 IsKnown start know (Replace s expected t) = Knows know (LinkAt (Slot s) (link_of expected)) × ((birth : ℕ) × Knows know (BirthOf s birth)) × ((value : ℕ) × Knows know (ValueOf s value))
 IsKnown start know (Unlink pred expected s) = Knows know (LinkAt pred (link_of expected)) × ((new : Link) × IsUnlinkLink know pred s new)
 IsKnown start know (ConfirmPresent op s expected) = Knows know (LinkAt (Slot s) (link_of expected)) × ((key : ℕ) × Knows know (KeyOf s key)) × KnowsValueFor op know s
-IsKnown start know (ConfirmAbsent op key at expected) = Knows know (LinkAt at (link_of expected))
+IsKnown start know (ConfirmAbsent op key place expected) = Knows know (LinkAt place (link_of expected))
 IsKnown start know _ = Unit {0}
 
 -- what is in hand is ready: its key and link, and its value where nodes have values, were stored since its birth, the link names what the expected link names, by a birth that is known of that, and the key stands between
@@ -171,8 +171,8 @@ MayReplaceKnown start know s expected _ = ⊥
 abbrev pub IsInRangeKnown : Start → Know → Step → Type 0
 IsInRangeKnown start know (Publish pred expected s) = ((link_of expected).mark ≡ false) × MayPublishKnown start know pred (link_of expected) (know.own s)
 IsInRangeKnown start know (Replace s expected t) = ((link_of expected).mark ≡ false) × MayReplaceKnown start know s (link_of expected) (know.own t)
-IsInRangeKnown start know (ConfirmAbsent op key at expected) =
-    ((link_of expected).mark ≡ false) × (op ≢ Insert) × StandsBehind start know at key × StandsBeforeOn know key (link_of expected)
+IsInRangeKnown start know (ConfirmAbsent op key place expected) =
+    ((link_of expected).mark ≡ false) × (op ≢ Insert) × StandsBehind start know place key × StandsBeforeOn know key (link_of expected)
 IsInRangeKnown start know step = IsInRange start know step
 
 -- the machine accepts the step of a pass that knows this: as acceptance by searches, but any known key, birth or marked link serves

@@ -12,12 +12,12 @@ use Rattle.vbr_machine.specs.declared.event.Event.{Event}
 use Rattle.vbr_machine.specs.declared.knowledge.Read.TheVariants.{LinkAt}
 
 -- an unmarked link that a pass knows after a run was shown at its place at a moment of the run: the pass held the place then, in the epoch that it still has
-pub record WasShown (start : Start) (moment run : List Event) (pass : ℕ) (at : At) (link : Link) : Type 0 where
+pub record WasShown (start : Start) (moment run : List Event) (pass : ℕ) (place : At) (link : Link) : Type 0 where
   pub begins : Begins moment run
   pub epoch : (know_after start moment pass).epoch ≡ (know_after start run pass).epoch
-  pub held : IsHeldPlace (know_after start moment pass) at
-  pub shown : link_at (world_after start moment) at ≡ link
-  pub known : Knows (know_after start run pass) (LinkAt at link)
+  pub held : IsHeldPlace (know_after start moment pass) place
+  pub shown : link_at (world_after start moment) place ≡ link
+  pub known : Knows (know_after start run pass) (LinkAt place link)
   pub unmarked : link.mark ≡ false
 
 -- between a moment of a run and its end there was one at which a key wasn't in the set

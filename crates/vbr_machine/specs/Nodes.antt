@@ -73,11 +73,11 @@ is_above a (Slot t) key rank = is_lower (key_in_slot a t) (rank_in_slot a t) key
 
 -- whether the node of a slot stands in the list of a bucket, behind a place
 abbrev pub is_behind : Start → Incarnations → ℕ → At → ℕ → Bool
-is_behind start a bucket at s = is_in_list start a bucket s && is_above a at (key_in_slot a s) (rank_in_slot a s)
+is_behind start a bucket place s = is_in_list start a bucket s && is_above a place (key_in_slot a s) (rank_in_slot a s)
 
 -- how many nodes, linked or marked, stand in the list of a bucket behind a place
 abbrev pub behind : Start → Incarnations → ℕ → At → ℕ
-behind start a bucket at = count_below (is_behind start a bucket at) start.shape.slots
+behind start a bucket place = count_below (is_behind start a bucket place) start.shape.slots
 
 -- how many nodes are linked after a run
 abbrev pub linked_after : Start → List Event → ℕ

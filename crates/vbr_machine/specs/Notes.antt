@@ -44,21 +44,21 @@ last_at a (Slot s) = a.last s
 
 -- what the incarnations show where a read was made
 abbrev pub shown_at : Incarnations → Read → Read
-shown_at a (LinkAt at link) = LinkAt at (link_shown_at a at)
+shown_at a (LinkAt place link) = LinkAt place (link_shown_at a place)
 shown_at a (BirthOf s birth) = BirthOf s (birth_shown a (a.last s))
 shown_at a (KeyOf s key) = KeyOf s (key_shown a (a.last s))
 shown_at a (ValueOf s value) = ValueOf s (value_shown a (a.last s))
 
 -- the last incarnation of the slot that a read is of
 abbrev pub last_of : Incarnations → Read → Option ℕ
-last_of a (LinkAt at link) = last_at a at
+last_of a (LinkAt place link) = last_at a place
 last_of a (BirthOf s birth) = a.last s
 last_of a (KeyOf s key) = a.last s
 last_of a (ValueOf s value) = a.last s
 
 -- the incarnation that the link names, if the read is one of a link
 abbrev pub named_by : Incarnations → Read → Option ℕ
-named_by a (LinkAt at link) = next_of a (before_at a at)
+named_by a (LinkAt place link) = next_of a (before_at a place)
 named_by a _ = None
 
 -- the note of a read, from the incarnations after the step that gave it
@@ -105,7 +105,7 @@ IsAmong note (first ∷ notes) = (note ≡ first) ⊎ IsAmong note notes
 
 -- the read of a link that names a slot
 abbrev pub LinkNames : Read → ℕ → Type 0
-LinkNames (LinkAt at link) s = link.slot ≡ Some s
+LinkNames (LinkAt place link) s = link.slot ≡ Some s
 LinkNames _ s = ⊥
 
 -- a note is of a link that names a slot and, at its step, this incarnation

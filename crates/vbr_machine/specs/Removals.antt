@@ -11,8 +11,8 @@ use Rattle.vbr_machine.specs.declared.event.Event.{Event}
 
 -- out of all lists, after it was in one: unlinked, and perhaps stamped since
 abbrev pub HasLeft : State → Type 0
-HasLeft (Unlinked pass at) = Unit {0}
-HasLeft (Stamped at stamp) = Unit {0}
+HasLeft (Unlinked pass unlinked) = Unit {0}
+HasLeft (Stamped unlinked stamp) = Unit {0}
 HasLeft _ = ⊥
 
 -- since a beginning of a run a pass has marked this incarnation: that is among the events that it added to the chronicle

@@ -66,7 +66,7 @@ IsRightAfter start run event =
 
 -- an incarnation is over for a pass that would bear another in its slot: it is stamped, given up, or in hand of that pass, which gives it up
 abbrev pub IsOver : State → ℕ → Type 0
-IsOver (state.Stamped at stamp) pass = Unit {0}
+IsOver (state.Stamped unlinked stamp) pass = Unit {0}
 IsOver state.GivenUp pass = Unit {0}
 IsOver (state.InHand by) pass = by ≡ pass
 IsOver _ pass = ⊥
@@ -113,7 +113,7 @@ pub record IsSafe (start : Start) (run : List Event) : Type 0 where
   pub values : GiveStored (opening_payloads start) (world_after start run).calls
   pub births : (world_after start run).births ≡ min (incarnations_after start run).count (2 ^ 64 - 1)
   pub epoch : (world_after start run).epoch ≤ start.shape.last_epoch
-  pub links : (at : At) → IsLink (link_at (world_after start run) at)
+  pub links : (place : At) → IsLink (link_at (world_after start run) place)
   pub knows : (pass : ℕ) → KnowsRight start run pass
   pub slots : (passes : ℕ) → IsRun start passes run → ArePlaced start passes (world_after start run) (incarnations_after start run)
   pub exchanges : (before after : List Event) (event : Event) → run ≡ before ++ event ∷ after → IsRightAfter start before event

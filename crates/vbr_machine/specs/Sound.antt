@@ -21,33 +21,33 @@ IsListed _ = ⊥
 abbrev pub IsInserted : State → Type 0
 IsInserted Linked = Unit {0}
 IsInserted Marked = Unit {0}
-IsInserted (Unlinked pass at) = Unit {0}
-IsInserted (Stamped at stamp) = Unit {0}
+IsInserted (Unlinked pass unlinked) = Unit {0}
+IsInserted (Stamped unlinked stamp) = Unit {0}
 IsInserted _ = ⊥
 
 -- removed: marked, or anything that comes after
 abbrev pub IsRemoved : State → Type 0
 IsRemoved Marked = Unit {0}
-IsRemoved (Unlinked pass at) = Unit {0}
-IsRemoved (Stamped at stamp) = Unit {0}
+IsRemoved (Unlinked pass unlinked) = Unit {0}
+IsRemoved (Stamped unlinked stamp) = Unit {0}
 IsRemoved _ = ⊥
 
 -- done with before a birth in its slot: stamped below that birth, or given up
 abbrev pub IsPassed : State → ℕ → Type 0
-IsPassed (Stamped at stamp) birth = stamp < birth
+IsPassed (Stamped unlinked stamp) birth = stamp < birth
 IsPassed GivenUp birth = Unit {0}
 IsPassed _ birth = ⊥
 
 -- the birth, the epoch of the unlinking, the stamp and the epoch follow one another, as far as the state has them
 abbrev pub TimesFit : State → ℕ → ℕ → Type 0
 TimesFit Unborn birth epoch = Unit {0}
-TimesFit (Unlinked pass at) birth epoch = (birth ≤ at) × (at ≤ epoch)
-TimesFit (Stamped at stamp) birth epoch = (birth ≤ at) × (at ≤ stamp) × (stamp ≤ epoch)
+TimesFit (Unlinked pass unlinked) birth epoch = (birth ≤ unlinked) × (unlinked ≤ epoch)
+TimesFit (Stamped unlinked stamp) birth epoch = (birth ≤ unlinked) × (unlinked ≤ stamp) × (stamp ≤ epoch)
 TimesFit _ birth epoch = birth ≤ epoch
 
 -- the stamp of its slot is no less than that of a stamped incarnation, and below the birth of one that may still be stamped
 abbrev pub StampFits : State → ℕ → ℕ → Type 0
-StampFits (Stamped at own) birth stamp = own ≤ stamp
+StampFits (Stamped unlinked own) birth stamp = own ≤ stamp
 StampFits Unborn birth stamp = Unit {0}
 StampFits GivenUp birth stamp = Unit {0}
 StampFits _ birth stamp = stamp < birth
@@ -61,11 +61,11 @@ LinkFits _ link stamp = Unit {0}
 
 -- the place of a slot fits its last incarnation, which is in this state and has this key
 abbrev pub PlaceFits : Start → SlotPlace → State → ℕ → Type 0
-PlaceFits start Shared (Stamped at stamp) key = Unit {0}
+PlaceFits start Shared (Stamped unlinked stamp) key = Unit {0}
 PlaceFits start Shared GivenUp key = Unit {0}
-PlaceFits start (Own pass) (Stamped at stamp) key = Unit {0}
+PlaceFits start (Own pass) (Stamped unlinked stamp) key = Unit {0}
 PlaceFits start (Own pass) GivenUp key = Unit {0}
-PlaceFits start (Own pass) (Unlinked by at) key = by ≡ pass
+PlaceFits start (Own pass) (Unlinked by unlinked) key = by ≡ pass
 PlaceFits start (Hand pass) (InHand by) key = by ≡ pass
 PlaceFits start (Hand pass) GivenUp key = Unit {0}
 PlaceFits start (Listed b) Linked key = bucket_of start.shape key ≡ b

@@ -1,4 +1,4 @@
--- Where each slot is after a run, told by what is in it, and how many slots are where.
+-- Where each slot is after a run, by what is in it, and how many slots are where.
 use Rattle.std.specs.Prelude.{◌≡◌, ℕ, zero, suc, ◌+◌, ◌<◌, Bool, true, false, List, ◌∷◌, ◌++◌, Option, Some}
 use Rattle.vbr_machine.specs.Start.{Start}
 use Rattle.vbr_words.specs.declared.place.At.{At}

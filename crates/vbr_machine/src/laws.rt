@@ -90,10 +90,10 @@ pub fn late_is_handed_on()
 /// that it was checked with: each is still the last of its slot, the first is linked, and the
 /// second is its successor.
 pub fn same_link_same_pair()
-    ensures { (start : Start) (a : Incarnations) (epoch : ℕ) (at : At) (link : Link)
+    ensures { (start : Start) (a : Incarnations) (epoch : ℕ) (place : At) (link : Link)
         (of names : Option ℕ) →
-        Sound start a → IsGoodLink a epoch at link of names → link.mark ≡ false →
-        link_shown_at a at ≡ link → IsPair a at of names × IsLastOf a names }
+        Sound start a → IsGoodLink a epoch place link of names → link.mark ≡ false →
+        link_shown_at a place ≡ link → IsPair a place of names × IsLastOf a names }
 {}
 
 /// A law: every run is safe.
@@ -123,7 +123,7 @@ pub fn calls_have_values()
         IsRun start passes run → HaveValues start.shape.values (world_after start run).calls }
 {}
 
-/// A law: where no value is stored or told, a legal history of a map is one of the set of its keys,
+/// A law: where no value is stored or returned, a legal history of a map is one of the set of its keys,
 /// and the other way round.
 pub fn a_map_without_values_is_a_set()
     ensures { (entries : Entries) (calls : List Call) →
@@ -170,11 +170,11 @@ pub fn unmoved_is_last_in_runs()
 /// slot, the first is linked, and the second is its successor.
 pub fn same_link_same_pair_in_runs()
     ensures { (start : Start) (passes : ℕ) (moment run : List Event) (pass : ℕ) (note : Note)
-        (at : At) (link : Link) →
+        (place : At) (link : Link) →
         IsStart start → IsRun start passes run → Begins moment run →
-        IsAmong note (notes_after start moment pass).checked → note.read ≡ LinkAt at link →
-        link.mark ≡ false → machine.link_at (world_after start run) at ≡ link →
-        IsPair (incarnations_after start run) at note.of note.names
+        IsAmong note (notes_after start moment pass).checked → note.read ≡ LinkAt place link →
+        link.mark ≡ false → machine.link_at (world_after start run) place ≡ link →
+        IsPair (incarnations_after start run) place note.of note.names
         × IsLastOf (incarnations_after start run) note.names }
 {}
 
@@ -190,8 +190,8 @@ pub fn others_leave_it_accepted()
         (record { pass = pass; step = step })) }
 {}
 
-/// A law: after a run, acceptance may be told by any reads that a pass knows, and not only by those
-/// that a search finds first.
+/// A law: after a run, acceptance may be judged by any reads that a pass knows, and not only by
+/// those that a search finds first.
 pub fn known_reads_agree()
     ensures { (start : Start) (passes : ℕ) (run : List Event) (pass : ℕ) (step : Step) →
         IsStart start → IsRun start passes run →
@@ -211,10 +211,10 @@ pub fn held_in_bucket()
 /// when the pass held the place, in the epoch that it still has. Then a key that it knows of the
 /// place was in the set at that moment.
 pub fn present_at_load()
-    ensures { (start : Start) (passes : ℕ) (moment run : List Event) (pass : ℕ) (at : At)
+    ensures { (start : Start) (passes : ℕ) (moment run : List Event) (pass : ℕ) (place : At)
         (link : Link) (key : ℕ) →
-        IsStart start → IsRun start passes run → WasShown start moment run pass at link →
-        KeyAt (know_after start run pass) at key →
+        IsStart start → IsRun start passes run → WasShown start moment run pass place link →
+        KeyAt (know_after start run pass) place key →
         set_after (opening_keys start) (world_after start moment).calls key ≡ true }
 {}
 
@@ -233,10 +233,10 @@ pub fn value_at_load()
 /// A law: in the same case, a key that stands behind the place, and before what the link names,
 /// wasn't in the set at that moment.
 pub fn absent_at_load()
-    ensures { (start : Start) (passes : ℕ) (moment run : List Event) (pass : ℕ) (at : At)
+    ensures { (start : Start) (passes : ℕ) (moment run : List Event) (pass : ℕ) (place : At)
         (link : Link) (key : ℕ) →
-        IsStart start → IsRun start passes run → WasShown start moment run pass at link →
-        StandsBehind start (know_after start run pass) at key →
+        IsStart start → IsRun start passes run → WasShown start moment run pass place link →
+        StandsBehind start (know_after start run pass) place key →
         StandsBefore (know_after start run pass) key link.slot →
         set_after (opening_keys start) (world_after start moment).calls key ≡ false }
 {}
@@ -247,30 +247,30 @@ pub fn absent_at_load()
 /// it was removed, and not replaced, no marked incarnation of its key was.
 pub fn none_marked_at_load()
     ensures here { (start : Start) (passes : ℕ) (moment run : List Event)
-        (pass : ℕ) (at : At) (link : Link) (key : ℕ) → IsStart start → IsRun start passes run →
-        WasShown start moment run pass at link →
-        KeyAt (know_after start run pass) at key →
+        (pass : ℕ) (place : At) (link : Link) (key : ℕ) → IsStart start → IsRun start passes run →
+        WasShown start moment run pass place link →
+        KeyAt (know_after start run pass) place key →
         NoneMarked (incarnations_after start moment) key }
     ensures between { (start : Start) (passes : ℕ) (moment run : List Event)
-        (pass : ℕ) (at : At) (link : Link) (key : ℕ) → IsStart start → IsRun start passes run →
-        WasShown start moment run pass at link →
-        StandsBehind start (know_after start run pass) at key →
+        (pass : ℕ) (place : At) (link : Link) (key : ℕ) → IsStart start → IsRun start passes run →
+        WasShown start moment run pass place link →
+        StandsBehind start (know_after start run pass) place key →
         StandsBefore (know_after start run pass) key link.slot →
         NoneMarked (incarnations_after start moment) key }
     ensures skipped { (start : Start) (passes : ℕ) (moment run : List Event)
-        (pass : ℕ) (at : At) (link frozen : Link) (s key : ℕ) →
+        (pass : ℕ) (place : At) (link frozen : Link) (s key : ℕ) →
         IsStart start → IsRun start passes run →
-        WasShown start moment run pass at link →
-        StandsBehind start (know_after start run pass) at key →
+        WasShown start moment run pass place link →
+        StandsBehind start (know_after start run pass) place key →
         Knows (know_after start run pass) (LinkAt (Slot s) frozen) → frozen.mark ≡ true →
         frozen.slot ≡ link.slot → Knows (know_after start run pass) (KeyOf s key) →
         IsTakenOut (incarnations_after start run) (know_after start run pass).epoch s →
         NoneMarked (incarnations_after start moment) key }
     ensures unlisted { (start : Start) (passes : ℕ) (moment run : List Event)
-        (pass : ℕ) (at : At) (link frozen : Link) (s key node : ℕ) →
+        (pass : ℕ) (place : At) (link frozen : Link) (s key node : ℕ) →
         IsStart start → IsRun start passes run →
-        WasShown start moment run pass at link →
-        StandsBehind start (know_after start run pass) at key →
+        WasShown start moment run pass place link →
+        StandsBehind start (know_after start run pass) place key →
         Knows (know_after start run pass) (LinkAt (Slot s) frozen) → frozen.mark ≡ true →
         frozen.slot ≡ link.slot → Knows (know_after start run pass) (KeyOf s key) →
         IsHeldIncarnation (incarnations_after start run) (know_after start run pass).epoch s node →
@@ -293,13 +293,13 @@ pub fn removed_has_left()
 /// key that its pass knows of the slot, or hasn't the key that was asked for.
 pub fn confirmed_at_load()
     ensures { (start : Start) (passes : ℕ) (run : List Event) (pass : ℕ) (op : Op)
-        (s key : ℕ) (at : At) (expected : ℕ) → IsStart start → IsRun start passes run →
+        (s key : ℕ) (place : At) (expected : ℕ) → IsStart start → IsRun start passes run →
         (Accepts start (know_after start run pass) (ConfirmPresent op s expected) →
         found start (world_after start run) (ConfirmPresent op s expected) ≡ expected →
         Knows (know_after start run pass) (KeyOf s key) →
         set_after (opening_keys start) (world_after start run).calls key ≡ true)
-        × (Accepts start (know_after start run pass) (ConfirmAbsent op key at expected) →
-        found start (world_after start run) (ConfirmAbsent op key at expected) ≡ expected →
+        × (Accepts start (know_after start run pass) (ConfirmAbsent op key place expected) →
+        found start (world_after start run) (ConfirmAbsent op key place expected) ≡ expected →
         set_after (opening_keys start) (world_after start run).calls key ≡ false) }
 {}
 
@@ -307,13 +307,13 @@ pub fn confirmed_at_load()
 /// from it. Then a key that stands behind the place, and before what the last of them names, isn't
 /// in the set: the nodes between are still marked.
 pub fn absent_behind_marked()
-    ensures { (start : Start) (passes : ℕ) (run : List Event) (pass : ℕ) (at : At)
+    ensures { (start : Start) (passes : ℕ) (run : List Event) (pass : ℕ) (place : At)
         (link last : Link) (key : ℕ) →
         IsStart start → IsRun start passes run →
-        Knows (know_after start run pass) (LinkAt at link) → link.mark ≡ false →
-        machine.link_at (world_after start run) at ≡ link →
+        Knows (know_after start run pass) (LinkAt place link) → link.mark ≡ false →
+        machine.link_at (world_after start run) place ≡ link →
         LeadsTo (know_after start run pass) link last →
-        StandsBehind start (know_after start run pass) at key →
+        StandsBehind start (know_after start run pass) place key →
         StandsBefore (know_after start run pass) key last.slot →
         set_after (opening_keys start) (world_after start run).calls key ≡ false }
 {}
@@ -323,11 +323,11 @@ pub fn absent_behind_marked()
 /// what the last of them names, wasn't in the set at some moment since: each of the nodes between was
 /// marked, and still in its list, at one.
 pub fn absent_at_a_moment()
-    ensures { (start : Start) (passes : ℕ) (moment run : List Event) (pass : ℕ) (at : At)
+    ensures { (start : Start) (passes : ℕ) (moment run : List Event) (pass : ℕ) (place : At)
         (link last : Link) (key : ℕ) →
-        IsStart start → IsRun start passes run → WasShown start moment run pass at link →
+        IsStart start → IsRun start passes run → WasShown start moment run pass place link →
         LeadsTo (know_after start run pass) link last →
-        StandsBehind start (know_after start run pass) at key →
+        StandsBehind start (know_after start run pass) place key →
         StandsBefore (know_after start run pass) key last.slot →
         WasAbsent start moment run key }
 {}
@@ -336,10 +336,10 @@ pub fn absent_at_a_moment()
 /// one, a confirming load for the key is accepted there, by an operation of the shape. No marked
 /// node need be passed.
 pub fn between_is_accepted()
-    ensures { (start : Start) (know : Know) (op : Op) (key : ℕ) (at : At) (expected : ℕ) →
-        IsAtIn start at → IsOpIn start op → op ≢ Insert →
-        IsBetween start know.checked key at (link_of expected) →
-        Accepts start know (ConfirmAbsent op key at expected) }
+    ensures { (start : Start) (know : Know) (op : Op) (key : ℕ) (place : At) (expected : ℕ) →
+        IsAtIn start place → IsOpIn start op → op ≢ Insert →
+        IsBetween start know.checked key place (link_of expected) →
+        Accepts start know (ConfirmAbsent op key place expected) }
 {}
 
 /// A law: a step that is a load leaves each word as it was.
@@ -372,7 +372,7 @@ pub fn unstamped_with_its_unlinker()
     ensures { (start : Start) (passes : ℕ) (run : List Event) (pass s : ℕ) →
         IsStart start → IsRun start passes run →
         (is_at start run (Unstamped pass) s ≡ true)
-        ↔ ((at : ℕ) × (state_in (incarnations_after start run) s ≡ Unlinked pass at)) }
+        ↔ ((unlinked : ℕ) × (state_in (incarnations_after start run) s ≡ Unlinked pass unlinked)) }
 {}
 
 /// A law: a pass that unlinks, in a run, only once it has stamped each slot that it unlinked before has

@@ -31,7 +31,7 @@ impl Progress {
         }
     }
 
-    /// A writer whose text comes behind the line: the line is erased before it.
+    /// A writer whose text comes after the line: the line is erased before it.
     pub fn ahead_of<W: Write>(&self, to: W) -> Behind<'_, W> {
         Behind { line: self, to }
     }

@@ -92,7 +92,7 @@ new_stand {N} {kind} set script passes n workers is are budget =
       ended = λ phase none. absurd (omega arith);
     }
 
--- behind phases that have no lines they stand too
+-- after phases that have no lines they stand too
 pub stand_from : {N : Type 0} {kind : Kind} →
     (set : TableView) (budget : ℕ) (script : List Line) (from count : ℕ) (workers : List (Worker N)) →
     AscendFrom from script → Stand kind set budget script [] count 0 0 workers →

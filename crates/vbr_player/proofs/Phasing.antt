@@ -1,4 +1,4 @@
--- The lines of the next phase, behind those of the phases before.
+-- The lines of the next phase, after those of the phases before.
 use Rattle.std.proofs.Common.{◌≡◌, ℕ, ◌+◌, ◌-◌, ◌*◌, ◌<◌, ◌≤◌, List, [], ◌++◌, length, take, drop, sym, ap, subst, ◌∙◌}
 use Rattle.std.proofs.Common.{arith, append-nil, length-drop}
 use Rattle.std.specs.Prelude.{nat_le, All}
@@ -57,7 +57,7 @@ cuts script first n phase is early up =
       later = beyond;
     }
 
--- no lines are left behind the last phase
+-- no lines are left after the last phase
 pub all_played : {N : Type 0} {kind : Kind} →
     (set : TableView) (budget : ℕ) (script : List Line) (first from phase phases count : ℕ)
     (workers : List (Worker N)) → phase ≡ phases → All (λ line. line.phase < phases) script →
@@ -91,7 +91,7 @@ next_room {N} {kind} set budget script first n from phase count workers cut stan
     (all_room set budget ((count - 1) * (phase - from)) script (take first script) (take n (drop first script))
     (drop (first + n) script) workers cut.left stand.played)
 
--- they stand behind it when they have played it and met
+-- they stand after it when they have played it and met
 pub stand_behind : {N : Type 0} {kind : Kind} →
     (set : TableView) (budget : ℕ) (script : List Line) (first n from phase count : ℕ) (ws us : List (Worker N)) →
     Cuts script first n phase → Stand kind set budget script (take first script) count from phase ws →

@@ -72,17 +72,17 @@ called_at : {N : Type 0} {kind : Kind} →
     (set : TableView) (budget most : ℕ) (script : List Line) (run : List Event) (who : ℕ) (own : List Reply) →
     IsAt kind N set budget most script run who own →
     own_calls set.start run who ≡ answered_calls kind (zip (lines_by who script) own)
-called_at {N} {kind} set budget most script run who own at =
-    let trace = at.worker.caller.pass.trace in
-    let rest = at.seen in
+called_at {N} {kind} set budget most script run who own there =
+    let trace = there.worker.caller.pass.trace in
+    let rest = there.seen in
     let calls : own_calls set.start run trace.who ≡ own_calls set.start trace.seen trace.who =
     ap (λ (events : List Event). own_calls set.start events trace.who) rest.1
     ∙ others_leave_calls set.start trace.seen rest.0 trace.who rest.2 in
     let made : own_calls set.start trace.seen trace.who
-    ≡ answered_calls kind (zip (lines_by trace.who script) at.worker.replies.items) =
-    (λ i. own_calls (sym at.played.of.1 i) trace.seen trace.who) ∙ at.played.calls in
+    ≡ answered_calls kind (zip (lines_by trace.who script) there.worker.replies.items) =
+    (λ i. own_calls (sym there.played.of.1 i) trace.seen trace.who) ∙ there.played.calls in
     subst (λ (k : ℕ × List Reply). own_calls set.start run k.0 ≡ answered_calls kind (zip (lines_by k.0 script) k.1))
-    (λ i. (at.number i, at.replies i)) (calls ∙ made)
+    (λ i. (there.number i, there.replies i)) (calls ∙ made)
 
 -- what a reply tells of its pass at a moment allows the reply at the end
 may_be_answered : (kind : Kind) (p : Trace) (run : List Event) (op : Op) (reply : Reply) → Begins p.seen run →
@@ -102,16 +102,16 @@ answers_at : {N : Type 0} {kind : Kind} →
     All (λ outcome.
     MayBeAnswered kind set.start.shape.last_epoch (world_after set.start run).epoch outcome.0.op outcome.1)
     (zip (lines_by who script) own)
-answers_at {N} {kind} set budget most script run who own safe at =
-    let trace = at.worker.caller.pass.trace in
-    let begins = begins_for_begins trace.who trace.seen run at.seen in
+answers_at {N} {kind} set budget most script run who own safe there =
+    let trace = there.worker.caller.pass.trace in
+    let begins = begins_for_begins trace.who trace.seen run there.seen in
     let may : (start : Start) → Outcome → Type 0 =
     λ start outcome. MayBeAnswered kind start.shape.last_epoch (world_after start run).epoch outcome.0.op outcome.1 in
-    let safe_too : IsSafe trace.start run = subst (λ (start : Start). IsSafe start run) (sym at.played.of.1) safe in
-    let own_may : All (may trace.start) (zip (lines_by trace.who script) at.worker.replies.items) =
-    λ k d inside. may_be_answered kind trace run _ _ begins safe_too (at.played.tells k d inside) in
+    let safe_too : IsSafe trace.start run = subst (λ (start : Start). IsSafe start run) (sym there.played.of.1) safe in
+    let own_may : All (may trace.start) (zip (lines_by trace.who script) there.worker.replies.items) =
+    λ k d inside. may_be_answered kind trace run _ _ begins safe_too (there.played.tells k d inside) in
     subst (λ (k : Start × ℕ × List Reply). All (may k.0) (zip (lines_by k.1 script) k.2))
-    (λ i. (at.played.of.1 i, at.number i, at.replies i)) own_may
+    (λ i. (there.played.of.1 i, there.number i, there.replies i)) own_may
 
 -- ---- all workers
 
@@ -173,16 +173,16 @@ pub have_played : {N : Type 0} {kind : Kind} →
     HavePlayed kind set.start count phases script (replies_of workers) run
 have_played {N} {kind} set budget script count from phases workers run some stand seen safe =
     let most = (count - 1) * (phases - from) in
-    let at = worker_at set budget script count from phases workers run stand seen in
+    let worker_of = worker_at set budget script count from phases workers run stand seen in
     record {
       called = λ who below.
-          called_at set budget most script run who (replies_by who (replies_of workers)) (at who below);
+          called_at set budget most script run who (replies_by who (replies_of workers)) (worker_of who below);
       ends = λ phase below.
           subst (λ (n : ℕ). EndsWithin kind set.start n script (replies_of workers) run phase) stand.count_is
           (ends_within set script phase workers run (omega (arith, some, stand.count_is)) (stand.ended phase below)
           seen);
       answers = λ who below.
-          answers_at set budget most script run who (replies_by who (replies_of workers)) safe (at who below);
+          answers_at set budget most script run who (replies_by who (replies_of workers)) safe (worker_of who below);
     }
 
 -- ---- calls in turn
@@ -200,18 +200,18 @@ own_at : {N : Type 0} {kind : Kind} →
     IsAt kind N set budget most script run who own →
     PlaysOwn kind set budget (zip (lines_by who script) own) run who ×
     (steps_in who run ≤ budget * length (zip (lines_by who script) own) + most)
-own_at {N} {kind} set budget most script run who own at =
-    let trace = at.worker.caller.pass.trace in let replies = at.worker.replies.items in
+own_at {N} {kind} set budget most script run who own there =
+    let trace = there.worker.caller.pass.trace in let replies = there.worker.replies.items in
     let P : ℕ × List Reply → Type 0 =
     λ k. PlaysOwn kind set budget (zip (lines_by k.0 script) k.1) run k.0 ×
     (steps_in k.0 run ≤ budget * length (zip (lines_by k.0 script) k.1) + most) in
-    let made : steps_in trace.who run ≡ steps_of trace = steps_seen trace.who trace.seen run at.seen in
+    let made : steps_in trace.who run ≡ steps_of trace = steps_seen trace.who trace.seen run there.seen in
     let long : length (zip (lines_by trace.who script) replies) ≡ length replies =
-    zip_long (lines_by trace.who script) replies at.played.one_each in
+    zip_long (lines_by trace.who script) replies there.played.one_each in
     let steps : steps_in trace.who run ≤ budget * length (zip (lines_by trace.who script) replies) + most =
-    rw long (let few = at.played.steps in omega arith) in
-    subst P (λ i. (at.number i, at.replies i))
-    (record { last = at.worker.caller; calls = at.played.in_turn; seen = at.seen }, steps)
+    rw long (let few = there.played.steps in omega arith) in
+    subst P (λ i. (there.number i, there.replies i))
+    (record { last = there.worker.caller; calls = there.played.in_turn; seen = there.seen }, steps)
 
 -- so they have, and a lone one with an ample budget was never tired
 pub are_played : {N : Type 0} {kind : Kind} →

@@ -1,4 +1,4 @@
--- A phase's lines as a slice of the script's: what is played of it comes behind what was played before.
+-- A phase's lines as a slice of the script's: what is played of it comes after what was played before.
 use Rattle.std.proofs.Common.{◌≡◌, ℕ, suc, ◌+◌, ◌<◌, ◌≤◌, true, false, eqb, List, [], ◌∷◌, ◌++◌, length, take, drop}
 use Rattle.std.proofs.Common.{inl, inr, refl, sym, ap, ap₂, subst, ◌∙◌, append-nil, arith, length-append}
 use Rattle.std.proofs.lemmas.Bool.{cases_Bool}
@@ -26,7 +26,7 @@ pub answered-append : (kind : Kind) (front back : List Outcome) →
     answered_calls kind (front ++ back) ≡ answered_calls kind front ++ answered_calls kind back
 answered-append kind front back = flat_map-append (λ (outcome : Outcome). answer_of kind outcome.0 outcome.1) front back
 
--- the calls of a worker's next lines come behind those of the lines before
+-- the calls of a worker's next lines come after those of the lines before
 pub called_more : (kind : Kind) (who : ℕ) (front back : List Line) (old more : List Reply) (before after : List Call) →
     length old ≡ length (lines_by who front) → before ≡ answered_calls kind (zip (lines_by who front) old) →
     after ≡ before ++ answered_calls kind (zip (lines_by who back) more) →

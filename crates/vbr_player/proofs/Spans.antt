@@ -96,7 +96,7 @@ is_last_span {kind} workers phases script first from phased up order =
 -- ---- set after set
 
 -- the first lines of a script were played on sets, the first of which starts so and has so many workers, of which
--- this is the one that is played next: whatever it and those behind it are asked completes what all are asked
+-- this is the one that is played next: whatever it and those after it are asked completes what all are asked
 pub record HavePlayedSets (kind : Kind) (workers : ℕ) (start : Start) (budget : ℕ) (script : List Line)
     (renewals : List ℕ) (phases : ℕ) (set : TableView) (first phase i : ℕ) (replies : List Reply) : Type 0 where
   pub inside : first ≤ length script
@@ -140,7 +140,7 @@ renewal_here renewals lent i same inside =
 pub no_renewal : (renewals lent : List ℕ) (i : ℕ) → lent ≡ renewals → length lent ≤ i → drop i renewals ≡ []
 no_renewal renewals lent i same past = drop_all i renewals (subst (λ (some : List ℕ). length some ≤ i) same past)
 
--- it is behind the phases so far, and not the last phase
+-- it is after the phases so far, and not the last phase
 pub renewal_in : {kind : Kind} (workers : ℕ) (start : Start) (budget : ℕ) (script : List Line) (renewals : List ℕ)
     (phases : ℕ) (set : TableView) (first phase i renewal : ℕ) (replies : List Reply) →
     drop i renewals ≡ renewal ∷ drop (i + 1) renewals →
@@ -296,7 +296,7 @@ next_span {kind} workers start budget script renewals lent phases set first phas
     (phased_here workers start budget script renewals phases set first phase i replies phased so_far) so_far.later cut
     next.0
 
--- and those behind all renewals are one
+-- and those after all renewals are one
 pub last_span : {kind : Kind} (workers : ℕ) (start : Start) (budget : ℕ) (script : List Line) (renewals : List ℕ)
     (phases : ℕ) (set : TableView) (first phase i : ℕ) (replies : List Reply) → ArePhased kind workers phases script →
     HavePlayedSets kind workers start budget script renewals phases set first phase i replies →

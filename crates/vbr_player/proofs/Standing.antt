@@ -1,4 +1,4 @@
--- Workers that play a phase and meet stand behind it.
+-- Workers that play a phase and meet stand after it.
 use Rattle.std.proofs.Common.{◌≡◌, ℕ, zero, suc, ◌+◌, ◌-◌, ◌*◌, ◌<◌, ◌≤◌, List, [], ◌∷◌, ◌++◌, length, refl, sym, ap}
 use Rattle.std.proofs.Common.{ap₂, subst, ◌∙◌, inl, inr, append-nil, arith, length-append}
 use Rattle.std.specs.Prelude.{zip, All, Vec}
@@ -389,7 +389,7 @@ one_more_phase others from phase most order is =
     ap (λ (k : ℕ). others * (phase - from) + k) is ∙ sym (mul-suc others (phase - from))
     ∙ ap (λ (k : ℕ). others * k) next
 
--- workers that have played a phase and met stand behind it
+-- workers that have played a phase and met stand after it
 pub stand_next : {N : Type 0} {kind : Kind} →
     (set : TableView) (budget : ℕ) (script front slice : List Line) (count from phase : ℕ) (ws us : List (Worker N)) →
     lines_up_to phase script ≡ front ++ slice → Stand kind set budget script front count from phase ws →

@@ -3,7 +3,7 @@ use Rattle.std.proofs.Common.{◌≡◌, ℕ, List, [], ◌∷◌, ◌++◌, len
 use Rattle.std.specs.Prelude.{Result, Ok, Err, IfOk, All, Vec}
 use Rattle.std.specs.Global.{Global}
 use Rattle.std.proofs.lemmas.List.Elements.{All-head, All-tail}
-use Rattle.vbr_player.specs.Starting.{IsFor, AreFor, EndsAs, AreEndedBy}
+use Rattle.vbr_player.specs.Starting.{IsFor, AreFor, EndsAs, AreEndedBy, EndAll}
 use Rattle.vbr_player.specs.Working.{Played, EachPlayed}
 use Rattle.vbr_script.specs.declared.script.Kind.{Kind}
 use Rattle.vbr_script.specs.declared.script.Line.{Line}
@@ -11,7 +11,7 @@ use Rattle.vbr_player.specs.declared.phase_worker.PhaseWorker.{PhaseWorker}
 use Rattle.vbr_player.specs.declared.phase_worker.PhaseWorker.TheVariants.{Started, Done}
 use Rattle.vbr_player.specs.declared.worker.Worker.{Worker}
 
--- what all have, the one behind some others has
+-- what all have, the one after some others has
 pub one_behind : {A : Type 0} (P : A → Type 0) (before : List A) (x : A) (after : List A) →
     All P (before ++ (x ∷ after)) → P x
 one_behind P [] x after all = All-head P x after all
@@ -48,7 +48,7 @@ each_played kind budget lines (t ∷ ts) [] played are ended = absurd are
 pub each_played_if : {N : Type 0} →
     (kind : Kind) {E : Type 0} (budget : ℕ) (lines : List Line) (all_started : List (PhaseWorker N))
     (workers : List (Worker N)) (result : Result (Vec (Worker N) Global) E) →
-    AreFor kind budget lines all_started workers → IfOk result (λ played. AreEndedBy kind all_started played.items) →
+    AreFor kind budget lines all_started workers → EndAll kind all_started result →
     IfOk result (λ played. EachPlayed kind budget lines workers played.items)
 each_played_if kind budget lines all_started workers (Ok played) are ended =
     each_played kind budget lines all_started workers played.items are ended

@@ -23,7 +23,7 @@ use Rattle.vbr_transcript.proofs.Lemmas.{epoch_begins, zip-append}
 use Rattle.vbr_player.proofs.Calling.{turns_on}
 use Rattle.vbr_player.proofs.Slices.{answered-append, lines_by-append}
 
--- what a reply told stays so
+-- what a reply says stays so
 pub tells_on : {q r : Trace} (kind : Kind) (op : Op) (reply : Reply) → IsSame q r → Begins q.seen r.seen →
     TellsReply kind q op reply → TellsReply kind r op reply
 tells_on kind op Yes same seen told = told
@@ -36,7 +36,7 @@ tells_on {q} {r} kind op Spent same seen told =
     (told.0, rw same.start (omega arith))
 tells_on kind op Tired same seen told = tt
 
--- all that replies told stays so
+-- all that replies say stays so
 pub all_tell_on : {q r : Trace} (kind : Kind) (outcomes : List Outcome) → IsSame q r → Begins q.seen r.seen →
     All (λ outcome. TellsReply kind q outcome.0.op outcome.1) outcomes →
     All (λ outcome. TellsReply kind r outcome.0.op outcome.1) outcomes

@@ -53,7 +53,7 @@ abbrev pub HasMetOften : ℕ → MemberView → MemberView → Type 0
 HasMetOften zero m n = n ≡ m
 HasMetOften (suc times) m n = (l : MemberView) × HasMetOften times m l × (n.set ≡ l.set) × (other : PassView) × HasMet l.pass other n.pass
 
--- a caller made the calls of lines, one after the other; before each, and behind the last, it may have met others, and it did nothing else
+-- a caller made the calls of lines, one after the other; before each, and after the last, it may have met others, and it did nothing else
 abbrev pub CallsInTurn : Kind → ℕ → List Outcome → MemberView → MemberView → Type 0
 CallsInTurn kind budget [] m n = (times : ℕ) × HasMetOften times m n
 CallsInTurn kind budget (outcome ∷ outcomes) m n = (times : ℕ) × (p : MemberView) × HasMetOften times m p × (q : MemberView) × IsCalled kind budget outcome p q × CallsInTurn kind budget outcomes q n

@@ -1,5 +1,6 @@
 -- How workers start and end in a phase. Only contracts of private functions cite this.
-use Rattle.std.specs.Prelude.{◌≡◌, ℕ, List}
+use Rattle.std.specs.Prelude.{◌≡◌, ℕ, List, Result, IfOk, Vec}
+use Rattle.std.specs.Global.{Global}
 use Rattle.std.specs.List.{AllZip}
 use Rattle.vbr_script.specs.declared.script.Kind.{Kind}
 use Rattle.vbr_script.specs.declared.script.Line.{Line}
@@ -25,3 +26,7 @@ EndsAs kind (Done played) worker = worker ≡ played
 -- each of them did, in order
 abbrev pub AreEndedBy : {N : Type 0} → Kind → List (PhaseWorker N) → List (Worker N) → Type 0
 AreEndedBy kind all_started workers = AllZip (EndsAs kind) all_started workers
+
+-- so they did where the wait for them is done
+abbrev pub EndAll : {N E : Type 0} → Kind → List (PhaseWorker N) → Result (Vec (Worker N) Global) E → Type 0
+EndAll kind all_started result = IfOk result (λ played. AreEndedBy kind all_started played.items)

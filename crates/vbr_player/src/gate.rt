@@ -2,7 +2,7 @@
 use vbr_transcript::Reply;
 
 /// What a run does before each phase, and its workers round each call, each in its own thread. A line is
-/// given by its index in the lines of the script, and a phase as its lines have it. That it is told of
+/// given by its index in the lines of the script, and a phase as its lines have it. That it is called for
 /// each is tested; no contract says it.
 pub trait Gate {
     /// Comes before a phase, also one without lines.
@@ -11,7 +11,7 @@ pub trait Gate {
     /// Comes before the call of a line.
     fn before(&self, worker: u32, line: u64);
 
-    /// Comes behind the call of a line, with its reply.
+    /// Comes after the call of a line, with its reply.
     fn after(&self, worker: u32, line: u64, reply: Reply);
 }
 

@@ -56,7 +56,7 @@ pub struct Span<'p, G> {
     pub part: Part<'p, G>,
     /// The first of the phases.
     pub from: u32,
-    /// The first phase behind them.
+    /// The first phase after them.
     pub to: u32,
 }
 

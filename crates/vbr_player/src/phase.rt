@@ -3,7 +3,7 @@ ghost use Rattle.std.specs.Prelude.{◌≡◌, [], IfOk, IfErr};
 ghost use Rattle.vbr_player.specs.Working.{EachPlayed, HaveRoomForReplies, MayBeAsked};
 ghost use Rattle.vbr_player.specs.Meeting.{AreOfOne, PlayedAndMet};
 ghost use Rattle.vbr_player.specs.Playing.{IsWant};
-ghost use Rattle.vbr_player.specs.Starting.{AreEndedBy};
+ghost use Rattle.vbr_player.specs.Starting.{EndAll};
 
 use crate::asking::Asked;
 use crate::gate::Gate;
@@ -78,7 +78,7 @@ fn join_all<'l, R: Threads, N: Asked>(
     mut played: Vec<Worker<'l, N>>,
 ) -> Result<Vec<Worker<'l, N>>, RunError>
     requires none { played.items ≡ [] }
-    ensures ended { IfOk result (λ played. AreEndedBy N.KIND all_started.entry.items played.items) }
+    ensures ended { EndAll N.KIND all_started.entry.items result }
     ensures fault { IfErr result IsWant }
 {
     for started in all_started {

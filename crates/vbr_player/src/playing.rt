@@ -18,7 +18,7 @@ use vbr_words::{Entries, Keys};
 ///
 /// The phases are played one after the other. In each, every worker that has lines of the phase plays
 /// them in order, on a thread of its own; they are joined, and then each worker sees all that the
-/// others have seen. Behind a phase that ends with `renew` the set is closed, and one is opened with
+/// others have seen. After a phase that ends with `renew` the set is closed, and one is opened with
 /// its keys, at epoch 1, which the workers go on over; that takes memory and time in proportion to
 /// the slots, and the keys are sorted. In the end the set is closed.
 ///

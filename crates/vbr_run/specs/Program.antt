@@ -27,7 +27,7 @@ use Rattle.vbr_run.specs.declared.program.TheConstants.{DONE, USAGE, SCRIPT_FAUL
 
 -- the exit status after an error
 abbrev pub error_status : RunError → ℕ
-error_status (error.Script at kind) = SCRIPT_FAULT
+error_status (error.Script number kind) = SCRIPT_FAULT
 error_status error.Read = DEVICE_FAULT
 error_status error.Write = DEVICE_FAULT
 error_status error.Memory = NO_RESOURCES
@@ -35,7 +35,7 @@ error_status error.Worker = NO_RESOURCES
 
 -- the line on standard error after an error
 abbrev pub error_line : RunError → List ℕ
-error_line (error.Script at kind) = line (codes "vbr_run: script fault " ++ decimal (fault_number kind) ++ codes " at line " ++ decimal at)
+error_line (error.Script number kind) = line (codes "vbr_run: script fault " ++ decimal (fault_number kind) ++ codes " number line " ++ decimal number)
 error_line error.Read = line (codes "vbr_run: read fault")
 error_line error.Write = line (codes "vbr_run: write fault")
 error_line error.Memory = line (codes "vbr_run: no memory")
@@ -66,7 +66,7 @@ abbrev pub fault_line : Option Text → RunError → List ℕ
 fault_line (Some name) error.Read = file_line (codes "can't be read") name
 fault_line file e = error_line e
 
--- The status and the standard error tell the player's answer: nothing is told of a run that was done, and else as much of the error's line as could be written.
+-- The status and the standard error tell the player's answer: nothing is written of a run that was done, and else as much of the error's line as could be written.
 abbrev pub TellsOutcome : {T : Type 0} → Option Text → Result T RunError → Option (List ℕ) → Option (List ℕ) → ℕ → Type 0
 TellsOutcome file (Ok totals) old new status = (status ≡ DONE) × Keeps old new
 TellsOutcome file (Err e) old new status = (status ≡ error_status e) × AppendsSome old new (fault_line file e)
@@ -84,11 +84,11 @@ abbrev pub kind_asked : Bool → Kind
 kind_asked true = Map
 kind_asked _ = Set
 
--- a script of this kind that was left to read, in a file if one is named, was played with these settings, and that is told
+-- a script of this kind that was left to read, in a file if one is named, was played with these settings, and that is written
 abbrev pub IsPlayed : Kind → Settings → Option Text → Option (List ℕ) → ProgramRun → Type 0
 IsPlayed kind settings file input run = (answer : Result (TotalsOf kind) RunError) × Plays kind settings input run.output_before run.output answer × TellsOutcome file answer run.errors_before run.errors run.status
 
--- a file couldn't be opened: nothing is written to standard output, and that is told
+-- a file couldn't be opened: nothing is written to standard output, and that is written
 abbrev pub IsUnopened : IoErrorKind → Text → ProgramRun → Type 0
 IsUnopened kind name run = (run.status ≡ DEVICE_FAULT) × Keeps run.output_before run.output × AppendsSome run.errors_before run.errors (file_line (unopened kind) name)
 
@@ -105,16 +105,16 @@ Opening = Text → Result (Option (List ℕ)) IoErrorKind → Type 0
 abbrev pub MayOpenAs : {F : Type 0} → (F → Option (List ℕ)) → (Text → Result F Error → Type 0) → Opening
 MayOpenAs {F} remaining opens name given = (opened : Result F Error) × opens name opened × (given ≡ opened_as remaining opened)
 
--- a file that was opened is played, and else that is told
+-- a file that was opened is played, and else that is written
 abbrev pub IsFilePlayed : Kind → Settings → Text → Result (Option (List ℕ)) IoErrorKind → ProgramRun → Type 0
 IsFilePlayed kind settings name (Ok left) run = IsPlayed kind settings (Some name) left run
 IsFilePlayed kind settings name (Err error) run = IsUnopened error name run
 
--- there is no such shape: nothing is written to standard output, and that is told
+-- there is no such shape: nothing is written to standard output, and that is written
 abbrev pub IsUnshaped : ShapeError → ProgramRun → Type 0
 IsUnshaped error run = (run.status ≡ USAGE) × Keeps run.output_before run.output × AppendsSome run.errors_before run.errors (shape_line error)
 
--- no memory for the options: nothing is written to standard output, and that is told
+-- no memory for the options: nothing is written to standard output, and that is written
 abbrev pub LacksMemory : ProgramRun → Type 0
 LacksMemory run = (run.status ≡ error_status error.Memory) × Keeps run.output_before run.output × AppendsSome run.errors_before run.errors (error_line error.Memory)
 
@@ -122,7 +122,7 @@ LacksMemory run = (run.status ≡ error_status error.Memory) × Keeps run.output
 abbrev pub IsShown : ProgramRun → Type 0
 IsShown run = (run.status ≡ DONE) × Keeps run.errors_before run.errors × ((text : List ℕ) × Appends run.output_before run.output text)
 
--- a text was asked for, and as much of it is on standard output as could be written, which is told
+-- a text was asked for, and as much of it is on standard output as could be written, which is reported
 abbrev pub IsCutShort : ProgramRun → Type 0
 IsCutShort run = (run.status ≡ DEVICE_FAULT) × AppendsSome run.errors_before run.errors (error_line error.Write) × ((text : List ℕ) × AppendsSome run.output_before run.output text)
 
@@ -130,7 +130,7 @@ IsCutShort run = (run.status ≡ DEVICE_FAULT) × AppendsSome run.errors_before 
 abbrev pub IsFault : ProgramRun → Type 0
 IsFault run = (run.status ≡ USAGE) × Keeps run.output_before run.output × ((text : List ℕ) × AppendsSome run.errors_before run.errors text)
 
--- what `clap` has for a command line is told: the help and the version where they were asked for, and all else as a fault
+-- what `clap` has for a command line is written: the help and the version where they were asked for, and all else as a fault
 abbrev pub TellsOptions : ErrorKind → ProgramRun → Type 0
 TellsOptions asked.DisplayHelp run = IsShown run ⊎ IsCutShort run
 TellsOptions asked.DisplayVersion run = IsShown run ⊎ IsCutShort run
@@ -149,14 +149,14 @@ explained_names =
 unfoldable pub is_explained : Text → Bool
 is_explained name = list_any (λ known. bytes_eq name known) explained_names
 
--- what is known by a name is told on standard output, and an unknown name is a fault
+-- what is known by a name is written on standard output, and an unknown name is a fault
 abbrev pub ExplainsName : Bool → ProgramRun → Type 0
 ExplainsName true run = IsShown run ⊎ IsCutShort run
 ExplainsName _ run = IsFault run
 
 -- what a command line without a fault asks for is done
 -- It may want something explained, name a shape that there isn't, or name a file; else the script is on standard input. The kind is that of its script.
--- So something is explained, or it is told that there is no such shape, or the script is played.
+-- So something is explained, or it is written that there is no such shape, or the script is played.
 abbrev pub IsDone : Option Text → Option ShapeError → Option Text → Kind → Settings → Option (List ℕ) → Opening → ProgramRun → Type 0
 IsDone (Some name) shape file kind settings input opens run = ExplainsName (is_explained name) run
 IsDone None (Some error) file kind settings input opens run = IsUnshaped error run
@@ -167,11 +167,11 @@ IsDone None None (Some name) kind settings input opens run = (given : Result (Op
 abbrev pub DoesAsked : List Text → Option (List ℕ) → Opening → ProgramRun → Type 0
 DoesAsked arguments input opens run = IsDone (explained_of arguments) (shape_fault (settings_of arguments)) (file_of arguments) (kind_asked (asks_map arguments)) (settings_of arguments) input opens run
 
--- one of the faults of a command line is told
+-- one of the faults of a command line is written
 abbrev pub TellsFault : List (List ℕ) → ProgramRun → Type 0
 TellsFault arguments run = (kind : ErrorKind) × IsAmong kind (faults arguments) × TellsOptions kind run
 
--- how a run of the program ends, by its arguments: what those that the command takes ask for is done; and of all others, what the command has for them is told; or else want of memory is, which a run that plays standard input tells of itself
+-- how a run of the program ends, by its arguments: what those that the command takes ask for is done; and of all others, what the command has for them is written; or else want of memory is, which a run that plays standard input tells of itself
 pub record AnswersCommand (arguments : List Text) (input : Option (List ℕ)) (opens : Opening) (run : ProgramRun) : Type 0 where
   pub taken : AreOptions arguments → DoesAsked arguments input opens run ⊎ LacksMemory run
   pub answered : ((faults arguments ≡ []) × DoesAsked arguments input opens run) ⊎ (TellsFault arguments run ⊎ LacksMemory run)
@@ -180,7 +180,7 @@ pub record AnswersCommand (arguments : List Text) (input : Option (List ℕ)) (o
 abbrev pub ReadsNoInput : List Text → Type 0
 ReadsNoInput arguments = (faults arguments ≢ []) ⊎ (((error : ShapeError) × (shape_fault (settings_of arguments) ≡ Some error)) ⊎ (((name : Text) × (explained_of arguments ≡ Some name)) ⊎ ((name : Text) × (file_of arguments ≡ Some name))))
 
--- what `clap` answers in place of options is told, or want of memory, and for want of memory that alone
+-- what `clap` answers in place of options is written, or want of memory, and for want of memory that alone
 pub record ShowsError (kind : ErrorKind) (run : ProgramRun) : Type 0 where
   pub memory : kind ≡ asked.OutOfMemory → LacksMemory run
   pub told : TellsOptions kind run ⊎ LacksMemory run

@@ -18,7 +18,7 @@
 //!
 //! Each line of a script is one call of the set, by the member of its worker, with the budget of the
 //! config: at most so many steps, and 2(w - 1) steps more after each phase of w workers, which then
-//! meet. A call that is refused is told as `full`, `spent` or `tired`, and the run goes on. A run that
+//! meet. A call that is refused is written as `full`, `spent` or `tired`, and the run goes on. A run that
 //! isn't done is a [`RunError`]: for a faulty script, a failing reader, want of memory or of a thread
 //! nothing was written; a failing writer has a beginning of the output.
 #![tactic(auto)]

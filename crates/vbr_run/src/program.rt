@@ -45,7 +45,7 @@ const UNKNOWN: &[u8] = b"'; --help has the names\n";
 /// reader gives, or the one in the file that they name, which `files` opens, on a set, or with `--map`
 /// on a map; or that a fault or a refusal is explained, for which nothing is read.
 ///
-/// A fault is told in one line on `errors`; an error of `errors` itself is ignored. A fault in the
+/// A fault is written in one line on `errors`; an error of `errors` itself is ignored. A fault in the
 /// options comes before a shape that is none, and both before anything is opened or read; for a fault
 /// in the options `clap`'s text is written to `errors`, and with `--help` or `--version` its text is
 /// written to the writer.

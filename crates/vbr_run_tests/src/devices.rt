@@ -235,7 +235,7 @@ fn no_file(_name: &str) -> io::Result<&'static [u8]> {
     Err(io::Error::from(io::ErrorKind::NotFound))
 }
 
-// A file that gives an error behind its script.
+// A file that gives an error after its script.
 fn brittle_file(_name: &str) -> io::Result<BrittleReader> {
     Ok(BrittleReader {
         bytes: SCRIPT,
@@ -243,7 +243,7 @@ fn brittle_file(_name: &str) -> io::Result<BrittleReader> {
     })
 }
 
-/// A file that can't be read to its end is told by its name, and standard input is left as it was.
+/// A file that can't be read to its end is reported by its name, and standard input is left as it was.
 #[test]
 fn a_failing_file_is_a_file_fault(rt: HostRuntime) {
     let arguments = ["vbr_run", "a.script"];

@@ -1,5 +1,5 @@
-//! The gate of the player: that the workers of a phase run at the same time, and that each is told of
-//! its own calls.
+//! The gate of the player: that the workers of a phase run at the same time, and that each call of it
+//! comes to the gate.
 use crate::player::{expect_map_totals, expect_totals};
 use std::alloc::Global;
 use std::hint::spin_loop;
@@ -155,8 +155,8 @@ const MAP_CALLS: Calls = [
 // The phase of each operation of these scripts.
 const PHASES: [u32; 4] = [0, 0, 1, 2];
 
-/// A gate that counts how often it is rightly told of each line of the script, before its call and
-/// behind it, and of each phase before it begins.
+/// A gate that counts how often it is rightly called for each line of the script, before its call and
+/// after it, and of each phase before it begins.
 #[derive(Drop)]
 struct Recorder {
     calls: Calls,
@@ -219,8 +219,8 @@ impl Gate for Recorder {
     }
 }
 
-// A recorder was told of each phase before its lines; and each worker told it of each of its lines once before
-// the call and once after it, with its reply.
+// A recorder was called for each phase before its lines; and each worker called it for each of its lines once
+// before the call and once after it, with its reply.
 fn expect_recorded(rt: &impl Abort, gate: &Recorder) {
     assert!(rt; !gate.was_misled.load(Ordering::SeqCst));
     assert_eq!(rt; gate.phases.load(Ordering::SeqCst), 3);

@@ -1,4 +1,4 @@
-//! Scripts of maps that are played: which values are told, and which are left.
+//! Scripts of maps that are played: which values are returned, and which are left.
 use crate::player::expect_map_totals;
 use std::alloc::Global;
 use std::sync::Wait;
@@ -53,7 +53,7 @@ const FEW_STEPS: On = On {
     budget: 17,
 };
 
-// Plays a script, and has the epoch told: what is written, and the totals.
+// Plays a script, and asks for the epoch: what is written, and the totals.
 fn play_on<T: Threads + Wait>(
     rt: &T,
     alloc: Global,

@@ -37,15 +37,15 @@ IsOfWorker kind workers _ = Unit {0}
 never_get : (token : List ℕ) (op : Op) → operation_of Set token ≡ Some op → op ≢ Get
 unfolding operation_of
 never_get token op =
-    at (bytes_eq token (codes "insert")) (bytes_eq token (codes "remove")) (bytes_eq token (codes "has"))
+    by_case (bytes_eq token (codes "insert")) (bytes_eq token (codes "remove")) (bytes_eq token (codes "has"))
   where
-    at : (insert remove has : Bool) →
+    by_case : (insert remove has : Bool) →
         (if insert then Some Insert else (if remove then Some Remove else (if has then Some Has else None))) ≡ Some op →
         op ≢ Get
-    at true remove has is get = absurd (cc)
-    at false true has is get = absurd (cc)
-    at false false true is get = absurd (cc)
-    at false false false is get = absurd (cc)
+    by_case true remove has is get = absurd (cc)
+    by_case false true has is get = absurd (cc)
+    by_case false false true is get = absurd (cc)
+    by_case false false false is get = absurd (cc)
 
 -- where no value is written it is 0
 unwritten : (kind : Kind) (token : List ℕ) (op : Op) (value : ℕ) → operation_of kind token ≡ Some op →
@@ -76,12 +76,13 @@ request kind workers (Some n) (Some op) (Some key) (Some value) below may = (bel
 
 lone : (kind : Kind) (workers : ℕ) (token : List ℕ) → IsOfWorker kind workers (lone_token token)
 unfolding lone_token
-lone kind workers token = at (bytes_eq token (codes "sync")) (bytes_eq token (codes "renew"))
+lone kind workers token = by_case (bytes_eq token (codes "sync")) (bytes_eq token (codes "renew"))
   where
-    at : (sync renew : Bool) → IsOfWorker kind workers (if sync then Sync else (if renew then Renew else Faulty Words))
-    at true renew = tt
-    at false true = tt
-    at false false = tt
+    by_case : (sync renew : Bool) →
+        IsOfWorker kind workers (if sync then Sync else (if renew then Renew else Faulty Words))
+    by_case true renew = tt
+    by_case false true = tt
+    by_case false false = tt
 
 -- so are the tokens of each line
 tokens : (kind : Kind) (workers : ℕ) (line : List (List ℕ)) → IsOfWorker kind workers (meaning_of kind workers line)
@@ -111,39 +112,39 @@ of_workers kind workers (Blank ∷ lines) operations syncs phase all =
     of_workers kind workers lines operations syncs phase all.1
 of_workers kind workers (Faulty fault ∷ lines) operations syncs phase all = All-nil (IsRequest kind workers)
 of_workers kind workers (Sync ∷ lines) operations syncs phase all =
-    at (nat_lt syncs MAX_SYNCS) (of_workers kind workers lines operations (syncs + 1) (phase + 1) all.1)
+    by_case (nat_lt syncs MAX_SYNCS) (of_workers kind workers lines operations (syncs + 1) (phase + 1) all.1)
   where
-    at : (fits : Bool) →
+    by_case : (fits : Bool) →
         All (IsRequest kind workers) (operations_from (phase + 1) (all_limited operations (syncs + 1) lines)) →
         All (IsRequest kind workers)
         (operations_from phase ((if fits then Sync else Faulty TooMany) ∷ all_limited operations (syncs + 1) lines))
-    at true rest = rest
-    at false rest = All-nil (IsRequest kind workers)
+    by_case true rest = rest
+    by_case false rest = All-nil (IsRequest kind workers)
 of_workers kind workers (Renew ∷ lines) operations syncs phase all =
-    at (nat_lt syncs MAX_SYNCS) (of_workers kind workers lines operations (syncs + 1) (phase + 1) all.1)
+    by_case (nat_lt syncs MAX_SYNCS) (of_workers kind workers lines operations (syncs + 1) (phase + 1) all.1)
   where
-    at : (fits : Bool) →
+    by_case : (fits : Bool) →
         All (IsRequest kind workers) (operations_from (phase + 1) (all_limited operations (syncs + 1) lines)) →
         All (IsRequest kind workers)
         (operations_from phase ((if fits then Renew else Faulty TooMany) ∷ all_limited operations (syncs + 1) lines))
-    at true rest = rest
-    at false rest = All-nil (IsRequest kind workers)
+    by_case true rest = rest
+    by_case false rest = All-nil (IsRequest kind workers)
 of_workers kind workers (Asks worker op key value ∷ lines) operations syncs phase all =
-    at (nat_lt operations MAX_OPERATIONS) (of_workers kind workers lines (operations + 1) syncs phase all.1)
+    by_case (nat_lt operations MAX_OPERATIONS) (of_workers kind workers lines (operations + 1) syncs phase all.1)
   where
-    at : (fits : Bool) →
+    by_case : (fits : Bool) →
         All (IsRequest kind workers) (operations_from phase (all_limited (operations + 1) syncs lines)) →
         All (IsRequest kind workers)
         (operations_from phase
         ((if fits then Asks worker op key value else Faulty TooMany) ∷ all_limited (operations + 1) syncs lines))
-    at true rest =
+    by_case true rest =
         All-cons (IsRequest kind workers) (record { phase = phase; worker = worker; op = op; key = key; value = value })
         _ all.0 rest
-    at false rest = All-nil (IsRequest kind workers)
+    by_case false rest = All-nil (IsRequest kind workers)
 
 -- ---- phases
 
--- operations lie in the phases from one on, of which there are so many more behind it, and in order
+-- operations lie in the phases from one on, of which there are so many more after it, and in order
 record LieFrom (phase more : ℕ) (lines : List Line) : Type 0 where
   below : All (λ line. line.phase ≤ phase + more) lines
   ascend : AscendFrom phase lines
@@ -194,7 +195,7 @@ renewals_lower : (low high phases : ℕ) (renewals : List ℕ) → low ≤ high 
 renewals_lower low high phases [] lower rest = tt
 renewals_lower low high phases (renewal ∷ renewals) lower rest = (omega (arith, rest.0), rest.1, rest.2)
 
--- the lines from a phase on renew the set behind phases that aren't the last
+-- the lines from a phase on renew the set after phases that aren't the last
 renew_from : (lines : List Meaning) (phase phases : ℕ) → phase + count_by ends_phase lines < phases →
     AreRenewalsFrom phase phases (renewals_from phase lines)
 renew_from [] phase phases inside = tt

@@ -19,11 +19,11 @@ pub lines_of-first : (text : List ℕ) (end : ℕ) →
     NoneBefore (Passes (is_byte 10) text) 0 (length text) end × Passes (is_byte 10) text end →
     lines_of text ≡ strip_carriage_return (take end text) ∷ lines_of (drop (end + 1) text)
 lines_of-first text end found =
-    let at : position_or_len is_line_feed text ≡ end =
+    let ends : position_or_len is_line_feed text ≡ end =
     position_or_len_is is_line_feed text end 0 (omega (arith, found.0.high))
     (λ k below. false_from_ne_true _ (found.0.before k (omega arith) below)) (λ _. found.1) in
     let inside : position_or_len is_line_feed text < length text = omega (arith, found.0.high) in
-    ap (map strip_carriage_return) (slice_split_first is_line_feed text 0 inside) ∙ rw at refl
+    ap (map strip_carriage_return) (slice_split_first is_line_feed text 0 inside) ∙ rw ends refl
 
 -- a text without a line feed is one line
 pub lines_of-only : (text : List ℕ) → Nowhere (Passes (is_byte 10) text) 0 (length text) →
@@ -79,9 +79,10 @@ pub tokens_of-first : (line : List ℕ) (found : Option ℕ) → 0 < length line
     (unwrap_or found (length line) ≡ position_or_len is_blank line) ×
     (tokens_of line ≡ take (position_or_len is_blank line) line ∷ tokens_of (drop (position_or_len is_blank line) line))
 tokens_of-first line found some front is = (
-  rw is (at (position_or_len is_blank line) (length line) (prefix_len-le-length (λ byte. not (is_blank byte)) line)),
+  rw is (bounded (position_or_len is_blank line) (length line)
+      (prefix_len-le-length (λ byte. not (is_blank byte)) line)),
   ends_at_blank line (position-pos line some front) (cases_lt _ _),
 )
   where
-    at : (end len : ℕ) → end ≤ len → unwrap_or (cond (nat_lt end len) (Some end) None) len ≡ end
-    at end len within = grind (arith, nat_tests)
+    bounded : (end len : ℕ) → end ≤ len → unwrap_or (cond (nat_lt end len) (Some end) None) len ≡ end
+    bounded end len within = grind (arith, nat_tests)

@@ -14,14 +14,14 @@ use Rattle.vbr_script.specs.declared.script.TheConstants.{MAX_OPERATIONS, MAX_SY
 use Rattle.vbr_script.specs.Text.{lines_of, tokens_of}
 use Rattle.vbr_script.specs.Grammar.{meaning_of}
 
--- what a line means behind so many operations and lines that end a phase: one more of either than a script may have is faulty
+-- what a line means after so many operations and lines that end a phase: one more of either than a script may have is faulty
 abbrev pub limited : ℕ → ℕ → Meaning → Meaning
 limited operations syncs (Asks worker op key value) = if nat_lt operations MAX_OPERATIONS then Asks worker op key value else Faulty TooMany
 limited operations syncs Sync = if nat_lt syncs MAX_SYNCS then Sync else Faulty TooMany
 limited operations syncs Renew = if nat_lt syncs MAX_SYNCS then Renew else Faulty TooMany
 limited operations syncs line = line
 
--- what lines mean behind so many operations and lines that end a phase
+-- what lines mean after so many operations and lines that end a phase
 abbrev pub all_limited : ℕ → ℕ → List Meaning → List Meaning
 all_limited operations syncs [] = []
 all_limited operations syncs (Asks worker op key value ∷ lines) = limited operations syncs (Asks worker op key value) ∷ all_limited (operations + 1) syncs lines
@@ -29,7 +29,7 @@ all_limited operations syncs (Sync ∷ lines) = limited operations syncs Sync �
 all_limited operations syncs (Renew ∷ lines) = limited operations syncs Renew ∷ all_limited operations (syncs + 1) lines
 all_limited operations syncs (line ∷ lines) = line ∷ all_limited operations syncs lines
 
--- what each line of a text means behind so many operations and lines that end a phase, in order
+-- what each line of a text means after so many operations and lines that end a phase, in order
 abbrev pub meanings_behind : Kind → ℕ → ℕ → ℕ → List ℕ → List Meaning
 meanings_behind kind operations syncs workers text = all_limited operations syncs (map (λ line. meaning_of kind workers (tokens_of line)) (lines_of text))
 
@@ -100,7 +100,7 @@ pub record ArePhased (kind : Kind) (workers phases : ℕ) (lines : List Line) : 
   pub ascend : AscendFrom 0 lines
   pub may_ask : All (λ line. MayAsk kind line.op line.value) lines
 
--- these phases, each behind the one before and not the last of so many, from a phase on
+-- these phases, each after the one before and not the last of so many, from a phase on
 abbrev pub AreRenewalsFrom : ℕ → ℕ → List ℕ → Type 0
 AreRenewalsFrom phase phases [] = Unit {0}
 AreRenewalsFrom phase phases (renewal ∷ renewals) = (phase ≤ renewal) × (renewal + 1 < phases) × AreRenewalsFrom (renewal + 1) phases renewals

@@ -40,7 +40,7 @@ pub fn parse_script(alloc: Global, text: &[u8], workers: u32) -> Result<Script, 
     parse(alloc, Kind::Set, text, workers)
 }
 
-/// Reads a script of a map, as [`parse_script`] reads one of a set: an insert may have a value behind
+/// Reads a script of a map, as [`parse_script`] reads one of a set: an insert may have a value after
 /// its key, and there is one more operation, `get`.
 ///
 /// # Errors
@@ -106,7 +106,7 @@ pub fn parse(alloc: Global, kind: Kind, text: &[u8], workers: u32) -> Result<Scr
     }
 }
 
-// What a line means behind so many operations and lines that end a phase: one past the limits is
+// What a line means after so many operations and lines that end a phase: one past the limits is
 // faulty.
 fn limited(meaning: Meaning, operations: usize, syncs: u32) -> Meaning
     ensures { result ≡ limited operations syncs meaning }

@@ -32,9 +32,9 @@ pub const MAX_OPERATIONS: usize = 1_000_000;
 /// The greatest number of `sync` and `renew` lines in a script.
 pub const MAX_SYNCS: u32 = 10_000;
 
-/// A script: its operations in order, how many phases they are played in, and behind which of them
+/// A script: its operations in order, how many phases they are played in, and after which of them
 /// the set is renewed. A `sync` or `renew` line ends a phase: each operation before it is played
-/// before any behind it.
+/// before any after it.
 #[derive(Debug, Drop)]
 pub struct Script {
     /// The operations, in the order of the text.

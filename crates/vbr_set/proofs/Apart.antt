@@ -106,7 +106,7 @@ module _ {N : Type 0} (first : Stake N) where
       let all : ¬ (length members < (set_shared s.share).passes) = enough in
       subst (λ (t : TableView). AreOfSet t members × (t.passes ≤ length members)) same ((refl, one_set), omega arith)
 
--- so what the set tells by the passes is told by all members
+-- so what the set returns by the passes is returned by all members
 module _ {N R : Type 0} (tells : TableView → List PassView → R → Type 0) where
   told_by_all : (first : Stake N) (stakes : List (Stake N)) (passes : List PassView) → AreParts stakes passes →
       AreAllOfFirst first (members_of stakes passes) → (report : R) → tells (set_shared first.share) passes report →

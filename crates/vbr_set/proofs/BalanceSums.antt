@@ -87,16 +87,16 @@ module _ (f g : ℕ → ℤ) (p : ℕ) (change : ℤ) (here : f p ≡ g p +ℤ c
           let found : 1 + times ms ≡ 1 = sym (times-cons m ms true same) ∙ one in
           let none : times ms ≡ 0 = omega (arith, found) in
           let is : m.pass.trace.who ≡ p = eqb-true m.pass.trace.who p same in
-          let at : f m.pass.trace.who ≡ g m.pass.trace.who +ℤ change =
+          let own : f m.pass.trace.who ≡ g m.pass.trace.who +ℤ change =
           subst (λ (who : ℕ). f who ≡ g who +ℤ change) (sym is) here in
           let rest = sums_same ms none in
-          omega (arith, ints, at, rest)
+          omega (arith, ints, own, rest)
       go others (inr differs) =
           let found : 0 + times ms ≡ 1 = sym (times-cons m ms false differs) ∙ one in
           let later : times ms ≡ 1 = omega (arith, found) in
-          let at = away m.pass.trace.who differs in
+          let own = away m.pass.trace.who differs in
           let rest = others later in
-          omega (arith, ints, at, rest)
+          omega (arith, ints, own, rest)
 
 -- ---- calls
 

@@ -19,7 +19,7 @@ pub calls_begin : (start : Start) (seen run : List Event) → Begins seen run �
     BeginsWith (calls_of start seen) (calls_of start run)
 calls_begin = calls_since
 
--- what is answered later stands behind all that was told
+-- what is answered later stands after all that the token tells
 pub stands_behind : (told : List Event) (q : Trace) (calls : List Call) (r s : Trace) → Begins told q.seen →
     IsSame q r → Begins q.seen r.seen → AnswersAll calls r s →
     Follows (calls_of q.start told) calls (calls_of s.start s.seen)

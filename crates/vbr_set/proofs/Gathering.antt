@@ -57,8 +57,8 @@ unlisted Marked e = absurd (true≢false e)
 unlisted Unborn e = (refl, refl)
 unlisted (InHand p) e = (refl, refl)
 unlisted GivenUp e = (refl, refl)
-unlisted (Unlinked p at) e = (refl, refl)
-unlisted (Stamped at stamp) e = (refl, refl)
+unlisted (Unlinked p unlinked) e = (refl, refl)
+unlisted (Stamped unlinked stamp) e = (refl, refl)
 
 either : (st : State) → is_listed st ≡ true → is_linked st ≡ not (is_marked st)
 either Linked e = refl
@@ -66,8 +66,8 @@ either Marked e = refl
 either Unborn e = absurd (false≢true e)
 either (InHand p) e = absurd (false≢true e)
 either GivenUp e = absurd (false≢true e)
-either (Unlinked p at) e = absurd (false≢true e)
-either (Stamped at stamp) e = absurd (false≢true e)
+either (Unlinked p unlinked) e = absurd (false≢true e)
+either (Stamped unlinked stamp) e = absurd (false≢true e)
 
 -- the slot has no node in a list
 pub gathered_skip : {T : Type 0} {tell : ℕ → T} {a : Incarnations} {s live marked : ℕ} {listed : List T} (start : Start)

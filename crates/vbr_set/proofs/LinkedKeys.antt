@@ -35,8 +35,8 @@ linked_from Marked e = absurd (false≢true e)
 linked_from Unborn e = absurd (false≢true e)
 linked_from (InHand p) e = absurd (false≢true e)
 linked_from GivenUp e = absurd (false≢true e)
-linked_from (Unlinked p at) e = absurd (false≢true e)
-linked_from (Stamped at stamp) e = absurd (false≢true e)
+linked_from (Unlinked p unlinked) e = absurd (false≢true e)
+linked_from (Stamped unlinked stamp) e = absurd (false≢true e)
 
 -- the last incarnation of the slot is this one, and it is linked
 pub record IsLinkedIn (a : Incarnations) (s c : ℕ) : Type 0 where
@@ -173,13 +173,13 @@ set_is {start} {a} sound fits tells key = same_tests _ _ there only
         list_any (nat_eq key) (linked_keys a start.shape.slots) ≡ true
     only e =
         let c = tells.only key e in
-        let at = stands_there sound fits c.0 (subst IsListed (sym c.1) tt) in
+        let there = stands_there sound fits c.0 (subst IsListed (sym c.1) tt) in
         has_is a start.shape.slots key
         (record {
           slot = a.slot c.0;
-          low = at.0;
-          linked = ap is_linked (stands_state at.1 ∙ c.1);
-          is = stands_key at.1 ∙ c.2;
+          low = there.0;
+          linked = ap is_linked (stands_state there.1 ∙ c.1);
+          is = stands_key there.1 ∙ c.2;
         })
 
 -- sorted, they are the list of the set

@@ -242,7 +242,7 @@ module _ {m n : MemberView} (o : MemberView) {c d : Cursor} {entries : List (ℕ
       at_most : length entries + x.refused + 1 ≤ length (keys_of entries) + m.pass.trace.start.shape.buckets + 1
       at_most = let l = x.in_table in let e = length-map entries (λ (entry : ℕ × ℕ). entry.0) in omega (arith, l, e)
 
-  -- what is told then
+  -- what is returned then
   pub goes_over : {A E : Type 0} {Tells : A → Type 0} {Stops : E → Type 0} {next : Result (Option (ℕ × ℕ)) Refusal} →
       (answer : Result A E) → CallsNextWhere n o c d budget next → IfOk answer Tells → IfErr answer Stops →
       GoesOver Tells Stops m o answer

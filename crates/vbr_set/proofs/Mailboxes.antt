@@ -14,9 +14,9 @@ SlotValues = List (ℕ × Option PassView)
 -- a mailbox is as its seat knows it
 as_known : (set : TableView) (s : State (Option PassView) SeatKnows) (k : SeatKnows) → IsMailbox set s →
     get_elem? s.views 0 ≡ some k → IsAs set s k
-as_known set s k mailbox at =
+as_known set s k mailbox at_index =
     let same : mailbox.knows ≡ k =
-    some-injective mailbox.knows k (ap (λ (vs : List SeatKnows). get_elem? vs 0) (sym mailbox.seat) ∙ at) in
+    some-injective mailbox.knows k (ap (λ (vs : List SeatKnows). get_elem? vs 0) (sym mailbox.seat) ∙ at_index) in
     subst (IsAs set s) same mailbox.is
 
 -- the one view becomes another

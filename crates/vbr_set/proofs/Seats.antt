@@ -24,7 +24,7 @@ module _ {N : Type 0} where
       length (mailboxes ++ mailbox ∷ []) ≡ length mailboxes + 1
   longer mailboxes mailbox = length-append mailboxes (mailbox ∷ [])
 
-  -- a seat stays one where a mailbox is added behind the others
+  -- a seat stays one where a mailbox is added after the others
   mailbox_more : (mailboxes : List (Mailbox N)) (mailbox : Mailbox N) (who : ℕ) (table : TableId) (id : ℕ)
       (me : Me (Option PassView) SeatKnows) → IsSeatOf mailboxes who table id me →
       IsSeatOf (mailboxes ++ mailbox ∷ []) who table id me
@@ -51,12 +51,12 @@ module _ {N : Type 0} where
   last_seat : (mailboxes : List (Mailbox N)) (mailbox : Mailbox N) (who : ℕ) (seat : MailboxSeat) →
       length mailboxes ≡ who → seat.table_id ≡ mailbox.table.shared.table_id → seat.id ≡ 0 → seat.me ≡ (None, [])
       → IsSeatOf (mailboxes ++ mailbox ∷ []) who seat.table_id seat.id seat.me
-  last_seat mailboxes mailbox who seat at fits first fresh =
+  last_seat mailboxes mailbox who seat at_end fits first fresh =
       let long = longer mailboxes mailbox in
       record {
         there = omega arith;
         fits = λ d. fits
-            ∙ ap (λ (p : Mailbox N). p.table.shared.table_id) (sym (get_or_push mailboxes mailbox d who at));
+            ∙ ap (λ (p : Mailbox N). p.table.shared.table_id) (sym (get_or_push mailboxes mailbox d who at_end));
         first = first;
         fresh = fresh;
       }

@@ -31,9 +31,10 @@ pub safe : {start : Start} {words : List ℕ} {run : List Event} → AreAfter st
 safe {start} {words} {run} x = every_run start x.passes run x.is_start x.is_run
 
 -- the link of a word is the one that the incarnations show there
-pub link_read : {start : Start} {words : List ℕ} {run : List Event} → AreAfter start words run → (at : At) →
-    IsIn start.shape (place_of at) →
-    link_of (slice_index words (index_of start.shape (place_of at))) ≡ link_shown_at (incarnations_after start run) at
+pub link_read : {start : Start} {words : List ℕ} {run : List Event} → AreAfter start words run → (holder : At) →
+    IsIn start.shape (place_of holder) →
+    link_of (slice_index words (index_of start.shape (place_of holder)))
+    ≡ link_shown_at (incarnations_after start run) holder
 link_read {start} {words} {run} x (Head b) is = ap link_of (x.are.each (place.Head b) is)
     ∙ link_of-word_of ((world_after start run).head b) ((safe x).links (Head b)) ∙ (agrees x).image.head b
 link_read {start} {words} {run} x (Slot s) is = ap link_of (x.are.each (place.LinkOf s) is)
@@ -63,8 +64,8 @@ link_named a c Marked l = (refl, refl)
 link_named a c Unborn l = absurd l
 link_named a c (InHand p) l = absurd l
 link_named a c GivenUp l = absurd l
-link_named a c (Unlinked p at) l = absurd l
-link_named a c (Stamped at stamp) l = absurd l
+link_named a c (Unlinked p unlinked) l = absurd l
+link_named a c (Stamped unlinked stamp) l = absurd l
 
 pub next_of_node : {a : Incarnations} {s c : ℕ} → Stands a s c →
     (link_shown a (a.last s)).slot ≡ slot_shown a (a.next c)

@@ -20,13 +20,13 @@ use Rattle.vbr_set.proofs.MapHistories.{RunsAreMaps}
 -- calls that stand in a history stand in each that goes on from it
 follows_more : {first calls history longer : List Call} → Follows first calls history → (more : List Call) →
     longer ≡ history ++ more → Follows first calls longer
-follows_more {first} {calls} {history} {longer} at more is = record {
-  between = at.between;
-  more = at.more ++ more;
+follows_more {first} {calls} {history} {longer} follows more is = record {
+  between = follows.between;
+  more = follows.more ++ more;
   stands = is
-      ∙ ap (λ l. l ++ more) at.stands
-      ∙ append_assoc (first ++ at.between) (calls ++ at.more) more
-      ∙ ap (λ l. (first ++ at.between) ++ l) (append_assoc calls at.more more);
+      ∙ ap (λ l. l ++ more) follows.stands
+      ∙ append_assoc (first ++ follows.between) (calls ++ follows.more) more
+      ∙ ap (λ l. (first ++ follows.between) ++ l) (append_assoc calls follows.more more);
 }
 
 stays : (calls : List Call) (p : Trace) (q r : PassView) → PassLaw r → AnswersAll calls p q.trace →

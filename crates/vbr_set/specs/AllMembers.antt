@@ -1,4 +1,4 @@
--- How a set ends by all its members at once, and what they are told.
+-- How a set ends by all its members at once, and what they get.
 use Rattle.std.specs.Prelude.{◌≡◌, ◌<◌, ◌≤◌, List, [], ◌∷◌, length, map}
 use Rattle.vbr_slots.specs.Views.{PassView, TableView}
 use Rattle.vbr_set.specs.Closing.{Closes, MapCloses}

@@ -6,7 +6,7 @@ use Rattle.vbr_set.specs.Members.{MemberView, as_member}
 
 -- the pass, as a member of the set
 abbrev pub member_at : {N : Type 0} {kind : Ghosts N} → AtSet N kind → MemberView
-member_at at = as_member at.set.now at.pass.now
+member_at c = as_member c.set.now c.pass.now
 
 -- it is the same pass at the same set
 pub record IsSameSet {N : Type 0} {kind : Ghosts N} (c d : AtSet N kind) : Type 0 where

@@ -18,7 +18,7 @@ sum_of_balances (m ∷ ms) = balance_of m +ℤ sum_of_balances ms
 abbrev pub HasEachOnce : TableView → List MemberView → Type 0
 HasEachOnce set members = (who : ℕ) → who < set.passes → count_by (λ m. m.pass.trace.who == who) members ≡ 1
 
--- where a report is told of all members, each once, their balances add up to how many keys it tells, as far as 64 bits tell; any pass of the set bears out that it is one
+-- where all members get a report, each once, their balances add up to how many keys it tells, as far as 64 bits tell; any pass of the set bears out that it is one
 abbrev pub AddUpBy : {Item R : Type 0} → KindOf Item R → Type 0
 AddUpBy {Item} {R} kind =
     (members : List MemberView) (report : R) (told : ReportsAllBy (ClosesBy kind) members report) (pass : PassView)

@@ -1,4 +1,4 @@
--- How a set ends by its members, and what the last one is told.
+-- How a set ends by its members, and what the last one gets.
 use Rattle.std.specs.Prelude.{◌≡◌, ℕ, ◌<◌, List, length, slice_index_or, Option, None, Some, Result, Ok, Err, IfOk, IfErr, IfSome}
 use Rattle.vbr_slots.specs.Views.{PassView, TableView}
 use Rattle.vbr_at_table.specs.GivingSlotsBack.{GivesSlotsBack}

@@ -107,7 +107,7 @@ pub record PassesUnlinkInTurn : Type 0 where
 abbrev pub OneUnstampedAtEachMoment : Type 0
 OneUnstampedAtEachMoment = (p : Trace) (moment : List Event) → UnlinkedInTurn p → Begins moment p.seen → number_at p.start moment (Unstamped p.who) ≤ 1
 
--- a pass that has all its slots was told that there is no slot for an insert or a store, and no other pass made a step meanwhile
+-- a pass that has all its slots got the answer that there is no slot for an insert or a store, and no other pass made a step meanwhile
 pub record RefusedAlone (m n : MemberView) (key budget : ℕ) : Type 0 where
   pub law : PassLaw n.pass
   pub has_all : HasAllSlots m.pass

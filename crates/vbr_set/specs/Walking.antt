@@ -27,7 +27,7 @@ abbrev pub NotesLists : Start → Incarnations → List Bool → Type 0
 NotesLists start a notes = (s : ℕ) → s < start.shape.slots → is_noted notes s ≡ is_listed (state_in a s)
 
 module _ {T : Type 0} where
-  -- what is told of the linked nodes in the slots below a number, slot by slot
+  -- what is reported of the linked nodes in the slots below a number, slot by slot
   abbrev pub linked_of : (ℕ → T) → Incarnations → ℕ → List T
   linked_of tell a zero = []
   linked_of tell a (suc s) = if is_linked (state_in a s) then linked_of tell a s ++ tell s ∷ [] else linked_of tell a s

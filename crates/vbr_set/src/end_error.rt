@@ -12,7 +12,7 @@ pub enum EndError<M = Member> {
     Lost,
     /// There is no memory for the report. The member comes back, by its contract the same pass of the same
     /// set: it can make calls, and be closed again. That it still has what the other members gave back is
-    /// tested: its next close is told the report.
+    /// tested: its next close returns the report.
     Memory(M),
 }
 

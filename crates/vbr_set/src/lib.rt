@@ -6,15 +6,15 @@
 //! moved to its thread, and makes the calls [`Member::insert`], [`Member::remove`] and
 //! [`Member::has`]. None of them waits for another or takes memory, and each ends within its budget of
 //! steps. A look-up writes nothing that another thread can see. [`Member::close`] gives a member back,
-//! and the last one is told what is in the set.
+//! and the last close returns what is in the set.
 //!
 //! A set may open with keys ([`Member::open_with`]), as those of the report: so one whose epoch comes near
 //! its last goes on in a fresh set.
 //!
 //! What a member has seen has one legal history of a set. A call that is answered stands in it, once,
-//! behind the calls that the member had made before; members that meet ([`Member::meet`]) share one
+//! after the calls that the member had made before; members that meet ([`Member::meet`]) share one
 //! history. [`Member::seen`] gives a token of what a member has seen, to be sent with whatever the program
-//! orders its threads by; each call of who takes it in by [`Member::catch_up`] stands behind all of that.
+//! orders its threads by; each call of who takes it in by [`Member::catch_up`] stands after all of that.
 //!
 //! From `crates/vbr_example`, whose workers claim pages in threads of their own:
 //!

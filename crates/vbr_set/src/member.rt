@@ -75,8 +75,8 @@ impl<N: Nodes> Member<N> {
     }
 }
 
-/// One that is dropped gives its slots and its pass back as [`Member::close`] does, but is told nothing: so the
-/// last one that is closed is still told a report. It needs no memory.
+/// One that is dropped gives its slots and its pass back as [`Member::close`] does, but gets nothing: so the
+/// last one that is closed still gets a report. It needs no memory.
 impl<N: Nodes> Drop for Member<N> {
     fn drop(self) {
         let (stake, mut pass) = self.into_parts();

@@ -109,7 +109,7 @@ fn few_keys(rt: HostRuntime) -> Result<(), Fail> {
     Ok(())
 }
 
-/// A key whose bucket is too long for the budget is refused, and those behind it are answered. With twenty
+/// A key whose bucket is too long for the budget is refused, and those after it are answered. With twenty
 /// steps a walk comes to the first node and leaves eight steps, but not to the second.
 #[test]
 fn keys_are_refused_by_themselves(rt: HostRuntime) -> Result<(), Fail> {
@@ -133,7 +133,7 @@ fn keys_are_refused_by_themselves(rt: HostRuntime) -> Result<(), Fail> {
     Ok(())
 }
 
-// With twenty steps 9, the second key of its bucket, is refused, and the keys behind it are answered. The pass
+// With twenty steps 9, the second key of its bucket, is refused, and the keys after it are answered. The pass
 // then goes on.
 fn expect_by_a_pass<N: Nodes>(rt: &impl Abort, set: &VbrSet<N>, pass: &mut Pass)
     requires own { IsOf pass.old.trace set.now }

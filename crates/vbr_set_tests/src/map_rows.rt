@@ -139,7 +139,7 @@ fn a_marked_node_is_left_to_others(rt: HostRuntime) -> Result<(), Fail> {
     expect(&rt, rt.alloc(), (1, 1, 10), &rows, (&[], 1, (0, 0, 1)))
 }
 
-/// The same, closed while the node is marked: its entry isn't told.
+/// The same, closed while the node is marked: its entry isn't reported.
 #[test]
 fn a_marked_node_is_counted(rt: HostRuntime) -> Result<(), Fail> {
     let rows = [

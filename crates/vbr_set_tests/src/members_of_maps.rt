@@ -85,7 +85,7 @@ fn expect_entries(rt: &impl Abort, report: &MapReport) {
     assert_eq!(rt; report.live, 3);
 }
 
-/// The last member that is closed is told the entries, ascending by key.
+/// The last member that is closed gets the entries, ascending by key.
 #[test]
 fn members_of_a_map_close_in_turn(rt: HostRuntime) -> Result<(), Fail> {
     let (mut one, mut other) = open_two(rt.alloc()).expect(&rt, "there is memory");
@@ -116,7 +116,7 @@ fn tell_and_close(
     Ok((told, report))
 }
 
-/// All members are told the entries that the calls of all of them leave.
+/// All members get the entries that the calls of all of them leave.
 #[test]
 fn all_members_of_a_map_are_closed(rt: HostRuntime) -> Result<(), Fail> {
     let (mut one, mut other) = open_two(rt.alloc()).expect(&rt, "there is memory");

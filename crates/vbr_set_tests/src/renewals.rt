@@ -116,7 +116,7 @@ fn a_set_is_renewed(rt: HostRuntime) -> Result<(), Fail> {
     Ok(())
 }
 
-// Members of a fresh set with the keys that the last member of a set is told.
+// Members of a fresh set with the keys that the last member of a set gets.
 fn reopen(alloc: Global, last: Member) -> Result<Option<Vec<Member>>, Fail> {
     let shape = last.shape();
     let Some(report) = last.close(alloc)? else {

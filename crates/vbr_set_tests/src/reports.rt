@@ -18,7 +18,7 @@ fn close_both(alloc: Global, one: Member, other: Member) -> Result<Report, Close
     Ok(report)
 }
 
-/// All members are told what all of them did.
+/// All members get what all of them did.
 #[test]
 fn all_members_are_closed(rt: HostRuntime) -> Result<(), Fail> {
     let (mut one, mut other) = open_two(rt.alloc()).expect(&rt, "there is memory");
@@ -42,7 +42,7 @@ fn close_one(alloc: Global, one: Member) -> Option<Vec<Member>> {
     }
 }
 
-// The last member of a set of two keys is told them, takes one out, and is closed.
+// The last member of a set of two keys gets them, takes one out, and is closed.
 fn tell_and_close(rt: &impl Abort, alloc: Global, last: Member) -> Result<(), Fail> {
     let (report, mut last) = last.report_last(alloc)?.expect(rt, "the last member");
     assert_eq!(rt; report.keys.as_slice(), [5, 7].as_slice());

@@ -33,11 +33,11 @@ use Rattle.vbr_settings.proofs.OptionsRead.{switch_text}
 -- what holds of all rules holds of each
 passes_at : (test : Rule → Bool) (rules : List Rule) (k : ℕ) (r : Rule) → k < length rules →
     list_all test rules ≡ true → test (slice_index_or rules k r) ≡ true
-passes_at test rules k r inside all = at (test (slice_index_or rules k r)) refl
+passes_at test rules k r inside all = by_case (test (slice_index_or rules k r)) refl
   where
-    at : (b : Bool) → test (slice_index_or rules k r) ≡ b → test (slice_index_or rules k r) ≡ true
-    at true is = is
-    at false is =
+    by_case : (b : Bool) → test (slice_index_or rules k r) ≡ b → test (slice_index_or rules k r) ≡ true
+    by_case true is = is
+    by_case false is =
         let bad : false ≡ true = sym (list_all_at test rules k r inside is) ∙ all in
         cc
 
@@ -260,17 +260,17 @@ has_options old is =
 -- the matches that the program's command makes of arguments
 pub complete : (old : Command) (m : ArgMatches) → app_of old ≡ command_line → IsParsedFrom old m →
     AreComplete (rows_of (found_of m))
-complete old m is p = at (args_of old) refl
+complete old m is p = by_case (args_of old) refl
   where
     has : HasRules old options
     has = has_options old is
 
-    at : (args : List Arg) → args_of old ≡ args → AreComplete (rows_of (found_of m))
-    at [] none =
+    by_case : (args : List Arg) → args_of old ≡ args → AreComplete (rows_of (found_of m))
+    by_case [] none =
         let nine : length (args_of old) ≡ 9 = as_many old options has in
         let zero : length (args_of old) ≡ 0 = ap length none in
         absurd (omega (arith, nine, zero))
-    at (d ∷ rest) some =
+    by_case (d ∷ rest) some =
         let workers =
         numbered_at old m p options 0 d (codes "workers") 1 MAX_WORKERS (codes "1") has (omega arith) refl
         (omega arith) in

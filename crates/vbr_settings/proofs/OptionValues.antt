@@ -26,13 +26,14 @@ pub switch_read : (name : Text) (rows : List Row) (read : Bool) → IsSwitch nam
     (one_of name rows ≡ None → read ≡ false) → (one_of name rows ≡ Some (codes "true") → read ≡ true) →
     (one_of name rows ≡ Some (codes "false") → read ≡ false) → read ≡ has_switch name rows
 unfolding has_switch
-switch_read name rows read switch none on off = at (one_of name rows) switch none on off
+switch_read name rows read switch none on off = by_case (one_of name rows) switch none on off
   where
-    at : (text : Option Text) → IfSome text (λ t. (bytes_eq t (codes "true") || bytes_eq t (codes "false")) ≡ true) →
+    by_case : (text : Option Text) →
+        IfSome text (λ t. (bytes_eq t (codes "true") || bytes_eq t (codes "false")) ≡ true) →
         (text ≡ None → read ≡ false) → (text ≡ Some (codes "true") → read ≡ true) →
         (text ≡ Some (codes "false") → read ≡ false) → read ≡ option_map_or (λ t. bytes_eq t (codes "true")) text false
-    at None switch none on off = none refl
-    at (Some t) switch none on off = here (bytes_eq t (codes "true")) refl
+    by_case None switch none on off = none refl
+    by_case (Some t) switch none on off = here (bytes_eq t (codes "true")) refl
       where
         here : (b : Bool) → bytes_eq t (codes "true") ≡ b → read ≡ bytes_eq t (codes "true")
         here true is = on (ap Some ((bytes_eq-Decides t (codes "true")).0 is)) ∙ sym is

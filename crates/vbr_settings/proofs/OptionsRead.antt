@@ -84,7 +84,7 @@ pub record IsOption (old : Command) (k : ℕ) (a : Arg) (parser : ValueParser) :
 rules_of : (old : Command) (m : ArgMatches) (p : IsParsedFrom old m) (k : ℕ) (a : Arg) (parser : ValueParser) →
     IsOption old k a parser → (j : ℕ) (y : Arg) → j < length (args_of p.built) →
     slice_index_or (args_of p.built) j y ≡ y → bytes_eq y.id.now a.id.now ≡ true → SameRules a y
-rules_of old m p k a parser option j y inside at same =
+rules_of old m p k a parser option j y inside at_index same =
     let unique : (i : ℕ) (e : Arg) → i < length (args_of old) →
     bytes_eq (slice_index_or (args_of old) i e).id.now (slice_index_or (args_of old) k a).id.now ≡ true → i ≡ k =
     λ i e low is.
@@ -94,7 +94,7 @@ rules_of old m p k a parser option j y inside at same =
     let is : bytes_eq y.id.now (slice_index_or (args_of old) k a).id.now ≡ true =
     subst (λ (b : Arg). bytes_eq y.id.now b.id.now ≡ true) (sym option.here) same in
     subst (λ (b : Arg). SameRules b y) option.here
-    (same_rules_by_id old m p k a option.inside unique own j y inside at is)
+    (same_rules_by_id old m p k a option.inside unique own j y inside at_index is)
 
 -- what the entry of an option holds: values that its parser accepts, read as the parser says
 record HoldsValue (option : ValueParser) (x : MatchedArg) : Type 0 where
@@ -179,7 +179,7 @@ has_value old m p k a parser e x option takes no_groups passes same name = elim 
 found_in : (xs : List Entry) (id : List ℕ) → HasIn xs id →
     is_some (option_map (λ e. e.1) (find (λ e. bytes_eq e.0.now id) xs)) ≡ true
 found_in [] id has = absurd (omega (arith, has.1))
-found_in (x ∷ xs) id has = at (bytes_eq x.0.now id) refl (found_in xs id)
+found_in (x ∷ xs) id has = by_case (bytes_eq x.0.now id) refl (found_in xs id)
   where
     rest : (i : ℕ) → i < length (x ∷ xs) → ((d : Entry) → bytes_eq (slice_index_or (x ∷ xs) i d).0.now id ≡ true) →
         bytes_eq x.0.now id ≡ false → HasIn xs id
@@ -188,11 +188,11 @@ found_in (x ∷ xs) id has = at (bytes_eq x.0.now id) refl (found_in xs id)
         cc
     rest (suc i) inside is other = (i, omega arith, is)
 
-    at : (b : Bool) → bytes_eq x.0.now id ≡ b →
+    by_case : (b : Bool) → bytes_eq x.0.now id ≡ b →
         (HasIn xs id → is_some (option_map (λ e. e.1) (find (λ e. bytes_eq e.0.now id) xs)) ≡ true) →
         is_some (option_map (λ e. e.1) (find (λ e. bytes_eq e.0.now id) (x ∷ xs))) ≡ true
-    at true is behind = rw is refl
-    at false is behind = rw is (behind (rest has.0 has.1 has.2 is))
+    by_case true is behind = rw is refl
+    by_case false is behind = rw is (behind (rest has.0 has.1 has.2 is))
 
 head_of : (parser : ValueParser) (how : Reading) (values : List (Bor (List ℕ))) →
     All (λ v. Accepts false parser v.now) values → 0 < length values →
@@ -207,21 +207,21 @@ pub text_of : (old : Command) (m : ArgMatches) (p : IsParsedFrom old m) (k : ℕ
     IsOption old k a parser → TakesValue a → IsPlain old → (out-Command old).has_globals ≡ false →
     (text : Text) × (one_text (found_of m) a.id.now ≡ Some (read_as (reading_of parser) text)) ×
     Accepts false parser text
-text_of old m p k a parser option takes plain globals = at (matched_of (found_of m) a.id.now) refl
+text_of old m p k a parser option takes plain globals = by_case (matched_of (found_of m) a.id.now) refl
   where
     has : HasId (found_of m) a.id.now
     has = subst (λ (b : Arg). HasId (found_of m) b.id.now) option.here
         (default_present old m p globals k a option.inside (subst WantsDefault (sym option.here) takes.defaults))
 
-    at : (entry : Option MatchedArg) → matched_of (found_of m) a.id.now ≡ entry →
+    by_case : (entry : Option MatchedArg) → matched_of (found_of m) a.id.now ≡ entry →
         (text : Text) × (one_text (found_of m) a.id.now ≡ Some (read_as (reading_of parser) text)) ×
         Accepts false parser text
-    at None is =
+    by_case None is =
         let bad : is_some (matched_of (found_of m) a.id.now) ≡ true =
         found_in (found_of m).entries.items a.id.now has in
         let no : is_some (matched_of (found_of m) a.id.now) ≡ false = rw is refl in
         cc
-    at (Some x) is =
+    by_case (Some x) is =
         let parsed = p.parsed (p.from.globals ∙ globals) in
         let entry = entry_by_id (EntryPasses p.built) (found_of m).entries.items a.id.now x parsed.values is in
         let name : entry.0.0.now ≡ a.id.now = (bytes_eq-Decides entry.0.0.now a.id.now).0 entry.2 in
@@ -238,7 +238,7 @@ text_of old m p k a parser option takes plain globals = at (matched_of (found_of
 pub switch_text : (old : Command) (m : ArgMatches) (p : IsParsedFrom old m) (k : ℕ) (a : Arg) →
     IsOption old k a value.Bool → IsPlain old → (out-Command old).has_globals ≡ false →
     IfSome (one_text (found_of m) a.id.now) (λ text. Accepts false value.Bool text)
-switch_text old m p k a option plain globals = at (matched_of (found_of m) a.id.now) refl
+switch_text old m p k a option plain globals = by_case (matched_of (found_of m) a.id.now) refl
   where
     first : (how : Reading) (values : List (Bor (List ℕ))) → how ≡ reading.AsWritten →
         All (λ v. Accepts false value.Bool v.now) values →
@@ -247,10 +247,10 @@ switch_text old m p k a option plain globals = at (matched_of (found_of m) a.id.
     first how (v ∷ values) written accepts =
         rw written (All-get_or (λ v. Accepts false value.Bool v.now) (v ∷ values) 0 v (omega arith) accepts)
 
-    at : (entry : Option MatchedArg) → matched_of (found_of m) a.id.now ≡ entry →
+    by_case : (entry : Option MatchedArg) → matched_of (found_of m) a.id.now ≡ entry →
         IfSome (one_text (found_of m) a.id.now) (λ text. Accepts false value.Bool text)
-    at None is = rw is tt
-    at (Some x) is =
+    by_case None is = rw is tt
+    by_case (Some x) is =
         let parsed = p.parsed (p.from.globals ∙ globals) in
         let entry = entry_by_id (EntryPasses p.built) (found_of m).entries.items a.id.now x parsed.values is in
         let name : entry.0.0.now ≡ a.id.now = (bytes_eq-Decides entry.0.0.now a.id.now).0 entry.2 in

@@ -5,7 +5,7 @@ use Rattle.vbr_settings.specs.declared.config.TheConstants.{MAX_WORKERS}
 use Rattle.vbr_settings.specs.declared.config.ConfigError.{ConfigError}
 use Rattle.vbr_settings.specs.declared.config.ConfigError.TheVariants.{Workers}
 
--- the shape of the set or map, but for values, the number of workers, the budget of each call, and whether the epoch is told
+-- the shape of the set or map, but for values, the number of workers, the budget of each call, and whether the epoch is printed
 pub record Settings : Type 0 where
   pub shape : Dimensions
   pub workers : ℕ

@@ -146,7 +146,7 @@ const FILE_HELP: &str = "The file that the script is read from; - is standard in
 // The greatest number of an option of 32 bits.
 const MOST: u64 = u32::MAX as u64;
 
-/// Reads the options: how a script is to be played, or what is to be told in its place. Arguments
+/// Reads the options: how a script is to be played, or what is to be printed in its place. Arguments
 /// that the command takes lack nothing but a shape, or memory.
 ///
 /// # Errors
@@ -164,7 +164,7 @@ pub fn read_options<'a>(alloc: Global, arguments: &'a [&'a str]) -> Result<Optio
 
 /// A law: command lines that are accepted, and what they give. The program's name alone gives each
 /// option its own value, a set and no file, and each option may be given. A word that is no option is
-/// the name of a file, also before options, and each word behind `--`; and `-` is standard input.
+/// the name of a file, also before options, and each word after `--`; and `-` is standard input.
 pub fn knows_its_options()
     ensures name_alone { (name : List ℕ) → AreOptions (name ∷ [])
         × (settings_of (name ∷ []) ≡ own_settings) × (asks_map (name ∷ []) ≡ false)
@@ -176,7 +176,7 @@ pub fn knows_its_options()
         × (explained_of (name ∷ each_option) ≡ Some (codes "script-1")) }
     ensures file { (name : List ℕ) → AreOptions (name ∷ codes "a" ∷ codes "--epoch" ∷ [])
         × (file_of (name ∷ codes "a" ∷ codes "--epoch" ∷ []) ≡ Some (codes "a")) }
-    ensures behind { (name : List ℕ) → AreOptions (name ∷ codes "--" ∷ codes "--epoch" ∷ [])
+    ensures dashes { (name : List ℕ) → AreOptions (name ∷ codes "--" ∷ codes "--epoch" ∷ [])
         × (file_of (name ∷ codes "--" ∷ codes "--epoch" ∷ []) ≡ Some (codes "--epoch")) }
     ensures standard { (name : List ℕ) → AreOptions (name ∷ codes "-" ∷ [])
         × (file_of (name ∷ codes "-" ∷ []) ≡ None) }
@@ -184,7 +184,7 @@ pub fn knows_its_options()
 
 /// A law: command lines that are refused, and with which kind of error. A number out of its option's
 /// limits is one that can't be taken, an option that there isn't and a second file are unknown, and
-/// the help and the version are told where they are asked for.
+/// the help and the version are printed where they are asked for.
 pub fn knows_its_faults()
     ensures workers { (name : List ℕ) → faults (name ∷ codes "--workers" ∷ codes "17" ∷ [])
         ≡ ErrorKind.ValueValidation ∷ [] }

@@ -110,7 +110,7 @@ impl Config {
         self.budget
     }
 
-    /// Whether the epoch in the end is told.
+    /// Whether the epoch in the end is printed.
     pub fn epoch(&self) -> bool
         ensures { result ≡ self.now.epoch }
     {

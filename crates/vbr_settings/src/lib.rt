@@ -2,7 +2,7 @@
 //! so.
 //!
 //! A [`Config`] has the shape of the set, the number of workers, the budget of each call, and whether
-//! the epoch is told. [`read_options`] reads the [`Options`] off the arguments of a command line: such
+//! the epoch is printed. [`read_options`] reads the [`Options`] off the arguments of a command line: such
 //! a config, whether the script is one of a map, the file that it is in, and whether something is to
 //! be explained in its place.
 #![tactic(auto)]

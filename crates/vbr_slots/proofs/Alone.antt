@@ -110,19 +110,19 @@ value_was : (r n : ℕ) → Value r ≡ Value n → n ≡ r
 value_was r n e = cc
 
 -- the link that was read stands there
-pub link_now : {p q : Trace} {at : At} {word : ℕ} → IsStart p.start → Did (LoadLink at) p q word → IsAlone p q →
-    link_shown_at (nodes p) at ≡ link_of word
-link_now {p} {q} {at} {word} is d alone =
+pub link_now : {p q : Trace} {place : At} {word : ℕ} → IsStart p.start → Did (LoadLink place) p q word → IsAlone p q →
+    link_shown_at (nodes p) place ≡ link_of word
+link_now {p} {q} {place} {word} is d alone =
     let ok = run_was d alone in
-    let w : word ≡ found p.start (world_after p.start p.seen) (LoadLink at) =
+    let w : word ≡ found p.start (world_after p.start p.seen) (LoadLink place) =
     sym (value_was word _ d.shows.answers)
-    ∙ ap (λ l. found p.start (world_after p.start l) (LoadLink at)) (before_it d alone) in
-    sym (image at (run_agrees p.start p.passes p.seen is ok)) ∙ link_loaded p.start p.passes p.seen is ok p.who at
+    ∙ ap (λ l. found p.start (world_after p.start l) (LoadLink place)) (before_it d alone) in
+    sym (image place (run_agrees p.start p.passes p.seen is ok)) ∙ link_loaded p.start p.passes p.seen is ok p.who place
     ∙ ap link_of (sym w)
   where
-    image : (at : At) →
+    image : (place : At) →
         Agrees p.start (world_after p.start p.seen) (incarnations_after p.start p.seen) (notes_after p.start p.seen) →
-        machine.link_at (world_after p.start p.seen) at ≡ link_shown_at (incarnations_after p.start p.seen) at
+        machine.link_at (world_after p.start p.seen) place ≡ link_shown_at (incarnations_after p.start p.seen) place
     image (Head b) g = g.image.head b
     image (Slot s) g = g.image.link s
 
@@ -165,14 +165,14 @@ fresh_read {p} {q} {epoch} is d knew =
 -- ---- what an exchange finds
 
 -- the word of a link that stands at a place
-pub stands_found : (p : Trace) (at : At) (word : ℕ) → IsStart p.start → IsRun p.start p.passes p.seen →
-    link_shown_at (nodes p) at ≡ link_of word → word_of (machine.link_at (world_after p.start p.seen) at) ≡ word
-stands_found p at word is ok stands =
-    ap word_of (image at (run_agrees p.start p.passes p.seen is ok) ∙ stands) ∙ word_of-link_of word
+pub stands_found : (p : Trace) (place : At) (word : ℕ) → IsStart p.start → IsRun p.start p.passes p.seen →
+    link_shown_at (nodes p) place ≡ link_of word → word_of (machine.link_at (world_after p.start p.seen) place) ≡ word
+stands_found p place word is ok stands =
+    ap word_of (image place (run_agrees p.start p.passes p.seen is ok) ∙ stands) ∙ word_of-link_of word
   where
-    image : (at : At) →
+    image : (place : At) →
         Agrees p.start (world_after p.start p.seen) (incarnations_after p.start p.seen) (notes_after p.start p.seen) →
-        machine.link_at (world_after p.start p.seen) at ≡ link_shown_at (incarnations_after p.start p.seen) at
+        machine.link_at (world_after p.start p.seen) place ≡ link_shown_at (incarnations_after p.start p.seen) place
     image (Head b) g = g.image.head b
     image (Slot s) g = g.image.link s
 
@@ -187,16 +187,16 @@ pub leaves_on : {p q r : Trace} → LeavesLists p q → LeavesLists q r → Leav
 leaves_on x y =
     record {
       epoch = y.epoch ∙ x.epoch;
-      links = λ at. y.links at ∙ x.links at;
-      count = λ bucket at. y.count bucket at ∙ x.count bucket at;
+      links = λ place. y.links place ∙ x.links place;
+      count = λ bucket place. y.count bucket place ∙ x.count bucket place;
     }
 
 -- the same incarnations, in the same shape
 pub same_leaves : (p q : Trace) → q.start ≡ p.start → nodes q ≡ nodes p → LeavesLists p q
 same_leaves p q start same = record {
   epoch = ap (λ (a : Incarnations). a.epoch) same;
-  links = λ at. ap (λ a. link_shown_at a at) same;
-  count = λ bucket at. (λ i. behind (start i) (same i) bucket at);
+  links = λ place. ap (λ a. link_shown_at a place) same;
+  count = λ bucket place. (λ i. behind (start i) (same i) bucket place);
 }
 
 module _ {step : Step} {p q : Trace} {r : ℕ} (d : Did step p q r) (alone : IsAlone p q) where
@@ -206,15 +206,17 @@ module _ {step : Step} {p q : Trace} {r : ℕ} (d : Did step p q r) (alone : IsA
       (is_run_last p.start p.passes p.seen (event_of p.who step) (subst P (seen_next d alone) d.is_run)).1
 
   next_leaves : (nodes q).epoch ≡ (nodes p).epoch →
-      ((at : At) →
-      link_shown_at (incarnations_after p.start (p.seen ++ event_of p.who step ∷ [])) at ≡ link_shown_at (nodes p) at) →
-      ((bucket : ℕ) (at : At) →
-      behind p.start (incarnations_after p.start (p.seen ++ event_of p.who step ∷ [])) bucket at ≡ ahead p bucket at) →
+      ((place : At) →
+      link_shown_at (incarnations_after p.start (p.seen ++ event_of p.who step ∷ [])) place
+      ≡ link_shown_at (nodes p) place) →
+      ((bucket : ℕ) (place : At) →
+      behind p.start (incarnations_after p.start (p.seen ++ event_of p.who step ∷ [])) bucket place
+      ≡ ahead p bucket place) →
       LeavesLists p q
   next_leaves epoch links count = record {
     epoch = epoch;
-    links = λ at. ap (λ a. link_shown_at a at) (nodes_next d alone) ∙ links at;
-    count = λ bucket at. (λ i. behind (d.same.1 i) (nodes_next d alone i) bucket at) ∙ count bucket at;
+    links = λ place. ap (λ a. link_shown_at a place) (nodes_next d alone) ∙ links place;
+    count = λ bucket place. (λ i. behind (d.same.1 i) (nodes_next d alone i) bucket place) ∙ count bucket place;
   }
 
 pub stamp_leaves_lists : {p q : Trace} {s stamp r : ℕ} → IsStart p.start → Did (StoreStamp s stamp) p q r →
@@ -223,40 +225,41 @@ stamp_leaves_lists {p} {q} {s} {stamp} is d alone =
     let ok = run_was d alone in
     next_leaves d alone
     (ap (λ (a : Incarnations). a.epoch) (nodes_next d alone) ∙ stamp_epoch p.start p.passes p.seen is ok p.who s stamp)
-    (λ at. stamp_links p.start p.passes p.seen is ok p.who s stamp at (accepted_now d alone))
-    (λ bucket at. stamp_leaves p.start p.passes p.seen is ok p.who s stamp bucket at (accepted_now d alone))
+    (λ place. stamp_links p.start p.passes p.seen is ok p.who s stamp place (accepted_now d alone))
+    (λ bucket place. stamp_leaves p.start p.passes p.seen is ok p.who s stamp bucket place (accepted_now d alone))
 
 pub raise_leaves_lists : {p q : Trace} {s r : ℕ} → IsStart p.start → Did (Raise s) p q r → IsAlone p q → LeavesLists p q
 raise_leaves_lists {p} {q} {s} is d alone =
     let ok = run_was d alone in
     next_leaves d alone
     (ap (λ (a : Incarnations). a.epoch) (nodes_next d alone) ∙ raise_epoch p.start p.passes p.seen is ok p.who s)
-    (λ at. raise_links p.start p.passes p.seen is ok p.who s at (accepted_now d alone))
-    (λ bucket at. raise_leaves p.start p.passes p.seen is ok p.who s bucket at (accepted_now d alone))
+    (λ place. raise_links p.start p.passes p.seen is ok p.who s place (accepted_now d alone))
+    (λ bucket place. raise_leaves p.start p.passes p.seen is ok p.who s bucket place (accepted_now d alone))
 
 -- ---- filling a slot in hand
 
 -- a key that is stored in a slot in hand leaves the link of each place
-pub key_stored_leaves : {p q : Trace} {s key r : ℕ} (at : At) → IsStart p.start → Did (StoreKey s key) p q r →
-    IsAlone p q → link_shown_at (nodes q) at ≡ link_shown_at (nodes p) at
-key_stored_leaves {p} {q} {s} {key} at is d alone =
-    ap (λ a. link_shown_at a at) (nodes_next d alone)
-    ∙ key_leaves_links p.start p.passes p.seen is (run_was d alone) p.who s key at
+pub key_stored_leaves : {p q : Trace} {s key r : ℕ} (place : At) → IsStart p.start → Did (StoreKey s key) p q r →
+    IsAlone p q → link_shown_at (nodes q) place ≡ link_shown_at (nodes p) place
+key_stored_leaves {p} {q} {s} {key} place is d alone =
+    ap (λ a. link_shown_at a place) (nodes_next d alone)
+    ∙ key_leaves_links p.start p.passes p.seen is (run_was d alone) p.who s key place
 
 -- and so does a value
-pub value_stored_leaves : {p q : Trace} {s value r : ℕ} (at : At) → IsStart p.start → Did (StoreValue s value) p q r →
-    IsAlone p q → link_shown_at (nodes q) at ≡ link_shown_at (nodes p) at
-value_stored_leaves {p} {q} {s} {value} at is d alone =
-    ap (λ a. link_shown_at a at) (nodes_next d alone)
-    ∙ value_leaves_links p.start p.passes p.seen is (run_was d alone) p.who s value at
+pub value_stored_leaves : {p q : Trace} {s value r : ℕ} (place : At) → IsStart p.start →
+    Did (StoreValue s value) p q r →
+    IsAlone p q → link_shown_at (nodes q) place ≡ link_shown_at (nodes p) place
+value_stored_leaves {p} {q} {s} {value} place is d alone =
+    ap (λ a. link_shown_at a place) (nodes_next d alone)
+    ∙ value_leaves_links p.start p.passes p.seen is (run_was d alone) p.who s value place
 
 -- a link that is stored in a slot in hand leaves one that is known unmarked, and stands
-pub link_stored_leaves : {p q : Trace} {s r : ℕ} {next : Option ℕ} (at : At) (link : Link) → IsStart p.start →
-    Did (StoreLink s next) p q r → IsAlone p q → Knows (knows p) (LinkAt at link) → link.mark ≡ false →
-    link_shown_at (nodes p) at ≡ link → link_shown_at (nodes q) at ≡ link
-link_stored_leaves {p} {q} {s} {r} {next} at link is d alone known unmarked stands =
-    ap (λ a. link_shown_at a at) (nodes_next d alone)
-    ∙ link_leaves_links p.start p.passes p.seen is (run_was d alone) p.who s next at link known unmarked stands
+pub link_stored_leaves : {p q : Trace} {s r : ℕ} {next : Option ℕ} (place : At) (link : Link) → IsStart p.start →
+    Did (StoreLink s next) p q r → IsAlone p q → Knows (knows p) (LinkAt place link) → link.mark ≡ false →
+    link_shown_at (nodes p) place ≡ link → link_shown_at (nodes q) place ≡ link
+link_stored_leaves {p} {q} {s} {r} {next} place link is d alone known unmarked stands =
+    ap (λ a. link_shown_at a place) (nodes_next d alone)
+    ∙ link_leaves_links p.start p.passes p.seen is (run_was d alone) p.who s next place link known unmarked stands
 
 -- ---- without a call
 

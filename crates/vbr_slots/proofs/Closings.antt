@@ -20,12 +20,12 @@ use Rattle.vbr_slots.specs.Stepping.{opening_of}
 use Rattle.vbr_slots.proofs.Steps.{Sat}
 
 pub take_at : (l : List ℕ) (i x : ℕ) → get_elem? l i ≡ some x → take (i + 1) l ≡ take i l ++ x ∷ []
-take_at l i x at = ap (λ (n : ℕ). take n l) (let e : i + 1 ≡ suc i = omega arith in e) ∙ go l i at
+take_at l i x at_index = ap (λ (n : ℕ). take n l) (let e : i + 1 ≡ suc i = omega arith in e) ∙ go l i at_index
   where
     go : (l : List ℕ) (i : ℕ) → get_elem? l i ≡ some x → take (suc i) l ≡ take i l ++ x ∷ []
-    go [] i at = absurd (some-ne-none x (sym at))
-    go (y ∷ ys) zero at = ap (λ (z : ℕ). z ∷ []) (some-injective y x at)
-    go (y ∷ ys) (suc i) at = ap (λ zs. y ∷ zs) (go ys i at)
+    go [] i at_index = absurd (some-ne-none x (sym at_index))
+    go (y ∷ ys) zero at_index = ap (λ (z : ℕ). z ∷ []) (some-injective y x at_index)
+    go (y ∷ ys) (suc i) at_index = ap (λ zs. y ∷ zs) (go ys i at_index)
 
 pub one_of : (t : TableView) (ys : List PassView) (p : PassView) (zs : List PassView) → AllOf t (ys ++ (p ∷ zs)) →
     IsOf p.trace t

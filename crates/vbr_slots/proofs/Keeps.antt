@@ -48,8 +48,8 @@ module _ (opening : TableStart) (is_start : IsStart opening.start) where
   -- no other seat has the number of the first witness
   others_away : (s : St) (h : Kept opening s) (id j : ℕ) (m : Witness) (ms u : List Witness) → m.who ≢ nobody → j ≢ id →
       get_elem? s.views id ≡ some (m ∷ ms) → get_elem? s.views j ≡ some u → times m.who u ≡ 0
-  others_away s h id j m ms u other apart at bt =
-      let two = two_in m.who s.views id j (m ∷ ms) u apart at bt in
+  others_away s h id j m ms u other apart at_index bt =
+      let two = two_in m.who s.views id j (m ∷ ms) u apart at_index bt in
       let all = h.counted m.who other in
       let most = times-members (opened_of opening.start) m.who 0 opening.passes in
       let first = times-first m ms in
@@ -57,8 +57,8 @@ module _ (opening : TableStart) (is_start : IsStart opening.start) where
 
   mates_away : (s : St) (h : Kept opening s) (id : ℕ) (m : Witness) (ms : List Witness) → m.who ≢ nobody →
       get_elem? s.views id ≡ some (m ∷ ms) → times m.who ms ≡ 0
-  mates_away s h id m ms other at =
-      let one = one_in m.who s.views id (m ∷ ms) at in
+  mates_away s h id m ms other at_index =
+      let one = one_in m.who s.views id (m ∷ ms) at_index in
       let all = h.counted m.who other in
       let most = times-members (opened_of opening.start) m.who 0 opening.passes in
       let first = times-first m ms in
@@ -72,9 +72,9 @@ module _ (opening : TableStart) (is_start : IsStart opening.start) where
       ((n : ℕ) → Shows e.step (g n) n) → Accepts opening.start (know_after opening.start seen e.pass) e.step
       → Allows (Kept opening) slots id (witness (opened_of opening.start) e.pass seen ∷ others, cs) i f
       (λ r. Told opening e (witness (opened_of opening.start) e.pass seen ∷ others, cs) (g r))
-  plays slots id e seen others cs i f g low other place does same ok s h _ at _ =
+  plays slots id e seen others cs i f g low other place does same ok s h _ at_index _ =
       let start = opening.start in
-      let mine = h.begins id (witness (opened_of opening.start) e.pass seen ∷ others) at in
+      let mine = h.begins id (witness (opened_of opening.start) e.pass seen ∷ others) at_index in
       let rest : List Event = mine.0.0 in
       let is : h.run ≡ seen ++ rest = mine.0.1 in
       let none : NoneOf e.pass rest = mine.0.2 in
@@ -94,7 +94,7 @@ module _ (opening : TableStart) (is_start : IsStart opening.start) where
       let more = λ (u : List Witness) (away : times e.pass u ≡ 0) (b : EachBegins h.run u).
       each_begins_more run e u away (subst (λ r. EachBegins r u) is b) in
       let theirs : EachBegins run' others =
-      more others (mates_away s h id (witness (opened_of opening.start) e.pass seen) others other at) mine.1 in (
+      more others (mates_away s h id (witness (opened_of opening.start) e.pass seen) others other at_index) mine.1 in (
         w,
         keeps,
         tt,
@@ -106,17 +106,18 @@ module _ (opening : TableStart) (is_start : IsStart opening.start) where
               ⊎_elim
               (λ (x : (j ≡ id) × (w ≡ u)). subst (EachBegins run') x.1 (begins_for_refl e.pass run', theirs))
               (λ (x : (j ≢ id) × (get_elem? s.views j ≡ some u)).
-              more u (others_away s h id j (witness (opened_of opening.start) e.pass seen) others u other x.0 at x.1)
+              more u (others_away s h id j (witness (opened_of opening.start) e.pass seen) others u other x.0 at_index
+              x.1)
               (h.begins j u x.1))
               (at_set s.views id j w u bt);
           seen = inr (
             id,
             w,
-            set_at s.views id w (witness (opened_of opening.start) e.pass seen ∷ others) at,
+            set_at s.views id w (witness (opened_of opening.start) e.pass seen ∷ others) at_index,
             inl (other, refl),
           );
           counted = λ who else.
-              let t = times-set who s.views id w (witness (opened_of opening.start) e.pass seen ∷ others) at in
+              let t = times-set who s.views id w (witness (opened_of opening.start) e.pass seen ∷ others) at_index in
               let all = h.counted who else in
               omega arith;
         },
@@ -154,9 +155,9 @@ module _ (opening : TableStart) (is_start : IsStart opening.start) where
       who ≢ nobody → ((number : ℕ) → number ≢ nobody → times number others ≡ 0)
       → Allows (Kept opening) slots id (witness (opened_of opening.start) who seen ∷ others, cs) i (λ n. n)
       (λ _. Caught opening who (witness (opened_of opening.start) who seen ∷ others, cs))
-  catches slots id who seen others cs i apart spent s h _ at _ =
+  catches slots id who seen others cs i apart spent s h _ at_index _ =
       let start = opening.start in
-      let mine = h.begins id (witness (opened_of opening.start) who seen ∷ others) at in
+      let mine = h.begins id (witness (opened_of opening.start) who seen ∷ others) at_index in
       let rest : List Event = mine.0.0 in
       let is : h.run ≡ seen ++ rest = mine.0.1 in
       let w : List Witness = witness (opened_of opening.start) who (seen ++ rest) ∷ [] in (
@@ -178,11 +179,11 @@ module _ (opening : TableStart) (is_start : IsStart opening.start) where
           seen = inr (
             id,
             w,
-            set_at s.views id w (witness (opened_of opening.start) who seen ∷ others) at,
+            set_at s.views id w (witness (opened_of opening.start) who seen ∷ others) at_index,
             inl (apart, sym is),
           );
           counted = λ number else.
-              let t = times-set number s.views id w (witness (opened_of opening.start) who seen ∷ others) at in
+              let t = times-set number s.views id w (witness (opened_of opening.start) who seen ∷ others) at_index in
               let all = h.counted number else in
               let none = spent number else in
               omega arith;

@@ -66,14 +66,14 @@ found_at slot (x ∷ xs) k i apart e =
     (cases_eq x slot)
 
 -- where the place was found, it is in the pool, and the slot is what leaves there
-pub left : (slot at : ℕ) (pool seen : List ℕ) (place : Option ℕ) → AllPairs ◌≢◌ pool → seen ≡ pool →
-    place ≡ position_from (λ x. x == slot) 0 seen → place ≡ Some at →
-    (at < length pool) × (remove pool at ≡ without slot pool)
-left slot at pool seen place apart is found some =
-    let f = found_at slot pool 0 at apart (ap (position_from (λ x. x == slot) 0) (sym is) ∙ sym found ∙ some) in
+pub left : (slot index : ℕ) (pool seen : List ℕ) (place : Option ℕ) → AllPairs ◌≢◌ pool → seen ≡ pool →
+    place ≡ position_from (λ x. x == slot) 0 seen → place ≡ Some index →
+    (index < length pool) × (remove pool index ≡ without slot pool)
+left slot index pool seen place apart is found some =
+    let f = found_at slot pool 0 index apart (ap (position_from (λ x. x == slot) 0) (sym is) ∙ sym found ∙ some) in
     let on = f.1 in
     let low = f.2 in
-    let here : f.0 ≡ at = omega (arith, on) in
+    let here : f.0 ≡ index = omega (arith, on) in
     (omega (arith, on, low), subst (λ (n : ℕ). remove pool n ≡ without slot pool) here f.3)
 
 -- where none was found, the slot isn't there

@@ -6,7 +6,7 @@ use Rattle.vbr_words.specs.declared.place.At.{At}
 use Rattle.vbr_words.specs.declared.place.At.TheVariants.{Head, Slot}
 use Rattle.vbr_slots.specs.LookUpStep.{link_from}
 
-pub link_is : (shape : Dimensions) (at : At) →
-    link_from (2 + shape.buckets) (node_words shape) at ≡ index_of shape (place_of at)
+pub link_is : (shape : Dimensions) (place : At) →
+    link_from (2 + shape.buckets) (node_words shape) place ≡ index_of shape (place_of place)
 link_is shape (Head b) = refl
 link_is shape (Slot s) = refl

@@ -27,10 +27,10 @@ each_begins_more run e (m ∷ ms) away b = (
 
 pub one_in : (who : ℕ) (vs : List (List Witness)) (j : ℕ) (b : List Witness) → get_elem? vs j ≡ some b →
     times who b ≤ times_in who vs
-one_in who [] j b at = absurd (some-ne-none b (sym at))
-one_in who (v ∷ vs) zero b at =
-    let same : times who v ≡ times who b = ap (times who) (some-injective v b at) in omega arith
-one_in who (v ∷ vs) (suc j) b at = let more = one_in who vs j b at in omega arith
+one_in who [] j b at_index = absurd (some-ne-none b (sym at_index))
+one_in who (v ∷ vs) zero b at_index =
+    let same : times who v ≡ times who b = ap (times who) (some-injective v b at_index) in omega arith
+one_in who (v ∷ vs) (suc j) b at_index = let more = one_in who vs j b at_index in omega arith
 
 pub two_in : (who : ℕ) (vs : List (List Witness)) (i j : ℕ) (a b : List Witness) → j ≢ i → get_elem? vs i ≡ some a →
     get_elem? vs j ≡ some b → times who a + times who b ≤ times_in who vs
@@ -49,10 +49,10 @@ two_in who (v ∷ vs) (suc i) (suc j) a b apart ai bj =
 
 pub times-set : (who : ℕ) (vs : List (List Witness)) (i : ℕ) (a b : List Witness) → get_elem? vs i ≡ some b →
     times_in who (set vs i a) + times who b ≡ times_in who vs + times who a
-times-set who [] i a b at = absurd (some-ne-none b (sym at))
-times-set who (v ∷ vs) zero a b at =
-    let same : times who v ≡ times who b = ap (times who) (some-injective v b at) in omega arith
-times-set who (v ∷ vs) (suc i) a b at = let more = times-set who vs i a b at in omega arith
+times-set who [] i a b at_index = absurd (some-ne-none b (sym at_index))
+times-set who (v ∷ vs) zero a b at_index =
+    let same : times who v ≡ times who b = ap (times who) (some-injective v b at_index) in omega arith
+times-set who (v ∷ vs) (suc i) a b at_index = let more = times-set who vs i a b at_index in omega arith
 
 -- the number of the first witness
 pub times-first : (m : Witness) (ms : List Witness) → times m.who (m ∷ ms) ≡ 1 + times m.who ms

@@ -9,9 +9,10 @@ first_left (suc n) [] = refl
 first_left (suc n) (x ∷ xs) = first_left n xs
 
 -- what is gone from the whole list behind those is gone from the rest
-pub later_left : (n at place : ℕ) (xs : List ℕ) → place ≡ n + at → n ≤ length xs →
-    drop n (remove xs place) ≡ remove (drop n xs) at
-later_left zero at place xs is low = let same : place ≡ at = omega (arith, is) in ap (remove xs) same
-later_left (suc n) at place [] is low = absurd (omega (arith, low))
-later_left (suc n) at zero (x ∷ xs) is low = absurd (omega (arith, is))
-later_left (suc n) at (suc place) (x ∷ xs) is low = later_left n at place xs (omega (arith, is)) (omega (arith, low))
+pub later_left : (n index place : ℕ) (xs : List ℕ) → place ≡ n + index → n ≤ length xs →
+    drop n (remove xs place) ≡ remove (drop n xs) index
+later_left zero index place xs is low = let same : place ≡ index = omega (arith, is) in ap (remove xs) same
+later_left (suc n) index place [] is low = absurd (omega (arith, low))
+later_left (suc n) index zero (x ∷ xs) is low = absurd (omega (arith, is))
+later_left (suc n) index (suc place) (x ∷ xs) is low = later_left n index place xs (omega (arith, is))
+    (omega (arith, low))

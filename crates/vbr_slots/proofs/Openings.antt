@@ -14,7 +14,7 @@ use Rattle.vbr_words.specs.Flags.{word_of_flag, all_but, flag_words, flag_word}
 use Rattle.vbr_words.specs.Places.{IsIn, index_of, words_in}
 use Rattle.vbr_words.specs.declared.link.TheConstants.{MARK, MAX_SLOTS, MAX_VERSION}
 use Rattle.vbr_words.specs.declared.link.Link.{Link}
-use Rattle.vbr_words.specs.declared.place.At.TheVariants as at
+use Rattle.vbr_words.specs.declared.place.At.TheVariants as holder
 use Rattle.vbr_words.specs.declared.place.Place.{Place}
 use Rattle.vbr_words.specs.declared.place.Place.TheVariants.{Epoch, ShapeWord, Head, LinkOf, Birth, Key, Value, Flags}
 use Rattle.vbr_words.proofs.Lemmas.{flag_word_same, index_of-lt, same_place}
@@ -39,9 +39,9 @@ laid shape links flags (Flags number) = if nat_lt number flags then flag_word (�
 laid shape links flags _ = 0
 
 -- a list has these words at the places of a shape
-pub record AreLaid (shape : Dimensions) (at : Place → ℕ) (words : List ℕ) : Type 0 where
+pub record AreLaid (shape : Dimensions) (word_at : Place → ℕ) (words : List ℕ) : Type 0 where
   pub count : length words ≡ words_in shape
-  pub each : (place : Place) → IsIn shape place → get_or words (index_of shape place) 0 ≡ at place
+  pub each : (place : Place) → IsIn shape place → get_or words (index_of shape place) 0 ≡ word_at place
 
 get_or-replicate : (n i : ℕ) → get_or {A = ℕ} (replicate n 0) i 0 ≡ 0
 get_or-replicate zero i = refl
@@ -120,33 +120,33 @@ written_at : (start : Start) (w v : World) (words : List ℕ) (place : Place) (i
     i ≡ index_of start.shape place → IsIn start.shape place → machine.word_at start v place ≡ value →
     ((q : Place) → q ≢ place → machine.word_at start v q ≡ machine.word_at start w q)
     → AreWordsOf start w words → AreWordsOf start v (set words i value)
-written_at start w v words place i value at here is others are =
+written_at start w v words place i value index_is here is others are =
     let laid_on =
     laid_at start.shape (machine.word_at start w) (machine.word_at start v) words place value here is others
     (record { count = are.count; each = are.each }) in
-    subst (λ (j : ℕ). AreWordsOf start v (set words j value)) (sym at)
+    subst (λ (j : ℕ). AreWordsOf start v (set words j value)) (sym index_is)
     (record { count = laid_on.count; each = laid_on.each })
 
 module _ (start : Start) (w : World) (words : List ℕ) (are : AreWordsOf start w words) where
   link_laid : (s i value : ℕ) (link : Link) → i ≡ index_of start.shape (LinkOf s) → s < start.shape.slots →
-      value ≡ word_of link → AreWordsOf start (with_link_at w (at.Slot s) link) (set words i value)
+      value ≡ word_of link → AreWordsOf start (with_link_at w (holder.Slot s) link) (set words i value)
   link_laid s i value link place low is =
-      written_at start w (with_link_at w (at.Slot s) link) words (LinkOf s) i value place low
+      written_at start w (with_link_at w (holder.Slot s) link) words (LinkOf s) i value place low
       (ap word_of (put_here w.link s link) ∙ sym is) others are
     where
       others : (q : Place) → q ≢ LinkOf s →
-          machine.word_at start (with_link_at w (at.Slot s) link) q ≡ machine.word_at start w q
+          machine.word_at start (with_link_at w (holder.Slot s) link) q ≡ machine.word_at start w q
       others (LinkOf t) ne = ap word_of (put_other w.link s link t (λ e. ne (ap LinkOf e)))
       others _ ne = refl
 
   head_laid : (b i value : ℕ) (link : Link) → i ≡ index_of start.shape (Head b) → b < start.shape.buckets →
-      value ≡ word_of link → AreWordsOf start (with_link_at w (at.Head b) link) (set words i value)
+      value ≡ word_of link → AreWordsOf start (with_link_at w (holder.Head b) link) (set words i value)
   head_laid b i value link place low is =
-      written_at start w (with_link_at w (at.Head b) link) words (Head b) i value place low
+      written_at start w (with_link_at w (holder.Head b) link) words (Head b) i value place low
       (ap word_of (put_here w.head b link) ∙ sym is) others are
     where
       others : (q : Place) → q ≢ Head b →
-          machine.word_at start (with_link_at w (at.Head b) link) q ≡ machine.word_at start w q
+          machine.word_at start (with_link_at w (holder.Head b) link) q ≡ machine.word_at start w q
       others (Head c) ne = ap word_of (put_other w.head b link c (λ e. ne (ap Head e)))
       others _ ne = refl
 
@@ -250,15 +250,16 @@ pub key_ahead : (start : Start) (w : World) (words valued : List ℕ) (number ke
     first ≡ word_of (link_to (Some number) 0 1) → bits ≡ all_but number
     → IsValueWritten start number value (set (set (set (set words i link) j first) k 1) m key) valued
     → AreWordsOf start (with_key_ahead start number key value w) (set valued n (bit_and (get_or valued n 0) bits))
-key_ahead start w words valued number key value link first bits i j k m n are at low in_shape link_is first_is clear
+key_ahead start w words valued number key value link first bits i j k m n are indices low in_shape link_is first_is
+    clear
     value_is =
     let b = bucket_of start.shape key in
-    let one = link_laid start w words are number i link _ at.link_at low link_is in
-    let two = head_laid start _ _ one b j first _ at.head_at in_shape first_is in
-    let three = birth_laid start _ _ two number k at.birth_at low in
-    let four = key_laid start _ _ three number m key at.key_at low in
+    let one = link_laid start w words are number i link _ indices.link_at low link_is in
+    let two = head_laid start _ _ one b j first _ indices.head_at in_shape first_is in
+    let three = birth_laid start _ _ two number k indices.birth_at low in
+    let four = key_laid start _ _ three number m key indices.key_at low in
     let five = value_written start _ _ number value four valued low value_is in
-    flag_laid start _ _ five number b n (word_of_flag number) bits at.flags_at refl clear low
+    flag_laid start _ _ five number b n (word_of_flag number) bits indices.flags_at refl clear low
 
 -- ---- heads
 
@@ -266,12 +267,12 @@ key_ahead start w words valued number key value link first bits i j k m n are at
 pub heads_fit : (start : Start) (from : ℕ) → from ≤ key_count start → key_count start ≤ MAX_SLOTS →
     HeadsFit (opening_from start from)
 heads_fit start from low few b =
-    at (first_from start b from) (first_or_none (is_key_of start b) from (key_count start - from))
+    by_case (first_from start b from) (first_or_none (is_key_of start b) from (key_count start - from))
   where
-    at : (first : Option ℕ) → FirstOrNone (is_key_of start b) from (from + (key_count start - from)) first →
+    by_case : (first : Option ℕ) → FirstOrNone (is_key_of start b) from (from + (key_count start - from)) first →
         IsLink (link_to_key start 0 first)
-    at None none = record { slot = tt; version = omega arith }
-    at (Some m) is = record { slot = (let high = is.high in omega (arith, high)); version = version }
+    by_case None none = record { slot = tt; version = omega arith }
+    by_case (Some m) is = record { slot = (let high = is.high in omega (arith, high)); version = version }
       where
         version : (link_to_key start 0 (Some m)).version ≤ MAX_VERSION
         version = grind (arith, nat_tests)

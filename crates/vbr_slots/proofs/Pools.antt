@@ -70,16 +70,16 @@ pub changes : (start : Start) (know know' : Know) (slot : ℕ) (holding : Option
     → OwnPool start know pool hand → OwnPool start know' pool hand
 changes start know know' slot holding pool hand is may in_hand o = record {
   pooled = λ k d low.
-      let at = o.pooled k d low in
+      let of_pool = o.pooled k d low in
       let s : ℕ = get_or pool k d in (
-        at.0,
+        of_pool.0,
         dite (ℕ_discrete s slot)
             (λ same.
             subst MayBear
             (sym (ap (λ (f : ℕ → Option Holding). f s) is ∙ ap (put know.own slot holding) same
             ∙ put_here know.own slot holding)) (may (subst (Contains pool) same (Contains-get_or pool k d low))))
             (λ other. subst MayBear
-            (sym (ap (λ (f : ℕ → Option Holding). f s) is ∙ put_other know.own slot holding s other)) at.1),
+            (sym (ap (λ (f : ℕ → Option Holding). f s) is ∙ put_other know.own slot holding s other)) of_pool.1),
       );
   apart = o.apart;
   in_hand = hand_changed start know know' slot holding pool hand is in_hand o.in_hand;
@@ -162,7 +162,7 @@ pub joins : (start : Start) (know : Know) (slot : ℕ) (pool : List ℕ) (hand :
 joins start know slot pool hand low may not o = record {
   pooled = All-push (IsPooled start know) pool slot o.pooled (low, may);
   apart = all_pairs_push ◌≢◌ pool slot o.apart
-      (λ k d at same. not (subst (Contains pool) same (Contains-get_or pool k d at)));
+      (λ k d at_index same. not (subst (Contains pool) same (Contains-get_or pool k d at_index)));
   in_hand = hand_joined start know slot pool hand o.in_hand;
 }
 

@@ -41,9 +41,9 @@ opens opening words are = record {
 }
   where
     each : (j : ℕ) (v : V) → get_elem? (first_witnesses opening ∷ []) j ≡ some v → EachBegins [] v
-    each zero v at =
-        subst (EachBegins []) (some-injective _ _ at) (begin_all (opened_of opening.start) 0 opening.passes)
-    each (suc j) v at = absurd (some-ne-none v (sym at))
+    each zero v at_index =
+        subst (EachBegins []) (some-injective _ _ at_index) (begin_all (opened_of opening.start) 0 opening.passes)
+    each (suc j) v at_index = absurd (some-ne-none v (sym at_index))
 
 times_in-snoc : (who : ℕ) (vs : List V) (v : V) → times_in who (vs ++ v ∷ []) ≡ times_in who vs + times who v
 times_in-snoc who [] v = omega arith
@@ -63,29 +63,30 @@ pub splits : (opening : TableStart) (id : ℕ) (v left right : V) →
     EachBegins run left × EachBegins run right)
     → ((run : List Event) → HasSeen run v → HasSeen run left ⊎ HasSeen run right) →
     Splits (Kept opening) id v left right
-splits opening id v left right count part sight s h at = record {
+splits opening id v left right count part sight s h at_index = record {
   run = h.run;
   is_run = h.is_run;
   words = h.words;
   begins = λ j u bt.
       ⊎_elim
       (λ was. ⊎_elim
-      (λ (x : (j ≡ id) × (left ≡ u)). subst (EachBegins h.run) x.1 (part h.run h.is_run (h.begins id v at)).0)
+      (λ (x : (j ≡ id) × (left ≡ u)). subst (EachBegins h.run) x.1 (part h.run h.is_run (h.begins id v at_index)).0)
       (λ (x : (j ≢ id) × (get_elem? s.views j ≡ some u)). h.begins j u x.1) (at_set s.views id j left u was))
-      (λ (is : right ≡ u). subst (EachBegins h.run) is (part h.run h.is_run (h.begins id v at)).1)
+      (λ (is : right ≡ u). subst (EachBegins h.run) is (part h.run h.is_run (h.begins id v at_index)).1)
       (at_snoc (set s.views id left) right u j bt);
-  seen = ⊎_elim inl (λ (x : IsSeen h.run s.views). inr (seen_split h.run s.views id v left right (sight h.run) at x))
+  seen = ⊎_elim inl (λ (x : IsSeen h.run s.views). inr
+      (seen_split h.run s.views id v left right (sight h.run) at_index x))
       h.seen;
   counted = λ who other.
       let a = times_in-snoc who (set s.views id left) right in
-      let b = times-set who s.views id left v at in
+      let b = times-set who s.views id left v at_index in
       let c = count who other in
       let most = h.counted who other in
       omega arith;
 }
 
 pub joins : (opening : TableStart) (id : ℕ) (v : V) (other : ℕ) (w : V) → Joins (Kept opening) id v other w (v ++ w) []
-joins opening id v other w s h at two there =
+joins opening id v other w s h at_index two there =
     let was = ⊎_elim (λ (x : (other ≡ id) × ((v ++ w) ≡ w)). absurd (two x.0))
     (λ (x : (other ≢ id) × (get_elem? s.views other ≡ some w)). x.1)
     (at_set s.views id other (v ++ w) w there) in record {
@@ -98,14 +99,14 @@ joins opening id v other w s h at two there =
           (λ (x : (j ≢ other) × (get_elem? (set s.views id (v ++ w)) j ≡ some u)).
           ⊎_elim
           (λ (y : (j ≡ id) × ((v ++ w) ≡ u)).
-          subst (EachBegins h.run) y.1 (begins-append h.run v w (h.begins id v at) (h.begins other w was)))
+          subst (EachBegins h.run) y.1 (begins-append h.run v w (h.begins id v at_index) (h.begins other w was)))
           (λ (y : (j ≢ id) × (get_elem? s.views j ≡ some u)). h.begins j u y.1)
           (at_set s.views id j (v ++ w) u x.1))
           (at_set (set s.views id (v ++ w)) other j [] u bt);
-      seen = ⊎_elim inl (λ (x : IsSeen h.run s.views). inr (seen_join h.run s.views id v other w at two there x))
+      seen = ⊎_elim inl (λ (x : IsSeen h.run s.views). inr (seen_join h.run s.views id v other w at_index two there x))
           h.seen;
       counted = λ who else.
-          let a = times-set who s.views id (v ++ w) v at in
+          let a = times-set who s.views id (v ++ w) v at_index in
           let b = times-set who (set s.views id (v ++ w)) other [] w there in
           let c = times-append who v w in
           let most = h.counted who else in

@@ -15,9 +15,9 @@ V = List Witness
 
 -- the seat that is set has what it was set to
 pub set_at : (vs : List V) (i : ℕ) (a b : V) → get_elem? vs i ≡ some b → get_elem? (set vs i a) i ≡ some a
-set_at [] i a b at = absurd (some-ne-none b (sym at))
-set_at (v ∷ vs) zero a b at = refl
-set_at (v ∷ vs) (suc i) a b at = set_at vs i a b at
+set_at [] i a b at_index = absurd (some-ne-none b (sym at_index))
+set_at (v ∷ vs) zero a b at_index = refl
+set_at (v ∷ vs) (suc i) a b at_index = set_at vs i a b at_index
 
 left_seen : (run : List Event) (v w : V) → HasSeen run v → HasSeen run (v ++ w)
 left_seen run [] w h = absurd h
@@ -34,15 +34,15 @@ seen_longer run vs w x = (x.0, x.1, at_longer vs (w ∷ []) x.0 x.1 x.2, x.3)
 pub seen_split : (run : List Event) (vs : List V) (id : ℕ) (v left right : V) →
     (HasSeen run v → HasSeen run left ⊎ HasSeen run right) → get_elem? vs id ≡ some v → IsSeen run vs →
     IsSeen run (set vs id left ++ right ∷ [])
-seen_split run vs id v left right part at x = dite (ℕ_discrete x.0 id) here there
+seen_split run vs id v left right part at_index x = dite (ℕ_discrete x.0 id) here there
   where
     here : x.0 ≡ id → IsSeen run (set vs id left ++ right ∷ [])
     here is =
         let own : HasSeen run v =
-        subst (HasSeen run) (some-injective x.1 v (sym x.2 ∙ ap (get_elem? vs) is ∙ at)) x.3 in
+        subst (HasSeen run) (some-injective x.1 v (sym x.2 ∙ ap (get_elem? vs) is ∙ at_index)) x.3 in
         ⊎_elim
         (λ (l : HasSeen run left).
-        (id, left, at_longer (set vs id left) (right ∷ []) id left (set_at vs id left v at), l))
+        (id, left, at_longer (set vs id left) (right ∷ []) id left (set_at vs id left v at_index), l))
         (λ (r : HasSeen run right).
         (length (set vs id left), right, at_last (set vs id left) right (length (set vs id left)) refl, r))
         (part own)
@@ -53,19 +53,19 @@ seen_split run vs id v left right part at x = dite (ℕ_discrete x.0 id) here th
 pub seen_join : (run : List Event) (vs : List V) (id : ℕ) (v : V) (other : ℕ) (w : V) → get_elem? vs id ≡ some v →
     other ≢ id → get_elem? (set vs id (v ++ w)) other ≡ some w → IsSeen run vs →
     IsSeen run (set (set vs id (v ++ w)) other [])
-seen_join run vs id v other w at two there x = dite (ℕ_discrete x.0 id) here elsewhere
+seen_join run vs id v other w at_index two there x = dite (ℕ_discrete x.0 id) here elsewhere
   where
     joined : HasSeen run (v ++ w) → IsSeen run (set (set vs id (v ++ w)) other [])
     joined h = (
       id,
       v ++ w,
-      set_else (set vs id (v ++ w)) other id [] (λ e. two (sym e)) ∙ set_at vs id (v ++ w) v at,
+      set_else (set vs id (v ++ w)) other id [] (λ e. two (sym e)) ∙ set_at vs id (v ++ w) v at_index,
       h,
     )
 
     here : x.0 ≡ id → IsSeen run (set (set vs id (v ++ w)) other [])
     here is = joined
-        (left_seen run v w (subst (HasSeen run) (some-injective x.1 v (sym x.2 ∙ ap (get_elem? vs) is ∙ at)) x.3))
+        (left_seen run v w (subst (HasSeen run) (some-injective x.1 v (sym x.2 ∙ ap (get_elem? vs) is ∙ at_index)) x.3))
 
     elsewhere : x.0 ≢ id → IsSeen run (set (set vs id (v ++ w)) other [])
     elsewhere apart = dite (ℕ_discrete x.0 other) spent stays

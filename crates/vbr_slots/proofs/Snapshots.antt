@@ -105,11 +105,11 @@ has_stood run (m ∷ ms) (inr seen) =
     let more = has_stood run ms seen in let there = more.2 in (more.0, more.1, omega arith)
 
 module _ (opening : TableStart) (s : Standing (Unit {0}) V) (h : Kept opening s) (id : ℕ) (ms : V)
-    (at : get_elem? s.views id ≡ some ms) (few : opening.passes ≤ nobody) (low : EachLow opening.passes ms)
+    (at_index : get_elem? s.views id ≡ some ms) (few : opening.passes ≤ nobody) (low : EachLow opening.passes ms)
     (all : opening.passes ≤ length ms) where
   once : AtMostOnce opening.passes ms
   once k lower =
-      let one = one_in k s.views id ms at in
+      let one = one_in k s.views id ms at_index in
       let most = times-members (opened_of opening.start) k 0 opening.passes in
       let counted = h.counted k (λ is. omega (arith, few, lower, is)) in
       omega arith
@@ -122,7 +122,7 @@ module _ (opening : TableStart) (s : Standing (Unit {0}) V) (h : Kept opening s)
       let stands = has_stood h.run v seen in
       let who : ℕ = stands.0 in
       let there_once = stands.2 in
-      let two = two_in who s.views id j ms v apart at there in
+      let two = two_in who s.views id j ms v apart at_index there in
       let counted = h.counted who stands.1 in
       let most = times-members (opened_of opening.start) who 0 opening.passes in
       ⊎_elim
@@ -132,24 +132,29 @@ module _ (opening : TableStart) (s : Standing (Unit {0}) V) (h : Kept opening s)
       (cases_lt who opening.passes)
 
   latest : IsLatest h.run ms
-  latest = (h.begins id ms at, ⊎_elim inl (λ (x : IsSeen h.run s.views). inr (own x)) h.seen)
+  latest = (h.begins id ms at_index, ⊎_elim inl (λ (x : IsSeen h.run s.views). inr (own x)) h.seen)
     where
       own : IsSeen h.run s.views → HasSeen h.run ms
       own x = dite (ℕ_discrete x.0 id)
-          (λ is. subst (HasSeen h.run) (some-injective x.1 ms (sym x.2 ∙ ap (get_elem? s.views) is ∙ at)) x.3)
+          (λ is. subst (HasSeen h.run) (some-injective x.1 ms (sym x.2 ∙ ap (get_elem? s.views) is ∙ at_index)) x.3)
           (λ not. absurd (no_other x.0 x.1 not x.2 x.3))
 
 -- a load of any word keeps the rule, and tells the word after what the seat's witnesses have seen
 pub surveys : (opening : TableStart) (slots id index : ℕ) (me : Me (Unit {0}) V) → opening.passes ≤ nobody →
     EachLow opening.passes me.0 → opening.passes ≤ length me.0 →
     Allows (Kept opening) slots id me index (λ n. n) (ReadsWord opening index me)
-surveys opening slots id index me few low all s h _ at _ =
+surveys opening slots id index me few low all s h _ at_index _ =
     let again : record {
       words = set s.words index (get_or s.words index 0);
       homes = s.homes;
       views = set s.views id me.0;
     } ≡ s =
-    λ i. record { words = set-get_or s.words index 0 i; homes = s.homes; views = set_again s.views id me.0 at i } in (
+    λ i. record {
+      words = set-get_or s.words index 0 i;
+      homes = s.homes;
+      views = set_again s.views id me.0 at_index
+          i;
+    } in (
       me.0,
       keeps,
       tt,
@@ -159,7 +164,7 @@ surveys opening slots id index me few low all s h _ at _ =
         word = record {
           run = h.run;
           is_run = h.is_run;
-          latest = latest opening s h id me.0 at few low all;
+          latest = latest opening s h id me.0 at_index few low all;
           found = λ place inside is. ap (λ (i : ℕ). get_or s.words i 0) (sym is) ∙ h.words.each place inside;
         };
       },

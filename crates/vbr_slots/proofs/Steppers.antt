@@ -111,7 +111,7 @@ hand_still start was is pool (Some s) stays h = (h.0, (stays s).in_hand h.1, h.2
 pool_still : (start : Start) (was is : Know) (pool : List ℕ) (hand : Option ℕ) → AllStayOwn was.own is.own →
     OwnPool start was pool hand → OwnPool start is pool hand
 pool_still start was is pool hand stays o = record {
-  pooled = λ k d low. let at = o.pooled k d low in (at.0, (stays (get_or pool k d)).may at.1);
+  pooled = λ k d low. let of_pool = o.pooled k d low in (of_pool.0, (stays (get_or pool k d)).may of_pool.1);
   apart = o.apart;
   in_hand = hand_still start was is pool hand stays o.in_hand;
 }
@@ -153,7 +153,8 @@ load_leaves know (Unlink pred expected s) is = absurd (cc)
 load_leaves know _ is = tt
 
 -- and so is the answer of a look-up
-pub look_up_leaves : (present : Bool) (key : ℕ) (at : At) (expected : ℕ) → LeavesPools (look_up present key at expected)
+pub look_up_leaves : (present : Bool) (key : ℕ) (place : At) (expected : ℕ) →
+    LeavesPools (look_up present key place expected)
 look_up_leaves true key (Head bucket) expected = tt
 look_up_leaves false key (Head bucket) expected = tt
 look_up_leaves true key (Slot slot) expected = tt

@@ -65,7 +65,7 @@ asks t table built t_is w low own z z_is id me others is step e opening named pl
     let here : o ≡ t.table.shared.key = mine ∙ sym (ap opening_of t_is) ∙ sym built.key in
     let start : w.start ≡ start_in t = own.1 ∙ sym (ap (λ (q : TableView). q.start) t_is) in
     let accepted : Accepts w.start (knows w) step = subst (λ (x : Start). Accepts x (knows w) step) (sym own.1) ok in
-    let at : word ≡ index_of w.start.shape (place_of_step step) =
+    let index_is : word ≡ index_of w.start.shape (place_of_step step) =
     at_place ∙ (λ i. index_of (sym start i).shape (place_is i)) in
     let size : words_in w.start.shape ≡ t.table.shared.table_id.words =
     ap (λ (s : Start). words_in s.shape) start ∙ sym built.words in
@@ -76,10 +76,10 @@ asks t table built t_is w low own z z_is id me others is step e opening named pl
     subst (λ (n : ℕ). n ≤ nobody) (ap (λ (q : TableView). q.passes) t_is ∙ sym own.2) built.few in
     let apart : w.who ≢ nobody = λ same_number. absurd (omega (arith, low, few, same_number)) in
     let plain : Allows (Kept o) t.table.shared.table_id.slots id me word f (λ r. Told o d me (g r)) =
-    plays_as o is_start t.table.shared.table_id.slots id d w.seen others [] me word f g is low apart at does same
+    plays_as o is_start t.table.shared.table_id.slots id d w.seen others [] me word f g is low apart index_is does same
     accepted in (
       z_is ∙ (own.0 ∙ sym (ap (λ (q : TableView). q.table) t_is)),
-      omega (arith, at, size, in_table),
+      omega (arith, index_is, size, in_table),
       subst (λ (x : TableStart × Event × TableStart).
           Allows (Kept x.0) t.table.shared.table_id.slots id me word f (λ r. Told x.2 x.1 me (g r)))
           (λ i. (here i, sym named.event_is i, (mine ∙ sym named.opening_is) i)) plain,

@@ -29,10 +29,10 @@ IsFresh p = (nodes p).epoch ≡ (knows p).epoch
 
 -- how many nodes stand in the list of a bucket behind a place, after what the pass has seen
 abbrev pub ahead : Trace → ℕ → At → ℕ
-ahead p bucket at = behind p.start (nodes p) bucket at
+ahead p bucket place = behind p.start (nodes p) bucket place
 
 -- the lists are as they were: the epoch, the links that stand, and how many nodes are behind each place
 pub record LeavesLists (p q : Trace) : Type 0 where
   pub epoch : (nodes q).epoch ≡ (nodes p).epoch
-  pub links : (at : At) → link_shown_at (nodes q) at ≡ link_shown_at (nodes p) at
-  pub count : (bucket : ℕ) (at : At) → ahead q bucket at ≡ ahead p bucket at
+  pub links : (place : At) → link_shown_at (nodes q) place ≡ link_shown_at (nodes p) place
+  pub count : (bucket : ℕ) (place : At) → ahead q bucket place ≡ ahead p bucket place

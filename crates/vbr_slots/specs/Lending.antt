@@ -1,4 +1,4 @@
--- What a pass is told of work to which it lends its stepper: alone, or with a value.
+-- What a pass knows of work to which it lends its stepper: alone, or with a value.
 use Rattle.std.specs.Prelude.{◌≡◌, ℕ}
 use Rattle.std.specs.Fn.{Once, FnOnceReturnsAtMut}
 use denote.Ref.{MutBor}
@@ -11,7 +11,7 @@ use Rattle.vbr_slots.specs.Views.{PassView}
 abbrev pub TellsSteps : {F R : Type 0} → Once F (MutBor PassView × Unit {0}) ((R × ℕ) × (MutBor PassView × Unit {0})) → F → PassView → Type 0
 TellsSteps {F} {R} g f p = (told : R × ℕ) (q : PassView) → FnOnceReturnsAtMut g f p told q → Took p.trace q.trace told.1
 
--- the result is what the work gave, which left the pass as it is, after as many steps as it told
+-- the result is what the work gave, which left the pass as it is, after as many steps as it returned
 pub record Lends {F R : Type 0} (g : Once F (MutBor PassView × Unit {0}) ((R × ℕ) × (MutBor PassView × Unit {0}))) (f : F) (p q : PassView) (result : R) : Type 0 where
   pub used : ℕ
   pub took : Took p.trace q.trace used
@@ -36,7 +36,7 @@ abbrev pub TellsStepsWith : {F A R : Type 0} → Once F (MutBor PassView × (A �
 TellsStepsWith {F} {A} {R} g f p a =
     (told : R × ℕ) (q : PassView) → ReturnsWith g f p a told q → Took p.trace q.trace told.1
 
--- the result is what the work gave, which left the pass as it is, after as many steps as it told
+-- the result is what the work gave, which left the pass as it is, after as many steps as it returned
 pub record LendsWith {F A R : Type 0} (g : Once F (MutBor PassView × (A × Unit {0})) ((R × ℕ) × (MutBor PassView × Unit {0}))) (f : F) (p q : PassView) (a : A) (result : R) : Type 0 where
   pub used : ℕ
   pub took : Took p.trace q.trace used

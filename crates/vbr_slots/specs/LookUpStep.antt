@@ -10,7 +10,7 @@ use Rattle.vbr_machine.specs.declared.history.Op.TheVariants.{Has}
 abbrev pub look_up : Bool → ℕ → At → ℕ → Step
 look_up true key (Slot s) word = ConfirmPresent Has s word
 look_up true key (Head b) word = ConfirmAbsent Has key (Head b) word
-look_up false key at word = ConfirmAbsent Has key at word
+look_up false key place word = ConfirmAbsent Has key place word
 
 -- the index of the link word at a place, where the words of slots begin at this one, and each slot has so many
 abbrev pub link_from : ℕ → ℕ → At → ℕ

@@ -1,4 +1,4 @@
--- How a step is told to the table.
+-- How a step is given to the table.
 use Rattle.std.specs.Prelude.{◌≡◌}
 use Rattle.vbr_machine.specs.declared.event.Event.{Event}
 use Rattle.vbr_machine.specs.declared.event.Step.{Step}

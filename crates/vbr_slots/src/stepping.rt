@@ -1,7 +1,7 @@
 // The ways in which a step reaches its word: a load, a store, an exchange, an `|` or an `&` with
 // bits, and a load while the seat of another pass is joined.
 //
-// A step is told to the table as an event. A function that ends in `_as` takes the event as its type
+// A step is given to the table as an event. A function that ends in `_as` takes the event as its type
 // argument. The function without that ending picks it for its callers; where there is none, the caller
 // picks it.
 ghost use Rattle.std.specs.Prelude.{◌≡◌, ℕ, ◌+◌, ◌<◌, ◌≤◌, ◌^◌};

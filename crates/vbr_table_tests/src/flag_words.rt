@@ -92,7 +92,7 @@ fn a_lost_flag_shows_the_others_of_its_word(rt: HostRuntime) {
 }
 
 // Pass 0 takes the first slots, so many, and then pass 1 takes one and gives it back to its own pool:
-// compares what it is told and how many steps that took, and the flag words of the closing.
+// compares what it gets and how many steps that took, and the flag words of the closing.
 fn take_behind<R: Abort, N: Opened>(
     rt: &R,
     alloc: Global,
@@ -142,7 +142,7 @@ fn no_slot_is_past_the_last(rt: HostRuntime) {
 }
 
 // Pass 0 takes the slots from `first` up to 70, and pass 1 tries slot 66 and then takes one and gives it
-// back to its own pool: compares what pass 1 is told and how many steps that took.
+// back to its own pool: compares what pass 1 gets and how many steps that took.
 fn take_from_the_second_word<R: Abort, N: Opened>(
     rt: &R,
     alloc: Global,

@@ -122,7 +122,7 @@ fn call<N: Nodes>(
             slots.store_link(pass, slot, new);
             Effect::Done
         }
-        Step::LoadLink { at } => Effect::Value(slots.load_link(pass, at)),
+        Step::LoadLink { at: holder } => Effect::Value(slots.load_link(pass, holder)),
         Step::LoadBirth { slot } => Effect::Value(slots.load_birth(pass, slot)),
         Step::LoadKey { slot } => Effect::Value(slots.load_key(pass, slot)),
         Step::LoadValue { slot } => Effect::Value(slots.load_value(pass, slot)),
@@ -155,9 +155,9 @@ fn call<N: Nodes>(
         Step::ConfirmAbsent {
             op,
             key,
-            at,
+            at: holder,
             expected,
-        } => confirmed(slots.confirm_absent(pass, op, key, at, expected), false),
+        } => confirmed(slots.confirm_absent(pass, op, key, holder, expected), false),
     }
 }
 

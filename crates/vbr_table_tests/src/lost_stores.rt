@@ -59,7 +59,7 @@ pub fn read_entry(
     ensures keeps { KeepsOwn pass.old pass.new }
     ensures head { IsUnmarked (knows pass.new.trace) result.0 }
     ensures node { IsReplaceable pass.new.trace result.1 7 0 }
-    ensures at { result.1.at ≡ Slot slot }
+    ensures place { result.1.at ≡ Slot slot }
     ensures names { Names result.0 slot }
 {
     let head = head_of(rt, slots, pass, 33_554_433 + u64::from(slot));
@@ -77,7 +77,7 @@ fn lose_get(rt: &impl Abort, slots: &Slots<Entries>, pass: &mut Pass, node: &Hel
     requires own { IsOf pass.old.trace slots.now }
     requires values { slots.now.start.shape.values ≡ true }
     requires node { IsReplaceable pass.old.trace node.now 7 0 }
-    requires at { node.now.at ≡ Slot 0 }
+    requires place { node.now.at ≡ Slot 0 }
     ensures own { IsOf pass.new.trace slots.now }
     ensures hand { pass.new.hand ≡ pass.old.hand }
     ensures held { IsHeld (knows pass.new.trace) node.now }

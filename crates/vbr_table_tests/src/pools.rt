@@ -41,7 +41,7 @@ pub fn expect_taken<N: Nodes>(
     assert_eq!(rt; pass.steps().saturating_sub(before), steps);
 }
 
-// A take: by which pass, with what budget, what it is told and in how many steps, and the slots that the pass has then.
+// A take: by which pass, with what budget, what it gets and in how many steps, and the slots that the pass has then.
 type Take<'a> = (u32, u32, Result<(u32, u64), TakeRefusal>, u64, &'a [u32]);
 
 // Makes a take by its pass.

@@ -26,7 +26,7 @@ pub fn head_of<N: Nodes>(rt: &impl Abort, slots: &Slots<N>, pass: &mut Pass, wor
     requires bucket { 0 < slots.now.start.shape.buckets }
     ensures own { IsOf pass.new.trace slots.now }
     ensures keeps { KeepsOwn pass.old pass.new }
-    ensures at { result.at ≡ Head 0 }
+    ensures place { result.at ≡ Head 0 }
     ensures held { IsHeld (knows pass.new.trace) result }
     ensures unmarked { (link_of result.word).mark ≡ false }
 {
@@ -44,7 +44,7 @@ fn node_behind<N: Nodes>(rt: &impl Abort, slots: &Slots<N>, pass: &mut Pass, hea
     ensures keeps { KeepsOwn pass.old pass.new }
     ensures head { IsHeld (knows pass.new.trace) head.now }
     ensures node { IsUnmarked (knows pass.new.trace) result }
-    ensures at { result.at ≡ Slot 0 }
+    ensures place { result.at ≡ Slot 0 }
     ensures names { (slot : ℕ) × Names head.now slot × (result.at ≡ Slot slot) }
 {
     let Some(node) = next(slots, pass, head).expect(rt, "the epoch has not moved") else {
@@ -63,7 +63,7 @@ pub fn read_one<N: Nodes>(rt: &impl Abort, slots: &Slots<N>, pass: &mut Pass) ->
     ensures hand { pass.new.hand ≡ pass.old.hand }
     ensures head { IsUnmarked (knows pass.new.trace) result.0 }
     ensures node { IsPresent (knows pass.new.trace) result.1 }
-    ensures at { result.1.at ≡ Slot 0 }
+    ensures place { result.1.at ≡ Slot 0 }
     ensures names { (slot : ℕ) × Names result.0 slot × (result.1.at ≡ Slot slot) }
 {
     let head = head_of(rt, slots, pass, 33_554_433);
@@ -78,7 +78,7 @@ pub fn read_one<N: Nodes>(rt: &impl Abort, slots: &Slots<N>, pass: &mut Pass) ->
 pub fn read_value<N: Nodes>(rt: &impl Abort, slots: &Slots<N>, pass: &mut Pass, node: &Held)
     requires own { IsOf pass.old.trace slots.now }
     requires node { IsPresent (knows pass.old.trace) node.now }
-    requires at { node.now.at ≡ Slot 0 }
+    requires place { node.now.at ≡ Slot 0 }
     ensures own { IsOf pass.new.trace slots.now }
     ensures hand { pass.new.hand ≡ pass.old.hand }
     ensures keeps { Keeps (knows pass.old.trace) (knows pass.new.trace) }

@@ -1,4 +1,4 @@
-//! Rows: calls one after another on a table with two passes, each with what it is answered, and behind
+//! Rows: calls one after another on a table with two passes, each with what it is answered, and after
 //! it with its steps and with what a pass knows. What a call is, its kind of nodes says.
 ghost use Rattle.std.specs.Prelude.{◌≡◌, None};
 ghost use Rattle.vbr_slots.specs.Views.{IsOf};

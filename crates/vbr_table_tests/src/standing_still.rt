@@ -65,7 +65,7 @@ fn make_rounds<R: Abort, N: Inserted>(rt: &R, slots: &Slots<N>, pass: &mut Pass)
     }
 }
 
-// Pass 0 has made its rounds, and pass 1 goes on: it is told that the epoch has moved since its
+// Pass 0 has made its rounds, and pass 1 goes on: it finds that the epoch has moved since its
 // checkpoint.
 fn expect_moved<N: Nodes>(rt: &impl Abort, slots: &Slots<N>, a: &Pass, b: &mut Pass)
     requires own { IsOf b.old.trace slots.now }
@@ -88,7 +88,7 @@ fn go_on<R: Abort, N: Inserted>(rt: &R, table: Option<(Slots<N>, Pass, Pass)>)
     expect_moved(rt, &slots, &a, &mut b);
 }
 
-// Pass 1 stands still behind the first steps of the list.
+// Pass 1 stands still after the first steps of the list.
 fn stand_behind<R: Abort>(rt: &R, alloc: Global, steps: usize) -> Result<(), Fail>
     requires { steps ≤ 29 }
 {
@@ -101,7 +101,7 @@ fn stand_behind<R: Abort>(rt: &R, alloc: Global, steps: usize) -> Result<(), Fai
     Ok(())
 }
 
-// It stands still behind the first steps of the same list in a map.
+// It stands still after the first steps of the same list in a map.
 fn stand_behind_in_a_map<R: Abort>(rt: &R, alloc: Global, steps: usize) -> Result<(), Fail>
     requires { steps ≤ 32 }
 {
@@ -114,7 +114,7 @@ fn stand_behind_in_a_map<R: Abort>(rt: &R, alloc: Global, steps: usize) -> Resul
     Ok(())
 }
 
-// It stands still behind the first steps of the list in which it has a node in hand, or has put it in
+// It stands still after the first steps of the list in which it has a node in hand, or has put it in
 // the place of another.
 fn stand_behind_replacing<R: Abort>(rt: &R, alloc: Global, steps: usize) -> Result<(), Fail>
     requires { steps ≤ 43 }
@@ -208,7 +208,7 @@ fn behind_an_advance(rt: HostRuntime) -> Result<(), Fail> {
     stand_behind(&rt, rt.alloc(), 29)
 }
 
-/// In a map, behind each kind of step by which a pass prepares a node or reads one.
+/// In a map, after each kind of step by which a pass prepares a node or reads one.
 #[test]
 fn in_a_map_before_an_exchange(rt: HostRuntime) -> Result<(), Fail> {
     stand_behind_in_a_map(&rt, rt.alloc(), 10)?; // a read of the epoch
@@ -225,7 +225,7 @@ fn in_a_map_before_an_exchange(rt: HostRuntime) -> Result<(), Fail> {
     stand_behind_in_a_map(&rt, rt.alloc(), 25) // a stored link
 }
 
-/// In a map, behind each kind of exchange, and of step behind one.
+/// In a map, after each kind of exchange, and of step after one.
 #[test]
 fn in_a_map_behind_an_exchange(rt: HostRuntime) -> Result<(), Fail> {
     stand_behind_in_a_map(&rt, rt.alloc(), 26)?; // a publication
@@ -236,7 +236,7 @@ fn in_a_map_behind_an_exchange(rt: HostRuntime) -> Result<(), Fail> {
     stand_behind_in_a_map(&rt, rt.alloc(), 32) // an advance
 }
 
-/// In a map, on a node that another pass has replaced: with a node in hand, and behind a replacement that
+/// In a map, on a node that another pass has replaced: with a node in hand, and after a replacement that
 /// is lost.
 #[test]
 fn on_a_replaced_node(rt: HostRuntime) -> Result<(), Fail> {
@@ -244,7 +244,7 @@ fn on_a_replaced_node(rt: HostRuntime) -> Result<(), Fail> {
     stand_behind_replacing(&rt, rt.alloc(), 29)
 }
 
-/// In a map, behind a replacement that is won.
+/// In a map, after a replacement that is won.
 #[test]
 fn behind_a_replacement(rt: HostRuntime) -> Result<(), Fail> {
     stand_behind_replacing(&rt, rt.alloc(), 42)

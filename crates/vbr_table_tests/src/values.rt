@@ -310,7 +310,7 @@ const MARK: Step = Step::Mark {
     expected: 33_554_432,
 };
 
-/// Behind so many rows, one of which is left out, the step is refused so, if it is. Row 4 stores the
+/// After so many rows, one of which is left out, the step is refused so, if it is. Row 4 stores the
 /// value, and row 16 loads it.
 #[test]
 fn asks_for_values(rt: HostRuntime) -> Result<(), Fail> {
@@ -361,7 +361,7 @@ const REPLACE: Step = Step::Replace {
     new: 2,
 };
 
-/// Behind the first 27 rows, one of which is left out, the replacement by pass 1 is refused so, if it
+/// After the first 27 rows, one of which is left out, the replacement by pass 1 is refused so, if it
 /// is. Rows 12 to 15 load key, value, birth and link of the node, and rows 19 to 21 fill the hand.
 #[test]
 fn asks_for_what_a_replacement_names(rt: HostRuntime) -> Result<(), Fail> {

@@ -196,7 +196,7 @@ fn spreads_keys_by_seeds(rt: HostRuntime) -> Result<(), Fail> {
     Ok(())
 }
 
-/// Seeds whose difference is 2^63 are alike, and the lesser is told.
+/// Seeds whose difference is 2^63 are alike, and the lesser is returned.
 #[test]
 fn tells_seeds(rt: HostRuntime) -> Result<(), Fail> {
     let shape = Shape::new(1, 1, 1)?;

@@ -32,7 +32,7 @@ pub(crate) fn word_at(world: &World, shape: Shape, place: Place) -> Option<u64>
 // How many rows are made before a look, the place, and the word that stands there.
 type Look = (usize, Place, u64);
 
-// Compares the words that are looked at behind so many rows, and tells how many these are.
+// Compares the words that are looked at after so many rows, and tells how many these are.
 pub(crate) fn look(
     rt: &impl Abort,
     world: &World,
@@ -45,8 +45,8 @@ pub(crate) fn look(
     requires values { world.now.start.shape.values ≡ shape.values }
 {
     let mut looked = 0usize;
-    for (at, place, word) in looks {
-        if *at == rows {
+    for (after, place, word) in looks {
+        if *after == rows {
             let told = word_at(world, shape, *place);
             assert_eq!(rt; told, Some(*word), "{place:?} behind {rows} rows");
             looked = looked.saturating_add(1);
@@ -128,7 +128,7 @@ pub(crate) fn call(who: u32, op: Op, key: u64) -> Call {
     }
 }
 
-// Where the slots are behind the list of a reborn slot, and behind that of a word that comes back.
+// Where the slots are after the list of a reborn slot, and after that of a word that comes back.
 pub(crate) const REBORN_PLACES: [SlotPlace; 3] = [
     SlotPlace::Listed(0),
     SlotPlace::Listed(0),
@@ -229,7 +229,7 @@ pub(crate) const ABSENT: Call = Call {
     value: None,
 };
 
-// What a look-up is answered behind the first rows of the list of two helpers, and the calls that are
+// What a look-up is answered after the first rows of the list of two helpers, and the calls that are
 // then made.
 pub(crate) fn look_up_behind(
     rt: &impl Abort,
@@ -343,7 +343,7 @@ fn replays_a_list(rt: HostRuntime) -> Result<(), Fail> {
     expect_stamp(&rt, rt.alloc(), Shape::new(3, 1, 10)?, &REBORN_SLOT, 32)
 }
 
-// Behind the first 17 rows of the list of two helpers pass 1 has unlinked slot 0, and hasn't stamped it.
+// After the first 17 rows of the list of two helpers pass 1 has unlinked slot 0, and hasn't stamped it.
 #[test]
 fn an_unstamped_slot_is_not_raised(rt: HostRuntime) -> Result<(), Fail> {
     let shape = Shape::new(1, 1, 10)?;

@@ -15,10 +15,10 @@ Appends-append (Some a) (Some bs) None xs ys f g = absurd g
 Appends-append (Some a) (Some bs) (Some cs) xs ys f g = g ∙ ap (λ t. t ++ ys) f ∙ append_assoc a xs ys
 
 -- writing on from a place in a text
-pub Appends-take : (a b c : Option (List ℕ)) (text : List ℕ) (at n : ℕ) → Appends a b (take at text) →
-    Appends b c (take n (drop at text)) → Appends a c (take (at + n) text)
-Appends-take a b c text at n f g =
-    rw (take-add at n text) (Appends-append a b c (take at text) (take n (drop at text)) f g)
+pub Appends-take : (a b c : Option (List ℕ)) (text : List ℕ) (from n : ℕ) → Appends a b (take from text) →
+    Appends b c (take n (drop from text)) → Appends a c (take (from + n) text)
+Appends-take a b c text from n f g =
+    rw (take-add from n text) (Appends-append a b c (take from text) (take n (drop from text)) f g)
 
 pub Appends-Keeps : (a b c : Option (List ℕ)) (xs : List ℕ) → Appends a b xs → Keeps b c → Appends a c xs
 Appends-Keeps None b c xs f g = tt

@@ -92,9 +92,9 @@ merged_more lines own next merged i line reply have so_far inside is answered = 
   where
     seat : line.worker < length next
     seat =
-        let at : line.worker < length own =
+        let low : line.worker < length own =
         subst (λ (line : Line). line.worker < length own) is (have.workers i line inside) in
-        omega (arith, at, so_far.cursors)
+        omega (arith, low, so_far.cursors)
 
     taken : (who : ℕ) → (who ≡ line.worker) ⊎ (who ≢ line.worker) →
         get_or (set next line.worker (get_or next line.worker 0 + 1)) who 0 ≡ length (lines_by who (take (i + 1) lines))
@@ -156,12 +156,12 @@ pub finds_reply : {V : Type 0} (items : V → List Reply) (lines : List Line) (o
     IsMergedSoFar lines (map items own) next merged i → i < length lines →
     one ≡ get_or own (get_or lines i none).worker one →
     FindsReply lines (map items own) next merged i (get_or lines i none).worker (items one)
-finds_reply items lines own next merged i none one have so_far inside at =
+finds_reply items lines own next merged i none one have so_far inside at_index =
     let line = get_or lines i none in
     let is : get_or lines i line ≡ line = get_or_default lines i line none inside in
     let worker : line.worker < length (map items own) = have.workers i none inside in
     let same : replies_by line.worker (map items own) ≡ items one =
-    replies_by-items items own line.worker one (omega (arith, worker, length-map own items)) at in
+    replies_by-items items own line.worker one (omega (arith, worker, length-map own items)) at_index in
     record {
       cursor = omega (arith, worker, so_far.cursors);
       some = subst (λ (left : List Reply). get_or next line.worker 0 < length left) same

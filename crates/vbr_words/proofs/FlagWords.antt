@@ -92,7 +92,7 @@ pub has_flag-zero : (s : ℕ) → has_flag 0 s ≡ false
 unfolding has_flag
 has_flag-zero s = ap (λ (d : ℕ). d == 1) (bit_at-zero (s % 64))
 
--- a word is told by its flags
+-- a word is known by its flags
 by_flags : (is_set : ℕ → Bool) (number word : ℕ) → word < 2 ^ 64 →
     ((i : ℕ) → i < 64 → bit_at word i ≡ digit (is_set (64 * number + i))) → flag_word is_set number ≡ word
 by_flags is_set number word low same =

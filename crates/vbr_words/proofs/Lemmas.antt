@@ -4,7 +4,7 @@
 pub use Rattle.vbr_words.proofs.Buckets.{bucket_of-lt}
 -- A flag word has just the flags of the slots that are set; what sets or clears one flag; and which flag comes next.
 pub use Rattle.vbr_words.proofs.FlagWords.{first_bits-lt, flag_raised, flag_taken, flag_word_same, has_flag-flag_word}
--- A place can be told from its index.
+-- A place is known by its index.
 pub use Rattle.vbr_words.proofs.Indices.{index_of-lt, same_place}
 -- A link and its word determine each other.
 pub use Rattle.vbr_words.proofs.LinkWords.{IsLink-link_of, link_of-word_of, word_of-link_of}

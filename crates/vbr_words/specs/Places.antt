@@ -3,7 +3,7 @@ use Rattle.std.specs.Prelude.{◌≡◌, ℕ, ◌+◌, ◌*◌, ◌<◌, Bool, t
 use Rattle.vbr_words.specs.Dimensions.{Dimensions}
 use Rattle.vbr_words.specs.Flags.{flag_words}
 use Rattle.vbr_words.specs.declared.place.At.{At}
-use Rattle.vbr_words.specs.declared.place.At.TheVariants as at
+use Rattle.vbr_words.specs.declared.place.At.TheVariants as holder
 use Rattle.vbr_words.specs.declared.place.Place.{Place}
 use Rattle.vbr_words.specs.declared.place.Place.TheVariants.{Epoch, ShapeWord, Head, LinkOf, Birth, Stamp, Key, Value, Flags}
 
@@ -57,5 +57,5 @@ words_in shape = flags_index shape + flag_words shape.slots
 
 -- the place of a link word
 abbrev pub place_of : At → Place
-place_of (at.Head bucket) = Head bucket
-place_of (at.Slot slot) = LinkOf slot
+place_of (holder.Head bucket) = Head bucket
+place_of (holder.Slot slot) = LinkOf slot

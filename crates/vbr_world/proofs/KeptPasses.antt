@@ -40,11 +40,11 @@ all-map P f (x ∷ xs) keeps p = (keeps x p.0, all-map P f xs keeps p.1)
 -- a write to a list is a write to the function that reads it
 pub read-set : {A : Type 0} (xs : List A) (i : ℕ) (x d : A) → i < length xs →
     ◌≡◌ {A = ℕ → A} (λ s. get_or (set xs i x) s d) (put (λ s. get_or xs s d) i x)
-read-set {A} xs i x d lt = λ k s. at s (cases_eq s i) k
+read-set {A} xs i x d lt = λ k s. by_case s (cases_eq s i) k
   where
-    at : (s : ℕ) → (s ≡ i) ⊎ (s ≢ i) → get_or (set xs i x) s d ≡ put (λ s. get_or xs s d) i x s
-    at s (inl e) = rw (e, get_or-set_same xs i x d lt, eq-eqb i i refl) refl
-    at s (inr ne) = rw (get_or-set_other xs i s x d ne, ne_eqb s i ne) refl
+    by_case : (s : ℕ) → (s ≡ i) ⊎ (s ≢ i) → get_or (set xs i x) s d ≡ put (λ s. get_or xs s d) i x s
+    by_case s (inl e) = rw (e, get_or-set_same xs i x d lt, eq-eqb i i refl) refl
+    by_case s (inr ne) = rw (get_or-set_other xs i s x d ne, ne_eqb s i ne) refl
 
 -- a slot of the list is put: the function is put at that slot
 pub know_of-put : (kept : KeptPass) (s : ℕ) (holding : Option Holding) → s < length kept.own →
@@ -64,7 +64,7 @@ fits-reread (Some (InHand known)) fits = fits
 pub birth_in-fits : (reads : List Read) (s : ℕ) → AllByRecursion FitsRead reads →
     unwrap_or (birth_in reads s) 0 ≤ MAX_EPOCH
 birth_in-fits [] s fits = omega arith
-birth_in-fits (LinkAt at link ∷ reads) s fits = birth_in-fits reads s fits.1
+birth_in-fits (LinkAt place link ∷ reads) s fits = birth_in-fits reads s fits.1
 birth_in-fits (KeyOf slot key ∷ reads) s fits = birth_in-fits reads s fits.1
 birth_in-fits (ValueOf slot key ∷ reads) s fits = birth_in-fits reads s fits.1
 birth_in-fits (BirthOf slot birth ∷ reads) s fits = elim (cases_eq slot s) [
@@ -73,8 +73,8 @@ birth_in-fits (BirthOf slot birth ∷ reads) s fits = elim (cases_eq slot s) [
 ]
 
 -- and so has the birth at a place
-pub birth_at-fits : (reads : List Read) (at : At) → AllByRecursion FitsRead reads →
-    unwrap_or (birth_at reads at) 0 ≤ MAX_EPOCH
+pub birth_at-fits : (reads : List Read) (place : At) → AllByRecursion FitsRead reads →
+    unwrap_or (birth_at reads place) 0 ≤ MAX_EPOCH
 birth_at-fits reads (Head b) fits = omega arith
 birth_at-fits reads (Slot s) fits = birth_in-fits reads s fits
 
@@ -98,8 +98,8 @@ next-fits [] s fits = tt
 next-fits (BirthOf slot birth ∷ reads) s fits = next-fits reads s fits.1
 next-fits (KeyOf slot key ∷ reads) s fits = next-fits reads s fits.1
 next-fits (ValueOf slot key ∷ reads) s fits = next-fits reads s fits.1
-next-fits (LinkAt at link ∷ reads) s fits =
-    next_of-if (same_at at (Slot s) && link.mark) link (marked_in reads s) fits.0 (next-fits reads s fits.1)
+next-fits (LinkAt place link ∷ reads) s fits =
+    next_of-if (same_at place (Slot s) && link.mark) link (marked_in reads s) fits.0 (next-fits reads s fits.1)
 
 -- ---- the epoch is read
 

@@ -39,11 +39,12 @@ link_word kept s word whole lt is = get_or_read kept.links s word (omega (arith,
 -- passes that know nothing
 know_opened : (slots : ℕ) (passes : List KeptPass) → AllByRecursion (IsNewPass slots) passes →
     ◌≡◌ {A = ℕ → Know} (λ p. know_of (get_or passes p opening_pass)) (λ p. knows_nothing)
-know_opened slots passes new = λ k p. at p (cases_lt p (length passes)) k
+know_opened slots passes new = λ k p. by_case p (cases_lt p (length passes)) k
   where
-    at : (p : ℕ) → (p < length passes) ⊎ (length passes ≤ p) → know_of (get_or passes p opening_pass) ≡ knows_nothing
-    at p (inl lt) = (all_at (IsNewPass slots) passes p opening_pass new lt).0
-    at p (inr ge) = rw (get_or_past passes p opening_pass ge) refl
+    by_case : (p : ℕ) → (p < length passes) ⊎ (length passes ≤ p) →
+        know_of (get_or passes p opening_pass) ≡ knows_nothing
+    by_case p (inl lt) = (all_at (IsNewPass slots) passes p opening_pass new lt).0
+    by_case p (inr ge) = rw (get_or_past passes p opening_pass ge) refl
 
 -- births that are 0 have room in words
 pub births_fit : (n : ℕ) → AllByRecursion (λ birth. birth ≤ MAX_EPOCH) (replicate n 0)
@@ -103,8 +104,9 @@ slot_put kept s place whole lt = λ i.
     }
 
 -- a slot is put where it now is, after a link was written
-pub put_after_link : (linked w : World) (at : At) (link : Link) (s : ℕ) (place : SlotPlace) →
-    linked ≡ with_link_at w at link →
-    record linked { place = put linked.place s place } ≡ record (with_link_at w at link) { place = put w.place s place }
+pub put_after_link : (linked w : World) (holder : At) (link : Link) (s : ℕ) (place : SlotPlace) →
+    linked ≡ with_link_at w holder link →
+    record linked { place = put linked.place s place }
+    ≡ record (with_link_at w holder link) { place = put w.place s place }
 put_after_link linked w (Head b) link s place e = ap (λ (v : World). record v { place = put v.place s place }) e
 put_after_link linked w (Slot t) link s place e = ap (λ (v : World). record v { place = put v.place s place }) e

@@ -27,7 +27,7 @@ reached_next kept next event r ok is start passes = record {
   is_run = (
       let accepted : IsAccepted kept.start (length kept.passes) (world_after kept.start r.run) event =
       (let P : World → Type 0 = λ w. IsAccepted kept.start (length kept.passes) w event in subst P r.world ok) in
-      let P : Start × ℕ → Type 0 = λ at. IsRun at.0 at.1 (r.run ++ event ∷ []) in
+      let P : Start × ℕ → Type 0 = λ stood. IsRun stood.0 stood.1 (r.run ++ event ∷ []) in
       subst P (λ i. (sym start i, sym passes i))
       (is_run_snoc kept.start (length kept.passes) r.run event r.is_run accepted));
   world = is ∙ ap (λ w. after kept.start w event.pass event.step) r.world

@@ -23,7 +23,7 @@ pub run_push : (start same : Start) (passes count : ℕ) (events : List Event) (
     IsRun start passes (take (i + 1) events) × (next ≡ world_after start (take (i + 1) events))
 run_push start same passes count events i d w next same_is count_is w_is lt run accepted next_is =
     let here : IsAccepted start passes (world_after start (take i events)) (get_or events i d) =
-    subst (λ (at : Start × ℕ × World). IsAccepted at.0 at.1 at.2 (get_or events i d))
+    subst (λ (stood : Start × ℕ × World). IsAccepted stood.0 stood.1 stood.2 (get_or events i d))
     (λ k. (same_is k, count_is k, w_is k)) accepted in
     rw (take_more events i d lt) (
       is_run_snoc start passes (take i events) (get_or events i d) run here,
@@ -41,17 +41,18 @@ run_stops start same passes count events i d w refusal same_is count_is w_is lt 
       event = get_or events i d;
       here = slice_get-get_or events i d lt;
       run = run;
-      refused = subst (λ (at : Start × ℕ × World). Refuses at.0 at.1 at.2 (get_or events i d) refusal)
+      refused = subst (λ (stood : Start × ℕ × World). Refuses stood.0 stood.1 stood.2 (get_or events i d) refusal)
           (λ k. (same_is k, count_is k, w_is k)) refused;
       grows = λ lacks.
-          subst (λ (at : Start × World). NeedsMemory at.0 at.1 (get_or events i d)) (λ k. (same_is k, w_is k))
+          subst (λ (stood : Start × World). NeedsMemory stood.0 stood.1 (get_or events i d)) (λ k. (same_is k, w_is k))
           (grows lacks);
     }))
 
--- where a replay from an opening on stops is told of the shape and the number of passes that opened
+-- where a replay from an opening on stops is said of the shape and the number of passes that opened
 pub stops_from : (opened : Start) (count : ℕ) (kept : KeptWorld) (events : List Event)
     (answer : Result KeptWorld (ℕ × CoreRefusal)) → IsOpening opened count kept →
     IfErr answer (λ e. StopsAt kept.start (length kept.passes) events e.0 e.1) →
     IfErr answer (λ e. StopsAt opened count events e.0 e.1)
 stops_from opened count kept events answer o =
-    subst (λ (at : Start × ℕ). IfErr answer (λ e. StopsAt at.0 at.1 events e.0 e.1)) (λ i. (o.start i, o.passes i))
+    subst (λ (stood : Start × ℕ). IfErr answer (λ e. StopsAt stood.0 stood.1 events e.0 e.1))
+    (λ i. (o.start i, o.passes i))

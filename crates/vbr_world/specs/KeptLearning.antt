@@ -33,8 +33,8 @@ with_all_reread know = record know { own = λ s. reread (know.own s) }
 
 -- a slot in hand was linked at a place, by this link: both links and what was stored in the slot are checked, and the slot is no longer the pass's
 abbrev pub with_linked : At → Link → ℕ → Know → Know
-with_linked at link s know =
-    with_own (with_checked know (LinkAt at link ∷ BirthOf s (birth_in_hand (know.own s)) ∷ KeyOf s (key_in_hand (know.own s)) ∷ LinkAt (Slot s) (link_in_hand (know.own s)) ∷ value_read s (value_in_hand (know.own s)))) s None
+with_linked place link s know =
+    with_own (with_checked know (LinkAt place link ∷ BirthOf s (birth_in_hand (know.own s)) ∷ KeyOf s (key_in_hand (know.own s)) ∷ LinkAt (Slot s) (link_in_hand (know.own s)) ∷ value_read s (value_in_hand (know.own s)))) s None
 
 -- an exchange of a link has succeeded: what the pass has checked by it, and the slot that it no longer has, or has now
 abbrev pub know_with_won : Step → Know → Know

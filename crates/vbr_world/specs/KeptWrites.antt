@@ -39,8 +39,8 @@ with_birth_of s birth w = record w { birth = put w.birth s birth; births = count
 
 -- a place has this link
 abbrev pub with_link_of : At → Link → World → World
-with_link_of at link w = with_link_at w at link
+with_link_of place link w = with_link_at w place link
 
 -- a place has this link, and a slot is here
 abbrev pub with_link_and_place : At → Link → ℕ → SlotPlace → World → World
-with_link_and_place at link s place w = record (with_link_at w at link) { place = put w.place s place }
+with_link_and_place holder link s place w = record (with_link_at w holder link) { place = put w.place s place }

@@ -32,7 +32,7 @@ opening_pass = record { epoch = 1; pending = []; checked = []; own = [] }
 
 -- a read whose link or birth has room in a word
 abbrev pub FitsRead : Read → Type 0
-FitsRead (LinkAt at link) = IsLink link
+FitsRead (LinkAt place link) = IsLink link
 FitsRead (BirthOf s birth) = birth ≤ MAX_EPOCH
 FitsRead (KeyOf s key) = Unit {0}
 FitsRead (ValueOf s value) = Unit {0}

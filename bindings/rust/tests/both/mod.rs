@@ -16,7 +16,7 @@ pub fn key_of((key, value): (u64, u64)) -> u64 {
     key
 }
 
-/// What is told of a set, and how many items there is room for.
+/// What is returned of a set, and how many items there is room for.
 #[derive(Debug, PartialEq)]
 pub struct Told {
     pub keys: Vec<u64>,

@@ -37,17 +37,17 @@ first_or_none test from (suc more) = go (cases_Bool (test from)) (first_or_none 
       low = let low = is.low in omega (arith, low);
       high = let high = is.high in omega (arith, high);
       passes = is.passes;
-      none = λ j low high. at j high (cases_eq j from) low;
+      none = λ j low high. by_case j high (cases_eq j from) low;
     }
       where
-        at : (j : ℕ) → j < m → (j ≡ from) ⊎ (j ≢ from) → from ≤ j → test j ≡ false
-        at j high (inl e) low = ap test e ∙ f
-        at j high (inr ne) low = is.none j (omega arith) high
-    later None f is = λ j low high. at j low high (cases_eq j from)
+        by_case : (j : ℕ) → j < m → (j ≡ from) ⊎ (j ≢ from) → from ≤ j → test j ≡ false
+        by_case j high (inl e) low = ap test e ∙ f
+        by_case j high (inr ne) low = is.none j (omega arith) high
+    later None f is = λ j low high. by_case j low high (cases_eq j from)
       where
-        at : (j : ℕ) → from ≤ j → j < from + suc more → (j ≡ from) ⊎ (j ≢ from) → test j ≡ false
-        at j low high (inl e) = ap test e ∙ f
-        at j low high (inr ne) = is j (omega arith) (omega arith)
+        by_case : (j : ℕ) → from ≤ j → j < from + suc more → (j ≡ from) ⊎ (j ≢ from) → test j ≡ false
+        by_case j low high (inl e) = ap test e ∙ f
+        by_case j low high (inr ne) = is j (omega arith) (omega arith)
 
     go : (test from ≡ true) ⊎ (test from ≡ false) →
         FirstOrNone test (suc from) (suc from + more) (first_number test (suc from) more) →

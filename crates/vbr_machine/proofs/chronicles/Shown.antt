@@ -106,7 +106,7 @@ image_words w v a b i e eh eb ep ae asl abi af ala apl link key value stamp = re
 }
 
 -- the link that stands at a place is that of the image
-pub stands : (w : World) (a : Incarnations) (at : At) → IsImage w a → machine.link_at w at ≡ link_shown_at a at
+pub stands : (w : World) (a : Incarnations) (place : At) → IsImage w a → machine.link_at w place ≡ link_shown_at a place
 stands w a (Head b) i = i.head b
 stands w a (Slot s) i = i.link s
 
@@ -152,8 +152,8 @@ shown_fits {start} {a} s f (Some c) = go (a.state c) refl
     go GivenUp e = rw e (f.link c)
 
 -- each link of the image has room in a word
-pub image_fits : {start : Start} {a : Incarnations} → Sound start a → Fits start a → (at : At) →
-    IsLink (link_shown_at a at)
+pub image_fits : {start : Start} {a : Incarnations} → Sound start a → Fits start a → (place : At) →
+    IsLink (link_shown_at a place)
 image_fits {start} {a} s f (Head b) =
     next_fits s f 0 (a.first b) (omega arith)
     (λ m q. late_born s.slots m 0 (listed_late (a.state m) 0 (s.lists.first_in b m q).0))

@@ -53,9 +53,10 @@ next_held a e holder o link l q v = let u : max holder (birth_shown a o) ≤ e =
     go (Some m) l u = record { slot = refl; birth = omega arith; late = listed_late (a.state m) e (l m refl) }
 
 -- it is linked, and what follows it is held
-pub held_open : {start : Start} {a : Incarnations} → Sound start a → (e : ℕ) (at : At) (of : Option ℕ) (link : Link) →
-    IsHeldAt a e at of → link_shown_at a at ≡ link → link.mark ≡ false → link.version ≤ e →
-    (n : Option ℕ) × IsPair a at of n × IsHeldNext a e link.slot n
+pub held_open : {start : Start} {a : Incarnations} → Sound start a →
+    (e : ℕ) (place : At) (of : Option ℕ) (link : Link) →
+    IsHeldAt a e place of → link_shown_at a place ≡ link → link.mark ≡ false → link.version ≤ e →
+    (n : Option ℕ) × IsPair a place of n × IsHeldNext a e link.slot n
 held_open {start} {a} s e (Head b) None link h q m v =
     (a.first b, (refl, refl), next_held a e 0 (a.first b) link (λ i r. (s.lists.first_in b i r).0) q v)
 held_open {start} {a} s e (Head b) (Some c) link h q m v = absurd h
@@ -91,8 +92,8 @@ before_of (Slot s) None = AtNode 0
 before_of (Slot s) (Some c) = AtNode c
 
 -- the first of a pair is open, and the second is its successor
-pub pair_open : (a : Incarnations) (at : At) (of n : Option ℕ) → IsPair a at of n →
-    IsOpen a (before_of at of) × (next_of a (before_of at of) ≡ n)
+pub pair_open : (a : Incarnations) (place : At) (of n : Option ℕ) → IsPair a place of n →
+    IsOpen a (before_of place of) × (next_of a (before_of place of) ≡ n)
 pair_open a (Head b) of n p = (tt, p.1)
 pair_open a (Slot s) None n p = absurd (let q = p.1 in cc)
 pair_open a (Slot s) (Some c) n p = let q : c ≡ p.0 = (let r = p.1 in cc) in (ap a.state q ∙ p.3, ap a.next q ∙ p.4)
@@ -130,8 +131,9 @@ module _ {start : Start} {a b : Incarnations} {know : Know} {notes : Notes} (the
       ∙ ap b.value (one_held now know.epoch s c x.0 held x.1) ∙ x.2
 
   -- a key that stands behind a place
-  pub behind_then : (at : At) (of : Option ℕ) (key : ℕ) → IsHeldAt a know.epoch at of → StandsBehind start know at key →
-      BelongsBehind start a (before_of at of) key
+  pub behind_then : (place : At) (of : Option ℕ) (key : ℕ) → IsHeldAt a know.epoch place of →
+      StandsBehind start know place key →
+      BelongsBehind start a (before_of place of) key
   behind_then (Head b) of key h s = s
   behind_then (Slot t) None key h s = absurd h
   behind_then (Slot t) (Some c) key h s =
@@ -145,16 +147,18 @@ module _ {start : Start} {a b : Incarnations} {know : Know} {notes : Notes} (the
   before_then (Some t) None key h s = tt
   before_then (Some t) (Some n) key h s = let k = key_then t n s.0 h s.1 in (let u = s.2 in omega arith)
 
-  module _ (tells : Tells start a) (at : At) (of : Option ℕ) (link : Link) (held : IsHeldAt a know.epoch at of)
-      (shown : link_shown_at a at ≡ link) (unmarked : link.mark ≡ false) (known : Knows know (LinkAt at link)) where
-    opened : (n : Option ℕ) × IsPair a at of n × IsHeldNext a know.epoch link.slot n
-    opened = held_open then know.epoch at of link held shown unmarked ((good_link noted at link known).2.version)
+  module _ (tells : Tells start a) (place : At) (of : Option ℕ) (link : Link) (held : IsHeldAt a know.epoch place of)
+      (shown : link_shown_at a place ≡ link) (unmarked : link.mark ≡ false)
+      (known : Knows know (LinkAt place link)) where
+    opened : (n : Option ℕ) × IsPair a place of n × IsHeldNext a know.epoch link.slot n
+    opened = held_open then know.epoch place of link held shown unmarked ((good_link noted place link known).2.version)
 
     -- the key of the place was there
-    pub key_was_there : (key : ℕ) → KeyAt know at key → set_after (opening_keys start) a.calls key ≡ true
-    key_was_there key k = go at of held (opened.1) k
+    pub key_was_there : (key : ℕ) → KeyAt know place key → set_after (opening_keys start) a.calls key ≡ true
+    key_was_there key k = go place of held (opened.1) k
       where
-        go : (at : At) (of : Option ℕ) → IsHeldAt a know.epoch at of → IsPair a at of opened.0 → KeyAt know at key →
+        go : (place : At) (of : Option ℕ) → IsHeldAt a know.epoch place of → IsPair a place of opened.0 →
+            KeyAt know place key →
             set_after (opening_keys start) a.calls key ≡ true
         go (Head b) of h p k = absurd k
         go (Slot s) None h p k = absurd h
@@ -162,10 +166,11 @@ module _ {start : Start} {a b : Incarnations} {know : Know} {notes : Notes} (the
             let q = key_then s c key h k in rw (← q) (tells.there c (pair_open a (Slot s) (Some c) opened.0 p).0)
 
     -- where the place is a slot, its node was linked and is held there
-    node_there : (s : ℕ) → at ≡ Slot s → (i : ℕ) × IsHeldIncarnation a know.epoch s i × (a.state i ≡ Linked)
-    node_there s is = go at of is held opened.1
+    node_there : (s : ℕ) → place ≡ Slot s → (i : ℕ) × IsHeldIncarnation a know.epoch s i × (a.state i ≡ Linked)
+    node_there s is = go place of is held opened.1
       where
-        go : (at : At) (of : Option ℕ) → at ≡ Slot s → IsHeldAt a know.epoch at of → IsPair a at of opened.0 →
+        go : (place : At) (of : Option ℕ) → place ≡ Slot s → IsHeldAt a know.epoch place of →
+            IsPair a place of opened.0 →
             (i : ℕ) × IsHeldIncarnation a know.epoch s i × (a.state i ≡ Linked)
         go (Head b) of e h p = absurd (cc)
         go (Slot t) None e h p = absurd h
@@ -175,7 +180,7 @@ module _ {start : Start} {a b : Incarnations} {know : Know} {notes : Notes} (the
             (i, subst P same h, (pair_open a (Slot t) (Some i) opened.0 p).0)
 
     -- and its value was the one that is known there
-    pub value_was_there : (s key value : ℕ) → at ≡ Slot s → Knows know (KeyOf s key) → Knows know (ValueOf s value) →
+    pub value_was_there : (s key value : ℕ) → place ≡ Slot s → Knows know (KeyOf s key) → Knows know (ValueOf s value) →
         values_after (opening_payloads start) a.calls key ≡ payload_kept start (Some value)
     value_was_there s key value e k m =
         let x = node_there s e in
@@ -183,18 +188,18 @@ module _ {start : Start} {a b : Incarnations} {know : Know} {notes : Notes} (the
         ∙ ap (λ x. payload_kept start (Some x)) (value_then s x.0 value x.1 m)
 
     -- no node of a key between the place and what the link names was in a list
-    none_was_listed : (key : ℕ) → StandsBehind start know at key → BelongsBefore a key opened.0 → (d : ℕ) →
+    none_was_listed : (key : ℕ) → StandsBehind start know place key → BelongsBefore a key opened.0 → (d : ℕ) →
         IsListed (a.state d) → a.key d ≡ key → ⊥
     none_was_listed key behind before =
-        let p = pair_open a at of opened.0 opened.1 in
-        no_key_between then (before_of at of) key p.0 (behind_then at of key held behind) (rw p.1 before)
+        let p = pair_open a place of opened.0 opened.1 in
+        no_key_between then (before_of place of) key p.0 (behind_then place of key held behind) (rw p.1 before)
 
-    pub none_listed : (key c : ℕ) → StandsBehind start know at key → StandsBefore know key link.slot →
+    pub none_listed : (key c : ℕ) → StandsBehind start know place key → StandsBefore know key link.slot →
         IsListed (a.state c) → a.key c ≡ key → ⊥
     none_listed key c behind before = none_was_listed key behind (before_then link.slot opened.0 key opened.2 before) c
 
     -- a key between the place and what the link names wasn't
-    pub no_key_was_there : (key : ℕ) → StandsBehind start know at key → StandsBefore know key link.slot →
+    pub no_key_was_there : (key : ℕ) → StandsBehind start know place key → StandsBefore know key link.slot →
         set_after (opening_keys start) a.calls key ≡ false
     no_key_was_there key behind before = go (cases_Bool (set_after (opening_keys start) a.calls key))
       where
@@ -207,10 +212,11 @@ module _ {start : Start} {a b : Incarnations} {know : Know} {notes : Notes} (the
 
     -- where the key of the place is this, the node there is linked, and no marked node of the key was in a list but
     -- one that was replaced
-    pub none_marked_here : (key : ℕ) → KeyAt know at key → NoneMarked a key
-    none_marked_here key k = go at of held opened.1 k
+    pub none_marked_here : (key : ℕ) → KeyAt know place key → NoneMarked a key
+    none_marked_here key k = go place of held opened.1 k
       where
-        go : (at : At) (of : Option ℕ) → IsHeldAt a know.epoch at of → IsPair a at of opened.0 → KeyAt know at key →
+        go : (place : At) (of : Option ℕ) → IsHeldAt a know.epoch place of → IsPair a place of opened.0 →
+            KeyAt know place key →
             NoneMarked a key
         go (Head b) of h p k d m e = absurd k
         go (Slot s) None h p k d m e = absurd h
@@ -221,14 +227,14 @@ module _ {start : Start} {a b : Incarnations} {know : Know} {notes : Notes} (the
             (x.0, x.1, x.2 ∙ is)
 
     -- where the key lies between the place and what the link names, none was
-    pub none_marked_between : (key : ℕ) → StandsBehind start know at key → StandsBefore know key link.slot →
+    pub none_marked_between : (key : ℕ) → StandsBehind start know place key → StandsBefore know key link.slot →
         NoneMarked a key
     none_marked_between key behind before d m e =
         absurd (none_was_listed key behind (before_then link.slot opened.0 key opened.2 before) d (rw m tt) e)
 
     -- so was none of the key of a slot whose node was removed and not replaced, and whose known marked link names
     -- what the link names: that has a greater key
-    pub none_marked_skipped : (s key : ℕ) (frozen : Link) → StandsBehind start know at key →
+    pub none_marked_skipped : (s key : ℕ) (frozen : Link) → StandsBehind start know place key →
         Knows know (LinkAt (Slot s) frozen) → frozen.mark ≡ true → frozen.slot ≡ link.slot → Knows know (KeyOf s key) →
         IsTakenOut b know.epoch s → NoneMarked a key
     none_marked_skipped s key frozen behind k mark same j out d m e =
@@ -251,7 +257,7 @@ module _ {start : Start} {a b : Incarnations} {know : Know} {notes : Notes} (the
 
     -- what a known marked link of a slot names stands behind the node of the slot: so where the link names the
     -- same, that node was in no list
-    pub skipped_unlisted : (s key c : ℕ) (frozen : Link) → StandsBehind start know at key →
+    pub skipped_unlisted : (s key c : ℕ) (frozen : Link) → StandsBehind start know place key →
         Knows know (LinkAt (Slot s) frozen) → frozen.mark ≡ true → frozen.slot ≡ link.slot → Knows know (KeyOf s key) →
         IsHeldIncarnation b know.epoch s c → IsListed (a.state c) → ⊥
     skipped_unlisted s key c frozen behind k mark same j held_now listed =
@@ -275,15 +281,15 @@ module _ {start : Start} {a b : Incarnations} {know : Know} {notes : Notes} (the
             b.rank c ≡ a.rank c → b.key i ≡ a.key i → b.rank i ≡ a.rank i → ⊥
         not_both i n x e y k r l q = grind arith
 
-        go : (d n : Option ℕ) → IsGoodLink b know.epoch (Slot s) frozen d n → (o : Option ℕ) → IsPair a at of o →
+        go : (d n : Option ℕ) → IsGoodLink b know.epoch (Slot s) frozen d n → (o : Option ℕ) → IsPair a place of o →
             IsHeldNext a know.epoch link.slot o → ⊥
         go None n g o pair h = g.place
         go (Some d) n g o pair h =
             let is : d ≡ c = one_held now know.epoch s d c g.place held_now in
-            let p = pair_open a at of o pair in
-            let there : BelongsBehind start a (before_of at of) (a.key c) =
-            rw (key_then s c key held_then j) (behind_then at of key held behind) in
-            let up = up_to_next then (before_of at of) c p.0 there listed in
+            let p = pair_open a place of o pair in
+            let there : BelongsBehind start a (before_of place of) (a.key c) =
+            rw (key_then s c key held_then j) (behind_then place of key held behind) in
+            let up = up_to_next then (before_of place of) c p.0 there listed in
             let x : IsHeldNext b know.epoch frozen.slot o =
             rw same (stays_next then grown know.epoch link.slot o low h) in
             let follows : b.next c ≡ Some up.0 =
@@ -296,7 +302,8 @@ module _ {start : Start} {a b : Incarnations} {know : Know} {notes : Notes} (the
             (grown.rank c inserted) (grown.key up.0 there_too) (grown.rank up.0 there_too)
 
     -- where the link names a node of a known key, no node of the key that was in a list stands ahead of that one
-    pub named_first : (s key c : ℕ) → StandsBehind start know at key → link.slot ≡ Some s → Knows know (KeyOf s key) →
+    pub named_first : (s key c : ℕ) → StandsBehind start know place key → link.slot ≡ Some s →
+        Knows know (KeyOf s key) →
         IsListed (a.state c) → a.key c ≡ key → (i : ℕ) × IsHeldIncarnation b know.epoch s i × (b.rank i ≤ b.rank c)
     named_first s key c behind named j listed e = go opened.0 opened.1 opened.2
       where
@@ -304,12 +311,13 @@ module _ {start : Start} {a b : Incarnations} {know : Know} {notes : Notes} (the
             b.rank i ≡ a.rank i → b.rank c ≡ a.rank c → b.rank i ≤ b.rank c
         first i k le x y = grind arith
 
-        go : (o : Option ℕ) → IsPair a at of o → IsHeldNext a know.epoch link.slot o →
+        go : (o : Option ℕ) → IsPair a place of o → IsHeldNext a know.epoch link.slot o →
             (i : ℕ) × IsHeldIncarnation b know.epoch s i × (b.rank i ≤ b.rank c)
         go o pair h =
-            let p = pair_open a at of o pair in
-            let there : BelongsBehind start a (before_of at of) (a.key c) = rw e (behind_then at of key held behind) in
-            let up = up_to_next then (before_of at of) c p.0 there listed in
+            let p = pair_open a place of o pair in
+            let there : BelongsBehind start a (before_of place of) (a.key c) = rw e
+            (behind_then place of key held behind) in
+            let up = up_to_next then (before_of place of) c p.0 there listed in
             let P : Option ℕ → Type 0 = IsHeldNext a know.epoch link.slot in
             let Q : Option ℕ → Type 0 = λ v. IsHeldNext a know.epoch v (Some up.0) in
             let here : IsHeldIncarnation a know.epoch s up.0 = subst Q named (subst P (sym p.1 ∙ up.1) h) in (
@@ -321,7 +329,7 @@ module _ {start : Start} {a b : Incarnations} {know : Know} {notes : Notes} (the
             )
 
     -- and where the place is a slot of the key, each marked node of the key stands ahead of the one there
-    pub marked_ahead : (s key c : ℕ) → at ≡ Slot s → Knows know (KeyOf s key) → a.state c ≡ Marked → a.key c ≡ key →
+    pub marked_ahead : (s key c : ℕ) → place ≡ Slot s → Knows know (KeyOf s key) → a.state c ≡ Marked → a.key c ≡ key →
         (i : ℕ) × IsHeldIncarnation b know.epoch s i × (b.rank c < b.rank i)
     marked_ahead s key c is j m e =
         let x = node_there s is in
@@ -339,8 +347,8 @@ module _ {start : Start} {a b : Incarnations} {know : Know} {notes : Notes} (the
         ahead i l (inr less) x y = omega (arith, less, x, y)
 
 -- a held place has an incarnation that is held there, if it is a slot
-pub place_held : {a : Incarnations} {know : Know} {notes : Notes} → FitsNotes a know notes → (at : At) →
-    IsHeldPlace know at → (of : Option ℕ) × IsHeldAt a know.epoch at of
+pub place_held : {a : Incarnations} {know : Know} {notes : Notes} → FitsNotes a know notes → (place : At) →
+    IsHeldPlace know place → (of : Option ℕ) × IsHeldAt a know.epoch place of
 place_held k (Head b) h = (None, tt)
 place_held k (Slot s) h = let x = slot_held k s h in (Some x.0, x.1)
 
@@ -349,124 +357,131 @@ place_held k (Slot s) h = let x = slot_held k s h in (Some x.0, x.1)
 -- the premises: the worlds agree with their incarnations; then the pass held the place, which showed the unmarked
 -- link; now the link is known there, and the pass has read no other epoch since
 module _ {start : Start} {v w : World} {a b : Incarnations} {early late : ℕ → Notes} (then : Agrees start v a early)
-    (now : Agrees start w b late) (grown : Grows a b) (p : ℕ) (at : At) (link : Link)
-    (epoch : (v.know p).epoch ≡ (w.know p).epoch) (held : IsHeldPlace (v.know p) at)
-    (shown : machine.link_at v at ≡ link) (known : Knows (w.know p) (LinkAt at link))
+    (now : Agrees start w b late) (grown : Grows a b) (p : ℕ) (place : At) (link : Link)
+    (epoch : (v.know p).epoch ≡ (w.know p).epoch) (held : IsHeldPlace (v.know p) place)
+    (shown : machine.link_at v place ≡ link) (known : Knows (w.know p) (LinkAt place link))
     (unmarked : link.mark ≡ false) where
-  there : (of : Option ℕ) × IsHeldAt a (w.know p).epoch at of
-  there = rw (← epoch) (place_held (then.knows p) at held)
+  there : (of : Option ℕ) × IsHeldAt a (w.know p).epoch place of
+  there = rw (← epoch) (place_held (then.knows p) place held)
 
   low : (w.know p).epoch ≤ a.epoch
   low = rw (← epoch) ((then.knows p).epoch)
 
-  shows : link_shown_at a at ≡ link
-  shows = sym (stands v a at then.image) ∙ shown
+  shows : link_shown_at a place ≡ link
+  shows = sym (stands v a place then.image) ∙ shown
 
   -- a key that is known at the place now was in the set then
-  pub present_at_load : (key : ℕ) → KeyAt (w.know p) at key → set_after (opening_keys start) v.calls key ≡ true
+  pub present_at_load : (key : ℕ) → KeyAt (w.know p) place key → set_after (opening_keys start) v.calls key ≡ true
   present_at_load key k =
       rw then.calls
-      (key_was_there then.sound grown now.sound (now.knows p) low then.tells at there.0 link there.1 shows unmarked
+      (key_was_there then.sound grown now.sound (now.knows p) low then.tells place there.0 link there.1 shows unmarked
       known key k)
 
   -- and a value that is known there was its value
-  pub value_at_load : (s key value : ℕ) → at ≡ Slot s → Knows (w.know p) (KeyOf s key) →
+  pub value_at_load : (s key value : ℕ) → place ≡ Slot s → Knows (w.know p) (KeyOf s key) →
       Knows (w.know p) (ValueOf s value) →
       values_after (opening_payloads start) v.calls key ≡ payload_kept start (Some value)
   value_at_load s key value e k m =
       rw then.calls
-      (value_was_there then.sound grown now.sound (now.knows p) low then.tells at there.0 link there.1 shows unmarked
+      (value_was_there then.sound grown now.sound (now.knows p) low then.tells place there.0 link there.1 shows unmarked
       known s key value e k m)
 
   -- a key that stands behind the place and before what the link names, by what is known now, wasn't in the set then
-  pub absent_at_load : (key : ℕ) → StandsBehind start (w.know p) at key → StandsBefore (w.know p) key link.slot →
+  pub absent_at_load : (key : ℕ) → StandsBehind start (w.know p) place key → StandsBefore (w.know p) key link.slot →
       set_after (opening_keys start) v.calls key ≡ false
   absent_at_load key i j =
       rw then.calls
-      (no_key_was_there then.sound grown now.sound (now.knows p) low then.tells at there.0 link there.1 shows unmarked
+      (no_key_was_there then.sound grown now.sound (now.knows p) low then.tells place there.0 link there.1 shows
+      unmarked
       known key i j)
 
   -- no marked node of such a key was in a list then but one that was replaced
-  pub none_marked_here_then : (key : ℕ) → KeyAt (w.know p) at key → NoneMarked a key
+  pub none_marked_here_then : (key : ℕ) → KeyAt (w.know p) place key → NoneMarked a key
   none_marked_here_then key k =
-      none_marked_here then.sound grown now.sound (now.knows p) low then.tells at there.0 link there.1 shows unmarked
+      none_marked_here then.sound grown now.sound (now.knows p) low then.tells place there.0 link there.1 shows unmarked
       known key k
 
-  pub none_marked_between_then : (key : ℕ) → StandsBehind start (w.know p) at key →
+  pub none_marked_between_then : (key : ℕ) → StandsBehind start (w.know p) place key →
       StandsBefore (w.know p) key link.slot → NoneMarked a key
   none_marked_between_then key i j =
-      none_marked_between then.sound grown now.sound (now.knows p) low then.tells at there.0 link there.1 shows unmarked
+      none_marked_between then.sound grown now.sound (now.knows p) low then.tells place there.0 link there.1 shows
+      unmarked
       known key i j
 
   -- nor one of the key of a slot whose node was removed and not replaced, and whose known marked link names what
   -- the link names
-  pub none_marked_skipped_then : (s key : ℕ) (frozen : Link) → StandsBehind start (w.know p) at key →
+  pub none_marked_skipped_then : (s key : ℕ) (frozen : Link) → StandsBehind start (w.know p) place key →
       Knows (w.know p) (LinkAt (Slot s) frozen) → frozen.mark ≡ true → frozen.slot ≡ link.slot →
       Knows (w.know p) (KeyOf s key) → IsTakenOut b (w.know p).epoch s → NoneMarked a key
   none_marked_skipped_then s key frozen i k m same j out =
-      none_marked_skipped then.sound grown now.sound (now.knows p) low then.tells at there.0 link there.1 shows unmarked
+      none_marked_skipped then.sound grown now.sound (now.knows p) low then.tells place there.0 link there.1 shows
+      unmarked
       known s key frozen i k m same j out
 
   -- nor was the node of a slot that stands behind the place, and whose known marked link names what the link names
-  pub skipped_unlisted_then : (s key c : ℕ) (frozen : Link) → StandsBehind start (w.know p) at key →
+  pub skipped_unlisted_then : (s key c : ℕ) (frozen : Link) → StandsBehind start (w.know p) place key →
       Knows (w.know p) (LinkAt (Slot s) frozen) → frozen.mark ≡ true → frozen.slot ≡ link.slot →
       Knows (w.know p) (KeyOf s key) → IsHeldIncarnation b (w.know p).epoch s c → IsListed (a.state c) → ⊥
   skipped_unlisted_then s key c frozen i k m same j h l =
-      skipped_unlisted then.sound grown now.sound (now.knows p) low then.tells at there.0 link there.1 shows unmarked
+      skipped_unlisted then.sound grown now.sound (now.knows p) low then.tells place there.0 link there.1 shows unmarked
       known s key c frozen i k m same j h l
 
   -- nor was one of a key between the place and what the link names
-  pub none_listed_then : (key c : ℕ) → StandsBehind start (w.know p) at key → StandsBefore (w.know p) key link.slot →
+  pub none_listed_then : (key c : ℕ) → StandsBehind start (w.know p) place key → StandsBefore (w.know p) key link.slot →
       IsListed (a.state c) → a.key c ≡ key → ⊥
   none_listed_then key c i j l e =
-      none_listed then.sound grown now.sound (now.knows p) low then.tells at there.0 link there.1 shows unmarked known
+      none_listed then.sound grown now.sound (now.knows p) low then.tells place there.0 link there.1 shows unmarked
+      known
       key c i j l e
 
-  pub named_first_then : (s key c : ℕ) → StandsBehind start (w.know p) at key → link.slot ≡ Some s →
+  pub named_first_then : (s key c : ℕ) → StandsBehind start (w.know p) place key → link.slot ≡ Some s →
       Knows (w.know p) (KeyOf s key) → IsListed (a.state c) → a.key c ≡ key →
       (i : ℕ) × IsHeldIncarnation b (w.know p).epoch s i × (b.rank i ≤ b.rank c)
   named_first_then s key c i q j l e =
-      named_first then.sound grown now.sound (now.knows p) low then.tells at there.0 link there.1 shows unmarked known s
+      named_first then.sound grown now.sound (now.knows p) low then.tells place there.0 link there.1 shows unmarked
+      known s
       key c i q j l e
 
-  pub marked_ahead_then : (s key c : ℕ) → at ≡ Slot s → Knows (w.know p) (KeyOf s key) → a.state c ≡ Marked →
+  pub marked_ahead_then : (s key c : ℕ) → place ≡ Slot s → Knows (w.know p) (KeyOf s key) → a.state c ≡ Marked →
       a.key c ≡ key → (i : ℕ) × IsHeldIncarnation b (w.know p).epoch s i × (b.rank c < b.rank i)
   marked_ahead_then s key c q j m e =
-      marked_ahead then.sound grown now.sound (now.knows p) low then.tells at there.0 link there.1 shows unmarked known
+      marked_ahead then.sound grown now.sound (now.knows p) low then.tells place there.0 link there.1 shows unmarked
+      known
       s key c q j m e
 
 -- ---- in one world
 
 -- the premises: the world agrees with its incarnations, and a known unmarked link stands at its place
 module _ {start : Start} {w : World} {a : Incarnations} {notes : ℕ → Notes} (now : Agrees start w a notes) (p : ℕ)
-    (at : At) (link : Link) (known : Knows (w.know p) (LinkAt at link)) (unmarked : link.mark ≡ false)
-    (shown : machine.link_at w at ≡ link) where
-  here : (of names : Option ℕ) × IsGoodLink a (w.know p).epoch at link of names
-  here = good_link (now.knows p) at link known
+    (place : At) (link : Link) (known : Knows (w.know p) (LinkAt place link)) (unmarked : link.mark ≡ false)
+    (shown : machine.link_at w place ≡ link) where
+  here : (of names : Option ℕ) × IsGoodLink a (w.know p).epoch place link of names
+  here = good_link (now.knows p) place link known
 
   still : Grows a a
   still = grows_after start (opening_keys start) a [] now.sound tt
 
   -- a key that is known at the place is in the set
-  pub present_now : (key : ℕ) → KeyAt (w.know p) at key → set_after (opening_keys start) w.calls key ≡ true
+  pub present_now : (key : ℕ) → KeyAt (w.know p) place key → set_after (opening_keys start) w.calls key ≡ true
   present_now key k =
       rw now.calls
-      (key_was_there now.sound still now.sound (now.knows p) (now.knows p).epoch now.tells at here.0 link here.2.place
-      (sym (stands w a at now.image) ∙ shown) unmarked known key k)
+      (key_was_there now.sound still now.sound (now.knows p) (now.knows p).epoch now.tells place here.0 link
+      here.2.place
+      (sym (stands w a place now.image) ∙ shown) unmarked known key k)
 
 -- ---- confirming loads
 
 -- the word at the place of a link
-pub found_at : (start : Start) (w : World) (at : At) →
-    word_at start w (places.place_of at) ≡ word_of (machine.link_at w at)
+pub found_at : (start : Start) (w : World) (place : At) →
+    word_at start w (places.place_of place) ≡ word_of (machine.link_at w place)
 found_at start w (Head b) = refl
 found_at start w (Slot s) = refl
 
 -- the link that stands at a place is that of the word that is found there
 pub link_found_at : {start : Start} {w : World} {a : Incarnations} {notes : ℕ → Notes} → Agrees start w a notes →
-    (at : At) (word : ℕ) → word_at start w (places.place_of at) ≡ word → machine.link_at w at ≡ link_of word
-link_found_at {start} {w} {a} g at word q =
-    stands w a at g.image ∙ sym (link_read g at) ∙ ap link_of (sym (found_at start w at) ∙ q)
+    (place : At) (word : ℕ) → word_at start w (places.place_of place) ≡ word → machine.link_at w place ≡ link_of word
+link_found_at {start} {w} {a} g place word q =
+    stands w a place g.image ∙ sym (link_read g place) ∙ ap link_of (sym (found_at start w place) ∙ q)
 
 -- where a confirming load of a slot finds the word that it expects, each key that is known at the slot is in the set
 pub confirmed_present : {start : Start} {w : World} {a : Incarnations} {notes : ℕ → Notes} → Agrees start w a notes →

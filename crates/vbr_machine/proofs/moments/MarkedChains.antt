@@ -164,25 +164,25 @@ leads_through snd noted first link _ r (onward last s next h q k m) =
 -- the premises: the world agrees with its incarnations, a known unmarked link stands at its place, and known marked
 -- links lead on from it
 module _ {start : Start} {w : World} {a : Incarnations} {notes : ℕ → Notes} (now : Agrees start w a notes) (p : ℕ)
-    (at : At) (link last : Link) (known : Knows (w.know p) (LinkAt at link)) (unmarked : link.mark ≡ false)
-    (shown : machine.link_at w at ≡ link) (leads : LeadsTo (w.know p) link last) where
-  good : (of names : Option ℕ) × IsGoodLink a (w.know p).epoch at link of names
-  good = good_link (now.knows p) at link known
+    (place : At) (link last : Link) (known : Knows (w.know p) (LinkAt place link)) (unmarked : link.mark ≡ false)
+    (shown : machine.link_at w place ≡ link) (leads : LeadsTo (w.know p) link last) where
+  good : (of names : Option ℕ) × IsGoodLink a (w.know p).epoch place link of names
+  good = good_link (now.knows p) place link known
 
-  pair : IsPair a at good.0 good.1
-  pair = same_pair now.sound (w.know p).epoch at link good.0 good.1 good.2 unmarked
-      (sym (stands w a at now.image) ∙ shown)
+  pair : IsPair a place good.0 good.1
+  pair = same_pair now.sound (w.know p).epoch place link good.0 good.1 good.2 unmarked
+      (sym (stands w a place now.image) ∙ shown)
 
-  opened : IsOpen a (before_of at good.0) × (next_of a (before_of at good.0) ≡ good.1)
-  opened = pair_open a at good.0 good.1 pair
+  opened : IsOpen a (before_of place good.0) × (next_of a (before_of place good.0) ≡ good.1)
+  opened = pair_open a place good.0 good.1 pair
 
-  reaches : Reaches a (w.know p).epoch (next_of a (before_of at good.0)) last
-  reaches = leads_through now.sound (now.knows p) (next_of a (before_of at good.0)) link last
+  reaches : Reaches a (w.know p).epoch (next_of a (before_of place good.0)) last
+  reaches = leads_through now.sound (now.knows p) (next_of a (before_of place good.0)) link last
       (record {
-        node = next_of a (before_of at good.0);
+        node = next_of a (before_of place good.0);
         through = here;
         held = rw opened.1 good.2.next;
-        listed = next_listed_of (before_of at good.0) opened.0;
+        listed = next_listed_of (before_of place good.0) opened.0;
       })
       leads
     where
@@ -191,15 +191,16 @@ module _ {start : Start} {w : World} {a : Incarnations} {notes : ℕ → Notes} 
       next_listed_of (AtNode c) o m q = next_listed now.sound c m q (rw o tt)
 
   -- a key that stands behind the place and before what the last of these links names isn't in the set
-  pub absent_behind_marked : (key : ℕ) → StandsBehind start (w.know p) at key → StandsBefore (w.know p) key last.slot →
+  pub absent_behind_marked : (key : ℕ) → StandsBehind start (w.know p) place key →
+      StandsBefore (w.know p) key last.slot →
       set_after (opening_keys start) w.calls key ≡ false
   absent_behind_marked key i j = rw now.calls (go (cases_Bool (set_after (opening_keys start) a.calls key)))
     where
       still : Grows a a
       still = grows_after start (opening_keys start) a [] now.sound tt
 
-      behind : BelongsBehind start a (before_of at good.0) key
-      behind = behind_then now.sound still now.sound (now.knows p) (now.knows p).epoch at good.0 key good.2.place i
+      behind : BelongsBehind start a (before_of place good.0) key
+      behind = behind_then now.sound still now.sound (now.knows p) (now.knows p).epoch place good.0 key good.2.place i
 
       before : BelongsBefore a key reaches.node
       before = before_then now.sound still now.sound (now.knows p) (now.knows p).epoch last.slot reaches.node key
@@ -210,16 +211,19 @@ module _ {start : Start} {w : World} {a : Incarnations} {notes : ℕ → Notes} 
       go (inr f) = f
       go (inl t) =
           let u = now.tells.only key t in
-          absurd (none_through_marked now.sound (before_of at good.0) key reaches.node opened.0 behind reaches.through
+          absurd (none_through_marked now.sound (before_of place good.0) key reaches.node opened.0 behind
+          reaches.through
           before u.0 u.1 u.2)
 
 -- where a confirming load for a key finds the word that it expects, the key isn't in the set
 pub confirmed_absent : {start : Start} {w : World} {a : Incarnations} {notes : ℕ → Notes} → Agrees start w a notes →
-    (p : ℕ) (op : Op) (key : ℕ) (at : At) (expected : ℕ) → Accepts start (w.know p) (ConfirmAbsent op key at expected) →
-    machine.found start w (ConfirmAbsent op key at expected) ≡ expected →
+    (p : ℕ) (op : Op) (key : ℕ) (place : At) (expected : ℕ) →
+    Accepts start (w.know p) (ConfirmAbsent op key place expected) →
+    machine.found start w (ConfirmAbsent op key place expected) ≡ expected →
     set_after (opening_keys start) w.calls key ≡ false
-confirmed_absent g p op key at expected ok q =
+confirmed_absent g p op key place expected ok q =
     let k = accepts_known ok in
     let on = k.in_range.3 in
-    absent_behind_marked g p at (link_of expected) on.last k.known k.in_range.0 (link_found_at g at expected q) on.leads
+    absent_behind_marked g p place (link_of expected) on.last k.known k.in_range.0 (link_found_at g place expected q)
+    on.leads
     key k.in_range.2 on.before

@@ -120,7 +120,7 @@ module _ (start : Start) (a : Incarnations) (s : Sound start a) (c : ℕ) (linke
   step_lists w p (StoreKey v key) = one p (Keyed (last_in a v) key)
   step_lists w p (StoreValue v value) = one p (Valued (last_in a v) value)
   step_lists w p (StoreLink v next) = one p (Aims (last_in a v) (link_written (w.know p) (StoreLink v next)))
-  step_lists w p (LoadLink at) = nothing
+  step_lists w p (LoadLink place) = nothing
   step_lists w p (LoadBirth v) = nothing
   step_lists w p (LoadKey v) = nothing
   step_lists w p (LoadValue v) = nothing
@@ -138,9 +138,9 @@ module _ (start : Start) (a : Incarnations) (s : Sound start a) (c : ℕ) (linke
   step_lists w p (ConfirmPresent op v expected) =
       either (found start w (ConfirmPresent op v expected) == expected) _ _
       (answered p (call_of start p (w.know p) (ConfirmPresent op v expected))) nothing
-  step_lists w p (ConfirmAbsent op key at expected) =
-      either (found start w (ConfirmAbsent op key at expected) == expected) _ _
-      (answered p (call_of start p (w.know p) (ConfirmAbsent op key at expected))) nothing
+  step_lists w p (ConfirmAbsent op key place expected) =
+      either (found start w (ConfirmAbsent op key place expected) == expected) _ _
+      (answered p (call_of start p (w.know p) (ConfirmAbsent op key place expected))) nothing
 
 -- ---- along a run
 
@@ -288,8 +288,8 @@ none_behind_marked {start} {a} s c key marked bucket low before d linked same =
         not_above i (inr (e, le)) up = omega (arith, e, up)
 
 module _ (start : Start) (passes : ℕ) (moment run : List Event) (is : IsStart start) (ok : IsRun start passes run)
-    (p : ℕ) (at : At) (link : Link) (was : WasShown start moment run p at link) (key : ℕ)
-    (behind : StandsBehind start (know_after start run p) at key) where
+    (p : ℕ) (place : At) (link : Link) (was : WasShown start moment run p place link) (key : ℕ)
+    (behind : StandsBehind start (know_after start run p) place key) where
   now : Agrees start (world_after start run) (incarnations_after start run) (notes_after start run)
   now = run_agrees start passes run is ok
 
@@ -330,37 +330,38 @@ module _ (start : Start) (passes : ℕ) (moment run : List Event) (is : IsStart 
     to = was.begins;
     node = opened.0;
     held = opened.2;
-    listed = λ m q. (next_fits (before_of at there.0) pair.0 m (pair.1 ∙ q) belongs).0;
-    bucket = λ m q. (next_fits (before_of at there.0) pair.0 m (pair.1 ∙ q) belongs).1;
+    listed = λ m q. (next_fits (before_of place there.0) pair.0 m (pair.1 ∙ q) belongs).0;
+    bucket = λ m q. (next_fits (before_of place there.0) pair.0 m (pair.1 ∙ q) belongs).1;
     clear = λ before. record {
       between = moment;
       from = begins_refl moment;
       to = was.begins;
       absent = none_linked then key
           (λ d linked same.
-          no_key_between then.sound (before_of at there.0) key pair.0 belongs (rw pair.1 before) d (rw linked tt) same);
+          no_key_between then.sound (before_of place there.0) key pair.0 belongs (rw pair.1 before) d (rw linked tt)
+          same);
     };
   }
     where
       then : Agrees start (world_after start moment) (incarnations_after start moment) (notes_after start moment)
       then = at_moment moment was.begins
 
-      there : (of : Option ℕ) × IsHeldAt (incarnations_after start moment) (know_after start run p).epoch at of
-      there = rw (← was.epoch) (place_held (then.knows p) at was.held)
+      there : (of : Option ℕ) × IsHeldAt (incarnations_after start moment) (know_after start run p).epoch place of
+      there = rw (← was.epoch) (place_held (then.knows p) place was.held)
 
-      opened : (n : Option ℕ) × IsPair (incarnations_after start moment) at there.0 n ×
+      opened : (n : Option ℕ) × IsPair (incarnations_after start moment) place there.0 n ×
           IsHeldNext (incarnations_after start moment) (know_after start run p).epoch link.slot n
-      opened = held_open then.sound (know_after start run p).epoch at there.0 link there.1
-          (sym (stands (world_after start moment) (incarnations_after start moment) at then.image) ∙ was.shown)
-          was.unmarked ((good_link (now.knows p) at link was.known).2.version)
+      opened = held_open then.sound (know_after start run p).epoch place there.0 link there.1
+          (sym (stands (world_after start moment) (incarnations_after start moment) place then.image) ∙ was.shown)
+          was.unmarked ((good_link (now.knows p) place link was.known).2.version)
 
-      pair : IsOpen (incarnations_after start moment) (before_of at there.0) ×
-          (next_of (incarnations_after start moment) (before_of at there.0) ≡ opened.0)
-      pair = pair_open (incarnations_after start moment) at there.0 opened.0 opened.1
+      pair : IsOpen (incarnations_after start moment) (before_of place there.0) ×
+          (next_of (incarnations_after start moment) (before_of place there.0) ≡ opened.0)
+      pair = pair_open (incarnations_after start moment) place there.0 opened.0 opened.1
 
-      belongs : BelongsBehind start (incarnations_after start moment) (before_of at there.0) key
+      belongs : BelongsBehind start (incarnations_after start moment) (before_of place there.0) key
       belongs = behind_then then.sound (shape_of moment was.begins) now.sound (now.knows p)
-          (low moment (begins_refl moment) was.begins) at there.0 key there.1 behind
+          (low moment (begins_refl moment) was.begins) place there.0 key there.1 behind
 
       next_fits : (before : Before) → IsOpen (incarnations_after start moment) before → (m : ℕ) →
           next_of (incarnations_after start moment) before ≡ Some m →

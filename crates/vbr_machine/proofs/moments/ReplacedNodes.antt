@@ -187,39 +187,40 @@ module _ (start : Start) (passes : ℕ) (first run : List Event) (is : IsStart s
 
   -- where a place before it shows a link that names what its marked link names, it has left
   pub skipped_left : (s : ℕ) → IsHeldIncarnation (incarnations_after start run) (know_after start run p).epoch s c →
-      Knows (know_after start run p) (KeyOf s key) → (moment : List Event) (at : At) (link : Link) →
-      WasShown start moment run p at link → Begins first moment → (frozen : Link) →
-      StandsBehind start (know_after start run p) at key → Knows (know_after start run p) (LinkAt (Slot s) frozen) →
+      Knows (know_after start run p) (KeyOf s key) → (moment : List Event) (place : At) (link : Link) →
+      WasShown start moment run p place link → Begins first moment → (frozen : Link) →
+      StandsBehind start (know_after start run p) place key → Knows (know_after start run p) (LinkAt (Slot s) frozen) →
       frozen.mark ≡ true → frozen.slot ≡ link.slot → HasLeft ((incarnations_after start run).state c)
-  skipped_left s held known moment at link was begins frozen behind k mark same =
+  skipped_left s held known moment place link was begins frozen behind k mark same =
       go (marked_or_left moment begins was.begins)
     where
       go : ((incarnations_after start moment).state c ≡ Marked) ⊎ HasLeft ((incarnations_after start run).state c) →
           HasLeft ((incarnations_after start run).state c)
       go (inl m) =
-          absurd (skipped_unlisted start passes moment run is ok p at link was s key c frozen behind k mark same known
+          absurd (skipped_unlisted start passes moment run is ok p place link was s key c frozen behind k mark same
+          known
           held (rw m tt))
       go (inr left) = left
 
   -- and so it has where the key stands between a place and what its link names
-  pub passed_left : (moment : List Event) (at : At) (link : Link) → WasShown start moment run p at link →
-      Begins first moment → StandsBehind start (know_after start run p) at key →
+  pub passed_left : (moment : List Event) (place : At) (link : Link) → WasShown start moment run p place link →
+      Begins first moment → StandsBehind start (know_after start run p) place key →
       StandsBefore (know_after start run p) key link.slot → HasLeft ((incarnations_after start run).state c)
-  passed_left moment at link was begins behind before = go (marked_or_left moment begins was.begins)
+  passed_left moment place link was begins behind before = go (marked_or_left moment begins was.begins)
     where
       go : ((incarnations_after start moment).state c ≡ Marked) ⊎ HasLeft ((incarnations_after start run).state c) →
           HasLeft ((incarnations_after start run).state c)
       go (inl m) =
-          absurd (none_listed start passes moment run is ok p at link was key c behind before (rw m tt)
+          absurd (none_listed start passes moment run is ok p place link was key c behind before (rw m tt)
           (has_key moment begins was.begins))
       go (inr left) = left
 
   -- or where the link names a node of the key, which showed an unmarked link
-  pub found_left : (moment there : List Event) (at : At) (link other : Link) (t : ℕ) →
-      WasShown start moment run p at link → WasShown start there run p (Slot t) other → Begins first moment →
-      Begins first there → StandsBehind start (know_after start run p) at key → link.slot ≡ Some t →
+  pub found_left : (moment there : List Event) (place : At) (link other : Link) (t : ℕ) →
+      WasShown start moment run p place link → WasShown start there run p (Slot t) other → Begins first moment →
+      Begins first there → StandsBehind start (know_after start run p) place key → link.slot ≡ Some t →
       Knows (know_after start run p) (KeyOf t key) → HasLeft ((incarnations_after start run).state c)
-  found_left moment there at link other t was stood begins after behind named k =
+  found_left moment there place link other t was stood begins after behind named k =
       go (marked_or_left moment begins was.begins) (marked_or_left there after stood.begins)
     where
       go : ((incarnations_after start moment).state c ≡ Marked) ⊎ HasLeft ((incarnations_after start run).state c) →
@@ -229,7 +230,7 @@ module _ (start : Start) (passes : ℕ) (first run : List Event) (is : IsStart s
       go (inl m) (inr left) = left
       go (inl m) (inl n) =
           let g = run_agrees start passes run is ok in
-          let x = named_first start passes moment run is ok p at link was t key c behind named k (rw m tt)
+          let x = named_first start passes moment run is ok p place link was t key c behind named k (rw m tt)
           (has_key moment begins was.begins) in
           let y = marked_ahead start passes there run is ok p (Slot t) other stood t key c refl k n
           (has_key there after stood.begins) in

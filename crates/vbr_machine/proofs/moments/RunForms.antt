@@ -117,9 +117,9 @@ module _ (start : Start) (passes : ℕ) (run : List Event) (is : IsStart start) 
   head_unmarked b link k = reads.head_unmarked (agrees.knows p) b link k
 
   -- the place of a known link is held, and so is the slot of a known birth or key
-  pub link_held : (at : At) (link : Link) → Knows (know_after start run p) (LinkAt at link) →
-      IsHeldPlace (know_after start run p) at
-  link_held at link k = place_known (know_after start run p) at (of_held (LinkAt at link) k)
+  pub link_held : (place : At) (link : Link) → Knows (know_after start run p) (LinkAt place link) →
+      IsHeldPlace (know_after start run p) place
+  link_held place link k = place_known (know_after start run p) place (of_held (LinkAt place link) k)
 
   pub birth_held : (s birth : ℕ) → Knows (know_after start run p) (BirthOf s birth) →
       IsHeldSlot (know_after start run p) s
@@ -167,9 +167,9 @@ module _ (start : Start) (passes : ℕ) (run : List Event) (is : IsStart start) 
       acceptance.confirmed_call_is agrees.sound (agrees.knows p) p op s expected key value k v
 
   -- the link that stands at a place is that of the word that a load finds there
-  pub link_loaded : (at : At) →
-      link_at (world_after start run) at ≡ link_of (found start (world_after start run) (LoadLink at))
-  link_loaded at = loads.link_found_at agrees at (found start (world_after start run) (LoadLink at)) refl
+  pub link_loaded : (place : At) →
+      link_at (world_after start run) place ≡ link_of (found start (world_after start run) (LoadLink place))
+  link_loaded place = loads.link_found_at agrees place (found start (world_after start run) (LoadLink place)) refl
 
   -- where a confirming load of a slot finds the word that it expects, each key that is known at the slot is in the set
   pub confirmed_present : (op : Op) (s expected key : ℕ) →
@@ -180,26 +180,26 @@ module _ (start : Start) (passes : ℕ) (run : List Event) (is : IsStart start) 
   confirmed_present op s expected key accepts q k = loads.confirmed_present agrees p op s expected key accepts q k
 
   -- where a confirming load for a key finds the word that it expects, the key isn't in the set
-  pub confirmed_absent : (op : Op) (key : ℕ) (at : At) (expected : ℕ) →
-      Accepts start (know_after start run p) (ConfirmAbsent op key at expected) →
-      found start (world_after start run) (ConfirmAbsent op key at expected) ≡ expected →
+  pub confirmed_absent : (op : Op) (key : ℕ) (place : At) (expected : ℕ) →
+      Accepts start (know_after start run p) (ConfirmAbsent op key place expected) →
+      found start (world_after start run) (ConfirmAbsent op key place expected) ≡ expected →
       set_after (opening_keys start) (world_after start run).calls key ≡ false
-  confirmed_absent op key at expected accepts q = chains.confirmed_absent agrees p op key at expected accepts q
+  confirmed_absent op key place expected accepts q = chains.confirmed_absent agrees p op key place expected accepts q
 
   -- a known unmarked link stands at its place, and known marked links lead on from it: a key that stands behind the
   -- place and before what the last of these links names isn't in the set
-  pub absent_behind_marked : (at : At) (link last : Link) → Knows (know_after start run p) (LinkAt at link) →
-      link.mark ≡ false → link_at (world_after start run) at ≡ link → LeadsTo (know_after start run p) link last →
-      (key : ℕ) → StandsBehind start (know_after start run p) at key →
+  pub absent_behind_marked : (place : At) (link last : Link) → Knows (know_after start run p) (LinkAt place link) →
+      link.mark ≡ false → link_at (world_after start run) place ≡ link → LeadsTo (know_after start run p) link last →
+      (key : ℕ) → StandsBehind start (know_after start run p) place key →
       StandsBefore (know_after start run p) key last.slot →
       set_after (opening_keys start) (world_after start run).calls key ≡ false
-  absent_behind_marked at link last k m q leads key i j =
-      chains.absent_behind_marked agrees p at link last k m q leads key i j
+  absent_behind_marked place link last k m q leads key i j =
+      chains.absent_behind_marked agrees p place link last k m q leads key i j
 
 -- ---- at a moment of a run
 
 module _ (start : Start) (passes : ℕ) (moment run : List Event) (is : IsStart start) (ok : IsRun start passes run)
-    (p : ℕ) (at : At) (link : Link) (was : WasShown start moment run p at link) where
+    (p : ℕ) (place : At) (link : Link) (was : WasShown start moment run p place link) where
   ok_parts : IsRun start passes (moment ++ was.begins.0)
   ok_parts = let P : List Event → Type 0 = λ r. IsRun start passes r in subst P was.begins.1 ok
 
@@ -212,89 +212,91 @@ module _ (start : Start) (passes : ℕ) (moment run : List Event) (is : IsStart 
       subst P (sym was.begins.1) (run_grows start passes moment was.begins.0 is ok_parts)
 
   -- a key that is known at the place at the end was in the set at that moment
-  pub present_at_load : (key : ℕ) → KeyAt (know_after start run p) at key →
+  pub present_at_load : (key : ℕ) → KeyAt (know_after start run p) place key →
       set_after (opening_keys start) (world_after start moment).calls key ≡ true
   present_at_load key k =
-      loads.present_at_load then (run_agrees start passes run is ok) grown p at link was.epoch was.held was.shown
+      loads.present_at_load then (run_agrees start passes run is ok) grown p place link was.epoch was.held was.shown
       was.known was.unmarked key k
 
   -- and a value that is known there at the end was its value
-  pub value_at_load : (s key value : ℕ) → at ≡ Slot s → Knows (know_after start run p) (KeyOf s key) →
+  pub value_at_load : (s key value : ℕ) → place ≡ Slot s → Knows (know_after start run p) (KeyOf s key) →
       Knows (know_after start run p) (ValueOf s value) →
       values_after (opening_payloads start) (world_after start moment).calls key ≡ payload_kept start (Some value)
   value_at_load s key value e k m =
-      loads.value_at_load then (run_agrees start passes run is ok) grown p at link was.epoch was.held was.shown
+      loads.value_at_load then (run_agrees start passes run is ok) grown p place link was.epoch was.held was.shown
       was.known was.unmarked s key value e k m
 
   -- a key that stands behind the place and before what the link names, by what is known at the end, wasn't in the
   -- set at that moment
-  pub absent_at_load : (key : ℕ) → StandsBehind start (know_after start run p) at key →
+  pub absent_at_load : (key : ℕ) → StandsBehind start (know_after start run p) place key →
       StandsBefore (know_after start run p) key link.slot →
       set_after (opening_keys start) (world_after start moment).calls key ≡ false
   absent_at_load key i j =
-      loads.absent_at_load then (run_agrees start passes run is ok) grown p at link was.epoch was.held was.shown
+      loads.absent_at_load then (run_agrees start passes run is ok) grown p place link was.epoch was.held was.shown
       was.known was.unmarked key i j
 
   -- no marked incarnation of such a key was in a list at that moment but one that was replaced
-  pub none_marked_here : (key : ℕ) → KeyAt (know_after start run p) at key →
+  pub none_marked_here : (key : ℕ) → KeyAt (know_after start run p) place key →
       NoneMarked (incarnations_after start moment) key
   none_marked_here key k =
-      loads.none_marked_here_then then (run_agrees start passes run is ok) grown p at link was.epoch was.held was.shown
+      loads.none_marked_here_then then (run_agrees start passes run is ok) grown p place link was.epoch was.held
+      was.shown
       was.known was.unmarked key k
 
-  pub none_marked_between : (key : ℕ) → StandsBehind start (know_after start run p) at key →
+  pub none_marked_between : (key : ℕ) → StandsBehind start (know_after start run p) place key →
       StandsBefore (know_after start run p) key link.slot → NoneMarked (incarnations_after start moment) key
   none_marked_between key i j =
-      loads.none_marked_between_then then (run_agrees start passes run is ok) grown p at link was.epoch was.held
+      loads.none_marked_between_then then (run_agrees start passes run is ok) grown p place link was.epoch was.held
       was.shown was.known was.unmarked key i j
 
   -- nor one of the key of a slot whose incarnation was removed and not replaced, and whose known marked link names
   -- what the link names
-  pub none_marked_skipped : (s key : ℕ) (frozen : Link) → StandsBehind start (know_after start run p) at key →
+  pub none_marked_skipped : (s key : ℕ) (frozen : Link) → StandsBehind start (know_after start run p) place key →
       Knows (know_after start run p) (LinkAt (Slot s) frozen) → frozen.mark ≡ true → frozen.slot ≡ link.slot →
       Knows (know_after start run p) (KeyOf s key) →
       IsTakenOut (incarnations_after start run) (know_after start run p).epoch s →
       NoneMarked (incarnations_after start moment) key
   none_marked_skipped s key frozen i k m same j out =
-      loads.none_marked_skipped_then then (run_agrees start passes run is ok) grown p at link was.epoch was.held
+      loads.none_marked_skipped_then then (run_agrees start passes run is ok) grown p place link was.epoch was.held
       was.shown was.known was.unmarked s key frozen i k m same j out
 
   -- nor was the incarnation that is held at a slot that stands behind the place, and whose known marked link names
   -- what the link names
-  pub skipped_unlisted : (s key c : ℕ) (frozen : Link) → StandsBehind start (know_after start run p) at key →
+  pub skipped_unlisted : (s key c : ℕ) (frozen : Link) → StandsBehind start (know_after start run p) place key →
       Knows (know_after start run p) (LinkAt (Slot s) frozen) → frozen.mark ≡ true → frozen.slot ≡ link.slot →
       Knows (know_after start run p) (KeyOf s key) →
       IsHeldIncarnation (incarnations_after start run) (know_after start run p).epoch s c →
       IsListed ((incarnations_after start moment).state c) → ⊥
   skipped_unlisted s key c frozen i k m same j h l =
-      loads.skipped_unlisted_then then (run_agrees start passes run is ok) grown p at link was.epoch was.held was.shown
+      loads.skipped_unlisted_then then (run_agrees start passes run is ok) grown p place link was.epoch was.held
+      was.shown
       was.known was.unmarked s key c frozen i k m same j h l
 
   -- nor was one of a key between the place and what the link names
-  pub none_listed : (key c : ℕ) → StandsBehind start (know_after start run p) at key →
+  pub none_listed : (key c : ℕ) → StandsBehind start (know_after start run p) place key →
       StandsBefore (know_after start run p) key link.slot → IsListed ((incarnations_after start moment).state c) →
       (incarnations_after start moment).key c ≡ key → ⊥
   none_listed key c i j l e =
-      loads.none_listed_then then (run_agrees start passes run is ok) grown p at link was.epoch was.held was.shown
+      loads.none_listed_then then (run_agrees start passes run is ok) grown p place link was.epoch was.held was.shown
       was.known was.unmarked key c i j l e
 
   -- where the link names a node of a known key, no node of the key that was in a list at that moment stands ahead
   -- of that one
-  pub named_first : (s key c : ℕ) → StandsBehind start (know_after start run p) at key → link.slot ≡ Some s →
+  pub named_first : (s key c : ℕ) → StandsBehind start (know_after start run p) place key → link.slot ≡ Some s →
       Knows (know_after start run p) (KeyOf s key) → IsListed ((incarnations_after start moment).state c) →
       (incarnations_after start moment).key c ≡ key →
       (i : ℕ) × IsHeldIncarnation (incarnations_after start run) (know_after start run p).epoch s i ×
       ((incarnations_after start run).rank i ≤ (incarnations_after start run).rank c)
   named_first s key c i q j l e =
-      loads.named_first_then then (run_agrees start passes run is ok) grown p at link was.epoch was.held was.shown
+      loads.named_first_then then (run_agrees start passes run is ok) grown p place link was.epoch was.held was.shown
       was.known was.unmarked s key c i q j l e
 
   -- and where the place is a slot of the key, each node of the key that was marked at that moment stands ahead of
   -- the one there
-  pub marked_ahead : (s key c : ℕ) → at ≡ Slot s → Knows (know_after start run p) (KeyOf s key) →
+  pub marked_ahead : (s key c : ℕ) → place ≡ Slot s → Knows (know_after start run p) (KeyOf s key) →
       (incarnations_after start moment).state c ≡ Marked → (incarnations_after start moment).key c ≡ key →
       (i : ℕ) × IsHeldIncarnation (incarnations_after start run) (know_after start run p).epoch s i ×
       ((incarnations_after start run).rank c < (incarnations_after start run).rank i)
   marked_ahead s key c q j m e =
-      loads.marked_ahead_then then (run_agrees start passes run is ok) grown p at link was.epoch was.held was.shown
+      loads.marked_ahead_then then (run_agrees start passes run is ok) grown p place link was.epoch was.held was.shown
       was.known was.unmarked s key c q j m e

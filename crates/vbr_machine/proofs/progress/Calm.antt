@@ -287,8 +287,8 @@ link_same {start} {a} {b} s g holder (Some d) low =
 
 -- a law of chronicles: where nothing changes the list of a bucket, an open place shows the link that it showed
 pub calm_shown : (start : Start) (keys : Keys) (bucket : ℕ) (a : Incarnations) (entries : List Entry) → Sound start a →
-    IsLawful start keys a entries → IsCalm start bucket a entries → (at : At) → IsOpenIn start a bucket at →
-    link_shown_at (incarnations_from start a entries) at ≡ link_shown_at a at
+    IsLawful start keys a entries → IsCalm start bucket a entries → (place : At) → IsOpenIn start a bucket place →
+    link_shown_at (incarnations_from start a entries) place ≡ link_shown_at a place
 calm_shown start keys bucket a entries s l calm (Head h) is =
     let b = incarnations_from start a entries in
     let g = grows_after start keys a entries s l in

@@ -81,8 +81,8 @@ shared_is_dead start (InHand p) key live fits = fits
 shared_is_dead start GivenUp key live fits = live
 shared_is_dead start Linked key live fits = fits
 shared_is_dead start Marked key live fits = fits
-shared_is_dead start (Unlinked p at) key live fits = fits
-shared_is_dead start (Stamped at stamp) key live fits = live
+shared_is_dead start (Unlinked p unlinked) key live fits = fits
+shared_is_dead start (Stamped unlinked stamp) key live fits = live
 
 -- the slot of a live incarnation isn't in the shared pool
 module _ {start : Start} {a : Incarnations} (sound : Sound start a) (s : ℕ) (shared : a.place s ≡ Shared) where

@@ -65,11 +65,11 @@ keyed_none start a pass c key bucket h al =
             (put_other a.key c key d ne)
 
 -- a marking leaves the node in its list
-removes_none : (start : Start) (a : Incarnations) (pass c bucket : ℕ) (at : At) →
+removes_none : (start : Start) (a : Incarnations) (pass c bucket : ℕ) (place : At) →
     Allowed start (opening_keys start) a pass (Removes c) →
-    behind start (becomes start a pass (Removes c)) bucket at ≡ behind start a bucket at
-removes_none start a pass c bucket at al =
-    behind_same start a (becomes start a pass (Removes c)) bucket at (λ s. same (a.last s)) refl refl refl
+    behind start (becomes start a pass (Removes c)) bucket place ≡ behind start a bucket place
+removes_none start a pass c bucket place al =
+    behind_same start a (becomes start a pass (Removes c)) bucket place (λ s. same (a.last s)) refl refl refl
   where
     same : (l : Option ℕ) → is_listed (state_shown (becomes start a pass (Removes c)) l) ≡ is_listed (state_shown a l)
     same None = refl
@@ -126,7 +126,7 @@ module _ (start : Start) (passes : ℕ) (run : List Event) (is : IsStart start) 
       ≤ behind start (incarnations_after start run) bucket (Head h)
   one ReadEpoch n l = same [] refl
   one (LoadStamp s) n l = same [] refl
-  one (LoadLink at) n l = same [] refl
+  one (LoadLink place) n l = same [] refl
   one (LoadBirth s) n l = same [] refl
   one (LoadKey s) n l = same [] refl
   one (LoadValue s) n l = same [] refl
@@ -183,9 +183,9 @@ module _ (start : Start) (passes : ℕ) (run : List Event) (is : IsStart start) 
   one (ConfirmPresent op s expected) n l =
       confirmed (found start (world_after start run) (ConfirmPresent op s expected) == expected)
       (call_of start p (know_after start run p) (ConfirmPresent op s expected))
-  one (ConfirmAbsent op key at expected) n l =
-      confirmed (found start (world_after start run) (ConfirmAbsent op key at expected) == expected)
-      (call_of start p (know_after start run p) (ConfirmAbsent op key at expected))
+  one (ConfirmAbsent op key place expected) n l =
+      confirmed (found start (world_after start run) (ConfirmAbsent op key place expected) == expected)
+      (call_of start p (know_after start run p) (ConfirmAbsent op key place expected))
 
   -- a law: a mark leaves as many nodes in each list
   pub mark_leaves : (s expected : ℕ) → Accepts start (know_after start run p) (Mark s expected) →

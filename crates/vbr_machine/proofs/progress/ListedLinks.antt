@@ -20,8 +20,8 @@ use Rattle.vbr_machine.proofs.reads.HeldReads.{same_pair}
 use Rattle.vbr_machine.proofs.reads.KnownReads.{good_link}
 
 -- the link that is stored in a slot in hand is shown at no place whose incarnation is linked
-aims_elsewhere : (start : Start) (a : Incarnations) (pass c : ℕ) (link : Link) (at : At) (of next : Option ℕ) →
-    IsPair a at of next → link_shown_at (becomes start a pass (Aims c link)) at ≡ link_shown_at a at
+aims_elsewhere : (start : Start) (a : Incarnations) (pass c : ℕ) (link : Link) (place : At) (of next : Option ℕ) →
+    IsPair a place of next → link_shown_at (becomes start a pass (Aims c link)) place ≡ link_shown_at a place
 aims_elsewhere start a pass c link (Head b) of next pair = refl
 aims_elsewhere start a pass c link (Slot s) of next pair =
     let b = becomes start a pass (Aims c link) in
@@ -31,30 +31,32 @@ aims_elsewhere start a pass c link (Slot s) of next pair =
 module _ (start : Start) (passes : ℕ) (run : List Event) (is : IsStart start) (ok : IsRun start passes run)
     (p : ℕ) where
   -- a law: a key that is stored leaves each link
-  pub key_leaves_links : (s key : ℕ) (at : At) →
-      link_shown_at (incarnations_after start (run ++ (record { pass = p; step = StoreKey s key }) ∷ [])) at
-      ≡ link_shown_at (incarnations_after start run) at
-  key_leaves_links s key at =
-      ap (λ a. link_shown_at a at) (incarnations_after-snoc start run (record { pass = p; step = StoreKey s key }))
+  pub key_leaves_links : (s key : ℕ) (place : At) →
+      link_shown_at (incarnations_after start (run ++ (record { pass = p; step = StoreKey s key }) ∷ [])) place
+      ≡ link_shown_at (incarnations_after start run) place
+  key_leaves_links s key place =
+      ap (λ a. link_shown_at a place) (incarnations_after-snoc start run (record { pass = p; step = StoreKey s key }))
 
   -- a law: a value that is stored leaves each link
-  pub value_leaves_links : (s value : ℕ) (at : At) →
-      link_shown_at (incarnations_after start (run ++ (record { pass = p; step = StoreValue s value }) ∷ [])) at
-      ≡ link_shown_at (incarnations_after start run) at
-  value_leaves_links s value at =
-      ap (λ a. link_shown_at a at) (incarnations_after-snoc start run (record { pass = p; step = StoreValue s value }))
+  pub value_leaves_links : (s value : ℕ) (place : At) →
+      link_shown_at (incarnations_after start (run ++ (record { pass = p; step = StoreValue s value }) ∷ [])) place
+      ≡ link_shown_at (incarnations_after start run) place
+  value_leaves_links s value place =
+      ap (λ a. link_shown_at a place)
+      (incarnations_after-snoc start run (record { pass = p; step = StoreValue s value }))
 
   -- a law: a link that is stored in a slot in hand leaves one that is known unmarked and stands
-  pub link_leaves_links : (s : ℕ) (next : Option ℕ) (at : At) (link : Link) →
-      Knows (know_after start run p) (LinkAt at link) → link.mark ≡ false →
-      link_shown_at (incarnations_after start run) at ≡ link →
-      link_shown_at (incarnations_after start (run ++ (record { pass = p; step = StoreLink s next }) ∷ [])) at ≡ link
-  link_leaves_links s next at link known unmarked shown =
+  pub link_leaves_links : (s : ℕ) (next : Option ℕ) (place : At) (link : Link) →
+      Knows (know_after start run p) (LinkAt place link) → link.mark ≡ false →
+      link_shown_at (incarnations_after start run) place ≡ link →
+      link_shown_at (incarnations_after start (run ++ (record { pass = p; step = StoreLink s next }) ∷ [])) place ≡ link
+  link_leaves_links s next place link known unmarked shown =
       let a = incarnations_after start run in
       let agrees = run_agrees start passes run is ok in
-      let g = good_link (agrees.knows p) at link known in
-      let pair = same_pair agrees.sound (know_after start run p).epoch at link g.0 g.1 g.2 unmarked shown in
-      ap (λ b. link_shown_at b at) (incarnations_after-snoc start run (record { pass = p; step = StoreLink s next }))
-      ∙ aims_elsewhere start a p (last_in a s) (link_written ((world_after start run).know p) (StoreLink s next)) at g.0
+      let g = good_link (agrees.knows p) place link known in
+      let pair = same_pair agrees.sound (know_after start run p).epoch place link g.0 g.1 g.2 unmarked shown in
+      ap (λ b. link_shown_at b place) (incarnations_after-snoc start run (record { pass = p; step = StoreLink s next }))
+      ∙ aims_elsewhere start a p (last_in a s) (link_written ((world_after start run).know p) (StoreLink s next))
+      place g.0
       g.1 pair
       ∙ shown

@@ -125,12 +125,12 @@ IsPlaceOf start a (Head b) bucket = b ≡ bucket
 IsPlaceOf start a (Slot t) bucket = bucket_of start.shape (key_in_slot a t) ≡ bucket
 
 -- a node is the next behind a place: it stands ahead of each other node of the list that stands behind the place
-pub record IsNextOf (start : Start) (a : Incarnations) (bucket : ℕ) (at : At) (n : ℕ) : Type 0 where
+pub record IsNextOf (start : Start) (a : Incarnations) (bucket : ℕ) (place : At) (n : ℕ) : Type 0 where
   pub listed : IsListed (a.state n)
   pub of_bucket : bucket_of start.shape (a.key n) ≡ bucket
-  pub above : is_above a at (a.key n) (a.rank n) ≡ true
+  pub above : is_above a place (a.key n) (a.rank n) ≡ true
   pub others : (d : ℕ) → IsListed (a.state d) → bucket_of start.shape (a.key d) ≡ bucket → d ≢ n →
-      is_above a at (a.key d) (a.rank d) ≡ is_lower (a.key n) (a.rank n) (a.key d) (a.rank d)
+      is_above a place (a.key d) (a.rank d) ≡ is_lower (a.key n) (a.rank n) (a.key d) (a.rank d)
 
 -- an incarnation doesn't stand ahead of another
 abbrev pub NotOrderedBefore : (ℕ → ℕ) → (ℕ → ℕ) → ℕ → ℕ → Type 0
@@ -216,7 +216,8 @@ abbrev pub IsFollowed : Incarnations → At → Option ℕ → Option ℕ → Ty
 IsFollowed a (Head b) of next = (of ≡ None) × (a.first b ≡ next)
 IsFollowed a (Slot s) of next = (c : ℕ) × (of ≡ Some c) × (a.last s ≡ Some c) × IsListed (a.state c) × (a.next c ≡ next)
 
-pub pair_followed : (a : Incarnations) (at : At) (of next : Option ℕ) → IsPair a at of next → IsFollowed a at of next
+pub pair_followed : (a : Incarnations) (place : At) (of next : Option ℕ) → IsPair a place of next →
+    IsFollowed a place of next
 pair_followed a (Head b) of next p = p
 pair_followed a (Slot s) of next p = (p.0, p.1, p.2, rw p.3 tt, p.4)
 
@@ -231,14 +232,14 @@ version_of_listed a c (Stamped u r) l = absurd l
 
 -- a checked link that stands there again, of a node that is in a list, stands for what it was checked with
 pub same_followed : {start : Start} {a : Incarnations} → Sound start a →
-    (e : ℕ) (at : At) (link : Link) (of names : Option ℕ) → IsGoodLink a e at link of names →
-    (link.mark ≡ false) ⊎ (is_there a at ≡ true) → link_shown_at a at ≡ link → IsFollowed a at of names
-same_followed {start} {a} sound e at link of names g (inl unmarked) shown =
-    pair_followed a at of names (same_pair sound e at link of names g unmarked shown)
-same_followed {start} {a} sound e at link of names g (inr there) shown = either (cases_Bool link.mark)
+    (e : ℕ) (place : At) (link : Link) (of names : Option ℕ) → IsGoodLink a e place link of names →
+    (link.mark ≡ false) ⊎ (is_there a place ≡ true) → link_shown_at a place ≡ link → IsFollowed a place of names
+same_followed {start} {a} sound e place link of names g (inl unmarked) shown =
+    pair_followed a place of names (same_pair sound e place link of names g unmarked shown)
+same_followed {start} {a} sound e place link of names g (inr there) shown = either (cases_Bool link.mark)
   where
-    marked_one : (at : At) (of : Option ℕ) → IsGoodLink a e at link of names → is_there a at ≡ true →
-        link_shown_at a at ≡ link → link.mark ≡ true → IsFollowed a at of names
+    marked_one : (place : At) (of : Option ℕ) → IsGoodLink a e place link of names → is_there a place ≡ true →
+        link_shown_at a place ≡ link → link.mark ≡ true → IsFollowed a place of names
     marked_one (Head b) None g there shown m = absurd (g.frozen m)
     marked_one (Head b) (Some c) g there shown m = absurd g.place
     marked_one (Slot v) None g there shown m = absurd g.place
@@ -257,13 +258,14 @@ same_followed {start} {a} sound e at link of names g (inr there) shown = either 
         let P : ℕ → Type 0 = λ n. IsListed (a.state n) in
         (c, refl, node.1.last ∙ ap Some same, subst P same node.1.listed, (g.frozen m).1)
 
-    either : (link.mark ≡ true) ⊎ (link.mark ≡ false) → IsFollowed a at of names
-    either (inl m) = marked_one at of g there shown m
-    either (inr unmarked) = pair_followed a at of names (same_pair sound e at link of names g unmarked shown)
+    either : (link.mark ≡ true) ⊎ (link.mark ≡ false) → IsFollowed a place of names
+    either (inl m) = marked_one place of g there shown m
+    either (inr unmarked) = pair_followed a place of names (same_pair sound e place link of names g unmarked shown)
 
 pub next_of_followed : {start : Start} {a : Incarnations} → Sound start a →
-    (bucket : ℕ) (at : At) (of : Option ℕ) (n : ℕ) → IsFollowed a at of (Some n) → IsPlaceOf start a at bucket →
-    IsNextOf start a bucket at n
+    (bucket : ℕ) (place : At) (of : Option ℕ) (n : ℕ) → IsFollowed a place of (Some n) →
+    IsPlaceOf start a place bucket →
+    IsNextOf start a bucket place n
 next_of_followed {start} {a} sound bucket (Head b) of n p is =
     let f = sound.lists.first_in b n p.1 in
     record {
@@ -296,16 +298,17 @@ not_below_itself : (k r : ℕ) → is_lower k r k r ≡ false
 not_below_itself k r = lower_not (λ s. k) (λ s. r) 0 0 (inr (refl, omega arith))
 
 -- behind the next there is one node fewer
-pub one_fewer : {start : Start} {a : Incarnations} → Sound start a → Fits start a → (bucket : ℕ) (at : At) (n : ℕ) →
-    IsNextOf start a bucket at n → behind start a bucket at ≡ suc (behind start a bucket (Slot (a.slot n)))
-one_fewer {start} {a} sound fits bucket at n next =
+pub one_fewer : {start : Start} {a : Incarnations} → Sound start a → Fits start a → (bucket : ℕ) (place : At) (n : ℕ) →
+    IsNextOf start a bucket place n → behind start a bucket place ≡ suc (behind start a bucket (Slot (a.slot n)))
+one_fewer {start} {a} sound fits bucket place n next =
     let there = stands_there sound fits n next.listed in
-    count_falls (is_behind start a bucket at) (is_behind start a bucket (Slot (a.slot n))) start.shape.slots (a.slot n)
+    count_falls (is_behind start a bucket place) (is_behind start a bucket (Slot (a.slot n))) start.shape.slots
+    (a.slot n)
     there.0 (passes there.1) (fails there.1) (λ s l ne. others s ne there.1)
   where
-    passes : Stands a (a.slot n) n → is_behind start a bucket at (a.slot n) ≡ true
+    passes : Stands a (a.slot n) n → is_behind start a bucket place (a.slot n) ≡ true
     passes st = and_from _ _ (in_list_is {start = start} (record { stands = st; of_bucket = next.of_bucket }))
-        ((λ i. is_above a at (stands_key st i) (stands_rank st i)) ∙ next.above)
+        ((λ i. is_above a place (stands_key st i) (stands_rank st i)) ∙ next.above)
 
     fails : Stands a (a.slot n) n → is_behind start a bucket (Slot (a.slot n)) (a.slot n) ≡ false
     fails st = ap (λ b. is_in_list start a bucket (a.slot n) && b)
@@ -317,18 +320,18 @@ one_fewer {start} {a} sound fits bucket at n next =
         right false = refl
 
     others : (s : ℕ) → s ≢ a.slot n → Stands a (a.slot n) n →
-        is_behind start a bucket at s ≡ is_behind start a bucket (Slot (a.slot n)) s
+        is_behind start a bucket place s ≡ is_behind start a bucket (Slot (a.slot n)) s
     others s ne st = go (cases_Bool (is_in_list start a bucket s))
       where
         go : (is_in_list start a bucket s ≡ true) ⊎ (is_in_list start a bucket s ≡ false) →
-            is_behind start a bucket at s ≡ is_behind start a bucket (Slot (a.slot n)) s
+            is_behind start a bucket place s ≡ is_behind start a bucket (Slot (a.slot n)) s
         go (inr outside) = and_left _ _ outside ∙ sym (and_left _ _ outside)
         go (inl inside) =
             let node = in_list_from start a bucket s inside in
             let other : node.0 ≢ n =
             λ e. ne (slot_is_one sound s (a.slot n) n (subst (λ (d : ℕ). Stands a s d) e node.1.stands) st) in
             ap (λ b. is_in_list start a bucket s && b)
-            ((λ i. is_above a at (stands_key node.1.stands i) (stands_rank node.1.stands i))
+            ((λ i. is_above a place (stands_key node.1.stands i) (stands_rank node.1.stands i))
             ∙ next.others node.0 node.1.stands.listed node.1.of_bucket other
             ∙ (λ i. is_lower (sym (stands_key st) i) (sym (stands_rank st) i) (sym (stands_key node.1.stands) i)
             (sym (stands_rank node.1.stands) i)))
@@ -336,11 +339,11 @@ one_fewer {start} {a} sound fits bucket at n next =
 -- ---- where a node is unlinked, and where none is
 
 -- nodes that are in lists as before stand behind a place as before
-pub behind_same : (start : Start) (a b : Incarnations) (bucket : ℕ) (at : At) →
+pub behind_same : (start : Start) (a b : Incarnations) (bucket : ℕ) (place : At) →
     ((s : ℕ) → is_listed (state_in b s) ≡ is_listed (state_in a s)) → b.key ≡ a.key → b.rank ≡ a.rank →
-    b.last ≡ a.last → behind start b bucket at ≡ behind start a bucket at
-behind_same start a b bucket at listed key rank last =
-    count_same (is_behind start b bucket at) (is_behind start a bucket at) start.shape.slots (λ s l. same s)
+    b.last ≡ a.last → behind start b bucket place ≡ behind start a bucket place
+behind_same start a b bucket place listed key rank last =
+    count_same (is_behind start b bucket place) (is_behind start a bucket place) start.shape.slots (λ s l. same s)
   where
     keys : (s : ℕ) → key_in_slot b s ≡ key_in_slot a s
     keys s = (λ i. key_shown (record a { key = key i }) (last i s))
@@ -348,13 +351,14 @@ behind_same start a b bucket at listed key rank last =
     ranks : (s : ℕ) → rank_in_slot b s ≡ rank_in_slot a s
     ranks s = (λ i. rank_shown (record a { rank = rank i }) (last i s))
 
-    above : (at : At) (key low : ℕ) → is_above b at key low ≡ is_above a at key low
+    above : (place : At) (key low : ℕ) → is_above b place key low ≡ is_above a place key low
     above (Head h) key low = refl
     above (Slot t) key low = (λ i. is_lower (keys t i) (ranks t i) key low)
 
-    same : (s : ℕ) → is_behind start b bucket at s ≡ is_behind start a bucket at s
-    same s = (λ i. (listed s i && (bucket_of start.shape (keys s i) == bucket)) && is_above b at (keys s i) (ranks s i))
-        ∙ ap (λ c. is_in_list start a bucket s && c) (above at (key_in_slot a s) (rank_in_slot a s))
+    same : (s : ℕ) → is_behind start b bucket place s ≡ is_behind start a bucket place s
+    same s = (λ i. (listed s i && (bucket_of start.shape (keys s i) == bucket))
+        && is_above b place (keys s i) (ranks s i))
+        ∙ ap (λ c. is_in_list start a bucket s && c) (above place (key_in_slot a s) (rank_in_slot a s))
 
 -- one that is in no list comes into another state in which it is in none
 put_unlisted : (state : ℕ → State) (c : ℕ) (st : State) (j : ℕ) → is_listed (state c) ≡ false → is_listed st ≡ false →
@@ -371,12 +375,12 @@ unlisted_shown a b c st None e x y = refl
 unlisted_shown a b c st (Some d) e x y = ap (λ f. is_listed (f d)) e ∙ put_unlisted a.state c st d x y
 
 -- a stamping leaves the lists as they were
-pub stamps_none : (start : Start) (keys : Keys) (a : Incarnations) (pass c stamp bucket : ℕ) (at : At) →
+pub stamps_none : (start : Start) (keys : Keys) (a : Incarnations) (pass c stamp bucket : ℕ) (place : At) →
     Allowed start keys a pass (Stamps c stamp) →
-    behind start (becomes start a pass (Stamps c stamp)) bucket at ≡ behind start a bucket at
-stamps_none start keys a pass c stamp bucket at h =
+    behind start (becomes start a pass (Stamps c stamp)) bucket place ≡ behind start a bucket place
+stamps_none start keys a pass c stamp bucket place h =
     let b = becomes start a pass (Stamps c stamp) in
-    behind_same start a b bucket at
+    behind_same start a b bucket place
     (λ s. unlisted_shown a b c (Stamped (unlinked_at (a.state c)) stamp) (a.last s) refl (not_listed (a.state c) h)
     refl) refl refl refl
   where
@@ -385,11 +389,12 @@ stamps_none start keys a pass c stamp bucket at h =
 
 -- behind each place that a node lies behind one node fewer stands once it is unlinked
 pub unlinks_one : {start : Start} {a : Incarnations} → Sound start a → Fits start a →
-    (pass bucket c : ℕ) (at from : At) (of : Option ℕ) → IsFollowed a at of (Some c) → IsPlaceOf start a at bucket →
+    (pass bucket c : ℕ) (place from : At) (of : Option ℕ) → IsFollowed a place of (Some c) →
+    IsPlaceOf start a place bucket →
     is_above a from (a.key c) (a.rank c) ≡ true →
-    behind start a bucket from ≡ suc (behind start (becomes start a pass (Unlinks c (before_at a at))) bucket from)
-unlinks_one {start} {a} sound fits pass bucket c at from of followed is higher =
-    let next = next_of_followed sound bucket at of c followed is in
+    behind start a bucket from ≡ suc (behind start (becomes start a pass (Unlinks c (before_at a place))) bucket from)
+unlinks_one {start} {a} sound fits pass bucket c place from of followed is higher =
+    let next = next_of_followed sound bucket place of c followed is in
     let there = stands_there sound fits c next.listed in
     count_falls (is_behind start a bucket from) (is_behind start b bucket from) start.shape.slots (a.slot c) there.0
     (and_from _ _ (in_list_is {start = start} (record { stands = there.1; of_bucket = next.of_bucket }))
@@ -398,7 +403,7 @@ unlinks_one {start} {a} sound fits pass bucket c at from of followed is higher =
     (λ s l ne. sym (others s ne))
   where
     b : Incarnations
-    b = becomes start a pass (Unlinks c (before_at a at))
+    b = becomes start a pass (Unlinks c (before_at a place))
 
     fails : Stands a (a.slot c) c → is_behind start b bucket from (a.slot c) ≡ false
     fails st = and_left _ _
@@ -428,10 +433,10 @@ count_le f g (suc n) h = le_if (f n) (g n) (count_below f n) (count_below g n) (
     le_if false false m n h l = l
 
 -- an unlinking adds none to what stands behind a place
-pub unlinks_add_none : (start : Start) (a : Incarnations) (pass bucket c : ℕ) (before : Before) (at : At) →
-    behind start (becomes start a pass (Unlinks c before)) bucket at ≤ behind start a bucket at
-unlinks_add_none start a pass bucket c before at =
-    count_le (is_behind start b bucket at) (is_behind start a bucket at) start.shape.slots was
+pub unlinks_add_none : (start : Start) (a : Incarnations) (pass bucket c : ℕ) (before : Before) (place : At) →
+    behind start (becomes start a pass (Unlinks c before)) bucket place ≤ behind start a bucket place
+unlinks_add_none start a pass bucket c before place =
+    count_le (is_behind start b bucket place) (is_behind start a bucket place) start.shape.slots was
   where
     b : Incarnations
     b = becomes start a pass (Unlinks c before)
@@ -446,11 +451,11 @@ unlinks_add_none start a pass bucket c before at =
             rw (is, put_here a.state c (Unlinked pass a.epoch)) at e in cc)
         go (inr ne) = ap is_listed (sym (put_other a.state c (Unlinked pass a.epoch) d ne)) ∙ e
 
-    was : (s : ℕ) → is_behind start b bucket at s ≡ true → is_behind start a bucket at s ≡ true
+    was : (s : ℕ) → is_behind start b bucket place s ≡ true → is_behind start a bucket place s ≡ true
     was s e =
         let x = and_parts _ _ e in
         let y = and_parts _ _ x.0 in
-        and_from _ _ (and_from _ _ (still (a.last s) y.0) y.1) (same at (key_in_slot a s) (rank_in_slot a s) x.1)
+        and_from _ _ (and_from _ _ (still (a.last s) y.0) y.1) (same place (key_in_slot a s) (rank_in_slot a s) x.1)
       where
         same : (at2 : At) (key rank : ℕ) → is_above b at2 key rank ≡ true → is_above a at2 key rank ≡ true
         same (Head h) key rank e = e
@@ -459,21 +464,21 @@ unlinks_add_none start a pass bucket c before at =
 -- ---- links
 
 -- a stamping leaves the links that are shown
-pub stamps_links : (start : Start) (keys : Keys) (a : Incarnations) (pass c stamp : ℕ) (at : At) →
+pub stamps_links : (start : Start) (keys : Keys) (a : Incarnations) (pass c stamp : ℕ) (place : At) →
     Allowed start keys a pass (Stamps c stamp) →
-    link_shown_at (becomes start a pass (Stamps c stamp)) at ≡ link_shown_at a at
+    link_shown_at (becomes start a pass (Stamps c stamp)) place ≡ link_shown_at a place
 stamps_links start keys a pass c stamp (Head h) al = refl
 stamps_links start keys a pass c stamp (Slot s) al = shown (a.last s)
   where
     stamped_link : (st : State) (x y : ℕ) → MayStamp st pass stamp a.epoch →
         link_in_state a c (Stamped x y) ≡ link_in_state a c st
-    stamped_link (Unlinked by at) x y m = refl
+    stamped_link (Unlinked by unlinked) x y m = refl
     stamped_link Unborn x y m = absurd m
     stamped_link (InHand by) x y m = absurd m
     stamped_link GivenUp x y m = absurd m
     stamped_link Linked x y m = absurd m
     stamped_link Marked x y m = absurd m
-    stamped_link (Stamped at by) x y m = absurd m
+    stamped_link (Stamped unlinked by) x y m = absurd m
 
     shown : (l : Option ℕ) → link_shown (becomes start a pass (Stamps c stamp)) l ≡ link_shown a l
     shown None = refl
@@ -488,8 +493,9 @@ stamps_links start keys a pass c stamp (Slot s) al = shown (a.last s)
         go (inr ne) = ap (link_in_state a d) (put_other a.state c (Stamped (unlinked_at (a.state c)) stamp) d ne)
 
 -- and so does the giving up of an incarnation
-pub gives_up_links : (start : Start) (keys : Keys) (a : Incarnations) (pass c : ℕ) (at : At) →
-    Allowed start keys a pass (GivesUp c) → link_shown_at (becomes start a pass (GivesUp c)) at ≡ link_shown_at a at
+pub gives_up_links : (start : Start) (keys : Keys) (a : Incarnations) (pass c : ℕ) (place : At) →
+    Allowed start keys a pass (GivesUp c) → link_shown_at (becomes start a pass (GivesUp c)) place
+    ≡ link_shown_at a place
 gives_up_links start keys a pass c (Head h) al = refl
 gives_up_links start keys a pass c (Slot s) al = shown (a.last s)
   where
@@ -504,12 +510,13 @@ gives_up_links start keys a pass c (Slot s) al = shown (a.last s)
 -- ---- what a birth leaves
 
 -- an incarnation that is given up was in no list
-pub gives_up_none : (start : Start) (keys : Keys) (a : Incarnations) (pass c bucket : ℕ) (at : At) →
+pub gives_up_none : (start : Start) (keys : Keys) (a : Incarnations) (pass c bucket : ℕ) (place : At) →
     Allowed start keys a pass (GivesUp c) →
-    behind start (becomes start a pass (GivesUp c)) bucket at ≡ behind start a bucket at
-gives_up_none start keys a pass c bucket at h =
+    behind start (becomes start a pass (GivesUp c)) bucket place ≡ behind start a bucket place
+gives_up_none start keys a pass c bucket place h =
     let b = becomes start a pass (GivesUp c) in
-    behind_same start a b bucket at (λ s. unlisted_shown a b c GivenUp (a.last s) refl (ap is_listed h) refl) refl refl
+    behind_same start a b bucket place (λ s. unlisted_shown a b c GivenUp (a.last s) refl (ap is_listed h) refl) refl
+    refl
     refl
 
 -- a slot that may be born in shows no node of a list

@@ -42,15 +42,16 @@ use Rattle.vbr_machine.specs.declared.knowledge.Holding.TheVariants.{Free, Unlin
 -- ---- a place in a list that is held in a bucket, and shows its known link
 
 -- the incarnation there, and what follows it, both in the bucket
-pub record StandsIn (start : Start) (a : Incarnations) (epoch bucket : ℕ) (at : At) (link : Link) : Type 0 where
+pub record StandsIn (start : Start) (a : Incarnations) (epoch bucket : ℕ) (holder : At) (link : Link) : Type 0 where
   pub of : Option ℕ
   pub names : Option ℕ
-  pub followed : IsFollowed a at of names
+  pub followed : IsFollowed a holder of names
   pub next : IsHeldNext a epoch link.slot names
-  pub place : IsPlaceOf start a at bucket
+  pub place : IsPlaceOf start a holder bucket
 
-place_of_bucket : (start : Start) (a : Incarnations) (epoch bucket : ℕ) (at : At) (of names : Option ℕ) →
-    IsFollowed a at of names → IsHeldAt a epoch at of → IsOfBucket start a epoch at bucket → IsPlaceOf start a at bucket
+place_of_bucket : (start : Start) (a : Incarnations) (epoch bucket : ℕ) (place : At) (of names : Option ℕ) →
+    IsFollowed a place of names → IsHeldAt a epoch place of → IsOfBucket start a epoch place bucket →
+    IsPlaceOf start a place bucket
 place_of_bucket start a epoch bucket (Head b) of names pair held is = is
 place_of_bucket start a epoch bucket (Slot t) None names pair held is = absurd held
 place_of_bucket start a epoch bucket (Slot t) (Some c) names pair held is =
@@ -65,50 +66,51 @@ named_next a epoch s (Some t) None q h = absurd h
 named_next a epoch s (Some t) (Some n) q h = (n, refl, h.slot ∙ (let e : t ≡ s = cc in e))
 
 module _ (start : Start) (passes : ℕ) (run : List Event) (is : IsStart start) (ok : IsRun start passes run) (p : ℕ)
-    (bucket : ℕ) (at : At) (link : Link)
-    (known : Knows (know_after start run p) (LinkAt at link))
-    (there : (link.mark ≡ false) ⊎ (is_there (incarnations_after start run) at ≡ true))
-    (shown : link_shown_at (incarnations_after start run) at ≡ link)
-    (inside : HeldIn (know_after start run p) at bucket) where
+    (bucket : ℕ) (place : At) (link : Link)
+    (known : Knows (know_after start run p) (LinkAt place link))
+    (there : (link.mark ≡ false) ⊎ (is_there (incarnations_after start run) place ≡ true))
+    (shown : link_shown_at (incarnations_after start run) place ≡ link)
+    (inside : HeldIn (know_after start run p) place bucket) where
   abbrev a : Incarnations
   a = incarnations_after start run
 
   pub agrees : Agrees start (world_after start run) (incarnations_after start run) (notes_after start run)
   agrees = run_agrees start passes run is ok
 
-  pub stands_in_bucket : StandsIn start (incarnations_after start run) (know_after start run p).epoch bucket at link
+  pub stands_in_bucket : StandsIn start (incarnations_after start run) (know_after start run p).epoch bucket place link
   stands_in_bucket =
-      let g = good_link (agrees.knows p) at link known in
+      let g = good_link (agrees.knows p) place link known in
       let e = (know_after start run p).epoch in
-      let followed = same_followed agrees.sound e at link g.0 g.1 g.2 there shown in
+      let followed = same_followed agrees.sound e place link g.0 g.1 g.2 there shown in
       record {
         of = g.0;
         names = g.1;
         followed = followed;
         next = g.2.next;
-        place = place_of_bucket start a e bucket at g.0 g.1 followed g.2.place
-            (place_in_bucket agrees.sound (agrees.knows p) (forms.ordered start passes run is ok p) at bucket inside);
+        place = place_of_bucket start a e bucket place g.0 g.1 followed g.2.place
+            (place_in_bucket agrees.sound (agrees.knows p) (forms.ordered start passes run is ok p) place bucket
+            inside);
       }
 
   -- the incarnation in the slot that the link names is the next behind the place
   next_named : (s : ℕ) (q : link.slot ≡ Some s) →
-      IsNextOf start (incarnations_after start run) bucket at
+      IsNextOf start (incarnations_after start run) bucket place
       (named_next (incarnations_after start run) (know_after start run p).epoch s link.slot stands_in_bucket.names q
       stands_in_bucket.next).0
   next_named s q =
       let x = stands_in_bucket in
       let n = named_next a (know_after start run p).epoch s link.slot x.names q x.next in
-      let P : Option ℕ → Type 0 = λ m. IsFollowed a at x.of m in
-      next_of_followed agrees.sound bucket at x.of n.0 (subst P n.1 x.followed) x.place
+      let P : Option ℕ → Type 0 = λ m. IsFollowed a place x.of m in
+      next_of_followed agrees.sound bucket place x.of n.0 (subst P n.1 x.followed) x.place
 
   -- a law: behind the slot that the link names stands one node fewer than behind the place
   pub one_fewer_behind : (s : ℕ) → link.slot ≡ Some s →
-      behind start (incarnations_after start run) bucket at
+      behind start (incarnations_after start run) bucket place
       ≡ suc (behind start (incarnations_after start run) bucket (Slot s))
   one_fewer_behind s q =
       let x = stands_in_bucket in
       let n = named_next a (know_after start run p).epoch s link.slot x.names q x.next in
-      one_fewer agrees.sound agrees.fits bucket at n.0 (next_named s q)
+      one_fewer agrees.sound agrees.fits bucket place n.0 (next_named s q)
       ∙ ap (λ t. suc (behind start a bucket (Slot t))) n.2
 
   -- a law: the slot that the link names is in a list
@@ -122,19 +124,20 @@ module _ (start : Start) (passes : ℕ) (run : List Event) (is : IsStart start) 
 
 -- an incarnation in hand that is given up was in no list: where what comes then leaves as many nodes behind a
 -- place, both do
-pub given_up_leaves : (start : Start) (a : Incarnations) (p s : ℕ) (what : Happening) (bucket : ℕ) (at : At)
+pub given_up_leaves : (start : Start) (a : Incarnations) (p s : ℕ) (what : Happening) (bucket : ℕ) (place : At)
     (holding : Option Holding) →
     ((b : Incarnations) → Sound start b → Allowed start (opening_keys start) b p what →
-    behind start (becomes start b p what) bucket at ≡ behind start b bucket at) →
+    behind start (becomes start b p what) bucket place ≡ behind start b bucket place) →
     Sound start a → IsLawful start (opening_keys start) a (after_giving_up a p s what holding) →
-    behind start (incarnations_from start a (after_giving_up a p s what holding)) bucket at ≡ behind start a bucket at
-given_up_leaves start a p s what bucket at None same sound l = same a sound l.0
-given_up_leaves start a p s what bucket at (Some (Free stamp)) same sound l = same a sound l.0
-given_up_leaves start a p s what bucket at (Some (Unlinked reread)) same sound l = same a sound l.0
-given_up_leaves start a p s what bucket at (Some (InHand known)) same sound l =
+    behind start (incarnations_from start a (after_giving_up a p s what holding)) bucket place
+    ≡ behind start a bucket place
+given_up_leaves start a p s what bucket place None same sound l = same a sound l.0
+given_up_leaves start a p s what bucket place (Some (Free stamp)) same sound l = same a sound l.0
+given_up_leaves start a p s what bucket place (Some (Unlinked reread)) same sound l = same a sound l.0
+given_up_leaves start a p s what bucket place (Some (InHand known)) same sound l =
     same (becomes start a p (GivesUp (last_in a s)))
     (sound_kept start (opening_keys start) a p (GivesUp (last_in a s)) sound l.0) l.1.0
-    ∙ gives_up_none start (opening_keys start) a p (last_in a s) bucket at l.0
+    ∙ gives_up_none start (opening_keys start) a p (last_in a s) bucket place l.0
 
 -- a birth leaves as many nodes in each list
 pub birth_leaves : (start : Start) (a : Incarnations) (p s birth bucket h : ℕ) (holding : Option Holding) →
@@ -146,20 +149,21 @@ birth_leaves start a p s birth bucket h holding sound l =
     (λ b sound al. bears_none start (opening_keys start) b p s birth bucket h sound al) sound l
 
 -- a raise leaves as many nodes behind each place, and the links that are shown
-pub raised_none : (start : Start) (a : Incarnations) (p s bucket : ℕ) (at : At) (holding : Option Holding) →
+pub raised_none : (start : Start) (a : Incarnations) (p s bucket : ℕ) (place : At) (holding : Option Holding) →
     Sound start a → IsLawful start (opening_keys start) a (after_giving_up a p s (Raises s) holding) →
-    behind start (incarnations_from start a (after_giving_up a p s (Raises s) holding)) bucket at
-    ≡ behind start a bucket at
-raised_none start a p s bucket at holding sound l =
-    given_up_leaves start a p s (Raises s) bucket at holding (λ b sound al. refl) sound l
+    behind start (incarnations_from start a (after_giving_up a p s (Raises s) holding)) bucket place
+    ≡ behind start a bucket place
+raised_none start a p s bucket place holding sound l =
+    given_up_leaves start a p s (Raises s) bucket place holding (λ b sound al. refl) sound l
 
-raised_links : (start : Start) (a : Incarnations) (p s : ℕ) (at : At) (holding : Option Holding) →
+raised_links : (start : Start) (a : Incarnations) (p s : ℕ) (place : At) (holding : Option Holding) →
     IsLawful start (opening_keys start) a (after_giving_up a p s (Raises s) holding) →
-    link_shown_at (incarnations_from start a (after_giving_up a p s (Raises s) holding)) at ≡ link_shown_at a at
-raised_links start a p s at None l = refl
-raised_links start a p s at (Some (Free stamp)) l = refl
-raised_links start a p s at (Some (Unlinked reread)) l = refl
-raised_links start a p s at (Some (InHand known)) l = gives_up_links start (opening_keys start) a p (last_in a s) at l.0
+    link_shown_at (incarnations_from start a (after_giving_up a p s (Raises s) holding)) place ≡ link_shown_at a place
+raised_links start a p s place None l = refl
+raised_links start a p s place (Some (Free stamp)) l = refl
+raised_links start a p s place (Some (Unlinked reread)) l = refl
+raised_links start a p s place (Some (InHand known)) l = gives_up_links start (opening_keys start) a p (last_in a s)
+    place l.0
 
 raised_epoch : (start : Start) (a : Incarnations) (p s : ℕ) (holding : Option Holding) →
     (incarnations_from start a (after_giving_up a p s (Raises s) holding)).epoch ≡ a.epoch
@@ -182,8 +186,8 @@ if_found : {A : Type 0} (n expected : ℕ) (x y : A) → n ≡ expected → (if 
 if_found n expected x y e = let t : (n == expected) ≡ true = eq-eqb n expected e in rw t refl
 
 -- what follows the place is the successor there
-followed_by : (a : Incarnations) (at : At) (of names : Option ℕ) (c : ℕ) → IsFollowed a at of names →
-    next_of a (before_at a at) ≡ Some c → IsFollowed a at of (Some c)
+followed_by : (a : Incarnations) (place : At) (of names : Option ℕ) (c : ℕ) → IsFollowed a place of names →
+    next_of a (before_at a place) ≡ Some c → IsFollowed a place of (Some c)
 followed_by a (Head b) of names c p q = (p.0, q)
 followed_by a (Slot t) of names c p q =
     let e : last_in a t ≡ p.0 = rw p.2 refl in
@@ -202,21 +206,23 @@ module _ (start : Start) (passes : ℕ) (run : List Event) (is : IsStart start) 
       accepts).0
 
   -- a stamp leaves as many nodes behind each place
-  pub stamp_leaves : (s stamp bucket : ℕ) (at : At) → Accepts start (know_after start run p) (StoreStamp s stamp) →
-      behind start (incarnations_after start (run ++ (record { pass = p; step = StoreStamp s stamp }) ∷ [])) bucket at
-      ≡ behind start (incarnations_after start run) bucket at
-  stamp_leaves s stamp bucket at accepts =
-      ap (λ a. behind start a bucket at)
+  pub stamp_leaves : (s stamp bucket : ℕ) (place : At) → Accepts start (know_after start run p) (StoreStamp s stamp) →
+      behind start (incarnations_after start (run ++ (record { pass = p; step = StoreStamp s stamp }) ∷ [])) bucket
+      place
+      ≡ behind start (incarnations_after start run) bucket place
+  stamp_leaves s stamp bucket place accepts =
+      ap (λ a. behind start a bucket place)
       (incarnations_after-snoc start run (record { pass = p; step = StoreStamp s stamp }))
-      ∙ stamps_none start (opening_keys start) b p (last_in b s) stamp bucket at (lawful (StoreStamp s stamp) accepts).0
+      ∙ stamps_none start (opening_keys start) b p (last_in b s) stamp bucket place
+      (lawful (StoreStamp s stamp) accepts).0
 
   -- and so does the return of a slot to the shared pool
-  pub raise_leaves : (s bucket : ℕ) (at : At) → Accepts start (know_after start run p) (Raise s) →
-      behind start (incarnations_after start (run ++ (record { pass = p; step = Raise s }) ∷ [])) bucket at
-      ≡ behind start (incarnations_after start run) bucket at
-  raise_leaves s bucket at accepts =
-      ap (λ a. behind start a bucket at) (incarnations_after-snoc start run (record { pass = p; step = Raise s }))
-      ∙ raised_none start b p s bucket at ((know_after start run p).own s) (run_agrees start passes run is ok).sound
+  pub raise_leaves : (s bucket : ℕ) (place : At) → Accepts start (know_after start run p) (Raise s) →
+      behind start (incarnations_after start (run ++ (record { pass = p; step = Raise s }) ∷ [])) bucket place
+      ≡ behind start (incarnations_after start run) bucket place
+  raise_leaves s bucket place accepts =
+      ap (λ a. behind start a bucket place) (incarnations_after-snoc start run (record { pass = p; step = Raise s }))
+      ∙ raised_none start b p s bucket place ((know_after start run p).own s) (run_agrees start passes run is ok).sound
       (lawful (Raise s) accepts)
 
   -- a won unlinking leaves one node fewer behind each place that the node lies behind
@@ -320,16 +326,17 @@ module _ (start : Start) (passes : ℕ) (run : List Event) (is : IsStart start) 
       ∙ raised_epoch start b p s ((know_after start run p).own s)
 
   -- and the links that are shown
-  pub stamp_links : (s stamp : ℕ) (at : At) → Accepts start (know_after start run p) (StoreStamp s stamp) →
-      link_shown_at (incarnations_after start (run ++ (record { pass = p; step = StoreStamp s stamp }) ∷ [])) at
-      ≡ link_shown_at (incarnations_after start run) at
-  stamp_links s stamp at accepts =
-      ap (λ a. link_shown_at a at) (incarnations_after-snoc start run (record { pass = p; step = StoreStamp s stamp }))
-      ∙ stamps_links start (opening_keys start) b p (last_in b s) stamp at (lawful (StoreStamp s stamp) accepts).0
+  pub stamp_links : (s stamp : ℕ) (place : At) → Accepts start (know_after start run p) (StoreStamp s stamp) →
+      link_shown_at (incarnations_after start (run ++ (record { pass = p; step = StoreStamp s stamp }) ∷ [])) place
+      ≡ link_shown_at (incarnations_after start run) place
+  stamp_links s stamp place accepts =
+      ap (λ a. link_shown_at a place)
+      (incarnations_after-snoc start run (record { pass = p; step = StoreStamp s stamp }))
+      ∙ stamps_links start (opening_keys start) b p (last_in b s) stamp place (lawful (StoreStamp s stamp) accepts).0
 
-  pub raise_links : (s : ℕ) (at : At) → Accepts start (know_after start run p) (Raise s) →
-      link_shown_at (incarnations_after start (run ++ (record { pass = p; step = Raise s }) ∷ [])) at
-      ≡ link_shown_at (incarnations_after start run) at
-  raise_links s at accepts =
-      ap (λ a. link_shown_at a at) (incarnations_after-snoc start run (record { pass = p; step = Raise s }))
-      ∙ raised_links start b p s at ((know_after start run p).own s) (lawful (Raise s) accepts)
+  pub raise_links : (s : ℕ) (place : At) → Accepts start (know_after start run p) (Raise s) →
+      link_shown_at (incarnations_after start (run ++ (record { pass = p; step = Raise s }) ∷ [])) place
+      ≡ link_shown_at (incarnations_after start run) place
+  raise_links s place accepts =
+      ap (λ a. link_shown_at a place) (incarnations_after-snoc start run (record { pass = p; step = Raise s }))
+      ∙ raised_links start b p s place ((know_after start run p).own s) (lawful (Raise s) accepts)

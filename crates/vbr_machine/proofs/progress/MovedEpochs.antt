@@ -50,7 +50,7 @@ as_advance (StoreBirth s birth) = inr (λ x. x)
 as_advance (StoreKey s key) = inr (λ x. x)
 as_advance (StoreValue s value) = inr (λ x. x)
 as_advance (StoreLink s next) = inr (λ x. x)
-as_advance (LoadLink at) = inr (λ x. x)
+as_advance (LoadLink place) = inr (λ x. x)
 as_advance (LoadBirth s) = inr (λ x. x)
 as_advance (LoadKey s) = inr (λ x. x)
 as_advance (LoadValue s) = inr (λ x. x)
@@ -59,7 +59,7 @@ as_advance (Mark s expected) = inr (λ x. x)
 as_advance (Replace s expected t) = inr (λ x. x)
 as_advance (Unlink pred expected s) = inr (λ x. x)
 as_advance (ConfirmPresent op s expected) = inr (λ x. x)
-as_advance (ConfirmAbsent op key at expected) = inr (λ x. x)
+as_advance (ConfirmAbsent op key place expected) = inr (λ x. x)
 
 module _ (start : Start) where
   -- the epoch stays by these events
@@ -99,12 +99,12 @@ module _ (start : Start) where
   step_stays w a p (ConfirmPresent op s expected) none =
       either_stays a (found start w (ConfirmPresent op s expected) == expected) _ _
       (answered_stays a p (call_of start p (w.know p) (ConfirmPresent op s expected))) refl
-  step_stays w a p (ConfirmAbsent op key at expected) none =
-      either_stays a (found start w (ConfirmAbsent op key at expected) == expected) _ _
-      (answered_stays a p (call_of start p (w.know p) (ConfirmAbsent op key at expected))) refl
+  step_stays w a p (ConfirmAbsent op key place expected) none =
+      either_stays a (found start w (ConfirmAbsent op key place expected) == expected) _ _
+      (answered_stays a p (call_of start p (w.know p) (ConfirmAbsent op key place expected))) refl
   step_stays w a p _ none = refl
 
-  -- the epoch after a step and those behind it
+  -- the epoch after a step and those after it
   epoch_on : (w : World) (a : Incarnations) (event : Event) (events : List Event) →
       (incarnations_from start a (chronicle_from start w a (event ∷ events))).epoch
       ≡ (incarnations_from start (incarnations_with start w a event)

@@ -79,15 +79,15 @@ marked_next state st n m e not_it =
     last true k e = absurd (cc)
     last false k e = refl
 
-stamped_marked : (st : State) (pass stamp epoch at : ℕ) → MayStamp st pass stamp epoch →
-    is_marked (Stamped at stamp) ≡ is_marked st
-stamped_marked (Unlinked p u) pass stamp epoch at m = refl
-stamped_marked Unborn pass stamp epoch at m = absurd m
-stamped_marked (InHand p) pass stamp epoch at m = absurd m
-stamped_marked GivenUp pass stamp epoch at m = absurd m
-stamped_marked Linked pass stamp epoch at m = absurd m
-stamped_marked Marked pass stamp epoch at m = absurd m
-stamped_marked (Stamped u r) pass stamp epoch at m = absurd m
+stamped_marked : (st : State) (pass stamp epoch unlinked : ℕ) → MayStamp st pass stamp epoch →
+    is_marked (Stamped unlinked stamp) ≡ is_marked st
+stamped_marked (Unlinked p u) pass stamp epoch unlinked m = refl
+stamped_marked Unborn pass stamp epoch unlinked m = absurd m
+stamped_marked (InHand p) pass stamp epoch unlinked m = absurd m
+stamped_marked GivenUp pass stamp epoch unlinked m = absurd m
+stamped_marked Linked pass stamp epoch unlinked m = absurd m
+stamped_marked Marked pass stamp epoch unlinked m = absurd m
+stamped_marked (Stamped u r) pass stamp epoch unlinked m = absurd m
 
 -- where one is marked that was linked, and one is linked that was in hand
 marked_replaced : {start : Start} {a : Incarnations} → Sound start a → (pass old c : ℕ) →

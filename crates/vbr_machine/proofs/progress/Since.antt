@@ -156,12 +156,12 @@ module _ {start : Start} {first run : List Event} (x : Since start first run) (w
       go (inl calm) = calm
       go (inr more) = absurd (omega (arith, none, more))
 
-  pub undisturbed_shown : disturbances start run who bucket ≡ disturbances start first who bucket → (at : At) →
-      IsOpenIn start (incarnations_after start first) bucket at →
-      link_shown_at (incarnations_after start run) at ≡ link_shown_at (incarnations_after start first) at
-  undisturbed_shown none at is = ap (λ (a : Incarnations). link_shown_at a at) x.makes
+  pub undisturbed_shown : disturbances start run who bucket ≡ disturbances start first who bucket → (place : At) →
+      IsOpenIn start (incarnations_after start first) bucket place →
+      link_shown_at (incarnations_after start run) place ≡ link_shown_at (incarnations_after start first) place
+  undisturbed_shown none place is = ap (λ (a : Incarnations). link_shown_at a place) x.makes
       ∙ calm_shown start (opening_keys start) bucket (incarnations_after start first) x.entries x.sound x.lawful
-      (calm_where none) at is
+      (calm_where none) place is
 
   -- a law: where the epoch has moved, a pass that changed nothing itself was disturbed
   pub moved_disturbed : (incarnations_after start run).epoch ≢ (incarnations_after start first).epoch →
@@ -178,19 +178,19 @@ module _ {start : Start} {first run : List Event} (x : Since start first run) (w
       go (inr more) = more
 
   -- a law: and so it was where an open place of the bucket shows another link
-  pub changed_disturbed : (at : At) → IsOpenIn start (incarnations_after start first) bucket at →
-      link_shown_at (incarnations_after start run) at ≢ link_shown_at (incarnations_after start first) at →
+  pub changed_disturbed : (place : At) → IsOpenIn start (incarnations_after start first) bucket place →
+      link_shown_at (incarnations_after start run) place ≢ link_shown_at (incarnations_after start first) place →
       disturbances start first who bucket < disturbances start run who bucket
-  changed_disturbed at is other = go calm_or_more
+  changed_disturbed place is other = go calm_or_more
     where
       go : (IsCalm start bucket (incarnations_after start first) x.entries) ⊎
           (disturbances start first who bucket < disturbances start run who bucket) →
           disturbances start first who bucket < disturbances start run who bucket
       go (inl calm) =
           absurd (other
-          (ap (λ (a : Incarnations). link_shown_at a at) x.makes
+          (ap (λ (a : Incarnations). link_shown_at a place) x.makes
           ∙ calm_shown start (opening_keys start) bucket (incarnations_after start first) x.entries x.sound x.lawful
-          calm at is))
+          calm place is))
       go (inr more) = more
 
 -- ---- own steps

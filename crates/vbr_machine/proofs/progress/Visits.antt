@@ -54,10 +54,10 @@ late_shows a c epoch Linked is late link e =
 late_shows a c epoch Marked is late link e =
     let f : marked (link_to_next a (a.birth c) (a.next c)) ≡ link = sym (ap (link_in_state a c) is) ∙ e in
     (sym (ap (λ (l : Link). l.slot) f), λ u. absurd (let z = ap (λ (l : Link). l.mark) f ∙ u in cc))
-late_shows a c epoch (Unlinked p at) is late link e =
+late_shows a c epoch (Unlinked p unlinked) is late link e =
     let f : marked (link_to_next a (a.birth c) (a.next c)) ≡ link = sym (ap (link_in_state a c) is) ∙ e in
     (sym (ap (λ (l : Link). l.slot) f), λ u. absurd (let z = ap (λ (l : Link). l.mark) f ∙ u in cc))
-late_shows a c epoch (Stamped at stamp) is late link e =
+late_shows a c epoch (Stamped unlinked stamp) is late link e =
     let f : marked (link_to_next a (a.birth c) (a.next c)) ≡ link = sym (ap (link_in_state a c) is) ∙ e in
     (sym (ap (λ (l : Link). l.slot) f), λ u. absurd (let z = ap (λ (l : Link). l.mark) f ∙ u in cc))
 late_shows a c epoch Unborn is late link e = absurd late
@@ -226,9 +226,10 @@ module _ (start : Start) (passes : ℕ) (first then moment run : List Event) (is
 
 module _ (start : Start) (passes : ℕ) (run : List Event) (is : IsStart start) (ok : IsRun start passes run) where
   -- the link that stands at a place is the one that the incarnations show there
-  pub shown_there : (at : At) → link_at (world_after start run) at ≡ link_shown_at (incarnations_after start run) at
-  shown_there at =
-      stands (world_after start run) (incarnations_after start run) at (run_agrees start passes run is ok).image
+  pub shown_there : (place : At) →
+      link_at (world_after start run) place ≡ link_shown_at (incarnations_after start run) place
+  shown_there place =
+      stands (world_after start run) (incarnations_after start run) place (run_agrees start passes run is ok).image
 
   -- a law: before a node that is ahead fewer were visited than were in the list since
   pub ahead_few : (first : Incarnations) (epoch bucket visited s : ℕ) →
@@ -287,19 +288,20 @@ visited_on start passes first now run is ok b epoch bucket visited (Some s) low 
 
 -- a law: a known unmarked link of a place that is held in a bucket, where it stands, is that of an open place
 pub known_open : (start : Start) (passes : ℕ) (run : List Event) → IsStart start → IsRun start passes run →
-    (p bucket : ℕ) (at : At) (link : Link) → Knows (know_after start run p) (LinkAt at link) → link.mark ≡ false →
-    link_shown_at (incarnations_after start run) at ≡ link → HeldIn (know_after start run p) at bucket →
-    IsOpenIn start (incarnations_after start run) bucket at
-known_open start passes run is ok p bucket at link known unmarked shown inside =
+    (p bucket : ℕ) (place : At) (link : Link) → Knows (know_after start run p) (LinkAt place link) → link.mark ≡ false →
+    link_shown_at (incarnations_after start run) place ≡ link → HeldIn (know_after start run p) place bucket →
+    IsOpenIn start (incarnations_after start run) bucket place
+known_open start passes run is ok p bucket place link known unmarked shown inside =
     let good = run_agrees start passes run is ok in
     let a = incarnations_after start run in
     let e = (know_after start run p).epoch in
-    let g = good_link (good.knows p) at link known in
-    go a e at g.0 g.1 (same_pair good.sound e at link g.0 g.1 g.2 unmarked shown) g.2.place
-    (place_in_bucket good.sound (good.knows p) (forms.ordered start passes run is ok p) at bucket inside)
+    let g = good_link (good.knows p) place link known in
+    go a e place g.0 g.1 (same_pair good.sound e place link g.0 g.1 g.2 unmarked shown) g.2.place
+    (place_in_bucket good.sound (good.knows p) (forms.ordered start passes run is ok p) place bucket inside)
   where
-    go : (a : Incarnations) (e : ℕ) (at : At) (of names : Option ℕ) → IsPair a at of names → IsHeldAt a e at of →
-        IsOfBucket start a e at bucket → IsOpenIn start a bucket at
+    go : (a : Incarnations) (e : ℕ) (place : At) (of names : Option ℕ) → IsPair a place of names →
+        IsHeldAt a e place of →
+        IsOfBucket start a e place bucket → IsOpenIn start a bucket place
     go a e (Head b) of names pair held is = is
     go a e (Slot s) None names pair held is = absurd held
     go a e (Slot s) (Some c) names pair held is =

@@ -66,23 +66,23 @@ same_link_refl : (link : Link) → same_link link link ≡ true
 same_link_refl link =
     rw (same_slot_refl link.slot, same_mark_refl link.mark, eq-eqb link.version link.version refl) refl
 
-same_at_refl : (at : At) → same_at at at ≡ true
+same_at_refl : (place : At) → same_at place place ≡ true
 same_at_refl (Head b) = eq-eqb b b refl
 same_at_refl (Slot s) = eq-eqb s s refl
 
 -- ---- what is found is among the reads
 
-pub link_among : (reads : List Read) (at : At) (link : Link) → knows_link reads at link ≡ true →
-    Contains reads (LinkAt at link)
-link_among [] at link q = absurd (cc)
-link_among (LinkAt at2 seen ∷ reads) at link q = elim (cases_Bool (same_at at2 at && same_link seen link)) [
-  | inl k ↦ let u = and_parts (same_at at2 at) (same_link seen link) k in
-      let e = same_at_true at2 at u.0 in
+pub link_among : (reads : List Read) (place : At) (link : Link) → knows_link reads place link ≡ true →
+    Contains reads (LinkAt place link)
+link_among [] place link q = absurd (cc)
+link_among (LinkAt at2 seen ∷ reads) place link q = elim (cases_Bool (same_at at2 place && same_link seen link)) [
+  | inl k ↦ let u = and_parts (same_at at2 place) (same_link seen link) k in
+      let e = same_at_true at2 place u.0 in
       let f = same_link_true seen link u.1 in
-      here (LinkAt at2 seen) (LinkAt at link) reads (λ i. LinkAt (e i) (f i))
-  | inr k ↦ there (LinkAt at2 seen) (LinkAt at link) reads (link_among reads at link (rw k at q))
+      here (LinkAt at2 seen) (LinkAt place link) reads (λ i. LinkAt (e i) (f i))
+  | inr k ↦ there (LinkAt at2 seen) (LinkAt place link) reads (link_among reads place link (rw k at q))
 ]
-link_among (read ∷ reads) at link q = there read (LinkAt at link) reads (link_among reads at link q)
+link_among (read ∷ reads) place link q = there read (LinkAt place link) reads (link_among reads place link q)
 
 -- a word of a node that a read may be of: its birth, its key or its value
 pub data NodeWord : Type 0 where
@@ -128,17 +128,17 @@ word_among Value [] s b q = absurd (cc)
 pub marked_among : (reads : List Read) (s : ℕ) (link : Link) → marked_in reads s ≡ Some link →
     Contains reads (LinkAt (Slot s) link) × (link.mark ≡ true)
 marked_among [] s link q = absurd (cc)
-marked_among (LinkAt at seen ∷ reads) s link q = elim (cases_Bool (same_at at (Slot s) && seen.mark)) [
+marked_among (LinkAt place seen ∷ reads) s link q = elim (cases_Bool (same_at place (Slot s) && seen.mark)) [
   | inl k ↦
-      let u = and_parts (same_at at (Slot s)) seen.mark k in
+      let u = and_parts (same_at place (Slot s)) seen.mark k in
       let r : Some seen ≡ Some link = rw k at q in
-      let e : at ≡ Slot s = same_at_true at (Slot s) u.0 in
+      let e : place ≡ Slot s = same_at_true place (Slot s) u.0 in
       let f : seen ≡ link = cc in (
-        here (LinkAt at seen) (LinkAt (Slot s) link) reads (λ i. LinkAt (e i) (f i)),
+        here (LinkAt place seen) (LinkAt (Slot s) link) reads (λ i. LinkAt (e i) (f i)),
         sym (ap (λ (l : Link). l.mark) f) ∙ u.1,
       )
   | inr k ↦ let x = marked_among reads s link (rw k at q) in
-      (there (LinkAt at seen) (LinkAt (Slot s) link) reads x.0, x.1)
+      (there (LinkAt place seen) (LinkAt (Slot s) link) reads x.0, x.1)
 ]
 marked_among (read ∷ reads) s link q =
     let x = marked_among reads s link q in (there read (LinkAt (Slot s) link) reads x.0, x.1)
@@ -148,12 +148,12 @@ named None s q = absurd (cc)
 named (Some t) s q = ap Some (eqb-true t s q)
 
 pub holds_among : (reads : List Read) (s : ℕ) → holds reads s ≡ true →
-    (at : At) × (link : Link) × Contains reads (LinkAt at link) × (link.slot ≡ Some s)
+    (place : At) × (link : Link) × Contains reads (LinkAt place link) × (link.slot ≡ Some s)
 holds_among [] s q = absurd (cc)
-holds_among (LinkAt at link ∷ reads) s q = elim (cases_Bool (names link.slot s)) [
-  | inl k ↦ (at, link, here (LinkAt at link) (LinkAt at link) reads refl, named link.slot s k)
+holds_among (LinkAt place link ∷ reads) s q = elim (cases_Bool (names link.slot s)) [
+  | inl k ↦ (place, link, here (LinkAt place link) (LinkAt place link) reads refl, named link.slot s k)
   | inr k ↦ let x = holds_among reads s (rw k at q) in
-      (x.0, x.1, there (LinkAt at link) (LinkAt x.0 x.1) reads x.2, x.3)
+      (x.0, x.1, there (LinkAt place link) (LinkAt x.0 x.1) reads x.2, x.3)
 ]
 holds_among (read ∷ reads) s q = let x = holds_among reads s q in (x.0, x.1, there read (LinkAt x.0 x.1) reads x.2, x.3)
 
@@ -181,14 +181,15 @@ found_past P read now later (other ∷ reads) m =
     ⊎_elim (λ q. subst Q (sym q) (now reads)) (λ n. later other reads (found_past P read now later reads n))
     (first_or_later other read reads m)
 
-pub link_there : (reads : List Read) (at : At) (link : Link) → Contains reads (LinkAt at link) →
-    knows_link reads at link ≡ true
-link_there reads at link m =
-    found_past (λ l. knows_link l at link ≡ true) (LinkAt at link) (λ l. rw (same_at_refl at, same_link_refl link) refl)
+pub link_there : (reads : List Read) (place : At) (link : Link) → Contains reads (LinkAt place link) →
+    knows_link reads place link ≡ true
+link_there reads place link m =
+    found_past (λ l. knows_link l place link ≡ true) (LinkAt place link)
+    (λ l. rw (same_at_refl place, same_link_refl link) refl)
     later reads m
   where
-    later : (other : Read) (l : List Read) → knows_link l at link ≡ true → knows_link (other ∷ l) at link ≡ true
-    later (LinkAt at2 seen) l h = found_more (same_at at2 at && same_link seen link) (knows_link l at link) h
+    later : (other : Read) (l : List Read) → knows_link l place link ≡ true → knows_link (other ∷ l) place link ≡ true
+    later (LinkAt at2 seen) l h = found_more (same_at at2 place && same_link seen link) (knows_link l place link) h
     later _ l h = h
 
 pub word_there : (word : NodeWord) (reads : List Read) (s b : ℕ) → Contains reads (read_of word s b) →
@@ -216,13 +217,14 @@ marked_there reads s link m t =
     later reads m
   where
     later : (other : Read) (l : List Read) → IsSome (marked_in l s) → IsSome (marked_in (other ∷ l) s)
-    later (LinkAt at seen) l h = some_more (same_at at (Slot s) && seen.mark) seen (marked_in l s) h
+    later (LinkAt place seen) l h = some_more (same_at place (Slot s) && seen.mark) seen (marked_in l s) h
     later _ l h = h
 
-pub holds_there : (reads : List Read) (s : ℕ) (at : At) (link : Link) → Contains reads (LinkAt at link) →
+pub holds_there : (reads : List Read) (s : ℕ) (place : At) (link : Link) → Contains reads (LinkAt place link) →
     link.slot ≡ Some s → holds reads s ≡ true
-holds_there reads s at link m t =
-    found_past (λ l. holds l s ≡ true) (LinkAt at link) (λ l. rw (ap (λ v. names v s) t ∙ eq-eqb s s refl) refl) later
+holds_there reads s place link m t =
+    found_past (λ l. holds l s ≡ true) (LinkAt place link) (λ l. rw (ap (λ v. names v s) t ∙ eq-eqb s s refl) refl)
+    later
     reads m
   where
     later : (other : Read) (l : List Read) → holds l s ≡ true → holds (other ∷ l) s ≡ true

@@ -35,11 +35,11 @@ abbrev pub FollowsInOrder : Start → Incarnations → At → Option ℕ → Opt
 FollowsInOrder start a (Head b) of (Some n) = IsInserted (a.state n) × (bucket_of start.shape (a.key n) ≡ b)
 FollowsInOrder start a (Slot s) (Some c) (Some n) = IsInserted (a.state c) × IsInserted (a.state n) ×
     (bucket_of start.shape (a.key c) ≡ bucket_of start.shape (a.key n)) × (a.key c ≤ a.key n)
-FollowsInOrder start a at of names = Unit {0}
+FollowsInOrder start a place of names = Unit {0}
 
 -- a read of a link, as one of this incarnation and naming this one, is in order
 abbrev pub IsOrderedRead : Start → Incarnations → Read → Option ℕ → Option ℕ → Type 0
-IsOrderedRead start a (LinkAt at link) of names = FollowsInOrder start a at of names
+IsOrderedRead start a (LinkAt place link) of names = FollowsInOrder start a place of names
 IsOrderedRead start a read of names = Unit {0}
 
 -- a note is in order where its read is
@@ -173,39 +173,40 @@ module _ {start : Start} {a : Incarnations} {know : Know} {notes : Notes} (sound
   both (note ∷ notes) g h = ((g.0, h.0), both notes g.1 h.1)
 
   -- what follows a place of a bucket is of the bucket
-  follows : (at : At) (of : Option ℕ) (n b : ℕ) → IsHeldAt a know.epoch at of → FollowsInOrder start a at of (Some n) →
-      IsOfBucket start a know.epoch at b → bucket_of start.shape (a.key n) ≡ b
+  follows : (place : At) (of : Option ℕ) (n b : ℕ) → IsHeldAt a know.epoch place of →
+      FollowsInOrder start a place of (Some n) →
+      IsOfBucket start a know.epoch place b → bucket_of start.shape (a.key n) ≡ b
   follows (Head t) None n b h f i = f.1 ∙ i
   follows (Head t) (Some c) n b h f i = absurd h
   follows (Slot t) None n b h f i = absurd h
   follows (Slot t) (Some c) n b h f i = sym f.2 ∙ i c h
 
-  behind_it : (at : At) (link : Link) (s b : ℕ) → Knows know (LinkAt at link) → link.slot ≡ Some s →
-      IsOfBucket start a know.epoch at b → IsOfBucket start a know.epoch (Slot s) b
-  behind_it at link s b k q i c h =
+  behind_it : (place : At) (link : Link) (s b : ℕ) → Knows know (LinkAt place link) → link.slot ≡ Some s →
+      IsOfBucket start a know.epoch place b → IsOfBucket start a know.epoch (Slot s) b
+  behind_it place link s b k q i c h =
       let P : Note → Type 0 = λ note. IsGood a know.epoch note × IsOrdered start a note in
-      let x = note_of_known P notes.checked (LinkAt at link) (rw noted.checked_reads at k.among)
+      let x = note_of_known P notes.checked (LinkAt place link) (rw noted.checked_reads at k.among)
       (both notes.checked noted.checked ordered.checked) in
       let R : Read → Type 0 =
       λ read. IsGoodRead a know.epoch read x.0.of x.0.names × IsOrderedRead start a read x.0.of x.0.names in
-      let y : IsGoodLink a know.epoch at link x.0.of x.0.names × FollowsInOrder start a at x.0.of x.0.names =
+      let y : IsGoodLink a know.epoch place link x.0.of x.0.names × FollowsInOrder start a place x.0.of x.0.names =
       subst R x.1 x.2 in
       go link.slot x.0.of x.0.names q y.0.place y.0.next y.1
     where
-      go : (v of names : Option ℕ) → v ≡ Some s → IsHeldAt a know.epoch at of → IsHeldNext a know.epoch v names →
-          FollowsInOrder start a at of names → bucket_of start.shape (a.key c) ≡ b
+      go : (v of names : Option ℕ) → v ≡ Some s → IsHeldAt a know.epoch place of → IsHeldNext a know.epoch v names →
+          FollowsInOrder start a place of names → bucket_of start.shape (a.key c) ≡ b
       go None of names q p n f = absurd (cc)
       go (Some v) of None q p n f = absurd n
       go (Some v) of (Some m) q p n f =
           let e : v ≡ s = cc in
           let P : ℕ → Type 0 = λ v. IsHeldIncarnation a know.epoch v m in
           ap (λ d. bucket_of start.shape (a.key d)) (one_held sound know.epoch s c m h (subst P e n))
-          ∙ follows at of m b p f i
+          ∙ follows place of m b p f i
 
   -- a place that is held in a bucket is of it
-  pub place_in_bucket : (at : At) (b : ℕ) → HeldIn know at b → IsOfBucket start a know.epoch at b
+  pub place_in_bucket : (place : At) (b : ℕ) → HeldIn know place b → IsOfBucket start a know.epoch place b
   place_in_bucket _ _ (at_head b) = refl
-  place_in_bucket _ _ (at_slot at link s b h k q) = behind_it at link s b k q (place_in_bucket at b h)
+  place_in_bucket _ _ (at_slot place link s b h k q) = behind_it place link s b k q (place_in_bucket place b h)
 
   -- a known key of a slot that is held in a bucket is one of the bucket
   pub held_in_bucket : (s b key : ℕ) → HeldIn know (Slot s) b → Knows know (KeyOf s key) → bucket_of start.shape key ≡ b

@@ -75,8 +75,8 @@ still_last {start} {a} s e v c h m le = go (s.slots.has_last c (late_born s.slot
 
 -- a checked unmarked link that stands there again stands for the pair that it was checked with
 pub same_pair : {start : Start} {a : Incarnations} → Sound start a →
-    (e : ℕ) (at : At) (link : Link) (of names : Option ℕ) → IsGoodLink a e at link of names → link.mark ≡ false →
-    link_shown_at a at ≡ link → IsPair a at of names
+    (e : ℕ) (place : At) (link : Link) (of names : Option ℕ) → IsGoodLink a e place link of names → link.mark ≡ false →
+    link_shown_at a place ≡ link → IsPair a place of names
 same_pair {start} {a} s e (Head b) link None n g m q =
     (refl, same_next s e 0 (a.first b) n link (λ k r. (s.lists.first_in b k r).0) q g.version g.next)
 same_pair {start} {a} s e (Head b) link (Some c) n g m q = absurd g.place
@@ -109,9 +109,9 @@ same_pair {start} {a} s e (Slot v) link (Some c) n g m q = go (a.state c) refl
     go (Stamped u r) k = absurd (no (rw k at shown))
 
 -- the second of a pair is the last of its slot
-pub pair_last : {start : Start} {a : Incarnations} → Sound start a → (at : At) (of names : Option ℕ) →
-    IsPair a at of names → IsLastOf a names
-pair_last s at of None p = tt
+pub pair_last : {start : Start} {a : Incarnations} → Sound start a → (place : At) (of names : Option ℕ) →
+    IsPair a place of names → IsLastOf a names
+pair_last s place of None p = tt
 pair_last s (Head b) of (Some n) p = listed_last s.slots n (s.lists.first_in b n p.1).0
 pair_last s (Slot v) of (Some n) p = listed_last s.slots n (next_listed s p.0 n p.4 (rw p.3 tt))
 
@@ -123,8 +123,8 @@ stays_held s g e v c le h =
     let lt = late_born s.slots c e h.late in
     record { slot = g.slot c lt ∙ h.slot; birth = rw (g.birth c lt) h.birth; late = g.late c e le h.late }
 
-pub stays_at : {start : Start} {a b : Incarnations} → Sound start a → Grows a b → (e : ℕ) (at : At) (of : Option ℕ) →
-    e ≤ a.epoch → IsHeldAt a e at of → IsHeldAt b e at of
+pub stays_at : {start : Start} {a b : Incarnations} → Sound start a → Grows a b → (e : ℕ) (place : At) (of : Option ℕ) →
+    e ≤ a.epoch → IsHeldAt a e place of → IsHeldAt b e place of
 stays_at s g e (Head v) None le h = tt
 stays_at s g e (Head v) (Some c) le h = absurd h
 stays_at s g e (Slot v) None le h = absurd h
@@ -142,18 +142,19 @@ stays_frozen g None names f = absurd f
 stays_frozen g (Some c) names f = let y = g.removed c f.0 in (y.0, y.1 ∙ f.1)
 
 pub stays_good_link : {start : Start} {a b : Incarnations} → Sound start a → Grows a b → (e : ℕ) → e ≤ a.epoch →
-    (at : At) (link : Link) (of names : Option ℕ) → IsGoodLink a e at link of names → IsGoodLink b e at link of names
-stays_good_link s g e le at link of names h =
+    (place : At) (link : Link) (of names : Option ℕ) → IsGoodLink a e place link of names →
+    IsGoodLink b e place link of names
+stays_good_link s g e le place link of names h =
     record {
       version = h.version;
-      place = stays_at s g e at of le h.place;
+      place = stays_at s g e place of le h.place;
       next = stays_next s g e link.slot names le h.next;
       frozen = λ m. stays_frozen g of names (h.frozen m);
     }
 
 stays_good_read : {start : Start} {a b : Incarnations} → Sound start a → Grows a b → (e : ℕ) → e ≤ a.epoch →
     (read : Read) (of names : Option ℕ) → IsGoodRead a e read of names → IsGoodRead b e read of names
-stays_good_read s g e le (LinkAt at link) of names h = stays_good_link s g e le at link of names h
+stays_good_read s g e le (LinkAt place link) of names h = stays_good_link s g e le place link of names h
 stays_good_read s g e le (BirthOf v b) None names h = absurd h
 stays_good_read s g e le (KeyOf v b) None names h = absurd h
 stays_good_read s g e le (ValueOf v b) None names h = absurd h

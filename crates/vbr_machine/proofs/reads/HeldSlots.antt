@@ -23,7 +23,7 @@ use Rattle.vbr_machine.proofs.reads.ValueReads.{of_value}
 
 -- the place that a read is of is held
 abbrev pub IsOfHeldPlace : List Read → Read → Type 0
-IsOfHeldPlace checked (LinkAt at link) = IsTrue (holds_at checked at)
+IsOfHeldPlace checked (LinkAt place link) = IsTrue (holds_at checked place)
 IsOfHeldPlace checked (BirthOf s birth) = IsTrue (holds checked s)
 IsOfHeldPlace checked (KeyOf s key) = IsTrue (holds checked s)
 IsOfHeldPlace checked (ValueOf s key) = IsTrue (holds checked s)
@@ -40,7 +40,7 @@ held_more [] ys s h = absurd (cc)
 held_more (BirthOf v b ∷ xs) ys s h = held_more xs ys s h
 held_more (KeyOf v b ∷ xs) ys s h = held_more xs ys s h
 held_more (ValueOf v b ∷ xs) ys s h = held_more xs ys s h
-held_more (LinkAt at link ∷ xs) ys s h = elim (cases_Bool (names link.slot s)) [
+held_more (LinkAt place link ∷ xs) ys s h = elim (cases_Bool (names link.slot s)) [
   | inl k ↦ rw k refl
   | inr k ↦ let r : holds xs s ≡ true = rw k at h in rw k (held_more xs ys s r)
 ]
@@ -50,17 +50,17 @@ held_later [] ys s h = h
 held_later (BirthOf v b ∷ xs) ys s h = held_later xs ys s h
 held_later (KeyOf v b ∷ xs) ys s h = held_later xs ys s h
 held_later (ValueOf v b ∷ xs) ys s h = held_later xs ys s h
-held_later (LinkAt at link ∷ xs) ys s h = elim (cases_Bool (names link.slot s)) [
+held_later (LinkAt place link ∷ xs) ys s h = elim (cases_Bool (names link.slot s)) [
   | inl k ↦ rw k refl
   | inr k ↦ rw k (held_later xs ys s h)
 ]
 
-held_at_more : (xs ys : List Read) (at : At) → holds_at xs at ≡ true → holds_at (xs ++ ys) at ≡ true
+held_at_more : (xs ys : List Read) (place : At) → holds_at xs place ≡ true → holds_at (xs ++ ys) place ≡ true
 held_at_more xs ys (Head b) h = refl
 held_at_more xs ys (Slot s) h = held_more xs ys s h
 
 of_held_more : (xs ys : List Read) (read : Read) → IsOfHeldPlace xs read → IsOfHeldPlace (xs ++ ys) read
-of_held_more xs ys (LinkAt at link) h = held_at_more xs ys at h
+of_held_more xs ys (LinkAt place link) h = held_at_more xs ys place h
 of_held_more xs ys (BirthOf s birth) h = held_more xs ys s h
 of_held_more xs ys (KeyOf s key) h = held_more xs ys s h
 of_held_more xs ys (ValueOf s key) h = held_more xs ys s h
@@ -106,14 +106,15 @@ epoch_read know epoch r = elim (cases_Bool (epoch == know.epoch)) [
 ]
 
 -- where a link at a place is checked, the place is held
-pub link_held : (held reads : List Read) (at : At) (link : Link) → AllByRecursion (IsOfHeldPlace held) reads →
-    knows_link reads at link ≡ true → holds_at held at ≡ true
-link_held held [] at link r h = absurd (cc)
-link_held held (LinkAt here seen ∷ reads) at link r h = elim (cases_Bool (same_at here at && same_link seen link)) [
-  | inl k ↦ let u = and_parts (same_at here at) (same_link seen link) k in rw (← same_at_true here at u.0) r.0
-  | inr k ↦ link_held held reads at link r.1 (rw k at h)
-]
-link_held held (_ ∷ reads) at link r h = link_held held reads at link r.1 h
+pub link_held : (held reads : List Read) (place : At) (link : Link) → AllByRecursion (IsOfHeldPlace held) reads →
+    knows_link reads place link ≡ true → holds_at held place ≡ true
+link_held held [] place link r h = absurd (cc)
+link_held held (LinkAt here seen ∷ reads) place link r h = elim
+    (cases_Bool (same_at here place && same_link seen link)) [
+      | inl k ↦ let u = and_parts (same_at here place) (same_link seen link) k in rw (← same_at_true here place u.0) r.0
+      | inr k ↦ link_held held reads place link r.1 (rw k at h)
+    ]
+link_held held (_ ∷ reads) place link r h = link_held held reads place link r.1 h
 
 -- ---- steps
 
@@ -125,7 +126,7 @@ held_learned start know (TakeFlag s) found stamp r ok = elim (cases_Bool (has_fl
   | inl k ↦ rw k (record { checked = r.checked; pending = r.pending })
   | inr k ↦ rw k r
 ]
-held_learned start know (LoadLink at) found stamp r ok = pending_more know (LinkAt at (link_of found)) r ok.held
+held_learned start know (LoadLink place) found stamp r ok = pending_more know (LinkAt place (link_of found)) r ok.held
 held_learned start know (LoadBirth s) found stamp r ok = pending_more know (BirthOf s found) r ok.held
 held_learned start know (LoadKey s) found stamp r ok = pending_more know (KeyOf s found) r ok.held
 held_learned start know (LoadValue s) found stamp r ok = pending_more know (ValueOf s found) r ok.held

@@ -48,15 +48,16 @@ some_is : {X : Type 0} (o : Option X) → IsSome o → (x : X) × (o ≡ Some x)
 some_is None h = absurd (cc)
 some_is (Some x) h = (x, refl)
 
-link_known : (know : Know) (at : At) (link : Link) → knows_link know.checked at link ≡ true →
-    Knows know (LinkAt at link)
-link_known know at link q = record { among = link_among know.checked at link q }
+link_known : (know : Know) (place : At) (link : Link) → knows_link know.checked place link ≡ true →
+    Knows know (LinkAt place link)
+link_known know place link q = record { among = link_among know.checked place link q }
 
 pub slot_known : (know : Know) (s : ℕ) → holds know.checked s ≡ true → IsHeldSlot know s
 slot_known know s q =
-    let x = holds_among know.checked s q in record { at = x.0; link = x.1; known = record { among = x.2 }; names = x.3 }
+    let x = holds_among know.checked s q in
+    record { place = x.0; link = x.1; known = record { among = x.2 }; names = x.3 }
 
-pub place_known : (know : Know) (at : At) → holds_at know.checked at ≡ true → IsHeldPlace know at
+pub place_known : (know : Know) (place : At) → holds_at know.checked place ≡ true → IsHeldPlace know place
 place_known know (Head b) q = tt
 place_known know (Slot s) q = slot_known know s q
 
@@ -68,8 +69,8 @@ birth_known know s h = go (birth_in know.checked s) refl h
     go None q h = absurd (cc)
     go (Some birth) q h = record { among = word_among Birth know.checked s birth q }
 
-birth_at_known : (know : Know) (at : At) → IsSome (birth_at know.checked at) →
-    BirthAt know at (unwrap_or (birth_at know.checked at) 0)
+birth_at_known : (know : Know) (place : At) → IsSome (birth_at know.checked place) →
+    BirthAt know place (unwrap_or (birth_at know.checked place) 0)
 birth_at_known know (Head b) h = refl
 birth_at_known know (Slot s) h = birth_known know s h
 
@@ -111,7 +112,7 @@ held_known : (start : Start) (know : Know) (step : Step) → HasChecked start kn
 held_known start know (StoreLink s None) h = tt
 held_known start know (StoreLink s (Some n)) h =
     (slot_known know n h.0, (unwrap_or (birth_in know.checked n) 0, birth_known know n h.1))
-held_known start know (LoadLink at) h = place_known know at h
+held_known start know (LoadLink place) h = place_known know place h
 held_known start know (LoadBirth s) h = slot_known know s h
 held_known start know (LoadKey s) h = slot_known know s h
 held_known start know (LoadValue s) h = slot_known know s h
@@ -138,7 +139,7 @@ held_known start know (ConfirmPresent op s expected) h = (
   (unwrap_or (key_in know.checked s) 0, key_known know s h.1),
   value_known_for op know s h.2,
 )
-held_known start know (ConfirmAbsent op key at expected) h = link_known know at (link_of expected) h.0
+held_known start know (ConfirmAbsent op key place expected) h = link_known know place (link_of expected) h.0
 held_known start know step h = tt
 
 ready_known : (start : Start) (know : Know) (pred : At) (expected : Link) (own : Option Holding) →
@@ -204,8 +205,8 @@ range_known start know (Publish pred expected s) h r =
     (r.0, ready_known start know pred (link_of expected) (know.own s) h.1.1 h.2.1 h.2.0 r.1)
 range_known start know (Replace s expected t) h r =
     (r.0, in_place_known start know s (link_of expected) (know.own t) h.1.1 h.2 r.1)
-range_known start know (ConfirmAbsent op key at expected) h r =
-    (r.0, r.1, behind_known know start at key h.1 r.2, before_on know key (link_of expected) start.shape.slots r.3)
+range_known start know (ConfirmAbsent op key place expected) h r =
+    (r.0, r.1, behind_known know start place key h.1 r.2, before_on know key (link_of expected) start.shape.slots r.3)
 range_known start know step h r = r
 
 -- what is accepted by searches is accepted by membership
@@ -245,7 +246,7 @@ module _ {start : Start} {a : Incarnations} {know : Know} {notes : Notes} (sound
       birth_is sound.slots know.epoch notes.checked know.checked s x.0 noted.checked_reads noted.checked x.1
       (word_there Birth know.checked s birth k.among) ∙ x.2
 
-  birth_at_is : (at : At) (birth : ℕ) → BirthAt know at birth → unwrap_or (birth_at know.checked at) 0 ≡ birth
+  birth_at_is : (place : At) (birth : ℕ) → BirthAt know place birth → unwrap_or (birth_at know.checked place) 0 ≡ birth
   birth_at_is (Head b) birth k = sym k
   birth_at_is (Slot s) birth k = birth_looked_up s birth k
 
@@ -253,7 +254,7 @@ module _ {start : Start} {a : Incarnations} {know : Know} {notes : Notes} (sound
   birth_named_is None birth k = sym k
   birth_named_is (Some s) birth k = birth_looked_up s birth k
 
-  birth_at_there : (at : At) (birth : ℕ) → BirthAt know at birth → IsSome (birth_at know.checked at)
+  birth_at_there : (place : At) (birth : ℕ) → BirthAt know place birth → IsSome (birth_at know.checked place)
   birth_at_there (Head b) birth k = refl
   birth_at_there (Slot s) birth k = word_there Birth know.checked s birth k.among
 
@@ -326,7 +327,7 @@ module _ {start : Start} {a : Incarnations} {know : Know} {notes : Notes} (sound
 
   -- ---- acceptance
 
-  behind_there : (at : At) (key : ℕ) → StandsBehind start know at key → KnowsKeyAt know.checked at
+  behind_there : (place : At) (key : ℕ) → StandsBehind start know place key → KnowsKeyAt know.checked place
   behind_there (Head b) key h = tt
   behind_there (Slot s) key h = word_there Key know.checked s h.0 h.1.among
 
@@ -334,7 +335,7 @@ module _ {start : Start} {a : Incarnations} {know : Know} {notes : Notes} (sound
   before_there key None h = tt
   before_there key (Some s) h = word_there Key know.checked s h.0 h.1.among
 
-  behind_is : (at : At) (key : ℕ) → StandsBehind start know at key → IsBehind start know.checked at key
+  behind_is : (place : At) (key : ℕ) → StandsBehind start know place key → IsBehind start know.checked place key
   behind_is (Head b) key h = h
   behind_is (Slot s) key h =
       let e = key_looked_up s h.0 h.1 in (h.2 ∙ ap (bucket_of start.shape) (sym e), (let u = h.3 in omega arith))
@@ -344,14 +345,14 @@ module _ {start : Start} {a : Incarnations} {know : Know} {notes : Notes} (sound
   before_is key (Some s) h = let e = key_looked_up s h.0 h.1 in (let u = h.2 in omega arith)
 
   held_of_slot : (s : ℕ) → IsHeldSlot know s → holds know.checked s ≡ true
-  held_of_slot s h = holds_there know.checked s h.at h.link h.known.among h.names
+  held_of_slot s h = holds_there know.checked s h.place h.link h.known.among h.names
 
-  held_of_place : (at : At) → IsHeldPlace know at → holds_at know.checked at ≡ true
+  held_of_place : (place : At) → IsHeldPlace know place → holds_at know.checked place ≡ true
   held_of_place (Head b) h = refl
   held_of_place (Slot s) h = held_of_slot s h
 
-  link_held : (at : At) (link : Link) → Knows know (LinkAt at link) → knows_link know.checked at link ≡ true
-  link_held at link k = link_there know.checked at link k.among
+  link_held : (place : At) (link : Link) → Knows know (LinkAt place link) → knows_link know.checked place link ≡ true
+  link_held place link k = link_there know.checked place link k.among
 
   -- a slot in hand that is ready by what is known is so by searches, and the reads that it asks for are checked
   ready_is : (pred : At) (expected : Link) (own : Option Holding) → MayPublishKnown start know pred expected own →
@@ -424,7 +425,7 @@ module _ {start : Start} {a : Incarnations} {know : Know} {notes : Notes} (sound
       HasChecked start know step
   held_is fits (StoreLink s None) k r = tt
   held_is fits (StoreLink s (Some n)) k r = (held_of_slot n k.0, word_there Birth know.checked n k.1.0 k.1.1.among)
-  held_is fits (LoadLink at) k r = held_of_place at k
+  held_is fits (LoadLink place) k r = held_of_place place k
   held_is fits (LoadBirth s) k r = held_of_slot s k
   held_is fits (LoadKey s) k r = held_of_slot s k
   held_is fits (LoadValue s) k r = held_of_slot s k
@@ -454,15 +455,15 @@ module _ {start : Start} {a : Incarnations} {know : Know} {notes : Notes} (sound
     word_there Key know.checked s k.1.0 k.1.1.among,
     value_there_for op s k.2,
   )
-  held_is fits (ConfirmAbsent op key at expected) k r =
-      (link_held at (link_of expected) k, behind_there at key r.2, leads_to_key fits key (link_of expected) r.3)
+  held_is fits (ConfirmAbsent op key place expected) k r =
+      (link_held place (link_of expected) k, behind_there place key r.2, leads_to_key fits key (link_of expected) r.3)
   held_is fits step k r = tt
 
   range_is : Fits start a → (step : Step) → IsInRangeKnown start know step → IsInRange start know step
   range_is fits (Publish pred expected s) r = (r.0, (ready_is pred (link_of expected) (know.own s) r.1).0)
   range_is fits (Replace s expected t) r = (r.0, (in_place_is s (link_of expected) (know.own t) r.1).0)
-  range_is fits (ConfirmAbsent op key at expected) r =
-      (r.0, r.1, behind_is at key r.2, leads_above fits key (link_of expected) r.3)
+  range_is fits (ConfirmAbsent op key place expected) r =
+      (r.0, r.1, behind_is place key r.2, leads_above fits key (link_of expected) r.3)
   range_is fits step r = r
 
   -- what is accepted by membership is accepted by searches

@@ -27,9 +27,9 @@ pub good_read : {a : Incarnations} {know : Know} {notes : Notes} → FitsNotes a
 good_read {a} {know} {notes} k read m =
     good_among a know.epoch notes.checked read (rw k.checked_reads at m.among) k.checked
 
-pub good_link : {a : Incarnations} {know : Know} {notes : Notes} → FitsNotes a know notes → (at : At) (link : Link) →
-    Knows know (LinkAt at link) → (of names : Option ℕ) × IsGoodLink a know.epoch at link of names
-good_link k at link m = good_read k (LinkAt at link) m
+pub good_link : {a : Incarnations} {know : Know} {notes : Notes} → FitsNotes a know notes → (place : At) (link : Link) →
+    Knows know (LinkAt place link) → (of names : Option ℕ) × IsGoodLink a know.epoch place link of names
+good_link k place link m = good_read k (LinkAt place link) m
 
 -- a known read of a word is that of an incarnation held there
 pub birth_held : {a : Incarnations} {know : Know} {notes : Notes} → FitsNotes a know notes → (s b : ℕ) →
@@ -48,7 +48,7 @@ value_held {a} {know} {notes} k s value m = word_held a know.epoch Value s value
 pub slot_held : {a : Incarnations} {know : Know} {notes : Notes} → FitsNotes a know notes → (s : ℕ) →
     IsHeldSlot know s → (c : ℕ) × IsHeldIncarnation a know.epoch s c
 slot_held {a} {know} {notes} k s h =
-    let g = good_link k h.at h.link h.known in named_held a know.epoch s h.link.slot g.1 h.names g.2.next
+    let g = good_link k h.place h.link h.known in named_held a know.epoch s h.link.slot g.1 h.names g.2.next
 
 -- ---- one of each
 
@@ -131,8 +131,8 @@ value_known know s h =
     (λ value q. record { among = word_among Value know.checked s value q })
 
 -- a key that stands behind a place by searches does so by what is known
-pub behind_known : (know : Know) (start : Start) (at : At) (key : ℕ) → KnowsKeyAt know.checked at →
-    IsBehind start know.checked at key → StandsBehind start know at key
+pub behind_known : (know : Know) (start : Start) (place : At) (key : ℕ) → KnowsKeyAt know.checked place →
+    IsBehind start know.checked place key → StandsBehind start know place key
 behind_known know start (Head b) key h i = i
 behind_known know start (Slot s) key h i = (unwrap_or (key_in know.checked s) 0, key_known know s h, i.0, i.1)
 

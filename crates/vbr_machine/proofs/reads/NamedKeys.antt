@@ -9,10 +9,11 @@ use Rattle.vbr_machine.specs.declared.history.Op.{Op}
 use Rattle.vbr_machine.specs.declared.history.Op.TheVariants.{Insert}
 use Rattle.vbr_machine.specs.declared.event.Step.TheVariants.{ConfirmAbsent}
 
-pub between_accepted : (start : Start) (know : Know) (op : Op) (key : ℕ) (at : At) (expected : ℕ) → IsAtIn start at →
-    IsOpIn start op → op ≢ Insert → IsBetween start know.checked key at (link_of expected) →
-    Accepts start know (ConfirmAbsent op key at expected)
-between_accepted start know op key at expected inside asked not between = record {
+pub between_accepted : (start : Start) (know : Know) (op : Op) (key : ℕ) (place : At) (expected : ℕ) →
+    IsAtIn start place →
+    IsOpIn start op → op ≢ Insert → IsBetween start know.checked key place (link_of expected) →
+    Accepts start know (ConfirmAbsent op key place expected)
+between_accepted start know op key place expected inside asked not between = record {
   in_shape = (inside, asked);
   owned = tt;
   held = (between.known, between.here, record { turns = 0; within = omega arith; known = between.there });

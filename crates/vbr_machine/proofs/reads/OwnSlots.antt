@@ -51,7 +51,7 @@ own_kept a b pass e f (Some (Unlinked reread)) place last stamp le k h =
       record {
         node = x.node;
         last_is = x.last_is;
-        at = x.at;
+        unlinked = x.unlinked;
         state = (k x.node x.last_is).state ∙ x.state;
         seen = λ t. let u = x.seen t in omega arith;
       },

@@ -37,7 +37,7 @@ gives_held : (a : Incarnations) (e s c : ℕ) (read : Read) (of named : Option �
 gives_held a e s c (BirthOf v b) of named g n q = absurd n
 gives_held a e s c (KeyOf v b) of named g n q = absurd n
 gives_held a e s c (ValueOf v b) of named g n q = absurd n
-gives_held a e s c (LinkAt at link) of named g n q = go link.slot named g.next n q
+gives_held a e s c (LinkAt place link) of named g n q = go link.slot named g.next n q
   where
     go : (o m : Option ℕ) → IsHeldNext a e o m → o ≡ Some s → m ≡ Some c → IsHeldIncarnation a e s c
     go None m h p q = absurd (cc)
@@ -79,12 +79,12 @@ holds_some a e (note ∷ notes) s q al =
     go (BirthOf v b) r rest = rest (rw r at q)
     go (KeyOf v b) r rest = rest (rw r at q)
     go (ValueOf v b) r rest = rest (rw r at q)
-    go (LinkAt at link) r rest = elim (cases_Bool (names link.slot s)) [
+    go (LinkAt place link) r rest = elim (cases_Bool (names link.slot s)) [
       | inl k ↦
-          let g : IsGoodRead a e (LinkAt at link) note.of note.names = rw r at al.0 in
+          let g : IsGoodRead a e (LinkAt place link) note.of note.names = rw r at al.0 in
           let x = named_some a e s link.slot note.names k g.next in
           (x.0, (note, inl refl, (rw r x.1, x.2)))
-      | inr k ↦ rest (let z : holds (LinkAt at link ∷ reads_of notes) s ≡ true = rw r at q in rw k at z)
+      | inr k ↦ rest (let z : holds (LinkAt place link ∷ reads_of notes) s ≡ true = rw r at q in rw k at z)
     ]
 
 -- the incarnation that a pass holds at a slot that is held

@@ -85,10 +85,11 @@ held_found a e notes s q g =
     named_held a e s m.1.slot x.1 m.3 x.2.next
 
 -- a link that is found is good
-pub link_found : (a : Incarnations) (e : ℕ) (notes : List Note) (at : At) (link : Link) →
-    knows_link (reads_of notes) at link ≡ true → AllByRecursion (IsGood a e) notes →
-    (of : Option ℕ) × (named : Option ℕ) × IsGoodLink a e at link of named
-link_found a e notes at link q g = good_among a e notes (LinkAt at link) (link_among (reads_of notes) at link q) g
+pub link_found : (a : Incarnations) (e : ℕ) (notes : List Note) (place : At) (link : Link) →
+    knows_link (reads_of notes) place link ≡ true → AllByRecursion (IsGood a e) notes →
+    (of : Option ℕ) × (named : Option ℕ) × IsGoodLink a e place link of named
+link_found a e notes place link q g = good_among a e notes (LinkAt place link)
+    (link_among (reads_of notes) place link q) g
 
 -- a marked link that is found is good and marked
 pub marked_found : (a : Incarnations) (e : ℕ) (notes : List Note) (s : ℕ) (link : Link) →

@@ -34,19 +34,19 @@ abbrev pub birth_there : Incarnations → At → ℕ
 birth_there a (Head b) = 0
 birth_there a (Slot s) = a.birth (last_in a s)
 
-pub record LinkStands (start : Start) (a : Incarnations) (e : ℕ) (reads : List Read) (at : At) (link : Link) :
+pub record LinkStands (start : Start) (a : Incarnations) (e : ℕ) (reads : List Read) (place : At) (link : Link) :
     Type 0 where
-  pub held : IsHeldAt a e at (node_at a at)
-  pub last : last_at a at ≡ node_at a at
-  pub is_open : IsOpen a (before_at a at)
-  pub next : IsHeldNext a e link.slot (next_of a (before_at a at))
-  pub listed : (m : ℕ) → next_of a (before_at a at) ≡ Some m → IsListed (a.state m)
+  pub held : IsHeldAt a e place (node_at a place)
+  pub last : last_at a place ≡ node_at a place
+  pub is_open : IsOpen a (before_at a place)
+  pub next : IsHeldNext a e link.slot (next_of a (before_at a place))
+  pub listed : (m : ℕ) → next_of a (before_at a place) ≡ Some m → IsListed (a.state m)
   pub version : link.version ≤ e
-  pub birth : IsSome (birth_at reads at) → unwrap_or (birth_at reads at) 0 ≡ birth_there a at
-  pub behind : (key : ℕ) → KnowsKeyAt reads at → IsBehind start reads at key →
-      BelongsBehind start a (before_at a at) key
+  pub birth : IsSome (birth_at reads place) → unwrap_or (birth_at reads place) 0 ≡ birth_there a place
+  pub behind : (key : ℕ) → KnowsKeyAt reads place → IsBehind start reads place key →
+      BelongsBehind start a (before_at a place) key
   pub before : (key : ℕ) → KnowsKeyOf reads link.slot → IsBefore reads key link.slot →
-      BelongsBefore a key (next_of a (before_at a at))
+      BelongsBefore a key (next_of a (before_at a place))
 
 before_is : {start : Start} {a : Incarnations} → Sound start a → (e : ℕ) (notes : List Note) (reads : List Read) →
     reads ≡ reads_of notes → AllByRecursion (IsGood a e) notes → (v n : Option ℕ) → IsHeldNext a e v n → (key : ℕ) →
@@ -59,8 +59,8 @@ before_is snd e notes reads q al (Some s) (Some c) h key y b =
 
 pub stands_by_notes : {start : Start} {a : Incarnations} → Sound start a →
     (e : ℕ) (notes : List Note) (reads : List Read) → reads ≡ reads_of notes → AllByRecursion (IsGood a e) notes →
-    (at : At) (link : Link) → knows_link reads at link ≡ true → link.mark ≡ false → link_shown_at a at ≡ link →
-    LinkStands start a e reads at link
+    (place : At) (link : Link) → knows_link reads place link ≡ true → link.mark ≡ false → link_shown_at a place ≡ link →
+    LinkStands start a e reads place link
 stands_by_notes {start} {a} snd e notes reads q al (Head b) link k m w =
     let f = link_found a e notes (Head b) link (rw q at k) al in
     let p : IsPair a (Head b) f.0 f.1 = same_pair snd e (Head b) link f.0 f.1 f.2 m w in
@@ -99,9 +99,9 @@ stands_by_notes {start} {a} snd e notes reads q al (Slot s) link k m w =
 
 -- the word that stands at a place now is the expected one
 pub link_stands : (start : Start) (w : World) (a : Incarnations) (notes : ℕ → Notes) (p : ℕ) → Agrees start w a notes →
-    (at : At) (expected : ℕ) → knows_link (w.know p).checked at (link_of expected) ≡ true →
-    (link_of expected).mark ≡ false → word_of (machine.link_at w at) ≡ expected →
-    LinkStands start a (w.know p).epoch (w.know p).checked at (link_of expected)
-link_stands start w a notes p g at expected k m e =
+    (place : At) (expected : ℕ) → knows_link (w.know p).checked place (link_of expected) ≡ true →
+    (link_of expected).mark ≡ false → word_of (machine.link_at w place) ≡ expected →
+    LinkStands start a (w.know p).epoch (w.know p).checked place (link_of expected)
+link_stands start w a notes p g place expected k m e =
     stands_by_notes g.sound (w.know p).epoch (notes p).checked (w.know p).checked (g.knows p).checked_reads
-    (g.knows p).checked at (link_of expected) k m (sym (link_read g at) ∙ ap link_of e)
+    (g.knows p).checked place (link_of expected) k m (sym (link_read g place) ∙ ap link_of e)

@@ -49,7 +49,7 @@ step_agrees start w a notes p (StoreBirth s birth) g ok = step_store_birth start
 step_agrees start w a notes p (StoreKey s key) g ok = step_store_key start w a notes p s key g ok
 step_agrees start w a notes p (StoreValue s value) g ok = step_store_value start w a notes p s value g ok
 step_agrees start w a notes p (StoreLink s next) g ok = step_store_link start w a notes p s next g ok
-step_agrees start w a notes p (LoadLink at) g ok = step_load_link start w a notes p at g ok
+step_agrees start w a notes p (LoadLink place) g ok = step_load_link start w a notes p place g ok
 step_agrees start w a notes p (LoadBirth s) g ok = step_load_birth start w a notes p s g ok
 step_agrees start w a notes p (LoadKey s) g ok = step_load_key start w a notes p s g ok
 step_agrees start w a notes p (LoadValue s) g ok = step_load_value start w a notes p s g ok
@@ -59,8 +59,8 @@ step_agrees start w a notes p (Replace s expected t) g ok = step_replace start w
 step_agrees start w a notes p (Unlink pred expected s) g ok = step_unlink start w a notes p pred expected s g ok
 step_agrees start w a notes p (ConfirmPresent op s expected) g ok =
     step_confirm_present start w a notes p op s expected g ok
-step_agrees start w a notes p (ConfirmAbsent op key at expected) g ok =
-    step_confirm_absent start w a notes p op key at expected g ok
+step_agrees start w a notes p (ConfirmAbsent op key place expected) g ok =
+    step_confirm_absent start w a notes p op key place expected g ok
 
 -- ---- chronicles in two parts
 

@@ -57,7 +57,7 @@ happens_by start w a p (StoreBirth s birth) = given_up_by a p s (Bears s birth) 
 happens_by start w a p (StoreKey s key) = (refl, tt)
 happens_by start w a p (StoreValue s value) = (refl, tt)
 happens_by start w a p (StoreLink s next) = (refl, tt)
-happens_by start w a p (LoadLink at) = tt
+happens_by start w a p (LoadLink place) = tt
 happens_by start w a p (LoadBirth s) = tt
 happens_by start w a p (LoadKey s) = tt
 happens_by start w a p (LoadValue s) = tt
@@ -71,9 +71,9 @@ happens_by start w a p (Unlink pred expected s) =
 happens_by start w a p (ConfirmPresent op s expected) =
     either_by p (found start w (ConfirmPresent op s expected) == expected) _ _
     (answered_by p (call_of start p (w.know p) (ConfirmPresent op s expected))) tt
-happens_by start w a p (ConfirmAbsent op key at expected) =
-    either_by p (found start w (ConfirmAbsent op key at expected) == expected) _ _
-    (answered_by p (call_of start p (w.know p) (ConfirmAbsent op key at expected))) tt
+happens_by start w a p (ConfirmAbsent op key place expected) =
+    either_by p (found start w (ConfirmAbsent op key place expected) == expected) _ _
+    (answered_by p (call_of start p (w.know p) (ConfirmAbsent op key place expected))) tt
 
 all_own : (p : ℕ) (entries : List Entry) → AreBy p entries → entries_by p entries ≡ entries
 all_own p [] h = refl

@@ -40,20 +40,20 @@ won true n e = refl
 won false n e = absurd (cc)
 
 -- what a checked link names is held
-link_names : (reads : List Read) (at : At) (link : Link) (t : ℕ) → knows_link reads at link ≡ true →
+link_names : (reads : List Read) (place : At) (link : Link) (t : ℕ) → knows_link reads place link ≡ true →
     link.slot ≡ Some t → holds reads t ≡ true
-link_names [] at link t h e = absurd (cc)
-link_names (BirthOf v b ∷ reads) at link t h e = link_names reads at link t h e
-link_names (KeyOf v b ∷ reads) at link t h e = link_names reads at link t h e
-link_names (ValueOf v b ∷ reads) at link t h e = link_names reads at link t h e
-link_names (LinkAt here seen ∷ reads) at link t h e = elim (cases_Bool (names seen.slot t)) [
+link_names [] place link t h e = absurd (cc)
+link_names (BirthOf v b ∷ reads) place link t h e = link_names reads place link t h e
+link_names (KeyOf v b ∷ reads) place link t h e = link_names reads place link t h e
+link_names (ValueOf v b ∷ reads) place link t h e = link_names reads place link t h e
+link_names (LinkAt here seen ∷ reads) place link t h e = elim (cases_Bool (names seen.slot t)) [
   | inl k ↦ rw k refl
-  | inr k ↦ rw k (elim (cases_Bool (same_at here at && same_link seen link)) [
+  | inr k ↦ rw k (elim (cases_Bool (same_at here place && same_link seen link)) [
     | inl z ↦
-        let u = and_parts (same_at here at) (same_link seen link) z in
+        let u = and_parts (same_at here place) (same_link seen link) z in
         let q : seen.slot ≡ Some t = ap (λ (l : Link). l.slot) (same_link_true seen link u.1) ∙ e in
         absurd (let y : names (Some t) t ≡ false = rw q at k in let x : (t == t) ≡ true = eq-eqb t t refl in cc)
-    | inr z ↦ link_names reads at link t (rw z at h) e
+    | inr z ↦ link_names reads place link t (rw z at h) e
   ])
 ]
 
@@ -70,31 +70,31 @@ module _ (start : Start) (w : World) (a : Incarnations) (notes : ℕ → Notes) 
   )
 
   -- behind which the exchange is made
-  last_behind : (at : At) (link : Link) → knows_link (w.know p).checked at link ≡ true →
-      LinkStands start a (w.know p).epoch (w.know p).checked at link → HoldsLastAt a (notes p).checked at
+  last_behind : (place : At) (link : Link) → knows_link (w.know p).checked place link ≡ true →
+      LinkStands start a (w.know p).epoch (w.know p).checked place link → HoldsLastAt a (notes p).checked place
   last_behind (Head b) link k m = tt
   last_behind (Slot s) link k m =
       holds_last s (link_held (w.know p).checked (w.know p).checked (Slot s) link r.checked k) m.held m.last
 
   -- and which the link names
-  last_named : (at : At) (link : Link) → knows_link (w.know p).checked at link ≡ true →
-      LinkStands start a (w.know p).epoch (w.know p).checked at link → HoldsLastNext a (notes p).checked link.slot
-  last_named at link k m = go link.slot refl (next_of a (before_at a at)) refl m.next
+  last_named : (place : At) (link : Link) → knows_link (w.know p).checked place link ≡ true →
+      LinkStands start a (w.know p).epoch (w.know p).checked place link → HoldsLastNext a (notes p).checked link.slot
+  last_named place link k m = go link.slot refl (next_of a (before_at a place)) refl m.next
     where
-      go : (o : Option ℕ) → link.slot ≡ o → (n : Option ℕ) → next_of a (before_at a at) ≡ n →
+      go : (o : Option ℕ) → link.slot ≡ o → (n : Option ℕ) → next_of a (before_at a place) ≡ n →
           IsHeldNext a (w.know p).epoch o n → HoldsLastNext a (notes p).checked o
       go None e n f h = tt
       go (Some t) e None f h = absurd h
       go (Some t) e (Some c) f h =
           let l : a.last t ≡ Some c = rw h.slot at (listed_last g.sound.slots c (m.listed c f)) in
           let d : last_in a t ≡ c = rw l refl in
-          holds_last t (link_names (w.know p).checked at link t k e) (rw d h) (l ∙ ap Some (sym d))
+          holds_last t (link_names (w.know p).checked place link t k e) (rw d h) (l ∙ ap Some (sym d))
 
   -- what the link names is the successor
-  next_held : (at : At) (link : Link) → knows_link (w.know p).checked at link ≡ true →
-      LinkStands start a (w.know p).epoch (w.know p).checked at link →
-      HoldsNext (notes p).checked link.slot (next_of a (before_at a at))
-  next_held at link k m = go link.slot refl (next_of a (before_at a at)) m.next
+  next_held : (place : At) (link : Link) → knows_link (w.know p).checked place link ≡ true →
+      LinkStands start a (w.know p).epoch (w.know p).checked place link →
+      HoldsNext (notes p).checked link.slot (next_of a (before_at a place))
+  next_held place link k m = go link.slot refl (next_of a (before_at a place)) m.next
     where
       go : (o : Option ℕ) → link.slot ≡ o → (n : Option ℕ) → IsHeldNext a (w.know p).epoch o n →
           HoldsNext (notes p).checked o n
@@ -104,7 +104,7 @@ module _ (start : Start) (w : World) (a : Incarnations) (notes : ℕ → Notes) 
       go (Some t) e (Some c) h = (
         c,
         holds_just g.sound (w.know p).epoch (notes p).checked (g.knows p).checked t c
-            (rw (g.knows p).checked_reads at (link_names (w.know p).checked at link t k e)) h,
+            (rw (g.knows p).checked_reads at (link_names (w.know p).checked place link t k e)) h,
         refl,
       )
 

@@ -58,11 +58,12 @@ holds_last start passes run pass s c is ok holds same =
     held_last g.sound s c (subst P (same ∙ g.image.epoch) held)
 
 -- an unmarked link that was checked at a moment and stands at its place at the end stands for the same pair
-pub pair_on : (start : Start) (passes : ℕ) (moment run : List Event) (pass : ℕ) (note : Note) (at : At) (link : Link) →
+pub pair_on : (start : Start) (passes : ℕ) (moment run : List Event) (pass : ℕ) (note : Note) (place : At)
+    (link : Link) →
     IsStart start → IsRun start passes run → Begins moment run → IsAmong note (notes_after start moment pass).checked →
-    note.read ≡ LinkAt at link → link.mark ≡ false → link_at (world_after start run) at ≡ link →
-    IsPair (incarnations_after start run) at note.of note.names × IsLastOf (incarnations_after start run) note.names
-pair_on start passes moment run pass note at link is ok begins among read unmarked stood =
+    note.read ≡ LinkAt place link → link.mark ≡ false → link_at (world_after start run) place ≡ link →
+    IsPair (incarnations_after start run) place note.of note.names × IsLastOf (incarnations_after start run) note.names
+pair_on start passes moment run pass note place link is ok begins among read unmarked stood =
     let a = incarnations_after start moment in
     let b = incarnations_after start run in
     let e = (know_after start moment pass).epoch in
@@ -72,7 +73,8 @@ pair_on start passes moment run pass note at link is ok begins among read unmark
     let all = stays_good then.sound (grown start passes moment run is ok begins) e (then.knows pass).epoch notes
     (then.knows pass).checked in
     let P : Read → Type 0 = λ r. IsGoodRead b e r note.of note.names in
-    let good : IsGoodLink b e at link note.of note.names = subst P read (among_all (IsGood b e) note notes all among) in
-    let pair = same_pair g.sound e at link note.of note.names good unmarked
-    (sym (stands (world_after start run) b at g.image) ∙ stood) in
-    (pair, pair_last g.sound at note.of note.names pair)
+    let good : IsGoodLink b e place link note.of note.names = subst P read
+    (among_all (IsGood b e) note notes all among) in
+    let pair = same_pair g.sound e place link note.of note.names good unmarked
+    (sym (stands (world_after start run) b place g.image) ∙ stood) in
+    (pair, pair_last g.sound place note.of note.names pair)

@@ -139,7 +139,7 @@ know_other start w p q (StoreBirth s birth) ne = put_other w.know q _ p ne
 know_other start w p q (StoreKey s key) ne = put_other w.know q _ p ne
 know_other start w p q (StoreValue s value) ne = put_other w.know q _ p ne
 know_other start w p q (StoreLink s next) ne = put_other w.know q _ p ne
-know_other start w p q (LoadLink at) ne = put_other w.know q _ p ne
+know_other start w p q (LoadLink place) ne = put_other w.know q _ p ne
 know_other start w p q (LoadBirth s) ne = put_other w.know q _ p ne
 know_other start w p q (LoadKey s) ne = put_other w.know q _ p ne
 know_other start w p q (LoadValue s) ne = put_other w.know q _ p ne
@@ -157,8 +157,8 @@ know_other start w p q (Unlink (Slot t) expected s) ne =
     by_both (word_of (w.link t) == expected) (λ v. v.know p) _ w (w.know p) (put_other w.know q _ p ne) refl
 know_other start w p q (ConfirmPresent op s expected) ne =
     by_both (word_of (w.link s) == expected) (λ v. v.know p) _ w (w.know p) refl refl
-know_other start w p q (ConfirmAbsent op key at expected) ne =
-    by_both (found start w (ConfirmAbsent op key at expected) == expected) (λ v. v.know p) _ w (w.know p) refl refl
+know_other start w p q (ConfirmAbsent op key place expected) ne =
+    by_both (found start w (ConfirmAbsent op key place expected) == expected) (λ v. v.know p) _ w (w.know p) refl refl
 
 -- an exchange that is won teaches, and one that is lost doesn't
 taught : (b : Bool) (x w : World) (p : ℕ) (know : Know) → x.know ≡ put w.know p (cond b know (w.know p)) →
@@ -179,7 +179,7 @@ know_own start w p (StoreBirth s birth) = put_here w.know p _
 know_own start w p (StoreKey s key) = put_here w.know p _
 know_own start w p (StoreValue s value) = put_here w.know p _
 know_own start w p (StoreLink s next) = put_here w.know p _
-know_own start w p (LoadLink at) = put_here w.know p _
+know_own start w p (LoadLink place) = put_here w.know p _
 know_own start w p (LoadBirth s) = put_here w.know p _
 know_own start w p (LoadKey s) = put_here w.know p _
 know_own start w p (LoadValue s) = put_here w.know p _
@@ -191,8 +191,8 @@ know_own start w p (Unlink (Head b) expected s) = taught (word_of (w.head b) == 
 know_own start w p (Unlink (Slot t) expected s) = taught (word_of (w.link t) == expected) _ w p _ refl
 know_own start w p (ConfirmPresent op s expected) =
     by_both (word_of (w.link s) == expected) (λ v. v.know p) _ w (w.know p) refl refl
-know_own start w p (ConfirmAbsent op key at expected) =
-    by_both (found start w (ConfirmAbsent op key at expected) == expected) (λ v. v.know p) _ w (w.know p) refl refl
+know_own start w p (ConfirmAbsent op key place expected) =
+    by_both (found start w (ConfirmAbsent op key place expected) == expected) (λ v. v.know p) _ w (w.know p) refl refl
 
 -- the knowledge of a pass after events of others
 others_know : (start : Start) (w : World) (who : ℕ) (events : List Event) → NoneOf who events →
@@ -279,7 +279,7 @@ calls_after start w p (StoreBirth s birth) = sym (append-nil w.calls)
 calls_after start w p (StoreKey s key) = sym (append-nil w.calls)
 calls_after start w p (StoreValue s value) = sym (append-nil w.calls)
 calls_after start w p (StoreLink s next) = sym (append-nil w.calls)
-calls_after start w p (LoadLink at) = sym (append-nil w.calls)
+calls_after start w p (LoadLink place) = sym (append-nil w.calls)
 calls_after start w p (LoadBirth s) = sym (append-nil w.calls)
 calls_after start w p (LoadKey s) = sym (append-nil w.calls)
 calls_after start w p (LoadValue s) = sym (append-nil w.calls)
@@ -314,7 +314,7 @@ called_by start p know (Publish pred expected s) = refl
 called_by start p know (Mark s expected) = refl
 called_by start p know (Replace s expected t) = refl
 called_by start p know (ConfirmPresent op s expected) = refl
-called_by start p know (ConfirmAbsent op key at expected) = refl
+called_by start p know (ConfirmAbsent op key place expected) = refl
 called_by start p know _ = tt
 
 made_by : (start : Start) (w : World) (p : ℕ) (step : Step) → IfSome (call_made start w p step) (λ call. call.who ≡ p)

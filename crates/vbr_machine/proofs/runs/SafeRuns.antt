@@ -126,7 +126,7 @@ bears_after start run p (TakeFlag s) g ok = tt
 bears_after start run p (StoreKey s key) g ok = tt
 bears_after start run p (StoreValue s value) g ok = tt
 bears_after start run p (StoreLink s next) g ok = tt
-bears_after start run p (LoadLink at) g ok = tt
+bears_after start run p (LoadLink place) g ok = tt
 bears_after start run p (LoadBirth s) g ok = tt
 bears_after start run p (LoadKey s) g ok = tt
 bears_after start run p (LoadValue s) g ok = tt
@@ -135,7 +135,7 @@ bears_after start run p (Mark s expected) g ok = tt
 bears_after start run p (Replace s expected t) g ok = tt
 bears_after start run p (Unlink pred expected s) g ok = tt
 bears_after start run p (ConfirmPresent op s expected) g ok = tt
-bears_after start run p (ConfirmAbsent op key at expected) g ok = tt
+bears_after start run p (ConfirmAbsent op key place expected) g ok = tt
 
 -- ---- one event of a run
 
@@ -163,8 +163,9 @@ every_run start passes run is ok =
       values = rw g.calls g.tells.values;
       births = g.births;
       epoch = rw g.image.epoch g.fits.epoch;
-      links = λ at.
-          (let P : Link → Type 0 = IsLink in subst P (sym (stands w a at g.image)) (image_fits g.sound g.fits at));
+      links = λ place.
+          (let P : Link → Type 0 = IsLink in
+          subst P (sym (stands w a place g.image)) (image_fits g.sound g.fits place));
       knows = λ p. record {
         epoch = rw g.image.epoch (g.knows p).epoch;
         pending = (g.knows p).pending_reads;
@@ -180,11 +181,12 @@ every_run start passes run is ok =
       };
       slots = λ some ok_too. are_placed start some run is ok_too;
       exchanges = λ before later event e.
-          let at = accepted_there start passes run before later event ok e in
+          let accepted = accepted_there start passes run before later event ok e in
           right_exchange start (world_after start before) (incarnations_after start before) (notes_after start before)
-          event.pass (run_agrees start passes before is at.0) (run_reads start passes before at.0 event.pass) event.step
-          at.1.1;
+          event.pass (run_agrees start passes before is accepted.0)
+          (run_reads start passes before accepted.0 event.pass) event.step
+          accepted.1.1;
       births_over = λ before later event e.
-          let at = accepted_there start passes run before later event ok e in
-          bears_after start before event.pass event.step (run_agrees start passes before is at.0) at.1.1;
+          let accepted = accepted_there start passes run before later event ok e in
+          bears_after start before event.pass event.step (run_agrees start passes before is accepted.0) accepted.1.1;
     }

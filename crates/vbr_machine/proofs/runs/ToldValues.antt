@@ -86,7 +86,7 @@ call_has start p know (Replace s expected t) ok =
     (placed_value start know.checked s (link_of expected) (know.own t) ok.in_range.1)
 call_has start p know (ConfirmPresent op s expected) ok =
     present start op (value_in know.checked s) ok.in_shape.1 ok.held.2
-call_has start p know (ConfirmAbsent op key at expected) ok = none_for start.shape.values op
+call_has start p know (ConfirmAbsent op key place expected) ok = none_for start.shape.values op
 call_has start p know _ ok = tt
 
 if_made : (b t : Bool) (made : Option Call) → IfSome made (λ call. HasValueOf t call.op call.reply call.value) →

@@ -124,10 +124,11 @@ step_confirm_present start w a notes p op s expected g ok = go (cases_Bool (word
         rw t ((al, tt), answer_allowed start w a notes p call g al)
 
 pub step_confirm_absent : (start : Start) (w : World) (a : Incarnations) (notes : ℕ → Notes) (p : ℕ) (op : Op) (key : ℕ)
-    (at : At) (expected : ℕ) → Agrees start w a notes → Accepts start (w.know p) (ConfirmAbsent op key at expected) →
-    StepAgrees start w a notes p (ConfirmAbsent op key at expected)
-step_confirm_absent start w a notes p op key at expected g ok =
-    go (cases_Bool (word_of (machine.link_at w at) == expected))
+    (place : At) (expected : ℕ) → Agrees start w a notes →
+    Accepts start (w.know p) (ConfirmAbsent op key place expected) →
+    StepAgrees start w a notes p (ConfirmAbsent op key place expected)
+step_confirm_absent start w a notes p op key place expected g ok =
+    go (cases_Bool (word_of (machine.link_at w place) == expected))
   where
     nothing : (o : Op) → ChangesNothing o false
     nothing Insert = refl
@@ -147,16 +148,16 @@ step_confirm_absent start w a notes p op key at expected g ok =
     gives Has payloads k = refl
     gives Get payloads k = refl
 
-    go : ((word_of (machine.link_at w at) == expected) ≡ true) ⊎
-        ((word_of (machine.link_at w at) == expected) ≡ false) →
-        StepAgrees start w a notes p (ConfirmAbsent op key at expected)
-    go (inr f) = rw (found_at start w at, f) (tt, agrees_still start w a notes p g)
+    go : ((word_of (machine.link_at w place) == expected) ≡ true) ⊎
+        ((word_of (machine.link_at w place) == expected) ≡ false) →
+        StepAgrees start w a notes p (ConfirmAbsent op key place expected)
+    go (inr f) = rw (found_at start w place, f) (tt, agrees_still start w a notes p g)
     go (inl t) =
-        let q : machine.found start w (ConfirmAbsent op key at expected) ≡ expected =
-        found_at start w at ∙ eqb-true (word_of (machine.link_at w at)) expected t in
+        let q : machine.found start w (ConfirmAbsent op key place expected) ≡ expected =
+        found_at start w place ∙ eqb-true (word_of (machine.link_at w place)) expected t in
         let ab : set_after (opening_keys start) a.calls key ≡ false =
         sym (ap (λ calls. set_after (opening_keys start) calls key) g.calls)
-        ∙ confirmed_absent g p op key at expected ok q in
+        ∙ confirmed_absent g p op key place expected ok q in
         let call : Call = record { who = p; op = op; key = key; reply = false; value = None } in
         let al : Allowed start (opening_keys start) a p (Confirms call) = (
           refl,
@@ -164,4 +165,4 @@ step_confirm_absent start w a notes p op key at expected g ok =
           reply op (set_after (opening_keys start) a.calls) key ok.in_range.1 ab,
           gives op (values_after (opening_payloads start) a.calls) key,
         ) in
-        rw (found_at start w at, t) ((al, tt), answer_allowed start w a notes p call g al)
+        rw (found_at start w place, t) ((al, tt), answer_allowed start w a notes p call g al)

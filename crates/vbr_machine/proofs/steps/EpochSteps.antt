@@ -40,7 +40,7 @@ reread_fits {start} {a} s p e f (Some (Unlinked seen)) place last stamp q le h =
       record {
         node = x.node;
         last_is = x.last_is;
-        at = x.at;
+        unlinked = x.unlinked;
         state = x.state;
         seen = λ t. let u = rw x.state at (s.times x.node) in let v = u.1 in omega arith;
       },

@@ -40,8 +40,8 @@ use Rattle.vbr_machine.proofs.reads.StandingLinks.{node_at, birth_there}
 
 -- one link was exchanged
 pub exchanged : (w : World) (a b : Incarnations) (pred : At) (new : Link) → IsImage w a → link_shown_at b pred ≡ new →
-    ((at : At) → at ≢ pred → link_shown_at b at ≡ link_shown_at a at) → (at : At) →
-    machine.link_at (with_link_at w pred new) at ≡ link_shown_at b at
+    ((place : At) → place ≢ pred → link_shown_at b place ≡ link_shown_at a place) → (place : At) →
+    machine.link_at (with_link_at w pred new) place ≡ link_shown_at b place
 exchanged w a b (Head h) new i here there (Head v) = go (cases_eq v h)
   where
     go : (v ≡ h) ⊎ (v ≢ h) → put w.head h new v ≡ link_shown_at b (Head v)
@@ -68,7 +68,7 @@ exchanged_world w p pred step s holding place calls t = with_link_at (record w {
 -- a world with one link exchanged: but for that, only what passes know, the places and the calls are others
 pub record IsExchanged (w v : World) (pred : At) (new : Link) : Type 0 where
   pub epoch : v.epoch ≡ w.epoch
-  pub link : (at : At) → machine.link_at v at ≡ machine.link_at (with_link_at w pred new) at
+  pub link : (place : At) → machine.link_at v place ≡ machine.link_at (with_link_at w pred new) place
   pub birth : v.birth ≡ w.birth
   pub key : v.key ≡ w.key
   pub value : v.value ≡ w.value
@@ -91,7 +91,7 @@ is_exchanged w know place calls pred new =
     v : At → World
     v pred = with_link_at (record w { know = know; place = place; calls = calls }) pred new
 
-    link : (pred at : At) → machine.link_at (v pred) at ≡ machine.link_at (with_link_at w pred new) at
+    link : (pred place : At) → machine.link_at (v pred) place ≡ machine.link_at (with_link_at w pred new) place
     link (Head h) (Head b) = refl
     link _ _ = refl
 
@@ -111,7 +111,7 @@ link_leaves w _ new = (refl, refl, refl)
 -- the image once a link was exchanged, where the incarnations show the new one at its place and the same ones elsewhere
 pub image_exchanged : (w v : World) (a b : Incarnations) (pred : At) (new : Link) → IsImage w a →
     IsExchanged w v pred new → link_shown_at b pred ≡ new →
-    ((at : At) → at ≢ pred → link_shown_at b at ≡ link_shown_at a at) →
+    ((holder : At) → holder ≢ pred → link_shown_at b holder ≡ link_shown_at a holder) →
     b.epoch ≡ a.epoch → b.birth ≡ a.birth → b.key ≡ a.key → b.value ≡ a.value → b.last ≡ a.last → b.stamp ≡ a.stamp →
     ((s : ℕ) → v.place s ≡ b.place s) → IsImage v b
 image_exchanged w v a b pred new i x here there ae abi ak av ala ats place =
@@ -145,8 +145,8 @@ shown_as_before a b c v here other = go (a.last v) refl
 
 -- the links elsewhere once c was inserted behind the place
 pub inserted_there : {start : Start} {a : Incarnations} → Sound start a → (p c : ℕ) (pred : At) →
-    last_at a pred ≡ node_at a pred → MayInsert start a p c (before_at a pred) → (at : At) → at ≢ pred →
-    link_shown_at (becomes start a p (Inserts c (before_at a pred))) at ≡ link_shown_at a at
+    last_at a pred ≡ node_at a pred → MayInsert start a p c (before_at a pred) → (place : At) → place ≢ pred →
+    link_shown_at (becomes start a p (Inserts c (before_at a pred))) place ≡ link_shown_at a place
 inserted_there {start} {a} snd p c (Head h) lq m (Head v) ne =
     to_next_same a (becomes start a p (Inserts c (AtHead h))) refl refl 0 (put a.first h (Some c) v)
     ∙ ap (link_to_next a 0) (put_other a.first h (Some c) v (λ e. ne (ap Head e)))

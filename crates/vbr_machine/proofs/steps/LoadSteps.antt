@@ -61,9 +61,9 @@ held_now start w a notes p s g h e =
     let c : last_in a s ≡ x.0 = rw l refl in
     (rw c y, l ∙ ap Some (sym c))
 
-good_as : (a : Incarnations) (at : At) (e f : ℕ) (l m : Link) (of off names : Option ℕ) → e ≡ f → l ≡ m → of ≡ off →
-    IsGoodLink a f at m off names → IsGoodLink a e at l of names
-good_as a at e f l m of off names q r o h = rw (q, r, o) h
+good_as : (a : Incarnations) (place : At) (e f : ℕ) (l m : Link) (of off names : Option ℕ) → e ≡ f → l ≡ m → of ≡ off →
+    IsGoodLink a f place m off names → IsGoodLink a e place l of names
+good_as a place e f l m of off names q r o h = rw (q, r, o) h
 
 one_as : (a : Incarnations) (s e f : ℕ) (values : ℕ → ℕ) (value c : ℕ) (of : Option ℕ) → e ≡ f → of ≡ Some c →
     IsHeldIncarnation a f s c → values c ≡ value → IsOfHeldOne a e s values value of
@@ -101,12 +101,12 @@ step_load_value start w a notes p s g ok = (
 
 -- the link of the word that stands at a place is that of the image
 pub link_read : {start : Start} {w : World} {a : Incarnations} {notes : ℕ → Notes} → Agrees start w a notes →
-    (at : At) → link_of (word_of (machine.link_at w at)) ≡ link_shown_at a at
-link_read {start} {w} {a} g at = ap (λ l. link_of (word_of l)) (stands w a at g.image)
-    ∙ link_of-word_of (link_shown_at a at) (image_fits g.sound g.fits at)
+    (place : At) → link_of (word_of (machine.link_at w place)) ≡ link_shown_at a place
+link_read {start} {w} {a} g place = ap (λ l. link_of (word_of l)) (stands w a place g.image)
+    ∙ link_of-word_of (link_shown_at a place) (image_fits g.sound g.fits place)
 
-pub step_load_link : (start : Start) (w : World) (a : Incarnations) (notes : ℕ → Notes) (p : ℕ) (at : At) →
-    Agrees start w a notes → Accepts start (w.know p) (LoadLink at) → StepAgrees start w a notes p (LoadLink at)
+pub step_load_link : (start : Start) (w : World) (a : Incarnations) (notes : ℕ → Notes) (p : ℕ) (place : At) →
+    Agrees start w a notes → Accepts start (w.know p) (LoadLink place) → StepAgrees start w a notes p (LoadLink place)
 step_load_link start w a notes p (Head b) g ok = (
   tt,
   loaded start w a notes p (LinkAt (Head b) (link_of (word_of (w.head b)))) g

@@ -47,9 +47,9 @@ listed_not_of start (Own p) st key f l q = absurd (grind arith)
 listed_not_of start (Hand p) st key f l q = absurd (grind arith)
 
 -- the same link, of the same incarnation by another name
-pub of_as : (a : Incarnations) (at : At) (e : ℕ) (l : Link) (of off names : Option ℕ) → of ≡ off →
-    IsGoodLink a e at l off names → IsGoodLink a e at l of names
-of_as a at e l of off names o h = rw o h
+pub of_as : (a : Incarnations) (place : At) (e : ℕ) (l : Link) (of off names : Option ℕ) → of ≡ off →
+    IsGoodLink a e place l off names → IsGoodLink a e place l of names
+of_as a place e l of off names o h = rw o h
 
 pub step_mark : (start : Start) (w : World) (a : Incarnations) (notes : ℕ → Notes) (p s expected : ℕ) →
     Agrees start w a notes → Accepts start (w.know p) (Mark s expected) → StepAgrees start w a notes p (Mark s expected)

@@ -149,19 +149,20 @@ step_take_flag start w a notes p s g low = go (w.place s) refl
         g.owns)
         g.calls g.births
 
-    at : (place : SlotPlace) → w.place s ≡ place → a.place s ≡ place
-    at place e = sym (g.image.place s) ∙ e
+    place_shown : (place : SlotPlace) → w.place s ≡ place → a.place s ≡ place
+    place_shown place e = sym (g.image.place s) ∙ e
 
     go : (place : SlotPlace) → w.place s ≡ place → StepAgrees start w a notes p (TakeFlag s)
-    go Shared e = rw (flag_told start w s Shared low e) ((at Shared e, tt), won (at Shared e))
+    go Shared e = rw (flag_told start w s Shared low e) ((place_shown Shared e, tt), won (place_shown Shared e))
     go (Own q) e =
-        rw (flag_told start w s (Own q) low e) ((λ z. let y = at (Own q) e in cc, tt), agrees_still start w a notes p g)
+        rw (flag_told start w s (Own q) low e)
+        ((λ z. let y = place_shown (Own q) e in cc, tt), agrees_still start w a notes p g)
     go (Hand q) e =
         rw (flag_told start w s (Hand q) low e)
-        ((λ z. let y = at (Hand q) e in cc, tt), agrees_still start w a notes p g)
+        ((λ z. let y = place_shown (Hand q) e in cc, tt), agrees_still start w a notes p g)
     go (Listed q) e =
         rw (flag_told start w s (Listed q) low e)
-        ((λ z. let y = at (Listed q) e in cc, tt), agrees_still start w a notes p g)
+        ((λ z. let y = place_shown (Listed q) e in cc, tt), agrees_still start w a notes p g)
 
 -- a slot that stays in hand of its pass holds something else
 owns_in_hand : (a b : Incarnations) (know : ℕ → Know) (p s : ℕ) (own : Option Holding) → a.place s ≡ Hand p →

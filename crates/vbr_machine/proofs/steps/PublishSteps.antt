@@ -33,7 +33,8 @@ slot_of_is a e None (Some c) h = absurd h
 slot_of_is a e (Some s) None h = absurd h
 slot_of_is a e (Some s) (Some c) h = ap Some (sym h.slot)
 
-pub birth_there_low : (a : Incarnations) (e : ℕ) (at : At) → IsHeldAt a e at (node_at a at) → birth_there a at ≤ e
+pub birth_there_low : (a : Incarnations) (e : ℕ) (place : At) → IsHeldAt a e place (node_at a place) →
+    birth_there a place ≤ e
 birth_there_low a e (Head b) h = omega arith
 birth_there_low a e (Slot q) h = h.birth
 
@@ -92,8 +93,8 @@ module _ (start : Start) (w : World) (a : Incarnations) (notes : ℕ → Notes) 
       ∙ (λ i. record { slot = Some (slot_is i); mark = false; version = max (sym pb i) (sym ob i) })
 
   -- and elsewhere no link changes
-  pub old_links : (at : At) → at ≢ pred →
-      link_shown_at (becomes start a p (Inserts (last_in a s) (before_at a pred))) at ≡ link_shown_at a at
+  pub old_links : (place : At) → place ≢ pred →
+      link_shown_at (becomes start a p (Inserts (last_in a s) (before_at a pred))) place ≡ link_shown_at a place
   old_links = inserted_there g.sound p (last_in a s) pred m.last may_insert
 
   pub gr : Grows a (becomes start a p (Inserts (last_in a s) (before_at a pred)))

@@ -24,27 +24,28 @@ use Rattle.vbr_machine.proofs.reads.StandingLinks.{LinkStands, node_at}
 use Rattle.vbr_machine.proofs.steps.PublishSteps.{ready, own_link, new_link, old_links, gr, held_new, birth_there_low}
 use Rattle.vbr_machine.proofs.steps.PublishSteps.{next_low}
 
-pub pair_as : (a : Incarnations) (at : At) (e : ℕ) (l : Link) (of off names named : Option ℕ) → of ≡ off →
-    names ≡ named → IsGoodLink a e at l off named → IsGoodLink a e at l of names
-pair_as a at e l of off names named o n h = rw (o, n) h
+pub pair_as : (a : Incarnations) (place : At) (e : ℕ) (l : Link) (of off names named : Option ℕ) → of ≡ off →
+    names ≡ named → IsGoodLink a e place l off named → IsGoodLink a e place l of names
+pair_as a place e l of off names named o n h = rw (o, n) h
 
 pub one_as : (a : Incarnations) (s e : ℕ) (values : ℕ → ℕ) (value c : ℕ) (of : Option ℕ) → of ≡ Some c →
     IsHeldIncarnation a e s c → values c ≡ value → IsOfHeldOne a e s values value of
 one_as a s e values value c of o h v = rw o (h, v)
 
-last_after : (start : Start) (a : Incarnations) (p c : ℕ) (at : At) → last_at a at ≡ node_at a at →
-    last_at (becomes start a p (Inserts c (before_at a at))) at ≡ node_at a at
+last_after : (start : Start) (a : Incarnations) (p c : ℕ) (place : At) → last_at a place ≡ node_at a place →
+    last_at (becomes start a p (Inserts c (before_at a place))) place ≡ node_at a place
 last_after start a p c (Head h) l = refl
 last_after start a p c (Slot q) l = l
 
-next_after : (start : Start) (a : Incarnations) (p c : ℕ) (at : At) →
-    next_of (becomes start a p (Inserts c (before_at a at)))
-    (before_at (becomes start a p (Inserts c (before_at a at))) at) ≡ Some c
+next_after : (start : Start) (a : Incarnations) (p c : ℕ) (place : At) →
+    next_of (becomes start a p (Inserts c (before_at a place)))
+    (before_at (becomes start a p (Inserts c (before_at a place))) place) ≡ Some c
 next_after start a p c (Head h) = put_here a.first h (Some c)
 next_after start a p c (Slot q) = put_here (put a.next c (a.next (last_in a q))) (last_in a q) (Some c)
 
-next_new : (start : Start) (a : Incarnations) (p c q : ℕ) (at : At) → a.state c ≡ InHand q → IsOpen a (before_at a at) →
-    (becomes start a p (Inserts c (before_at a at))).next c ≡ next_of a (before_at a at)
+next_new : (start : Start) (a : Incarnations) (p c q : ℕ) (place : At) → a.state c ≡ InHand q →
+    IsOpen a (before_at a place) →
+    (becomes start a p (Inserts c (before_at a place))).next c ≡ next_of a (before_at a place)
 next_new start a p c q (Head h) st o = put_here a.next c (a.first h)
 next_new start a p c q (Slot v) st o =
     let ne : c ≢ last_in a v = λ e. let y : a.state c ≡ Linked = rw e o in cc in

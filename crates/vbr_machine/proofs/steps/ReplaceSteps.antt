@@ -42,8 +42,8 @@ not_in_hand {start} {a} {p} {old} {c} m e =
 
 -- the links elsewhere once c stands in place of the last incarnation of a slot
 replaced_there : {start : Start} {a : Incarnations} → Sound start a → (p c s : ℕ) → a.last s ≡ Some (last_in a s) →
-    MayTakePlace start a p (last_in a s) c → (at : At) → at ≢ Slot s →
-    link_shown_at (becomes start a p (Replaces (last_in a s) c)) at ≡ link_shown_at a at
+    MayTakePlace start a p (last_in a s) c → (place : At) → place ≢ Slot s →
+    link_shown_at (becomes start a p (Replaces (last_in a s) c)) place ≡ link_shown_at a place
 replaced_there {start} {a} snd p c s lq m (Head v) ne =
     to_next_same a (becomes start a p (Replaces (last_in a s) c)) refl refl 0 (a.first v)
 replaced_there {start} {a} snd p c s lq m (Slot v) ne =
@@ -165,8 +165,8 @@ module _ (start : Start) (w : World) (a : Incarnations) (notes : ℕ → Notes) 
       ∙ (λ i. record { slot = Some (slot_is i); mark = true; version = max (sym pb i) (sym ob i) })
 
   -- and elsewhere no link changes
-  pub old_links : (at : At) → at ≢ Slot s →
-      link_shown_at (becomes start a p (Replaces (last_in a s) (last_in a t))) at ≡ link_shown_at a at
+  pub old_links : (place : At) → place ≢ Slot s →
+      link_shown_at (becomes start a p (Replaces (last_in a s) (last_in a t))) place ≡ link_shown_at a place
   old_links = replaced_there g.sound p (last_in a t) s m.last may_take
 
   pub gr : Grows a (becomes start a p (Replaces (last_in a s) (last_in a t)))

@@ -283,10 +283,10 @@ hand_facts a p s epoch _ h o = absurd o
 -- a slot that the pass unlinked
 pub record UnlinkedFacts (a : Incarnations) (p s epoch : ℕ) (holding : Option Holding) : Type 0 where
   pub last : a.last s ≡ Some (last_in a s)
-  pub at : ℕ
-  pub state : a.state (last_in a s) ≡ state.Unlinked p at
+  pub unlinked : ℕ
+  pub state : a.state (last_in a s) ≡ state.Unlinked p unlinked
   pub place : a.place s ≡ Own p
-  pub seen : IsReread holding → at ≤ epoch
+  pub seen : IsReread holding → unlinked ≤ epoch
 
 pub unlinked_facts : (a : Incarnations) (p s epoch : ℕ) (holding : Option Holding) →
     OwnFits a p epoch holding (a.place s) (a.last s) (a.stamp s) → IsUnlinked holding →
@@ -296,7 +296,7 @@ unlinked_facts a p s epoch (Some (Unlinked reread)) h o =
     let l : last_in a s ≡ x.node = rw x.last_is refl in
     record {
       last = x.last_is ∙ ap Some (sym l);
-      at = x.at;
+      unlinked = x.unlinked;
       state = ap a.state l ∙ x.state;
       place = h.0;
       seen = λ t. x.seen (grind arith);

@@ -36,8 +36,8 @@ use Rattle.vbr_machine.proofs.steps.PublishSteps.{slot_of_is}
 
 -- the links elsewhere once c was unlinked behind the place
 unlinked_there : {start : Start} {a : Incarnations} → Sound start a → (p c : ℕ) (pred : At) →
-    last_at a pred ≡ node_at a pred → a.state c ≡ Marked → (at : At) → at ≢ pred →
-    link_shown_at (becomes start a p (Unlinks c (before_at a pred))) at ≡ link_shown_at a at
+    last_at a pred ≡ node_at a pred → a.state c ≡ Marked → (place : At) → place ≢ pred →
+    link_shown_at (becomes start a p (Unlinks c (before_at a pred))) place ≡ link_shown_at a place
 unlinked_there {start} {a} snd p c (Head h) lq m (Head v) ne =
     to_next_same a (becomes start a p (Unlinks c (AtHead h))) refl refl 0 (put a.first h (a.next c) v)
     ∙ ap (link_to_next a 0) (put_other a.first h (a.next c) v (λ e. ne (ap Head e)))
@@ -79,15 +79,15 @@ unlinked_here start a p c (Slot q) lq o m =
     ∙ ap (link_to_next b (a.birth k)) (put_here a.next k (a.next c)) ∙ to_next_same a b refl refl (a.birth k) (a.next c)
 
 -- the incarnation at the place is as before
-pub last_behind : (start : Start) (a : Incarnations) (p c : ℕ) (at : At) → last_at a at ≡ node_at a at →
-    last_at (becomes start a p (Unlinks c (before_at a at))) at ≡ node_at a at
+pub last_behind : (start : Start) (a : Incarnations) (p c : ℕ) (place : At) → last_at a place ≡ node_at a place →
+    last_at (becomes start a p (Unlinks c (before_at a place))) place ≡ node_at a place
 last_behind start a p c (Head h) l = refl
 last_behind start a p c (Slot q) l = l
 
 -- and what followed c now follows the place
-pub next_behind : (start : Start) (a : Incarnations) (p c : ℕ) (at : At) →
-    next_of (becomes start a p (Unlinks c (before_at a at)))
-    (before_at (becomes start a p (Unlinks c (before_at a at))) at) ≡ a.next c
+pub next_behind : (start : Start) (a : Incarnations) (p c : ℕ) (place : At) →
+    next_of (becomes start a p (Unlinks c (before_at a place)))
+    (before_at (becomes start a p (Unlinks c (before_at a place))) place) ≡ a.next c
 next_behind start a p c (Head h) = put_here a.first h (a.next c)
 next_behind start a p c (Slot q) = put_here a.next (last_in a q) (a.next c)
 
@@ -102,14 +102,14 @@ pub record MarkedFacts (a : Incarnations) (s e : ℕ) (known : Option Link) : Ty
 
 -- so it is where the link that stands at a place names the slot, and then this incarnation follows the place
 marked_facts : {start : Start} {a : Incarnations} → Sound start a →
-    (e : ℕ) (notes : List Note) (reads : List Read) (s : ℕ) (at : At) (link : Link) → reads ≡ reads_of notes →
-    AllByRecursion (IsGood a e) notes → LinkStands start a e reads at link → link.slot ≡ Some s →
+    (e : ℕ) (notes : List Note) (reads : List Read) (s : ℕ) (place : At) (link : Link) → reads ≡ reads_of notes →
+    AllByRecursion (IsGood a e) notes → LinkStands start a e reads place link → link.slot ≡ Some s →
     IsSome (marked_in reads s) →
-    MarkedFacts a s e (marked_in reads s) × (next_of a (before_at a at) ≡ Some (last_in a s))
-marked_facts {start} {a} snd e notes reads s at link q al m sl k = go (marked_in reads s) refl k
+    MarkedFacts a s e (marked_in reads s) × (next_of a (before_at a place) ≡ Some (last_in a s))
+marked_facts {start} {a} snd e notes reads s place link q al m sl k = go (marked_in reads s) refl k
   where
-    named : (n : Option ℕ) → next_of a (before_at a at) ≡ n → IsHeldNext a e (Some s) n →
-        (c : ℕ) × (next_of a (before_at a at) ≡ Some c) × IsHeldIncarnation a e s c
+    named : (n : Option ℕ) → next_of a (before_at a place) ≡ n → IsHeldNext a e (Some s) n →
+        (c : ℕ) × (next_of a (before_at a place) ≡ Some c) × IsHeldIncarnation a e s c
     named None r h = absurd h
     named (Some c) r h = (c, r, h)
 
@@ -122,12 +122,12 @@ marked_facts {start} {a} snd e notes reads s at link q al m sl k = go (marked_in
     both st i j = grind arith
 
     go : (known : Option Link) → marked_in reads s ≡ known → IsSome known →
-        MarkedFacts a s e known × (next_of a (before_at a at) ≡ Some (last_in a s))
+        MarkedFacts a s e known × (next_of a (before_at a place) ≡ Some (last_in a s))
     go None r k = absurd (cc)
     go (Some y) r k =
         let f = marked_found a e notes s y (rw q at r) al in
         let d = removed f.0 f.1 f.2.place (f.2.frozen f.3) in
-        let n = named (next_of a (before_at a at)) refl (rw sl at m.next) in
+        let n = named (next_of a (before_at a place)) refl (rw sl at m.next) in
         let li = m.listed n.0 n.1 in
         let same : d.0 ≡ n.0 =
         one_late snd.slots d.0 n.0 e (d.1.slot ∙ sym n.2.slot) d.1.late n.2.late d.1.birth n.2.birth in
@@ -174,8 +174,8 @@ module _ (start : Start) (w : World) (a : Incarnations) (notes : ℕ → Notes) 
   new_link = unlinked_here start a p (last_in a s) pred m.last m.is_open facts.state ∙ sym link_is
 
   -- and elsewhere no link changes
-  pub old_links : (at : At) → at ≢ pred →
-      link_shown_at (becomes start a p (Unlinks (last_in a s) (before_at a pred))) at ≡ link_shown_at a at
+  pub old_links : (place : At) → place ≢ pred →
+      link_shown_at (becomes start a p (Unlinks (last_in a s) (before_at a pred))) place ≡ link_shown_at a place
   old_links = unlinked_there g.sound p (last_in a s) pred m.last facts.state
 
   pub gr : Grows a (becomes start a p (Unlinks (last_in a s) (before_at a pred)))

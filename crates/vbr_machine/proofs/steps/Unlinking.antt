@@ -134,7 +134,7 @@ made start w a notes p pred expected s g ok stands =
             record {
               node = c;
               last_is = r.last;
-              at = a.epoch;
+              unlinked = a.epoch;
               state = put_here a.state c (state.Unlinked p a.epoch);
               seen = λ z. absurd (cc);
             },

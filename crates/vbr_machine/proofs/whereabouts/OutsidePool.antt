@@ -57,7 +57,7 @@ was_or_raised start w p (StoreBirth t birth) s e = inl (put_in w.place t (Hand p
 was_or_raised start w p (StoreKey t key) s e = inl e
 was_or_raised start w p (StoreValue t value) s e = inl e
 was_or_raised start w p (StoreLink t next) s e = inl e
-was_or_raised start w p (LoadLink at) s e = inl e
+was_or_raised start w p (LoadLink place) s e = inl e
 was_or_raised start w p (LoadBirth t) s e = inl e
 was_or_raised start w p (LoadKey t) s e = inl e
 was_or_raised start w p (LoadValue t) s e = inl e
@@ -73,8 +73,8 @@ was_or_raised start w p (Unlink pred expected t) s e =
     (λ x. x) e)
 was_or_raised start w p (ConfirmPresent op t expected) s e =
     inl (by_test (found start w (ConfirmPresent op t expected) == expected) _ w s (λ x. x) (λ x. x) e)
-was_or_raised start w p (ConfirmAbsent op key at expected) s e =
-    inl (by_test (found start w (ConfirmAbsent op key at expected) == expected) _ w s (λ x. x) (λ x. x) e)
+was_or_raised start w p (ConfirmAbsent op key place expected) s e =
+    inl (by_test (found start w (ConfirmAbsent op key place expected) == expected) _ w s (λ x. x) (λ x. x) e)
 
 -- what was outside stays outside while no flag is raised
 pub stays_outside : (start : Start) (moment rest : List Event) (s : ℕ) → NoneRaises rest →

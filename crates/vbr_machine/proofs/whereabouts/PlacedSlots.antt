@@ -96,10 +96,10 @@ module _ (start : Start) (w : World) (a : Incarnations) (snd : Sound start a) (f
           not_both m is u v = grind arith
       go (inr (inr (n, e, from))) on =
           let o = snd.lists.ordered c n e in
-          let at = stands_there snd fits c lc in
+          let there = stands_there snd fits c lc in
           let place : bucket_of start.shape (key_in_slot a (a.slot c)) ≡ b =
-          ap (bucket_of start.shape) (stands_key at.1) ∙ bc in
-          let next = next_of_followed snd b (Slot (a.slot c)) (Some c) n (c, refl, at.1.last, lc, e) place in
+          ap (bucket_of start.shape) (stands_key there.1) ∙ bc in
+          let next = next_of_followed snd b (Slot (a.slot c)) (Some c) n (c, refl, there.1.last, lc, e) place in
           let fewer = one_fewer snd fits b (Slot (a.slot c)) n next in
           on n (next_listed snd c n e lc) (sym o.0 ∙ bc) (n, refl, from) (omega (arith, fewer, lt))
           (onward (a.slot c) (a.slot n) r (link_names c lc ∙ ap (slot_shown a) e))
@@ -143,7 +143,7 @@ shared_dead start (Unlinked q u) key f = absurd f
 
 -- one that fits a pass's own slot is dead, or was unlinked by the pass
 own_state : (start : Start) (p : ℕ) (st : State) (key : ℕ) → PlaceFits start (Own p) st key →
-    IsDead st ⊎ ((at : ℕ) × (st ≡ Unlinked p at))
+    IsDead st ⊎ ((unlinked : ℕ) × (st ≡ Unlinked p unlinked))
 own_state start p (Stamped u r) key f = inl tt
 own_state start p (Unlinked q u) key f = inr (u, ap (λ i. Unlinked i u) f)
 own_state start p Unborn key f = absurd f

@@ -108,7 +108,7 @@ learned_is (StoreKey t key) found stamp know s u =
 learned_is (StoreValue t value) found stamp know s u =
     inl (put_is know.own t (with_value (know.own t) value) s (valued_is (know.own t) value) u)
 learned_is (StoreLink t next) found stamp know s u = inl (put_is know.own t _ s (linked_is (know.own t) _) u)
-learned_is (LoadLink at) found stamp know s u = inl u
+learned_is (LoadLink place) found stamp know s u = inl u
 learned_is (LoadBirth t) found stamp know s u = inl u
 learned_is (LoadKey t) found stamp know s u = inl u
 learned_is (LoadValue t) found stamp know s u = inl u
@@ -120,7 +120,7 @@ learned_is (Replace v expected t) found stamp know s u =
 learned_is (Unlink pred expected t) found stamp know s u =
     unlinked_is (found == expected) _ know t s (put_unlinked know.own t s) u
 learned_is (ConfirmPresent op t expected) found stamp know s u = inl u
-learned_is (ConfirmAbsent op key at expected) found stamp know s u = inl u
+learned_is (ConfirmAbsent op key place expected) found stamp know s u = inl u
 
 -- ---- counts
 

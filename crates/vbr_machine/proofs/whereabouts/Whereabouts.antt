@@ -27,7 +27,7 @@ use Rattle.vbr_machine.specs.declared.knowledge.SlotPlace.TheVariants.{Shared, O
 -- where a slot is that has this place, and whose last incarnation is in this state
 abbrev where_is : SlotPlace → State → Whereabouts
 where_is Shared st = InSharedPool
-where_is (Own p) (Unlinked q at) = Unstamped p
+where_is (Own p) (Unlinked q unlinked) = Unstamped p
 where_is (Own p) st = WithPass p
 where_is (Hand p) st = WithPass p
 where_is (Listed b) Marked = MarkedInList
@@ -60,12 +60,12 @@ bears_with a p e (Some (holding.InHand known)) place last stamp o m = ap (λ l. 
 -- one that it unlinked and has not stamped is so
 unlinked_from : (a : Incarnations) (p e : ℕ) (known : Option Holding) (place : SlotPlace) (last : Option ℕ)
     (stamp : ℕ) → OwnFits a p e known place last stamp → is_unstamped known ≡ true →
-    (at : ℕ) × (state_shown a last ≡ Unlinked p at)
+    (unlinked : ℕ) × (state_shown a last ≡ Unlinked p unlinked)
 unlinked_from a p e None place last stamp o m = absurd (false≢true m)
 unlinked_from a p e (Some (holding.Free n)) place last stamp o m = absurd (false≢true m)
 unlinked_from a p e (Some (holding.InHand known)) place last stamp o m = absurd (false≢true m)
 unlinked_from a p e (Some (holding.Unlinked reread)) place last stamp o m =
-    let x = o.1 in (x.at, ap (state_shown a) x.last_is ∙ x.state)
+    let x = o.1 in (x.unlinked, ap (state_shown a) x.last_is ∙ x.state)
 
 unstamped_by : (a : Incarnations) (p e : ℕ) (known : Option Holding) (place : SlotPlace) (last : Option ℕ) (stamp : ℕ) →
     OwnFits a p e known place last stamp → is_unstamped known ≡ true → where_is place (state_shown a last) ≡ Unstamped p
@@ -217,37 +217,39 @@ module _ (start : Start) (passes : ℕ) (run : List Event) (safe : IsSafe start 
   }
 
   -- an unstamped slot is with the pass that unlinked what was born there last
-  pub unlinked_by : (p s : ℕ) → is_at start run (Unstamped p) s ≡ true → (at : ℕ) × (state_in a s ≡ Unlinked p at)
+  pub unlinked_by : (p s : ℕ) → is_at start run (Unstamped p) s ≡ true →
+      (unlinked : ℕ) × (state_in a s ≡ Unlinked p unlinked)
   unlinked_by p s e =
       unlinked_from a p _ ((know_after start run p).own s) (w.place s) (a.last s) (a.stamp s) (knows p s) e
 
-  not_dead : (p at : ℕ) (last : Option ℕ) → state_shown a last ≡ Unlinked p at → IsLastDead a last → ⊥
-  not_dead p at None u r = absurd (cc)
-  not_dead p at (Some c) u r = rw u at r
+  not_dead : (p unlinked : ℕ) (last : Option ℕ) → state_shown a last ≡ Unlinked p unlinked → IsLastDead a last → ⊥
+  not_dead p unlinked None u r = absurd (cc)
+  not_dead p unlinked (Some c) u r = rw u at r
 
-  unlinked_in : (p at s : ℕ) (place : SlotPlace) (last : Option ℕ) → a.last s ≡ last →
-      state_shown a last ≡ Unlinked p at → FitsPlace start passes w a s place → place ≡ Own p
-  unlinked_in p at s Shared last e u f = absurd (not_dead p at last u (rw e at f))
-  unlinked_in p at s (Own q) last e u f = go last u (rw e at f.1)
+  unlinked_in : (p unlinked s : ℕ) (place : SlotPlace) (last : Option ℕ) → a.last s ≡ last →
+      state_shown a last ≡ Unlinked p unlinked → FitsPlace start passes w a s place → place ≡ Own p
+  unlinked_in p unlinked s Shared last e u f = absurd (not_dead p unlinked last u (rw e at f))
+  unlinked_in p unlinked s (Own q) last e u f = go last u (rw e at f.1)
     where
-      go : (l : Option ℕ) → state_shown a l ≡ Unlinked p at → (IsLastDead a l ⊎ WasUnlinkedBy a q l) → Own q ≡ Own p
-      go l u (inl r) = absurd (not_dead p at l u r)
+      go : (l : Option ℕ) → state_shown a l ≡ Unlinked p unlinked → (IsLastDead a l ⊎ WasUnlinkedBy a q l) →
+          Own q ≡ Own p
+      go l u (inl r) = absurd (not_dead p unlinked l u r)
       go None u (inr x) = absurd x
-      go (Some c) u (inr x) = let same : Unlinked q x.0 ≡ Unlinked p at = sym x.1 ∙ u in cc
-  unlinked_in p at s (Hand q) last e u f = absurd (go last u (rw e at f.1))
+      go (Some c) u (inr x) = let same : Unlinked q x.0 ≡ Unlinked p unlinked = sym x.1 ∙ u in cc
+  unlinked_in p unlinked s (Hand q) last e u f = absurd (go last u (rw e at f.1))
     where
-      go : (l : Option ℕ) → state_shown a l ≡ Unlinked p at → LiesInHand a q l → ⊥
+      go : (l : Option ℕ) → state_shown a l ≡ Unlinked p unlinked → LiesInHand a q l → ⊥
       go None u x = x
-      go (Some c) u x = let same : InHand q ≡ Unlinked p at = sym x ∙ u in absurd (cc)
-  unlinked_in p at s (Listed b) last e u f = absurd (go last u (rw e at f.1))
+      go (Some c) u x = let same : InHand q ≡ Unlinked p unlinked = sym x ∙ u in absurd (cc)
+  unlinked_in p unlinked s (Listed b) last e u f = absurd (go last u (rw e at f.1))
     where
-      go : (l : Option ℕ) → state_shown a l ≡ Unlinked p at → IsOfList start a b l → ⊥
+      go : (l : Option ℕ) → state_shown a l ≡ Unlinked p unlinked → IsOfList start a b l → ⊥
       go None u x = x
-      go (Some c) u x = let y : IsListed (Unlinked p at) = rw u at x.0 in y
+      go (Some c) u x = let y : IsListed (Unlinked p unlinked) = rw u at x.0 in y
 
-  pub unlinked_there : (p at s : ℕ) → state_in a s ≡ Unlinked p at → is_at start run (Unstamped p) s ≡ true
-  unlinked_there p at s u =
-      subst P (λ i. where_is (unlinked_in p at s (w.place s) (a.last s) refl u (fits s) i) (u i))
+  pub unlinked_there : (p unlinked s : ℕ) → state_in a s ≡ Unlinked p unlinked → is_at start run (Unstamped p) s ≡ true
+  unlinked_there p unlinked s u =
+      subst P (λ i. where_is (unlinked_in p unlinked s (w.place s) (a.last s) refl u (fits s) i) (u i))
       (is_here s (w.place s) refl)
     where
       P : Whereabouts → Type 0

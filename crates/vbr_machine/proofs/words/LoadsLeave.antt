@@ -17,14 +17,15 @@ pub loads_leave : (start : Start) (w : World) (p : ℕ) (step : Step) → IsLoad
     word_at start (after start w p step) q ≡ word_at start w q
 loads_leave start w p ReadEpoch load q = refl
 loads_leave start w p (LoadStamp s) load q = refl
-loads_leave start w p (LoadLink at) load q = refl
+loads_leave start w p (LoadLink place) load q = refl
 loads_leave start w p (LoadBirth s) load q = refl
 loads_leave start w p (LoadKey s) load q = refl
 loads_leave start w p (LoadValue s) load q = refl
 loads_leave start w p (ConfirmPresent op s expected) load q =
     by_both (word_of (w.link s) == expected) (λ (v : World). word_at start v q) _ w _ refl refl
-loads_leave start w p (ConfirmAbsent op key at expected) load q =
-    by_both (found start w (ConfirmAbsent op key at expected) == expected) (λ (v : World). word_at start v q) _ w _ refl
+loads_leave start w p (ConfirmAbsent op key place expected) load q =
+    by_both (found start w (ConfirmAbsent op key place expected) == expected) (λ (v : World). word_at start v q) _ w _
+    refl
     refl
 loads_leave start w p (Advance from) load q = let e = load knows_nothing in absurd (cc)
 loads_leave start w p (StoreStamp s stamp) load q = let e = load knows_nothing in absurd (cc)

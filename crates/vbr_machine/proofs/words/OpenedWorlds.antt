@@ -23,11 +23,11 @@ use Rattle.vbr_machine.proofs.words.Puts.{put_here, put_other}
 -- where nothing is linked from the number on, each slot has nothing
 from_last : {A : Type 0} (nothing : A) (later : ℕ → A) (n : ℕ) → ((s : ℕ) → n ≤ s → later s ≡ nothing) →
     ◌≡◌ {A = ℕ → A} (linked_from n nothing later) (λ s. nothing)
-from_last {A} nothing later n past = λ k s. at s (cases_lt s n) k
+from_last {A} nothing later n past = λ k s. by_case s (cases_lt s n) k
   where
-    at : (s : ℕ) → (s < n) ⊎ (n ≤ s) → linked_from n nothing later s ≡ nothing
-    at s (inl lt) = cond-true (nat_lt s n) nothing (later s) (lt-ltb s n lt)
-    at s (inr ge) = cond-false (nat_lt s n) nothing (later s) (le-ltb s n ge) ∙ past s ge
+    by_case : (s : ℕ) → (s < n) ⊎ (n ≤ s) → linked_from n nothing later s ≡ nothing
+    by_case s (inl lt) = cond-true (nat_lt s n) nothing (later s) (lt-ltb s n lt)
+    by_case s (inr ge) = cond-false (nat_lt s n) nothing (later s) (le-ltb s n ge) ∙ past s ge
 
 -- from the first on, each has what it has
 from_first : {A : Type 0} (nothing : A) (later : ℕ → A) → ◌≡◌ {A = ℕ → A} (linked_from 0 nothing later) later
@@ -36,7 +36,7 @@ from_first {A} nothing later = λ k s. cond-false (nat_lt s 0) nothing (later s)
 -- from one number earlier, that slot has it too
 from_next : {A : Type 0} (nothing : A) (later : ℕ → A) (n : ℕ) (x : A) → x ≡ later n →
     ◌≡◌ {A = ℕ → A} (linked_from n nothing later) (put (linked_from (suc n) nothing later) n x)
-from_next {A} nothing later n x e = λ k s. at s (cases_eq s n) k
+from_next {A} nothing later n x e = λ k s. by_case s (cases_eq s n) k
   where
     others : (s : ℕ) → s ≢ n → (s < n) ⊎ (n ≤ s) → linked_from n nothing later s ≡ linked_from (suc n) nothing later s
     others s ne (inl lt) = cond-true (nat_lt s n) nothing (later s) (lt-ltb s n lt)
@@ -44,12 +44,13 @@ from_next {A} nothing later n x e = λ k s. at s (cases_eq s n) k
     others s ne (inr ge) = cond-false (nat_lt s n) nothing (later s) (le-ltb s n ge)
         ∙ sym (cond-false (nat_lt s (suc n)) nothing (later s) (le-ltb s (suc n) (omega arith)))
 
-    at : (s : ℕ) → (s ≡ n) ⊎ (s ≢ n) → linked_from n nothing later s ≡ put (linked_from (suc n) nothing later) n x s
-    at s (inl same) =
+    by_case : (s : ℕ) → (s ≡ n) ⊎ (s ≢ n) →
+        linked_from n nothing later s ≡ put (linked_from (suc n) nothing later) n x s
+    by_case s (inl same) =
         cond-false (nat_lt s n) nothing (later s) (le-ltb s n (omega arith))
         ∙ ap later same ∙ sym e ∙ sym (put_here (linked_from (suc n) nothing later) n x)
         ∙ ap (put (linked_from (suc n) nothing later) n x) (sym same)
-    at s (inr ne) = others s ne (cases_lt s n) ∙ sym (put_other (linked_from (suc n) nothing later) n x s ne)
+    by_case s (inr ne) = others s ne (cases_lt s n) ∙ sym (put_other (linked_from (suc n) nothing later) n x s ne)
 
 -- ---- links
 
@@ -72,7 +73,7 @@ head_next : (start : Start) (n : ℕ) → n < key_count start →
     ◌≡◌ {A = ℕ → Link} (λ b. link_to_key start 0 (first_from start b n))
     (put (λ b. link_to_key start 0 (first_from start b (suc n))) (bucket_of start.shape (key_number start n))
     (link_to (Some n) 0 1))
-head_next start n low = λ k b. at b (cases_eq b (bucket_of start.shape (key_number start n))) k
+head_next start n low = λ k b. by_case b (cases_eq b (bucket_of start.shape (key_number start n))) k
   where
     later : ℕ → Link
     later b = link_to_key start 0 (first_from start b (suc n))
@@ -85,17 +86,18 @@ head_next start n low = λ k b. at b (cases_eq b (bucket_of start.shape (key_num
         let e : key_count start - n ≡ suc (key_count start - suc n) = omega arith in
         ap (first_number (is_key_of start b) n) e
 
-    at : (b : ℕ) → (b ≡ bucket_of start.shape (key_number start n)) ⊎ (b ≢ bucket_of start.shape (key_number start n)) →
+    by_case : (b : ℕ) → (b ≡ bucket_of start.shape (key_number start n))
+        ⊎ (b ≢ bucket_of start.shape (key_number start n)) →
         link_to_key start 0 (first_from start b n)
         ≡ put (λ b. link_to_key start 0 (first_from start b (suc n))) (bucket_of start.shape (key_number start n))
         (link_to (Some n) 0 1) b
-    at b (inl e) =
+    by_case b (inl e) =
         ap (link_to_key start 0)
         (opened b ∙ cond-true (is_key_of start b n) (Some n) (first_from start b (suc n)) (eq-eqb _ _ (sym e)))
         ∙ ap (link_to (Some n) 0) (born_first start n low)
         ∙ sym (put_here later bucket (link_to (Some n) 0 1))
         ∙ ap (put later bucket (link_to (Some n) 0 1)) (sym e)
-    at b (inr ne) =
+    by_case b (inr ne) =
         ap (link_to_key start 0)
         (opened b ∙ cond-false (is_key_of start b n) (Some n) (first_from start b (suc n))
         (ne_eqb _ _ (λ e. ne (sym e))))
@@ -156,9 +158,9 @@ pub opening_step : (start here : Start) (number n slot key value : ℕ) (w v : W
     w ≡ opening_from start number → number ≡ suc n → slot ≡ n → key ≡ key_number start n →
     value ≡ slice_index_or start.payloads n 0 → n < key_count start → key_count start < 2 ^ 64 →
     v ≡ with_key_ahead here slot key value w → v ≡ opening_from start n
-opening_step start here number n slot key value w v same is last at read valued low few made =
+opening_step start here number n slot key value w v same is last slot_is read valued low few made =
     made
-    ∙ (λ i. with_key_ahead (same i) (at i) (read i)
+    ∙ (λ i. with_key_ahead (same i) (slot_is i) (read i)
     ((valued ∙ sym
     (cond-true (has_opening_key start n) (slice_index_or start.payloads n 0) 0 (lt-ltb n (key_count start) low))) i)
     ((is ∙ ap (opening_from start) last) i))

@@ -38,7 +38,7 @@ use Rattle.vbr_machine.proofs.words.SlotFlags.{flag_in, raised_word, taken_word,
 
 -- ---- the place of a step
 
-place_at_in : (start : Start) (at : At) → IsAtIn start at → IsIn start.shape (places.place_of at)
+place_at_in : (start : Start) (place : At) → IsAtIn start place → IsIn start.shape (places.place_of place)
 place_at_in start (Head b) here = here
 place_at_in start (Slot s) here = here
 
@@ -54,7 +54,7 @@ place_in start (StoreBirth s birth) here = here
 place_in start (StoreKey s key) here = here
 place_in start (StoreValue s value) here = here
 place_in start (StoreLink s next) here = here.0
-place_in start (LoadLink at) here = place_at_in start at here
+place_in start (LoadLink place) here = place_at_in start place here
 place_in start (LoadBirth s) here = here
 place_in start (LoadKey s) here = here
 place_in start (LoadValue s) here = here
@@ -63,7 +63,7 @@ place_in start (Mark s expected) here = here
 place_in start (Replace s expected t) here = here.0
 place_in start (Unlink pred expected s) here = place_at_in start pred here.0
 place_in start (ConfirmPresent op s expected) here = here.0
-place_in start (ConfirmAbsent op key at expected) here = place_at_in start at here.0
+place_in start (ConfirmAbsent op key place expected) here = place_at_in start place here.0
 
 -- ---- the word at that place
 
@@ -170,7 +170,7 @@ word_but start v w here (place.Flags number) same ne =
 
 unchanged : (here : Place) (v w : World) → v.epoch ≡ w.epoch → v.head ≡ w.head → v.link ≡ w.link → v.birth ≡ w.birth →
     v.stamp ≡ w.stamp → v.key ≡ w.key → v.value ≡ w.value → v.place ≡ w.place → SameBut here v w
-unchanged here v w epoch head link birth stamp key value at = record {
+unchanged here v w epoch head link birth stamp key value places = record {
   epoch = λ _. epoch;
   head = λ b _. ap (λ f. f b) head;
   link = λ s _. ap (λ f. f s) link;
@@ -178,7 +178,7 @@ unchanged here v w epoch head link birth stamp key value at = record {
   stamp = λ s _. ap (λ f. f s) stamp;
   key = λ s _. ap (λ f. f s) key;
   value = λ s _. ap (λ f. f s) value;
-  flag = λ s _. ap (λ f. is_shared (f s)) at;
+  flag = λ s _. ap (λ f. is_shared (f s)) places;
 }
 
 -- an exchange that is lost changes nothing
@@ -290,7 +290,7 @@ same_but start w p (StoreLink s next) moves =
       value = λ _ _. refl;
       flag = λ _ _. refl;
     }
-same_but start w p (LoadLink at) moves = unchanged _ _ w refl refl refl refl refl refl refl refl
+same_but start w p (LoadLink holder) moves = unchanged _ _ w refl refl refl refl refl refl refl refl
 same_but start w p (LoadBirth s) moves = unchanged _ _ w refl refl refl refl refl refl refl refl
 same_but start w p (LoadKey s) moves = unchanged _ _ w refl refl refl refl refl refl refl refl
 same_but start w p (LoadValue s) moves = unchanged _ _ w refl refl refl refl refl refl refl refl
@@ -369,8 +369,8 @@ same_but start w p (Unlink (Slot t) expected s) moves =
 same_but start w p (ConfirmPresent op s expected) moves =
     if_won (word_of (w.link s) == expected) (place.LinkOf s) _ w
     (λ _. unchanged _ _ w refl refl refl refl refl refl refl refl)
-same_but start w p (ConfirmAbsent op key at expected) moves =
-    if_won (found start w (ConfirmAbsent op key at expected) == expected) (places.place_of at) _ w
+same_but start w p (ConfirmAbsent op key holder expected) moves =
+    if_won (found start w (ConfirmAbsent op key holder expected) == expected) (places.place_of holder) _ w
     (λ _. unchanged _ _ w refl refl refl refl refl refl refl refl)
 
 -- a step leaves the words elsewhere, if it moves no slot out of the shared pool but by its flag
@@ -382,12 +382,12 @@ word_elsewhere_if start w p step q moves ne =
 -- ---- what a step moves
 
 -- a slot that a pass may bear in is its own or in its hand
-bear_unshared : (a : Incarnations) (p epoch : ℕ) (holding : Option Holding) (at : SlotPlace) (last : Option ℕ)
-    (stamp : ℕ) → OwnFits a p epoch holding at last stamp → MayBear holding → is_shared at ≡ false
-bear_unshared a p epoch None at last stamp h o = absurd o
-bear_unshared a p epoch (Some (Free known)) at last stamp h o = ap is_shared h.0
-bear_unshared a p epoch (Some (Unlinked reread)) at last stamp h o = absurd o
-bear_unshared a p epoch (Some (InHand known)) at last stamp h o = ap is_shared h.0
+bear_unshared : (a : Incarnations) (p epoch : ℕ) (holding : Option Holding) (place : SlotPlace) (last : Option ℕ)
+    (stamp : ℕ) → OwnFits a p epoch holding place last stamp → MayBear holding → is_shared place ≡ false
+bear_unshared a p epoch None place last stamp h o = absurd o
+bear_unshared a p epoch (Some (Free known)) place last stamp h o = ap is_shared h.0
+bear_unshared a p epoch (Some (Unlinked reread)) place last stamp h o = absurd o
+bear_unshared a p epoch (Some (InHand known)) place last stamp h o = ap is_shared h.0
 
 may_bear : (holding : Option Holding) → IsInHand holding → MayBear holding
 may_bear None o = absurd o
@@ -396,8 +396,9 @@ may_bear (Some (Unlinked reread)) o = absurd o
 may_bear (Some (InHand known)) o = tt
 
 -- the slot of a listed incarnation is in no pool
-listed_unshared : (start : Start) (at : SlotPlace) (st : State) (key : ℕ) → PlaceFits start at st key → IsListed st →
-    is_shared at ≡ false
+listed_unshared : (start : Start) (place : SlotPlace) (st : State) (key : ℕ) → PlaceFits start place st key →
+    IsListed st →
+    is_shared place ≡ false
 listed_unshared start Shared st key f l = absurd (grind arith)
 listed_unshared start (Own p) st key f l = refl
 listed_unshared start (Hand p) st key f l = refl

@@ -15,9 +15,10 @@ use Rattle.vbr_machine.proofs.worked.WorkedLists.{by, shape_of_three, reborn_slo
 -- how many slots are in the shared pool, with each of the two passes, in the set, marked, and unstamped with each pass
 abbrev numbers : ℕ → List ℕ
 numbers moment =
-    let at = λ (whereabouts : Whereabouts). number_at shape_of_three (take moment reborn_slot) whereabouts in
-    at InSharedPool ∷ at (WithPass 0) ∷ at (WithPass 1) ∷ at InSet ∷ at MarkedInList ∷ at (Unstamped 0)
-    ∷ at (Unstamped 1) ∷ []
+    let number_in = λ (whereabouts : Whereabouts). number_at shape_of_three (take moment reborn_slot) whereabouts in
+    number_in InSharedPool ∷ number_in (WithPass 0) ∷ number_in (WithPass 1) ∷ number_in InSet
+    ∷ number_in MarkedInList ∷ number_in (Unstamped 0)
+    ∷ number_in (Unstamped 1) ∷ []
 
 -- at the opening; once pass 0 has taken a slot; once it has published two, and pass 1 has one in hand; once a node
 -- is marked; unlinked; stamped; and born in again and published

@@ -38,7 +38,7 @@ impl LooksUp<Result<Option<u64>, Refusal>> for Member<Entries> {
 impl<N: Nodes> Member<N> {
     /// Looks keys up in their order, each in at most `budget` steps, and writes the answer of each at its
     /// place: each is the call [`Member::has`] of its key, refused or not by itself, so a refusal says nothing
-    /// of the keys behind it. There are as many answers as keys.
+    /// of the keys after it. There are as many answers as keys.
     ///
     /// It is for many keys of a large set: before it looks up a batch of them it loads where these look-ups
     /// begin, so that they wait for memory side by side. These loads are no steps.

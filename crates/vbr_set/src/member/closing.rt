@@ -27,7 +27,7 @@ use vbr_words::Nodes;
 impl<N: Kind> Member<N> {
     /// Gives its slots back, as [`Member::give_slots_back`] does, so that the others have them, and then
     /// its pass. While others have a share of the set, the answer is None. The last member ends the set,
-    /// and is told what is in it, as [`VbrSet::close`] tells it with all passes. The member of a set that
+    /// and gets what is in it, as [`VbrSet::close`] returns it with all passes. The member of a set that
     /// was opened for one is always the last.
     ///
     /// Only the last member needs memory: 9 bytes for each slot of a set and 17 of a map, for the report,
@@ -68,7 +68,7 @@ impl<N: Kind> Member<N> {
         }
     }
 
-    /// Gives its pass back as [`Member::close`] does, and the last member is told the same report, but
+    /// Gives its pass back as [`Member::close`] does, and the last member gets the same report, but
     /// the set doesn't end: the member comes back with the report, as it was. So who can't take the
     /// report, for want of room, say, loses nothing; the member can make calls, and be closed again. The
     /// set ends with it, also where it is dropped.

@@ -7,7 +7,7 @@ use vbr_words::Nodes;
 
 /// A set, with a mailbox for each of its passes to come back to, in the order of their numbers.
 ///
-/// Nothing else lies on its lines of the cache: the memory before and behind it is written all the
+/// Nothing else lies on its lines of the cache: the memory before and after it is written all the
 /// time.
 #[derive(Drop)]
 #[repr(C)]

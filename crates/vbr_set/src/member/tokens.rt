@@ -42,7 +42,7 @@ impl<N: Nodes> Member<N> {
     }
 
     /// Lets the member see all that a token of its set tells, which is spent: [`VbrSet::catch_up`] by its
-    /// pass. Each call that the member is answered from now on stands behind all calls that the token
+    /// pass. Each call that the member is answered from now on stands after all calls that the token
     /// tells. It is no step, and can't fail.
     ///
     /// [`VbrSet::catch_up`]: crate::VbrSet::catch_up

@@ -31,7 +31,7 @@ impl<N: Nodes> VbrSet<N> {
     }
 
     /// Lets the pass see all that was done before, and so all that the token tells, which is spent: each
-    /// call that the pass is answered from now on stands behind all calls that the token tells, in one
+    /// call that the pass is answered from now on stands after all calls that the token tells, in one
     /// legal history. It is no step, and the pass knows what it knew; it costs two loads, whose values
     /// are dropped. It can't fail. It asks that the token is of this set: a renewed set is another one.
     #[inline]

@@ -43,7 +43,7 @@ fn open_alone(alloc: Global) -> Option<(MapMember, bool)> {
     Some((member, refused))
 }
 
-// What the last member is told that is closed, and whether memory was refused.
+// What the last member gets that is closed, and whether memory was refused.
 fn close_last(alloc: Global, member: MapMember) -> Option<(MapReport, bool)> {
     match member.close(alloc) {
         Ok(report) => Some((report?, false)),
@@ -52,7 +52,7 @@ fn close_last(alloc: Global, member: MapMember) -> Option<(MapReport, bool)> {
     }
 }
 
-// The last member is told what is in its map, comes back, and is closed.
+// The last member gets what is in its map, comes back, and is closed.
 fn tells_and_closes_alone(alloc: Global) -> Option<bool> {
     let (mut member, refused) = open_alone(alloc)?;
     let is_first = member.insert(2, 71, 100) == Ok(true);

@@ -1,4 +1,4 @@
-//! The set; and how a set or a map is opened with items, told and closed.
+//! The set; and how a set or a map is opened with items, reported and closed.
 ghost use Rattle.std.specs.Prelude.{◌≡◌, ◌≤◌, None, length, IfSome};
 ghost use Rattle.std.specs.List.Sorted.{IsStrictlyIncreasing};
 ghost use Rattle.vbr_slots.specs.Closing.{AllOf};

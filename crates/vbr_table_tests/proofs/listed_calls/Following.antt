@@ -147,7 +147,7 @@ same_teaches (StoreBirth s birth) m n stamp know same = refl
 same_teaches (StoreKey s key) m n stamp know same = refl
 same_teaches (StoreValue s value) m n stamp know same = refl
 same_teaches (StoreLink s next) m n stamp know same = refl
-same_teaches (LoadLink at) m n stamp know same = ap (λ v. learn (LoadLink at) v stamp know) (ap value_in same)
+same_teaches (LoadLink place) m n stamp know same = ap (λ v. learn (LoadLink place) v stamp know) (ap value_in same)
 same_teaches (LoadBirth s) m n stamp know same = ap (λ v. learn (LoadBirth s) v stamp know) (ap value_in same)
 same_teaches (LoadKey s) m n stamp know same = ap (λ v. learn (LoadKey s) v stamp know) (ap value_in same)
 same_teaches (LoadValue s) m n stamp know same = ap (λ v. learn (LoadValue s) v stamp know) (ap value_in same)
@@ -163,7 +163,7 @@ same_teaches (Unlink pred expected s) m n stamp know same =
     ap (λ b. cond b (with_own (with_checked know (reads_won know (Unlink pred expected s))) s (Some (Unlinked false)))
     know) (both_won expected m n same)
 same_teaches (ConfirmPresent op s expected) m n stamp know same = refl
-same_teaches (ConfirmAbsent op key at expected) m n stamp know same = refl
+same_teaches (ConfirmAbsent op key place expected) m n stamp know same = refl
 
 -- ---- one row
 

@@ -33,10 +33,10 @@ held_through {T} {E} {P} held r x is told keeps h =
 in_bucket : (start : Start) (key : ℕ) → start.shape.buckets ≡ 1 → bucket_of start.shape key ≡ 0
 in_bucket start key one = let low = bucket_of-lt start.shape key (omega (arith, one)) in omega (arith, low, one)
 
-pub behind_head : (start : Start) (know : Know) (at : At) (key : ℕ) → at ≡ Head 0 → start.shape.buckets ≡ 1 →
-    StandsBehind start know at key
-behind_head start know at key head one =
-    let P : At → Type 0 = λ at. StandsBehind start know at key in subst P (sym head) (in_bucket start key one)
+pub behind_head : (start : Start) (know : Know) (place : At) (key : ℕ) → place ≡ Head 0 → start.shape.buckets ≡ 1 →
+    StandsBehind start know place key
+behind_head start know place key head one =
+    let P : At → Type 0 = λ place. StandsBehind start know place key in subst P (sym head) (in_bucket start key one)
 
 -- the link word 33554432 isn't marked
 pub is_unmarked : (word : ℕ) → word ≡ 33554432 → (link_of word).mark ≡ false

@@ -98,11 +98,11 @@ impl PassState {
     }
 
     // The birth at a place, if it is checked; otherwise 0.
-    fn birth_at(&self, at: At) -> u64
-        ensures birth { result ≡ unwrap_or (birth_at self.now.checked at) 0 }
+    fn birth_at(&self, place: At) -> u64
+        ensures birth { result ≡ unwrap_or (birth_at self.now.checked place) 0 }
         ensures fits { result ≤ MAX_EPOCH }
     {
-        reads::birth_at(&self.checked, at).unwrap_or(0)
+        reads::birth_at(&self.checked, place).unwrap_or(0)
     }
 
     // The birth of what a link names, if it is checked; otherwise 0.
@@ -182,38 +182,38 @@ impl PassState {
     }
 
     // Whether the link that a place was read with, and the keys on both sides, are checked.
-    fn holds_gap(&self, at: At, expected: u64) -> bool
+    fn holds_gap(&self, place: At, expected: u64) -> bool
         ensures { IsTrue result
-            ↔ (IsTrue (knows_link self.now.checked at (link_of expected))
-            × KnowsKeyAt self.now.checked at
+            ↔ (IsTrue (knows_link self.now.checked place (link_of expected))
+            × KnowsKeyAt self.now.checked place
             × KnowsKeyOf self.now.checked (link_of expected).slot) }
     {
         let link = decode(expected);
-        reads::knows_link(&self.checked, at, link)
-            && reads::knows_key_at(&self.checked, at)
+        reads::knows_link(&self.checked, place, link)
+            && reads::knows_key_at(&self.checked, place)
             && reads::knows_key_of(&self.checked, link.slot)
     }
 
     // Whether the link that a place was read with and the key there are checked, and marked links
     // lead on from it to a checked key, or to none.
-    fn holds_way(&self, start: &Start, at: At, expected: u64) -> bool
+    fn holds_way(&self, start: &Start, place: At, expected: u64) -> bool
         ensures { IsTrue result
-            ↔ (IsTrue (knows_link self.now.checked at (link_of expected))
-            × KnowsKeyAt self.now.checked at
+            ↔ (IsTrue (knows_link self.now.checked place (link_of expected))
+            × KnowsKeyAt self.now.checked place
             × LeadsToKey start.now.shape.slots self.now.checked (link_of expected).slot) }
     {
         let link = decode(expected);
-        reads::knows_link(&self.checked, at, link)
-            && reads::knows_key_at(&self.checked, at)
+        reads::knows_link(&self.checked, place, link)
+            && reads::knows_key_at(&self.checked, place)
             && reads::leads_to_key(&self.checked, start.slots(), link.slot)
     }
 
     // Whether the births on both sides of a link are checked.
-    fn holds_births(&self, at: At, next: Option<u32>) -> bool
+    fn holds_births(&self, place: At, next: Option<u32>) -> bool
         ensures { IsTrue result
-            ↔ (IsSome (birth_at self.now.checked at) × IsSome (birth_of self.now.checked next)) }
+            ↔ (IsSome (birth_at self.now.checked place) × IsSome (birth_of self.now.checked next)) }
     {
-        reads::birth_at(&self.checked, at).is_some()
+        reads::birth_at(&self.checked, place).is_some()
             && reads::birth_of(&self.checked, next).is_some()
     }
 
@@ -233,7 +233,7 @@ impl PassState {
     {
         match step {
             Step::StoreLink { next, .. } => reads::is_next_held(&self.checked, next),
-            Step::LoadLink { at } => reads::holds_at(&self.checked, at),
+            Step::LoadLink { at: place } => reads::holds_at(&self.checked, place),
             Step::LoadBirth { slot } | Step::LoadKey { slot } | Step::LoadValue { slot } => {
                 reads::holds(&self.checked, slot)
             }
@@ -258,7 +258,11 @@ impl PassState {
             Step::ConfirmPresent { op, slot, expected } => {
                 self.holds_node(slot, expected) && self.holds_value_for(op, slot)
             }
-            Step::ConfirmAbsent { at, expected, .. } => self.holds_way(start, at, expected),
+            Step::ConfirmAbsent {
+                at: place,
+                expected,
+                ..
+            } => self.holds_way(start, place, expected),
             _ => true,
         }
     }
@@ -312,22 +316,22 @@ impl PassState {
     }
 
     // Whether a key stands behind a place and before what a link names.
-    fn is_between(&self, start: &Start, at: At, key: u64, next: Option<u32>) -> bool
+    fn is_between(&self, start: &Start, place: At, key: u64, next: Option<u32>) -> bool
         ensures { IsTrue result
-            ↔ (IsBehind start.now self.now.checked at key × IsBefore self.now.checked key next) }
+            ↔ (IsBehind start.now self.now.checked place key × IsBefore self.now.checked key next) }
     {
-        reads::is_behind(start, &self.checked, at, key)
+        reads::is_behind(start, &self.checked, place, key)
             && reads::is_before(&self.checked, key, next)
     }
 
     // Whether a key stands behind a place, and before a slot to which marked links lead from what a
     // link names, or before none.
-    fn is_on_way(&self, start: &Start, at: At, key: u64, next: Option<u32>) -> bool
+    fn is_on_way(&self, start: &Start, place: At, key: u64, next: Option<u32>) -> bool
         ensures { IsTrue result
-            ↔ (IsBehind start.now self.now.checked at key
+            ↔ (IsBehind start.now self.now.checked place key
             × LeadsAbove start.now.shape.slots self.now.checked key next) }
     {
-        reads::is_behind(start, &self.checked, at, key)
+        reads::is_behind(start, &self.checked, place, key)
             && reads::leads_above(&self.checked, start.slots(), key, next)
     }
 
@@ -372,11 +376,11 @@ impl PassState {
             Step::ConfirmAbsent {
                 op,
                 key,
-                at,
+                at: place,
                 expected,
             } => {
                 let link = decode(expected);
-                !link.mark && op != Op::Insert && self.is_on_way(start, at, key, link.slot)
+                !link.mark && op != Op::Insert && self.is_on_way(start, place, key, link.slot)
             }
             _ => true,
         }

@@ -8,12 +8,12 @@ use vbr_machine::Read;
 use vbr_words::{At, Link};
 
 // Whether a link is among the reads at a place.
-pub fn knows_link(reads: &[Read], at: At, link: Link) -> bool
-    ensures { result ≡ knows_link reads.now at link }
+pub fn knows_link(reads: &[Read], place: At, link: Link) -> bool
+    ensures { result ≡ knows_link reads.now place link }
 {
     for read in reads {
         if let Read::LinkAt(here, found) = read {
-            if *here == at && *found == link {
+            if *here == place && *found == link {
                 return true;
             }
         }
@@ -68,8 +68,8 @@ pub fn marked_in(reads: &[Read], slot: u32) -> Option<Link>
     ensures { result ≡ marked_in reads.now slot }
 {
     for read in reads {
-        if let Read::LinkAt(at, link) = read {
-            if *at == At::Slot(slot) && link.mark {
+        if let Read::LinkAt(place, link) = read {
+            if *place == At::Slot(slot) && link.mark {
                 return Some(*link);
             }
         }
@@ -92,20 +92,20 @@ pub fn holds(reads: &[Read], slot: u32) -> bool
 }
 
 // Whether a place is held: a head always is.
-pub fn holds_at(reads: &[Read], at: At) -> bool
-    ensures { result ≡ holds_at reads.now at }
+pub fn holds_at(reads: &[Read], place: At) -> bool
+    ensures { result ≡ holds_at reads.now place }
 {
-    match at {
+    match place {
         At::Head(_) => true,
         At::Slot(slot) => holds(reads, slot),
     }
 }
 
 // The birth at a place, if it is known: 0 for a head.
-pub fn birth_at(reads: &[Read], at: At) -> Option<u64>
-    ensures { result ≡ birth_at reads.now at }
+pub fn birth_at(reads: &[Read], place: At) -> Option<u64>
+    ensures { result ≡ birth_at reads.now place }
 {
-    match at {
+    match place {
         At::Head(_) => Some(0),
         At::Slot(slot) => birth_in(reads, slot),
     }
@@ -132,10 +132,10 @@ pub fn is_next_held(reads: &[Read], next: Option<u32>) -> bool
 }
 
 // Whether the key at a place is among the reads, if the place is a slot.
-pub fn knows_key_at(reads: &[Read], at: At) -> bool
-    ensures { IsTrue result ↔ KnowsKeyAt reads.now at }
+pub fn knows_key_at(reads: &[Read], place: At) -> bool
+    ensures { IsTrue result ↔ KnowsKeyAt reads.now place }
 {
-    match at {
+    match place {
         At::Head(_) => true,
         At::Slot(slot) => key_in(reads, slot).is_some(),
     }
@@ -163,10 +163,10 @@ pub fn next_of_marked(reads: &[Read], slot: u32) -> Option<u32>
 
 // Whether the key stands behind a place: in its bucket, and above its key if it is a slot.
 #[tactic(auto, unfolding(vbr_words::specs::Buckets::bucket_of))]
-pub fn is_behind(start: &Start, reads: &[Read], at: At, key: u64) -> bool
-    ensures { IsTrue result ↔ IsBehind start.now reads.now at key }
+pub fn is_behind(start: &Start, reads: &[Read], place: At, key: u64) -> bool
+    ensures { IsTrue result ↔ IsBehind start.now reads.now place key }
 {
-    match at {
+    match place {
         At::Head(bucket) => start.bucket_of(key) == bucket,
         At::Slot(slot) => {
             let before = key_in(reads, slot).unwrap_or(0);

@@ -1,4 +1,4 @@
-// What can be told of a step alone, and of the word that it found.
+// What can be said of a step alone, and of the word that it found.
 ghost use Rattle.std.specs.Prelude.{◌≡◌, ◌↔◌, IsTrue};
 ghost use Rattle.vbr_words.specs.Places as places;
 ghost use Rattle.vbr_machine.specs.Acceptance.{IsAtIn, IsNextIn, IsOpIn, IsInShape, IsBelowLast};
@@ -12,10 +12,10 @@ use vbr_words::flags::{has_flag, word_of_flag};
 use vbr_words::{At, Place};
 
 // Whether a place of a link word is one of the shape.
-fn is_at_in(start: &Start, at: At) -> bool
-    ensures { IsTrue result ↔ IsAtIn start.now at }
+fn is_at_in(start: &Start, place: At) -> bool
+    ensures { IsTrue result ↔ IsAtIn start.now place }
 {
-    match at {
+    match place {
         At::Head(bucket) => bucket < start.buckets(),
         At::Slot(slot) => slot < start.slots(),
     }
@@ -56,7 +56,7 @@ pub fn is_in_shape(start: &Start, step: Step) -> bool
         Step::StoreKey { slot, .. } => slot < start.slots(),
         Step::StoreValue { slot, .. } => slot < start.slots() && start.has_values(),
         Step::StoreLink { slot, next } => slot < start.slots() && is_next_in(start, next),
-        Step::LoadLink { at } => is_at_in(start, at),
+        Step::LoadLink { at: place } => is_at_in(start, place),
         Step::LoadBirth { slot } => slot < start.slots(),
         Step::LoadKey { slot } => slot < start.slots(),
         Step::LoadValue { slot } => slot < start.slots() && start.has_values(),
@@ -67,7 +67,7 @@ pub fn is_in_shape(start: &Start, step: Step) -> bool
         }
         Step::Unlink { pred, slot, .. } => is_at_in(start, pred) && slot < start.slots(),
         Step::ConfirmPresent { op, slot, .. } => slot < start.slots() && is_op_in(start, op),
-        Step::ConfirmAbsent { op, at, .. } => is_at_in(start, at) && is_op_in(start, op),
+        Step::ConfirmAbsent { op, at: place, .. } => is_at_in(start, place) && is_op_in(start, op),
     }
 }
 
@@ -82,10 +82,10 @@ pub fn is_below_last(start: &Start, step: Step) -> bool
 }
 
 // The place of a link word.
-fn place_of_at(at: At) -> Place
-    ensures { result ≡ places.place_of at }
+fn place_of_at(place: At) -> Place
+    ensures { result ≡ places.place_of place }
 {
-    match at {
+    match place {
         At::Head(bucket) => Place::Head(bucket),
         At::Slot(slot) => Place::LinkOf(slot),
     }
@@ -104,7 +104,7 @@ pub fn place_of_step(step: Step) -> Place
         Step::StoreValue { slot, .. } | Step::LoadValue { slot } => Place::Value(slot),
         Step::StoreLink { slot, .. } | Step::Mark { slot, .. } => Place::LinkOf(slot),
         Step::Replace { slot, .. } | Step::ConfirmPresent { slot, .. } => Place::LinkOf(slot),
-        Step::LoadLink { at } | Step::ConfirmAbsent { at, .. } => place_of_at(at),
+        Step::LoadLink { at: place } | Step::ConfirmAbsent { at: place, .. } => place_of_at(place),
         Step::Publish { pred, .. } | Step::Unlink { pred, .. } => place_of_at(pred),
     }
 }

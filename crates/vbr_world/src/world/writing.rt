@@ -23,11 +23,11 @@ impl Lists {
     }
 
     // Writes the word of a link.
-    pub(super) fn put_link(&mut self, at: At, link: u64)
-        requires { IsAtIn self.old.start at }
-        ensures { Writes self.old self.new (with_link_of at (link_of link)) }
+    pub(super) fn put_link(&mut self, place: At, link: u64)
+        requires { IsAtIn self.old.start place }
+        ensures { Writes self.old self.new (with_link_of place (link_of link)) }
     {
-        match at {
+        match place {
             At::Head(bucket) => self.heads[bucket as usize] = link,
             At::Slot(slot) => self.links[slot as usize] = link,
         }

@@ -33,8 +33,8 @@ answered : (g : given.Over) (c : goal.In-Ok g) →
     AnswersEntry c.args.at.now.stepper.now.trace c.confirm_present.new.self.stepper.now.trace c.args.op c.args.held.now
 answered g c = record {
   answers = (λ key value k v.
-      let P : At → Type 0 = λ at. KeyAt (knows c.args.at.now.stepper.now.trace) at key in
-      let V : At → Type 0 = λ at. ValueAt (knows c.args.at.now.stepper.now.trace) at value in
+      let P : At → Type 0 = λ place. KeyAt (knows c.args.at.now.stepper.now.trace) place key in
+      let V : At → Type 0 = λ place. ValueAt (knows c.args.at.now.stepper.now.trace) place value in
       present_answered c.law.ensures.start c.law.ensures.is_run c.in-Ok.ensures.found.did key value
       (subst P c.in-Slot.is k) (λ get. subst V c.in-Slot.is (v get)));
 }

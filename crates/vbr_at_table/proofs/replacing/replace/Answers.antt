@@ -23,14 +23,14 @@ marked_link_to-word-requires g c =
     let hand = hand_filled p c.args.hand c.args.key
     (link_to (link_of c.args.held.now.word).slot c.args.hand.birth c.args.next_birth)
     (c.fill.ensures.fills.fills.hand ∙ c.requires.hand.slot) c.fill.ensures.fills.fills.filled in
-    let at = hand_at p c.law.ensures c.args.hand hand c.slot-new.result c.slot-new.ensures in
-    let low = at.0 in
+    let in_hand = hand_at p c.law.ensures c.args.hand hand c.slot-new.result c.slot-new.ensures in
+    let low = in_hand.0 in
     let most = c.law.ensures.start.shape.slots in
     let one = fits p c.law.ensures (Some c.slot-new.result) c.args.held.now.birth c.birth.result
     (omega (arith, low, most))
     (birth_at_low p c.law.ensures c.args.held.now.at c.args.held.now.birth
     (held_kept c.args.held.now c.fill.ensures.stores.keeps c.requires.node.present.held).birth)
-    (birth_in_hand_low p c.law.ensures c.slot-new.result c.birth.result (at.2 ∙ sym c.birth.ensures)) in
+    (birth_in_hand_low p c.law.ensures c.slot-new.result c.birth.result (in_hand.2 ∙ sym c.birth.ensures)) in
     record { slot = one.slot; version = one.version }
 
 pub replace-requires-clause-slot : goal.replace-requires-clause-slot
@@ -54,7 +54,7 @@ replace-requires-clause-checked g c =
     let hand = hand_filled p c.args.hand c.args.key
     (link_to (link_of c.args.held.now.word).slot c.args.hand.birth c.args.next_birth)
     (c.fill.ensures.fills.fills.hand ∙ c.requires.hand.slot) c.fill.ensures.fills.fills.filled in
-    let at = hand_at p c.law.ensures c.args.hand hand c.slot-new.result c.slot-new.ensures in
+    let in_hand = hand_at p c.law.ensures c.args.hand hand c.slot-new.result c.slot-new.ensures in
     let Q : ℕ → Type 0 =
     λ s. IsFilled ((knows p.trace).own s) c.args.hand.birth c.args.key
     (link_to (link_of c.args.held.now.word).slot c.args.hand.birth c.args.next_birth) in
@@ -67,7 +67,7 @@ replace-requires-clause-checked g c =
     c.args.next_birth (held_kept c.args.held.now k c.requires.node.present.held) c.in-Slot.is
     (subst Q (sym c.slot-new.ensures) c.fill.ensures.fills.fills.filled)
     c.args.value old.0 has (subst V (sym c.slot-new.ensures) (c.fill.ensures.fills.valued c.requires.node.has_values))
-    c.requires.node.present.unmarked at.0
+    c.requires.node.present.unmarked in_hand.0
     (birth_named_kept (link_of c.args.held.now.word).slot c.args.next_birth k c.requires.node.birth)
     (key_on c.args.held.now.at c.args.key k c.requires.node.key_is) (value_on c.args.held.now.at old.0 k old.1))
 

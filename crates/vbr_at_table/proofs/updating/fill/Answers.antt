@@ -93,7 +93,7 @@ returns-clause-fills g c =
     let key = c.store_key.ensures.step in
     let link = c.store_link.ensures.step in
     let put = c.put_value.ensures.puts in
-    let at = hand_at p c.law.ensures c.args.hand.now c.requires.hand c.slot-slot.result c.slot-slot.ensures in
+    let in_hand = hand_at p c.law.ensures c.args.hand.now c.requires.hand c.slot-slot.result c.slot-slot.ensures in
     let all = ready c.args.hand.now c.args.pred.now c.args.birth c.law.ensures c.requires.hand c.slot-slot.ensures
     c.requires.pred c.requires.birth c.store_key.ensures.step c.put_value.ensures.puts
     c.put_value.ensures.stores.keeps in
@@ -104,8 +104,9 @@ returns-clause-fills g c =
     (ap (λ (l : Link). l.slot) (c.link_to-link.ensures.link) ∙ ap (λ (l : Link). l.slot) c.decode.ensures.link) in
     let values : c.store_key.new.self.stepper.now.trace.start.shape.values ≡ p.trace.start.shape.values =
     ap (λ (d : Start). d.shape.values) key.same.1 in
-    let full = filled c.store_key.new.self.stepper.now.trace.start.shape.values c.args.value key put.holding link at.1
-    at.2 written in
+    let full = filled c.store_key.new.self.stepper.now.trace.start.shape.values c.args.value key put.holding link
+    in_hand.1
+    in_hand.2 written in
     let F : ℕ → Type 0 =
     λ s. IsFilled ((knows c.store_link.new.self.stepper.now.trace).own s) c.args.hand.now.birth c.args.key
     (link_to (link_of c.args.pred.now.word).slot c.args.hand.now.birth c.args.birth) in

@@ -24,13 +24,13 @@ link_to-new-requires g c =
     let hand = hand_filled p c.args.hand c.args.key
     (link_to (link_of c.args.pred.now.word).slot c.args.hand.birth c.birth_named-birth.result)
     (c.fill.ensures.fills.fills.hand ∙ c.requires.hand.slot) c.fill.ensures.fills.fills.filled in
-    let at = hand_at p c.law.ensures c.args.hand hand c.slot-slot.result c.slot-slot.ensures in
-    let low = at.0 in
+    let in_hand = hand_at p c.law.ensures c.args.hand hand c.slot-slot.result c.slot-slot.ensures in
+    let low = in_hand.0 in
     let most = c.law.ensures.start.shape.slots in
     fits p c.law.ensures (Some c.slot-slot.result) c.args.pred.now.birth c.birth.result (omega (arith, low, most))
     (birth_at_low p c.law.ensures c.args.pred.now.at c.args.pred.now.birth
     (held_kept c.args.pred.now c.fill.ensures.stores.keeps c.requires.gap.held).birth)
-    (birth_in_hand_low p c.law.ensures c.slot-slot.result c.birth.result (at.2 ∙ sym c.birth.ensures))
+    (birth_in_hand_low p c.law.ensures c.slot-slot.result c.birth.result (in_hand.2 ∙ sym c.birth.ensures))
 
 pub publish-requires-clause-pred : goal.publish-requires-clause-pred
 publish-requires-clause-pred g c =
@@ -46,7 +46,7 @@ publish-requires-clause-checked g c =
     let hand = hand_filled p c.args.hand c.args.key
     (link_to (link_of c.args.pred.now.word).slot c.args.hand.birth c.birth_named-birth.result)
     (c.fill.ensures.fills.fills.hand ∙ c.requires.hand.slot) c.fill.ensures.fills.fills.filled in
-    let at = hand_at p c.law.ensures c.args.hand hand c.slot-slot.result c.slot-slot.ensures in
+    let in_hand = hand_at p c.law.ensures c.args.hand hand c.slot-slot.result c.slot-slot.ensures in
     let Q : ℕ → Type 0 =
     λ s. IsFilled ((knows p.trace).own s) c.args.hand.birth c.args.key
     (link_to (link_of c.args.pred.now.word).slot c.args.hand.birth c.birth_named-birth.result) in
@@ -61,7 +61,7 @@ publish-requires-clause-checked g c =
     subst V (sym c.slot-slot.ensures)
     (c.fill.ensures.fills.valued
     (ap (λ (d : Start). d.shape.values) (sym c.fill.ensures.fills.fills.quiet.same.start) ∙ has))))
-    c.requires.gap.unmarked at.0
+    c.requires.gap.unmarked in_hand.0
     (birth_named_kept (link_of c.args.pred.now.word).slot c.birth_named-birth.result k c.birth_named-birth.ensures)
     (subst P (sym c.fill.ensures.fills.fills.quiet.same.start)
     (behind_kept c.args.at.now.stepper.now.trace.start c.args.pred.now.at c.args.key k c.requires.gap.behind))

@@ -43,13 +43,13 @@ returns-in-Ok-clause-unlinks g c =
     let won = rw c.in-Ok.is at c.unlink-outcome.ensures.unlinked in
     record {
       helps = λ e. record {
-        at = won.at;
+        same_place = won.place;
         epoch = sym e ∙ won.read.known.epoch ∙ won.keeps.epoch;
         opens = opened p.trace q.trace r.trace c.args.pred.now c.args.marked c.in-Ok.place a b c.law-in-Ok.ensures.start
-            c.law-in-Ok.ensures.is_run won.keeps won.at won.read.known won.still won.stands won.next
+            c.law-in-Ok.ensures.is_run won.keeps won.place won.read.known won.still won.stands won.next
             c.retire.ensures.retires.unchanged;
         come = λ key is.
-            helped key c.args.pred.now c.in-Ok.place is won.keeps won.at won.still won.read a b
+            helped key c.args.pred.now c.in-Ok.place is won.keeps won.place won.still won.read a b
             (retired_keeps (knows q.trace) (knows r.trace) c.in-Ok.unlinked.slot (is_kept q.pool)
             c.retire.ensures.retires.known (sym e ∙ won.read.known.epoch));
       };
@@ -62,7 +62,7 @@ returns-in-Ok-clause-unlinks g c =
           clear_before
           (clear_skipped c.in-Ok.place c.law.ensures.start a.same won.read won.still c.args.marked.slot key
           (link_of c.args.marked.word)
-          (subst P (sym won.at)
+          (subst P (sym won.place)
           (subst Q (sym a.same.start) (behind_kept p.trace.start c.args.pred.now.at key won.keeps behind)))
           (won.keeps.reads _ c.requires.may.marked.held.link) c.requires.may.marked.mark (sym won.next)
           (won.keeps.reads (KeyOf c.args.marked.slot key) k)
@@ -73,7 +73,7 @@ returns-in-Ok-clause-unlinks g c =
           let Q : Start → Type 0 = λ s. StandsBehind s (knows q.trace) c.args.pred.now.at key in
           left_skipped p.trace q.trace r.trace c.in-Ok.place c.args.marked key c.law.ensures.start c.law.ensures.is_run
           a b won.keeps won.read won.still c.requires.may.marked (sym won.next)
-          (subst P (sym won.at)
+          (subst P (sym won.place)
           (subst Q (sym a.same.start) (behind_kept p.trace.start c.args.pred.now.at key won.keeps behind))) k;
     }
 

@@ -26,7 +26,7 @@ module _ {p q : PassView} (law : PassLaw p) {bucket from since budget : ℕ} whe
       (run_at p.trace q.trace quiet.same (quiet.is_run law.is_run)) bucket quiet (begins_refl q.trace.seen) y in
       omega (arith, most)
 
-  -- what it told, or how it was refused, is all that its ends have apart
+  -- what it returned, or how it was refused, is all that its ends have apart
   seeks : {A : Type 0} {Tells : A → Type 0} {found : Option (Option NextNode)} {answer : Result A Refusal}
       (x : Sought p q bucket from 0 since budget found) → IfOk answer Tells → IfErr answer (IsTired p q budget) →
       IfErr answer
@@ -53,7 +53,7 @@ module _ {p q : PassView} (law : PassLaw p) {bucket from since budget : ℕ} whe
     disturbed_costs = disturbed_costs;
   }
 
-  -- it told what it was to tell
+  -- it returned what it was to return
   seeks_told : {A : Type 0} {Tells : A → Type 0} (next : Option NextNode) (answer : A)
       (x : Sought p q bucket from 0 since budget (Some next)) → Tells answer → Seeks Tells p q bucket budget (Ok answer)
   seeks_told next answer x tells =

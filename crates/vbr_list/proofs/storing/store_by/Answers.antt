@@ -60,13 +60,13 @@ returns-in-Err-clause-calls c =
       };
     })
 
-pub returns-in-Ok-Told-clause-calls : goal.returns-in-Ok-Told-clause-calls
-returns-in-Ok-Told-clause-calls c =
-    let same : c.stepper-in-Ok-Told-1.given.0 ≡ c.prepare_store.new.self.at.stepper.now = search rules in
+pub returns-in-Ok-Answered-clause-calls : goal.returns-in-Ok-Answered-clause-calls
+returns-in-Ok-Answered-clause-calls c =
+    let same : c.stepper-in-Ok-Answered-1.given.0 ≡ c.prepare_store.new.self.at.stepper.now = search rules in
     let prepares = c.prepare_store.ensures.prepares in
-    let there = c.in-Ok-Told.there in
+    let there = c.in-Ok-Answered.there in
     let x : HasAnswered c.args.wanted _ c.prepare_store.new.self there =
-    rw c.in-Ok-Told.field-0-is at c.in-Ok-Told.ensures.prepared in
+    rw c.in-Ok-Answered.field-0-is at c.in-Ok-Answered.ensures.prepared in
     let p = c.args.stepper.now in
     let q = c.prepare_store.new.self.at.stepper.now in
     let wanted = c.args.wanted in

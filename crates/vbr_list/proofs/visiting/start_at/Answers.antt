@@ -15,7 +15,7 @@ module _ {p q r : PassView} {m n : ℕ} (x : ReadsIn p q m) (y : ReadsIn q r n) 
   starts bucket (Ok h) read = record {
     known = read.read.known;
     unmarked = read.unmarked;
-    at = read.at;
+    place = read.place;
     reads = record { checks = checked; epoch = read.keeps.epoch; fresh = read.fresh; stood = read.read.stood };
   }
   starts bucket (Err e) read = tt

@@ -26,7 +26,7 @@ looks_five a here some x y =
 
 -- what was read of the node
 read_next : {p q : Trace} {here node : Held} → IsNext p q here (Some node) → ReadsNext p q here node
-read_next n = record { slot = n.0; named = n.1; at = n.2; stood = n.3.stood }
+read_next n = record { slot = n.0; named = n.1; place = n.2; stood = n.3.stood }
 
 -- ---- a marked node
 
@@ -90,7 +90,7 @@ module _ {p q r : PassView} {m n : ℕ} (x : ReadsIn p q m) (y : ReadsIn q r n) 
   }
 
   reads_node : ReadsNext p.trace r.trace here node
-  reads_node = record { slot = next.0; named = next.1; at = next.2; stood = stood_before next.3.stood y.quiet }
+  reads_node = record { slot = next.0; named = next.1; place = next.2; stood = stood_before next.3.stood y.quiet }
 
 pub returns-then-key-number-clause-met : goal.returns-then-key-number-clause-met
 returns-then-key-number-clause-met g c =

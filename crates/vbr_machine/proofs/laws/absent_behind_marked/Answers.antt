@@ -2,5 +2,5 @@ use Rattle.vbr_machine.proofs.moments.RunForms.{absent_behind_marked}
 use Rattle.vbr_machine.proofs.laws.absent_behind_marked.Goals as goal
 
 pub returns : goal.returns
-returns c = λ start passes run pass at link last key is ok k m q leads i j.
-    absent_behind_marked start passes run is ok pass at link last k m q leads key i j
+returns c = λ start passes run pass place link last key is ok k m q leads i j.
+    absent_behind_marked start passes run is ok pass place link last k m q leads key i j

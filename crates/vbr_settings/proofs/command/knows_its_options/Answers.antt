@@ -19,9 +19,9 @@ pub returns-clause-file : goal.returns-clause-file
 unfolding clap_on_literals command_line AreOptions file_among file_of
 returns-clause-file c name = (refl, refl)
 
-pub returns-clause-behind : goal.returns-clause-behind
+pub returns-clause-dashes : goal.returns-clause-dashes
 unfolding clap_on_literals command_line AreOptions file_among file_of
-returns-clause-behind c name = (refl, refl)
+returns-clause-dashes c name = (refl, refl)
 
 pub returns-clause-standard : goal.returns-clause-standard
 unfolding clap_on_literals command_line AreOptions file_among file_of

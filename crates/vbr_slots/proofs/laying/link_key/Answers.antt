@@ -26,7 +26,7 @@ returns c = λ keys payloads w fit are.
     (ap (λ i. slice_index_or c.args.words.now i 0) head_at
     ∙ are.each (Head (bucket_of start.shape c.args.key)) in_shape)
     ∙ link_of-word_of _ (fit (bucket_of start.shape c.args.key)) in
-    let at : KeyIndices start c.args.number (bucket_of start.shape c.args.key) c.place_index.result
+    let indices : KeyIndices start c.args.number (bucket_of start.shape c.args.key) c.place_index.result
     c.place_index-head.result c.place_index-2.result c.place_index-3.result c.place_index-4.result = record {
       link_at = c.place_index.ensures.index;
       head_at = head_at;
@@ -35,7 +35,7 @@ returns c = λ keys payloads w fit are.
       flags_at = c.place_index-4.ensures.index ∙ ap (λ n. index_of start.shape (Flags n)) c.word_of_flag.ensures;
     } in
     key_ahead start w c.args.words.now c.if-has_values.words c.args.number c.args.key c.args.value c.encode.result
-    c.encode-2.result c.all_but.result _ _ _ _ _ are at c.requires.number in_shape
+    c.encode-2.result c.all_but.result _ _ _ _ _ are indices c.requires.number in_shape
     (c.encode.ensures
     ∙ (λ i. word_of
     (record {

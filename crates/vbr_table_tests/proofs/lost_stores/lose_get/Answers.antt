@@ -9,7 +9,7 @@ use Rattle.vbr_at_table.specs.Values.{IsValueRead}
 use Rattle.vbr_at_table.proofs.Lemmas.{held_kept}
 use Rattle.vbr_table_tests.proofs.lost_stores.lose_get.Goals as goal
 
-key_kept : {know later : Know} (at : At) (key : ℕ) → Keeps know later → KeyAt know at key → KeyAt later at key
+key_kept : {know later : Know} (place : At) (key : ℕ) → Keeps know later → KeyAt know place key → KeyAt later place key
 key_kept (Head b) key k h = h
 key_kept (Slot s) key k h = k.reads _ h
 

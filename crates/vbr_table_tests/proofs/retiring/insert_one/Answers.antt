@@ -12,6 +12,6 @@ update_entry-requires-clause-gap g c =
           (λ node read. read.keeps) c.head_of-head.ensures.held;
       unmarked = search rules;
       behind = behind_head c.next.new.pass.trace.start (knows c.next.new.pass.trace) c.head_of-head.result.at 7
-          c.head_of-head.ensures.at one;
+          c.head_of-head.ensures.place one;
       before = search rules;
     }

@@ -4,8 +4,8 @@ use Rattle.std.proofs.lemmas.Grind.{common_steps}
 use Rattle.vbr_transcript.proofs.KnownBytes.{Appends-take}
 use Rattle.vbr_transcript.proofs.writing.write_text.Goals as goal
 
-rest_of : (text : List ℕ) (at : ℕ) → take (length text - at) (drop at text) ≡ drop at text
-rest_of text at = grind (arith, common_steps)
+rest_of : (text : List ℕ) (from : ℕ) → take (length text - from) (drop from text) ≡ drop from text
+rest_of text from = grind (arith, common_steps)
 
 pub loop-from-preserved : goal.loop-from-preserved
 loop-from-preserved g c =

@@ -1,4 +1,4 @@
--- Where it stops is told of the opening.
+-- Where it stops is said of the opening.
 use Rattle.vbr_world.proofs.Replayed.{stops_from}
 use Rattle.vbr_world.proofs.world.replay_with_entries.Goals as goal
 

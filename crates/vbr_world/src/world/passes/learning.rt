@@ -104,10 +104,10 @@ impl PassState {
 
     // A slot in hand was linked at a place, by this link: both links are checked then, with what was
     // stored in the slot, and it is no longer the pass's.
-    fn learn_linked(&mut self, at: At, link: Link, slot: u32) -> Result<(), AllocError>
+    fn learn_linked(&mut self, place: At, link: Link, slot: u32) -> Result<(), AllocError>
         requires slot { slot < length self.old.own }
         requires fits { IsLink link }
-        ensures learned { OnOk result (Learns self.old self.new (with_linked at link slot)) }
+        ensures learned { OnOk result (Learns self.old self.new (with_linked place link slot)) }
         ensures refused { OnErr result (self.new ≡ self.old) }
     {
         let holding = self.holding(slot);
@@ -116,13 +116,13 @@ impl PassState {
         let own_link = holdings::link_in_hand(holding);
         match holdings::value_in_hand(holding) {
             None => self.add_checked(&[
-                Read::LinkAt(at, link),
+                Read::LinkAt(place, link),
                 Read::BirthOf(slot, birth),
                 Read::KeyOf(slot, key),
                 Read::LinkAt(At::Slot(slot), own_link),
             ])?,
             Some(value) => self.add_checked(&[
-                Read::LinkAt(at, link),
+                Read::LinkAt(place, link),
                 Read::BirthOf(slot, birth),
                 Read::KeyOf(slot, key),
                 Read::LinkAt(At::Slot(slot), own_link),
@@ -174,7 +174,7 @@ impl PassState {
     {
         match step {
             Step::ReadEpoch => self.read_epoch(found)?,
-            Step::LoadLink { at } => self.add_pending(Read::LinkAt(at, decode(found)))?,
+            Step::LoadLink { at: place } => self.add_pending(Read::LinkAt(place, decode(found)))?,
             Step::LoadBirth { slot } => self.add_pending(Read::BirthOf(slot, found))?,
             Step::LoadKey { slot } => self.add_pending(Read::KeyOf(slot, found))?,
             Step::LoadValue { slot } => self.add_pending(Read::ValueOf(slot, found))?,

@@ -111,9 +111,9 @@ returns-in-Ok-clause-answers g c =
     let reads = c.value_if_any-read.ensures.reads in
     let key = c.args.self.now.key in
     let value = c.in_ok-value.value in
-    let at = key_kept c.args.node.now.at key c.in_ok-value.ensures.value.keeps c.requires.sight.2 in
+    let keyed = key_kept c.args.node.now.at key c.in_ok-value.ensures.value.keeps c.requires.sight.2 in
     let answers =
-    c.in-Ok.ensures.answers.answers key value at (λ get. c.in_ok-value.ensures.value.value c.requires.values) in
+    c.in-Ok.ensures.answers.answers key value keyed (λ get. c.in_ok-value.ensures.value.value c.requires.values) in
     let told : given_call p.who Get key (Some value) ≡ given_in p Get key (Some value) =
     sym (given_kept p Get key c.requires.values (Some value)) in
     let first : given_call q.who Get key (Some value) ≡ given_call p.who Get key (Some value) =

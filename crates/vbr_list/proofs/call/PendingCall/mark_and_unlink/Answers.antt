@@ -65,16 +65,16 @@ unlink_marked-requires-clause-marked g c =
     let removed = c.in_ok-marked.ensures.removed in
     let pred = pred_on c.args.self.now.key f.pred made.same mark.keeps
     (pred_on c.args.self.now.key f.pred same keeps c.requires.locates.pred) in
-    let P : At → Type 0 = λ at. KeyAt (knows c.mark-outcome.new.at.stepper.now.trace) at c.args.self.now.key in
+    let P : At → Type 0 = λ place. KeyAt (knows c.mark-outcome.new.at.stepper.now.trace) place c.args.self.now.key in
     let Q : ℕ → Type 0 = Names f.pred in
     record {
       may = record {
         held = pred.held;
         unmarked = pred.unmarked;
         marked = removed.held;
-        names = subst Q (slot_same c.in_ok-marked.marked.slot y.slot (removed.at ∙ y.at)) y.named;
+        names = subst Q (slot_same c.in_ok-marked.marked.slot y.slot (removed.place ∙ y.place)) y.named;
       };
-      key = subst P (sym removed.at) (key_kept c.in-Some.cur.at c.args.self.now.key mark.keeps there);
+      key = subst P (sym removed.place) (key_kept c.in-Some.cur.at c.args.self.now.key mark.keeps there);
       inside = pred.inside;
       behind = pred.behind;
       out = removed.out;

@@ -15,8 +15,8 @@ returns-in_default-clause-prepares g c =
     let x = c.meet.ensures.meets in
     prepares_none c.args.self.now c.meet.new.self x.call x.counts x.hand.takes_no_slot x.hand.hand
 
-pub returns-in-Told-clause-prepares : goal.returns-in-Told-clause-prepares
-returns-in-Told-clause-prepares g c =
+pub returns-in-Otherwise-clause-prepares : goal.returns-in-Otherwise-clause-prepares
+returns-in-Otherwise-clause-prepares g c =
     let x = c.meet.ensures.meets in
     prepares_none c.args.self.now c.meet.new.self x.call x.counts x.hand.takes_no_slot x.hand.hand
 
@@ -37,8 +37,8 @@ returns-in_ok-hand-in-AsWanted-clause-prepares g c =
 pub returns-in_default-clause-tries : goal.returns-in_default-clause-tries
 returns-in_default-clause-tries g c = inl c.meet.ensures.meets.hand.takes_no_slot.tries
 
-pub returns-in-Told-clause-tries : goal.returns-in-Told-clause-tries
-returns-in-Told-clause-tries g c = inl c.meet.ensures.meets.hand.takes_no_slot.tries
+pub returns-in-Otherwise-clause-tries : goal.returns-in-Otherwise-clause-tries
+returns-in-Otherwise-clause-tries g c = inl c.meet.ensures.meets.hand.takes_no_slot.tries
 
 pub returns-in_err-hand-in-AsWanted-clause-tries : goal.returns-in_err-hand-in-AsWanted-clause-tries
 returns-in_err-hand-in-AsWanted-clause-tries g c =
@@ -76,10 +76,10 @@ returns-in_default-clause-refused g c =
           (omega (arith, least)) tired.searches;
     }
 
-pub returns-in-Told-clause-prepared : goal.returns-in-Told-clause-prepared
-returns-in-Told-clause-prepared g c =
-    let met : MeetsOther c.args.wanted c.args.self.now c.meet.new.self c.in-Told.there =
-    rw c.in-Told.is at c.in-Some.ensures.met in
+pub returns-in-Otherwise-clause-prepared : goal.returns-in-Otherwise-clause-prepared
+returns-in-Otherwise-clause-prepared g c =
+    let met : MeetsOther c.args.wanted c.args.self.now c.meet.new.self c.in-Otherwise.there =
+    rw c.in-Otherwise.is at c.in-Some.ensures.met in
     let p = c.args.self.now.at.stepper.now in
     let m = c.meet.new.self.at.stepper.now.trace in
     let least = take_least p m in

@@ -139,7 +139,7 @@ returns-in-Ok-replace-clause-replaced g c =
     let keeps = keeps_on read c.replace.ensures.stores.keeps in
     let two = two_since quiet (two_told q.start q.who k c.requires.read.0 c.args.value has made_now) in
     let pred = pred_on k f.pred two.same keeps first.locates.pred in
-    let K : At → Type 0 = λ at. KeyAt (knows r) at k in
+    let K : At → Type 0 = λ place. KeyAt (knows r) place k in
     let N : ℕ → Type 0 = Names f.pred in
     let R : IsRun p.start p.passes r.seen = run_at p r two.same two.is_run in
     let steps = reads.takes_no_slot.count in
@@ -156,9 +156,9 @@ returns-in-Ok-replace-clause-replaced g c =
           held = pred.held;
           unmarked = pred.unmarked;
           marked = told.held;
-          names = subst N (slot_same c.in-Ok-replace.marked.slot y.slot (told.at ∙ y.at)) y.named;
+          names = subst N (slot_same c.in-Ok-replace.marked.slot y.slot (told.place ∙ y.place)) y.named;
         };
-        key = subst K (sym told.at) (key_kept c.in-Some.cur.at k keeps there);
+        key = subst K (sym told.place) (key_kept c.in-Some.cur.at k keeps there);
         behind = pred.behind;
       };
       replaced = replaced_since p q r c.law.ensures.start quiet told.old;

@@ -13,19 +13,19 @@ of_first = option_and_then (λ (name : Text). if bytes_eq name (codes "-") then 
 
 named : (first : Option Text) (name : Text) → first ≡ Some name → not (bytes_eq name (codes "-")) ≡ true →
     Some name ≡ of_first first
-named first name is other = rw is (at (bytes_eq name (codes "-")) other)
+named first name is other = rw is (by_case (bytes_eq name (codes "-")) other)
   where
-    at : (b : Bool) → not b ≡ true → Some name ≡ (if b then None else Some name)
-    at true other = cc
-    at false other = refl
+    by_case : (b : Bool) → not b ≡ true → Some name ≡ (if b then None else Some name)
+    by_case true other = cc
+    by_case false other = refl
 
 dash : (first : Option Text) (name : Text) → first ≡ Some name → not (bytes_eq name (codes "-")) ≡ false →
     None ≡ of_first first
-dash first name is same = rw is (at (bytes_eq name (codes "-")) same)
+dash first name is same = rw is (by_case (bytes_eq name (codes "-")) same)
   where
-    at : (b : Bool) → not b ≡ false → None ≡ (if b then None else Some name)
-    at true same = refl
-    at false same = cc
+    by_case : (b : Bool) → not b ≡ false → None ≡ (if b then None else Some name)
+    by_case true same = refl
+    by_case false same = cc
 
 none : (first : Option Text) → first ≡ None → None ≡ of_first first
 none first is = rw is refl
