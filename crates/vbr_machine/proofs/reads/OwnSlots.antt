@@ -25,13 +25,22 @@ pub record IsUntouched (a b : Incarnations) (c : ℕ) : Type 0 where
   pub link : b.link c ≡ a.link c
   pub is_aimed : b.is_aimed c ≡ a.is_aimed c
 
-pub untouched_here : (a : Incarnations) (c : ℕ) → IsUntouched a a c
-untouched_here a c =
+-- b with the births and keys of a, and with the values and links of a
+abbrev born_as : Incarnations → Incarnations → Incarnations
+born_as a b = record b { birth = a.birth; key = a.key; is_keyed = a.is_keyed }
+
+abbrev stored_as : Incarnations → Incarnations → Incarnations
+stored_as a b = record b { value = a.value; is_valued = a.is_valued; link = a.link; is_aimed = a.is_aimed }
+
+-- it is enough that the state stays, where nothing is born, stored or aimed
+pub untouched_in : (a b : Incarnations) {last : Option ℕ} → ((c : ℕ) → last ≡ Some c → b.state c ≡ a.state c) →
+    (c : ℕ) → last ≡ Some c → IsUntouched a (born_as a (stored_as a b)) c
+untouched_in a b state c is =
     record {
-      state = refl;
       birth = refl;
       key = refl;
       is_keyed = refl;
+      state = state c is;
       value = refl;
       is_valued = refl;
       link = refl;

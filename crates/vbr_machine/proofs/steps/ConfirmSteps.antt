@@ -26,7 +26,7 @@ use Rattle.vbr_machine.specs.declared.event.Step.TheVariants.{ConfirmPresent, Co
 use Rattle.vbr_machine.proofs.chronicles.Growth.{grows}
 use Rattle.vbr_machine.proofs.reads.Searches.{key_is, value_is}
 use Rattle.vbr_machine.proofs.reads.Noted.{knows_on, knows_same}
-use Rattle.vbr_machine.proofs.reads.OwnSlots.{owns_kept}
+use Rattle.vbr_machine.proofs.reads.OwnSlots.{owns_kept, untouched_in}
 use Rattle.vbr_machine.proofs.chronicles.Shown.{image_kept, fits_kept}
 use Rattle.vbr_machine.proofs.reads.ValueReads.{some_value}
 use Rattle.vbr_machine.proofs.reads.StandingLinks.{link_stands}
@@ -52,17 +52,7 @@ answer_allowed start w a notes p call g al =
       place = refl;
       last = refl;
       stamp = refl;
-      untouched = λ c _.
-          record {
-            state = refl;
-            birth = refl;
-            key = refl;
-            is_keyed = refl;
-            value = refl;
-            is_valued = refl;
-            link = refl;
-            is_aimed = refl;
-          };
+      untouched = untouched_in a b (λ c _. refl);
     }) g.owns)
     (ap (λ l. l ++ call ∷ []) g.calls) g.births
 
