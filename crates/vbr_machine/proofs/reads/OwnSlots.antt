@@ -110,6 +110,17 @@ pub owns_kept : (a b : Incarnations) (know : ℕ → Know) → ((v : ℕ) → Is
 owns_kept a b know k o =
     λ q v. slot_kept a b q (know q).epoch (know q).epoch v ((know q).own v) (omega arith) (k v) (o q v)
 
+-- nor where the slots and the states are the same
+abbrev in_slots_as : Incarnations → Incarnations → Incarnations
+in_slots_as a b = record b { place = a.place; last = a.last; stamp = a.stamp; state = a.state }
+
+pub owns_same : (a b : Incarnations) (know : ℕ → Know) → Owns a know →
+    Owns (born_as a (stored_as a (in_slots_as a b))) know
+owns_same a b know o =
+    let same = in_slots_as a b in
+    owns_kept a (born_as a (stored_as a same)) know
+    (λ v. record { place = refl; last = refl; stamp = refl; untouched = untouched_in a same (λ c _. refl) }) o
+
 -- only what a pass has read has changed
 pub owns_beside : (a : Incarnations) (know : ℕ → Know) (p : ℕ) (x : Know) → x.epoch ≡ (know p).epoch →
     ((v : ℕ) → x.own v ≡ (know p).own v) → Owns a know → Owns a (put know p x)
