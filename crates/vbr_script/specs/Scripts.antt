@@ -1,11 +1,13 @@
 -- The script that a text of bytes is, and its first fault.
-use Rattle.std.specs.Prelude.{◌≡◌, ◌≢◌, ℕ, ◌+◌, ◌<◌, ◌≤◌, Bool, true, false, nat_lt, List, [], ◌∷◌, length, map, All, count_by, Option, Some, None, if◌then◌else◌}
+use Rattle.std.specs.Prelude.{◌≡◌, ◌≢◌, ℕ, ◌+◌, ◌<◌, ◌≤◌, Bool, true, false, nat_lt, List, [], ◌∷◌, length, map, All, count_by, Option, Some, None, if◌then◌else◌, Result, IfOk, IsErrOf}
 use Rattle.vbr_machine.specs.declared.history.Op.{Op}
 use Rattle.vbr_machine.specs.declared.history.Op.TheVariants.{Insert, Get}
 use Rattle.vbr_script.specs.declared.script.Kind.{Kind}
 use Rattle.vbr_script.specs.declared.script.Kind.TheVariants.{Set, Map}
 use Rattle.vbr_script.specs.declared.script.Line.{Line}
 use Rattle.vbr_script.specs.declared.script.Script.{Script}
+use Rattle.vbr_script.specs.declared.script.ScriptError.{ScriptError}
+use Rattle.vbr_script.specs.declared.script.ScriptError.TheVariants as refused
 use Rattle.vbr_script.specs.declared.script.ScriptFault.{ScriptFault}
 use Rattle.vbr_script.specs.declared.script.ScriptFault.TheVariants.{TooMany}
 use Rattle.vbr_script.specs.declared.script.Meaning.{Meaning}
@@ -118,3 +120,9 @@ pub record IsScriptOf (kind : Kind) (workers : ℕ) (text : List ℕ) (script : 
 -- a text has an operation or a renewal before its first fault
 abbrev pub HasSome : Kind → ℕ → List ℕ → Type 0
 HasSome kind workers text = 0 < length (script_of kind workers text) + length (renewals_of kind workers text)
+
+-- what is read of a text: the script that it is, or its first fault; where there is no memory, it has an operation or a renewal before that
+pub record ReadsScript (kind : Kind) (workers : ℕ) (text : List ℕ) (result : Result Script ScriptError) : Type 0 where
+  pub script : IfOk result (IsScriptOf kind workers text)
+  pub fault : (line : ℕ) (fault : ScriptFault) → IsErrOf result (refused.Fault line fault) → first_fault kind workers text ≡ Some (line, fault)
+  pub memory_only_for_a_line : IsErrOf result refused.Memory → HasSome kind workers text

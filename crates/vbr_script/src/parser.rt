@@ -3,7 +3,7 @@ ghost use Rattle.std.specs.Prelude.{◌≡◌, ◌≤◌, ◌<◌, ◌+◌, ◌^
 ghost use Rattle.vbr_script.specs.Text.{tokens_of};
 ghost use Rattle.vbr_script.specs.Number.{number_below};
 ghost use Rattle.vbr_script.specs.Grammar.{meaning_of, meaning_of_tokens, lone_token};
-ghost use Rattle.vbr_script.specs.Scripts.{first_fault, limited, HasSome, IsScriptOf};
+ghost use Rattle.vbr_script.specs.Scripts.{first_fault, limited, HasSome, IsScriptOf, ReadsScript};
 ghost use Rattle.vbr_script.specs.declared.script.ScriptFault.{ScriptFault};
 ghost use Rattle.vbr_script.specs.declared.script.Kind.TheVariants.{Set, Map};
 
@@ -31,11 +31,7 @@ use vbr_machine::Op;
 /// parse_script(alloc, text, workers)
 /// ```
 pub fn parse_script(alloc: Global, text: &[u8], workers: u32) -> Result<Script, ScriptError>
-    ensures script { IfOk result (IsScriptOf Set workers text.now) }
-    ensures fault { (line : ℕ) (kind : ScriptFault) → IsErrOf result (ScriptError.Fault line kind) →
-        first_fault Set workers text.now ≡ Some (line, kind) }
-    ensures memory_only_for_a_line { IsErrOf result ScriptError.Memory →
-        HasSome Set workers text.now }
+    ensures { ReadsScript Set workers text.now result }
 {
     parse(alloc, Kind::Set, text, workers)
 }
@@ -47,11 +43,7 @@ pub fn parse_script(alloc: Global, text: &[u8], workers: u32) -> Result<Script, 
 ///
 /// Those of [`parse_script`].
 pub fn parse_map_script(alloc: Global, text: &[u8], workers: u32) -> Result<Script, ScriptError>
-    ensures script { IfOk result (IsScriptOf Map workers text.now) }
-    ensures fault { (line : ℕ) (kind : ScriptFault) → IsErrOf result (ScriptError.Fault line kind) →
-        first_fault Map workers text.now ≡ Some (line, kind) }
-    ensures memory_only_for_a_line { IsErrOf result ScriptError.Memory →
-        HasSome Map workers text.now }
+    ensures { ReadsScript Map workers text.now result }
 {
     parse(alloc, Kind::Map, text, workers)
 }

@@ -8,7 +8,9 @@ use Rattle.vbr_words.specs.declared.place.At.{At}
 use Rattle.vbr_slots.specs.Calls.{Took}
 use Rattle.vbr_slots.specs.Expected.{Finds, FindsOther, Publishes, ReplacesNode}
 use Rattle.vbr_slots.specs.OwnSlots.{MissesFlag, TakesFlag}
+use Rattle.vbr_slots.specs.PassView.{IsExact}
 use Rattle.vbr_slots.specs.Views.{PassView, Trace, counted_steps, steps_of}
+use Rattle.vbr_slots.specs.declared.pass.Pass.TheInside.{Inside}
 use Rattle.vbr_slots.proofs.Calls.{count_on, did_took}
 
 -- the count goes on, where the pass was lent as it was
@@ -17,6 +19,11 @@ pub counts : {p lent : PassView} {q : Trace} {old new : ℕ} (more : ℕ) → le
     new ≡ counted_steps (steps_of q)
 counts {p} {lent} {q} {old} {new} more same is after took =
     count_on old new more (is ∙ ap (λ (v : PassView). counted_steps (steps_of v.trace)) (sym same)) after took
+
+-- so the count is exact behind one step more
+pub exact : {p lent : PassView} {q : Inside} {old : ℕ} → lent ≡ p → old ≡ counted_steps (steps_of p.trace) →
+    q.steps ≡ counted_steps (old + 1) → Took lent.trace q.stepper.trace 1 → IsExact q
+exact same is after took = record { steps = counts 1 same is after took }
 
 pub expects_took : (step : Step) (p q : PassView) (expected : ℕ) (answer : Result (Unit {0}) ℕ) →
     OnOk answer (Finds step p q expected) → IfErr answer (FindsOther step p q expected) → Took p.trace q.trace 1

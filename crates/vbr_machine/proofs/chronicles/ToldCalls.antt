@@ -37,6 +37,15 @@ same_calls start a b t e f g = record {
   stored = λ c h. let x = f c h in rw (e, x.1) (t.stored c x.0 ∙ ap (λ v. payload_kept start (Some v)) (sym x.2));
 }
 
+-- behind an insert the value of its key is that of its node
+value_here : (start : Start) (a : Incarnations) {c d : ℕ} → d ≡ c →
+    put (values_after (opening_payloads start) a.calls) (a.key c) (payload_of start a c) (a.key d)
+    ≡ payload_of start a d
+value_here start a {c} e =
+    ap (λ i. put (values_after (opening_payloads start) a.calls) (a.key c) (payload_of start a c) (a.key i)) e
+    ∙ put_here (values_after (opening_payloads start) a.calls) (a.key c) (payload_of start a c)
+    ∙ ap (payload_of start a) (sym e)
+
 tells_inserts : (start : Start) (a : Incarnations) (pass c : ℕ) (behind : Before) → Sound start a → Tells start a →
     MayInsert start a pass c behind → Tells start (becomes start a pass (Inserts c behind))
 tells_inserts start a pass c behind s t h = record {
@@ -66,10 +75,7 @@ tells_inserts start a pass c behind s t h = record {
     stored : (d : ℕ) → put a.state c Linked d ≡ Linked → (d ≡ c) ⊎ (d ≢ c) →
         put (values_after (opening_payloads start) a.calls) (a.key c) (payload_of start a c) (a.key d)
         ≡ payload_of start a d
-    stored d l (inl e) =
-        ap (λ i. put (values_after (opening_payloads start) a.calls) (a.key c) (payload_of start a c) (a.key i)) e
-        ∙ put_here (values_after (opening_payloads start) a.calls) (a.key c) (payload_of start a c)
-        ∙ ap (payload_of start a) (sym e)
+    stored d l (inl e) = value_here start a e
     stored d l (inr ne) =
         let linked : a.state d ≡ Linked = sym (put_other a.state c Linked d ne) ∙ l in
         let other : a.key d ≢ a.key c =
@@ -199,10 +205,7 @@ tells_replaces start a pass old c s t h = record {
     stored : (d : ℕ) → put (put a.state old Marked) c Linked d ≡ Linked → (d ≡ c) ⊎ (d ≢ c) →
         put (values_after (opening_payloads start) a.calls) (a.key c) (payload_of start a c) (a.key d)
         ≡ payload_of start a d
-    stored d l (inl e) =
-        ap (λ i. put (values_after (opening_payloads start) a.calls) (a.key c) (payload_of start a c) (a.key i)) e
-        ∙ put_here (values_after (opening_payloads start) a.calls) (a.key c) (payload_of start a c)
-        ∙ ap (payload_of start a) (sym e)
+    stored d l (inl e) = value_here start a e
     stored d l (inr ne) =
         let linked = was d ne l in
         let other : a.key d ≢ a.key c = λ e. not_old d ne l (keys_differ s d old linked h.linked (e ∙ h.same)) in

@@ -38,7 +38,7 @@ use Rattle.vbr_machine.specs.declared.knowledge.Holding.{Holding}
 use Rattle.vbr_machine.specs.declared.knowledge.Holding.TheVariants.{Free, Unlinked as UnlinkedOne, InHand as HandHas}
 use Rattle.vbr_machine.specs.declared.knowledge.Read.TheVariants.{LinkAt}
 use Rattle.vbr_machine.proofs.moments.AtLoads.{before_of, before_then, behind_then, held_open, pair_open, place_held}
-use Rattle.vbr_machine.proofs.runs.EveryRun.{incarnations_after-snoc, run_agrees, run_grows, step_agrees}
+use Rattle.vbr_machine.proofs.runs.EveryRun.{begun_grows, incarnations_after-snoc, run_agrees, step_agrees}
 use Rattle.vbr_machine.proofs.reads.HeldReads.{stays_held}
 use Rattle.vbr_machine.proofs.reads.KnownReads.{good_link, one_held}
 use Rattle.vbr_machine.proofs.chronicles.Lists.{lower_rank, next_listed, no_key_between}
@@ -163,13 +163,6 @@ module _ (start : Start) (passes : ℕ) (is : IsStart start) where
   agrees : (run : List Event) → IsRun start passes run →
       Agrees start (world_after start run) (incarnations_after start run) (notes_after start run)
   agrees run ok = run_agrees start passes run is ok
-
-  grown : (moment run : List Event) → Begins moment run → IsRun start passes run →
-      Grows (incarnations_after start moment) (incarnations_after start run)
-  grown moment run begins ok =
-      let P : List Event → Type 0 = IsRun start passes in
-      let Q : List Event → Type 0 = λ r. Grows (incarnations_after start moment) (incarnations_after start r) in
-      subst Q (sym begins.1) (run_grows start passes moment begins.0 is (subst P begins.1 ok))
 
   -- one event later what was linked is listed
   listed_next : (run : List Event) (event : Event) (c : ℕ) → IsRun start passes (run ++ event ∷ []) →
@@ -311,7 +304,7 @@ module _ (start : Start) (passes : ℕ) (moment run : List Event) (is : IsStart 
     pub clear : BelongsBefore (incarnations_after start then) key node → WasAbsent start moment run key
 
   shape_of : (t : List Event) → Begins t run → Grows (incarnations_after start t) (incarnations_after start run)
-  shape_of t to = grown start passes is t run to ok
+  shape_of t to = begun_grows start passes is t run to ok
 
   low : (t : List Event) → Begins moment t → Begins t run →
       (know_after start run p).epoch ≤ (incarnations_after start t).epoch
@@ -319,7 +312,7 @@ module _ (start : Start) (passes : ℕ) (moment run : List Event) (is : IsStart 
       let e : (know_after start moment p).epoch ≤ (incarnations_after start moment).epoch =
       ((at_moment moment was.begins).knows p).epoch in
       let f : (know_after start moment p).epoch ≡ (know_after start run p).epoch = was.epoch in
-      let g = (grown start passes is moment t from (begins_run start passes t run to ok)).epoch in
+      let g = (begun_grows start passes is moment t from (begins_run start passes t run to ok)).epoch in
       omega (arith, e, f, g)
 
   -- the place itself, and its link
@@ -447,7 +440,7 @@ module _ (start : Start) (passes : ℕ) (moment run : List Event) (is : IsStart 
           from = begins_trans moment x.then w.between x.from w.from
 
           later : Grows (incarnations_after start x.then) a
-          later = grown start passes is x.then w.between w.from (begins_run start passes w.between run w.to ok)
+          later = begun_grows start passes is x.then w.between w.from (begins_run start passes w.between run w.to ok)
 
           here : a.key c ≡ (incarnations_after start x.then).key c
           here = later.key c

@@ -36,7 +36,7 @@ use Rattle.vbr_machine.proofs.reads.HeldReads.{stays_held}
 use Rattle.vbr_machine.proofs.words.Puts.{put_here}
 use Rattle.vbr_machine.proofs.reads.StandingLinks.{link_stands}
 use Rattle.vbr_machine.proofs.chronicles.SoundAfter.{sound_kept}
-use Rattle.vbr_machine.proofs.runs.EveryRun.{run_agrees, run_grows, runs_agree, incarnations-append}
+use Rattle.vbr_machine.proofs.runs.EveryRun.{begun_grows, run_agrees, run_grows, runs_agree, incarnations-append}
 use Rattle.vbr_machine.proofs.runs.OwnEntries.{chronicle_from-append}
 use Rattle.vbr_machine.proofs.runs.RunsGoOn.{begins_run, begins_trans, calls_by-append, is_run_after, is_run_before}
 
@@ -449,8 +449,8 @@ module _ (start : Start) (passes : ℕ) (is : IsStart start) where
       (ap (λ r. own_calls start r pass) (sym first.1) ∙ calls) in
       let Q : List Event → Type 0 = λ r. RemoveMarked before r pass call.key in
       let y : RemoveMarked before answered pass call.key = subst Q (sym first.1) x in
-      let g = grown answered moment second ok_moment in
-      let h = grown moment run third ok in
+      let g = begun_grows start passes is answered moment second ok_moment in
+      let h = begun_grows start passes is moment run third ok in
       let kept = g.removed y.node y.removed in
       let key : (incarnations_after start moment).key y.node ≡ call.key =
       g.key y.node (removed_inserted ((incarnations_after start answered).state y.node) y.removed) ∙ y.of_key in
@@ -471,13 +471,6 @@ module _ (start : Start) (passes : ℕ) (is : IsStart start) where
         of_key = h.key y.node (removed_inserted ((incarnations_after start moment).state y.node) kept.0) ∙ key;
         left = subst R (sym third.1) (left_in_runs moment third.0 y.node (subst P third.1 ok) out);
       }
-    where
-      grown : (moment run : List Event) → Begins moment run → IsRun start passes run →
-          Grows (incarnations_after start moment) (incarnations_after start run)
-      grown moment run begins ok =
-          let P : List Event → Type 0 = IsRun start passes in
-          let Q : List Event → Type 0 = λ r. Grows (incarnations_after start moment) (incarnations_after start r) in
-          subst Q (sym begins.1) (run_grows start passes moment begins.0 is (subst P begins.1 ok))
 
   -- what was marked and has left since a moment was so since an earlier one
   pub left_since : (earlier before run : List Event) (pass key : ℕ) → Begins earlier before →

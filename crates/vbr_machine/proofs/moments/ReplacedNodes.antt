@@ -23,7 +23,7 @@ use Rattle.vbr_machine.specs.Sound.{Grows, IsRemoved}
 use Rattle.vbr_machine.specs.declared.event.Event.{Event}
 use Rattle.vbr_machine.specs.declared.event.Step.TheVariants.{Replace}
 use Rattle.vbr_machine.specs.declared.knowledge.Read.TheVariants.{KeyOf, LinkAt}
-use Rattle.vbr_machine.proofs.runs.EveryRun.{incarnations_after-snoc, run_agrees, run_grows}
+use Rattle.vbr_machine.proofs.runs.EveryRun.{begun_grows, incarnations_after-snoc, run_agrees, run_grows}
 use Rattle.vbr_machine.proofs.chronicles.Growth.{grows}
 use Rattle.vbr_machine.proofs.reads.HeldReads.{stays_held}
 use Rattle.vbr_machine.proofs.reads.KnownReads.{known_key, one_held}
@@ -132,11 +132,7 @@ pub removed_on : (start : Start) (passes : ℕ) → IsStart start → (moment ru
     IsRun start passes run → Begins moment run → IsRemoved ((incarnations_after start moment).state c) →
     IsRemoved ((incarnations_after start run).state c)
 removed_on start passes is moment run c ok begins removed =
-    let P : List Event → Type 0 = IsRun start passes in
-    let Q : List Event → Type 0 = λ r. Grows (incarnations_after start moment) (incarnations_after start r) in
-    let grown : Grows (incarnations_after start moment) (incarnations_after start run) =
-    subst Q (sym begins.1) (run_grows start passes moment begins.0 is (subst P begins.1 ok)) in
-    (grown.removed c removed).0
+    ((begun_grows start passes is moment run begins ok).removed c removed).0
 
 -- what is held at a slot by a moment is held there at the end, in the epoch that was known then
 pub held_on : (start : Start) (passes : ℕ) → IsStart start → (moment run : List Event) (p s c : ℕ) →
@@ -157,10 +153,7 @@ module _ (start : Start) (passes : ℕ) (first run : List Event) (is : IsStart s
   grown : (moment : List Event) → Begins first moment → Begins moment run →
       Grows (incarnations_after start first) (incarnations_after start moment)
   grown moment begins last =
-      let P : List Event → Type 0 = IsRun start passes in
-      let Q : List Event → Type 0 = λ r. Grows (incarnations_after start first) (incarnations_after start r) in
-      subst Q (sym begins.1)
-      (run_grows start passes first begins.0 is (subst P begins.1 (begins_run start passes moment run last ok)))
+      begun_grows start passes is first moment begins (begins_run start passes moment run last ok)
 
   -- it has its key at each moment since
   pub has_key : (moment : List Event) → Begins first moment → Begins moment run →

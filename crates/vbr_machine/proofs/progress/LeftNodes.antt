@@ -23,7 +23,7 @@ use Rattle.vbr_machine.specs.declared.event.Event.{Event}
 use Rattle.vbr_machine.proofs.runs.EveryRun.{run_agrees}
 use Rattle.vbr_machine.proofs.reads.FoundReads.{first_or_later, none_in}
 use Rattle.vbr_machine.proofs.progress.ListedNodes.{count_falls, in_list_from, slot_is_one}
-use Rattle.vbr_machine.proofs.progress.MetNodes.{IsMet, StaysOut, count_taken, met_is, stays_out}
+use Rattle.vbr_machine.proofs.progress.MetNodes.{IsMet, StaysOut, count_taken, gone, met_is, stays_out, still}
 use Rattle.vbr_machine.proofs.moments.Removals.{left_stays}
 use Rattle.vbr_machine.proofs.progress.Since.{Since, own_since, since}
 use Rattle.vbr_machine.proofs.chronicles.Slots.{inserted_late, late_born, listed_late}
@@ -117,14 +117,6 @@ list_and_left {start} {first} {a} s out bucket h c low could left =
   where
     but : ℕ → Bool
     but d = is_met start first a bucket d && not (d == c)
-
-    gone : (b : Bool) {t : Bool} → t ≡ true → (b && not t) ≡ false
-    gone true {t} e = ap not e
-    gone false {t} e = refl
-
-    still : (b : Bool) {t : Bool} → t ≡ false → (b && not t) ≡ b
-    still true {t} e = ap not e
-    still false {t} e = refl
 
     there : (t : ℕ) → is_behind start a bucket (Head h) t ≡ true → (d : ℕ) × InList start a bucket t d
     there t e = in_list_from start a bucket t (and_parts _ _ e).0

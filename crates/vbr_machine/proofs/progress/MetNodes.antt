@@ -174,11 +174,11 @@ count_fewer f g (suc m) (suc n) le e =
     go (inr ne) both one = let x = one (omega arith) in let y = up (g n) (count_below g n) in omega (arith, x, y)
 
 -- a test but where another passes: it fails there, and is as it was elsewhere
-gone : (b : Bool) {t : Bool} → t ≡ true → (b && not t) ≡ false
+pub gone : (b : Bool) {t : Bool} → t ≡ true → (b && not t) ≡ false
 gone true {t} e = ap not e
 gone false {t} e = refl
 
-still : (b : Bool) {t : Bool} → t ≡ false → (b && not t) ≡ b
+pub still : (b : Bool) {t : Bool} → t ≡ false → (b && not t) ≡ b
 still true {t} e = ap not e
 still false {t} e = refl
 

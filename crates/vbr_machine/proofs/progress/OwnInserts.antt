@@ -83,22 +83,21 @@ all_events start a who (entry ∷ entries) =
     let rest = all_events start (becomes start a entry.pass entry.what) who entries in
     omega (arith, one, rest)
 
+-- calls with one insert of a pass add one
+one_more : (who : ℕ) (calls made : List Call) → inserts_in (calls_by who made) ≡ 1 →
+    inserts_in (calls_by who calls) + 1 ≤ inserts_in (calls_by who (calls ++ made))
+one_more who calls made one =
+    let e = ap inserts_in (calls_by-append who calls made) ∙ inserts_in-append (calls_by who calls) (calls_by who made) in
+    omega (arith, e, one)
+
 -- an insert of the pass adds one, and so does a replacement
 own_insert : (start : Start) (a : Incarnations) (who pass : ℕ) (what : Happening) → pass ≡ who → is_insert what ≡ true →
     inserts_in (calls_by who a.calls) + 1 ≤ inserts_in (calls_by who (becomes start a pass what).calls)
 unfolding inserts_in is_insert_call
 own_insert start a who pass (Inserts c behind) mine is =
-    let made = calls_made start a pass (Inserts c behind) in
-    let one : inserts_in (calls_by who made) ≡ 1 = rw (eq-eqb pass who mine) refl in
-    let e = ap inserts_in (calls_by-append who a.calls made)
-    ∙ inserts_in-append (calls_by who a.calls) (calls_by who made) in
-    omega (arith, e, one)
+    one_more who a.calls (calls_made start a pass (Inserts c behind)) (rw (eq-eqb pass who mine) refl)
 own_insert start a who pass (Replaces old c) mine is =
-    let made = calls_made start a pass (Replaces old c) in
-    let one : inserts_in (calls_by who made) ≡ 1 = rw (eq-eqb pass who mine) refl in
-    let e = ap inserts_in (calls_by-append who a.calls made)
-    ∙ inserts_in-append (calls_by who a.calls) (calls_by who made) in
-    omega (arith, e, one)
+    one_more who a.calls (calls_made start a pass (Replaces old c)) (rw (eq-eqb pass who mine) refl)
 own_insert start a who pass (Removes c) mine is = absurd (cc)
 own_insert start a who pass (Confirms call) mine is = absurd (cc)
 own_insert start a who pass Advances mine is = absurd (cc)

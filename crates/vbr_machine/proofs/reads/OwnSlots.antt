@@ -25,13 +25,22 @@ pub record IsUntouched (a b : Incarnations) (c : ℕ) : Type 0 where
   pub link : b.link c ≡ a.link c
   pub is_aimed : b.is_aimed c ≡ a.is_aimed c
 
-pub untouched_here : (a : Incarnations) (c : ℕ) → IsUntouched a a c
-untouched_here a c =
+-- b with the births and keys of a, and with the values and links of a
+abbrev born_as : Incarnations → Incarnations → Incarnations
+born_as a b = record b { birth = a.birth; key = a.key; is_keyed = a.is_keyed }
+
+abbrev stored_as : Incarnations → Incarnations → Incarnations
+stored_as a b = record b { value = a.value; is_valued = a.is_valued; link = a.link; is_aimed = a.is_aimed }
+
+-- it is enough that the state stays, where nothing is born, stored or aimed
+pub untouched_in : (a b : Incarnations) {last : Option ℕ} → ((c : ℕ) → last ≡ Some c → b.state c ≡ a.state c) →
+    (c : ℕ) → last ≡ Some c → IsUntouched a (born_as a (stored_as a b)) c
+untouched_in a b state c is =
     record {
-      state = refl;
       birth = refl;
       key = refl;
       is_keyed = refl;
+      state = state c is;
       value = refl;
       is_valued = refl;
       link = refl;
@@ -100,6 +109,17 @@ slot_kept a b q e f v holding le k h =
 pub owns_kept : (a b : Incarnations) (know : ℕ → Know) → ((v : ℕ) → IsSlotKept a b v) → Owns a know → Owns b know
 owns_kept a b know k o =
     λ q v. slot_kept a b q (know q).epoch (know q).epoch v ((know q).own v) (omega arith) (k v) (o q v)
+
+-- nor where the slots and the states are the same
+abbrev in_slots_as : Incarnations → Incarnations → Incarnations
+in_slots_as a b = record b { place = a.place; last = a.last; stamp = a.stamp; state = a.state }
+
+pub owns_same : (a b : Incarnations) (know : ℕ → Know) → Owns a know →
+    Owns (born_as a (stored_as a (in_slots_as a b))) know
+owns_same a b know o =
+    let same = in_slots_as a b in
+    owns_kept a (born_as a (stored_as a same)) know
+    (λ v. record { place = refl; last = refl; stamp = refl; untouched = untouched_in a same (λ c _. refl) }) o
 
 -- only what a pass has read has changed
 pub owns_beside : (a : Incarnations) (know : ℕ → Know) (p : ℕ) (x : Know) → x.epoch ≡ (know p).epoch →

@@ -107,6 +107,12 @@ pub some_holds : (P : ℕ → Type 0) (o : Option ℕ) → IsSome o → ((x : �
 some_holds P None h each = absurd (cc)
 some_holds P (Some x) h each = each x refl
 
+-- what is found of a word of a node that is held is its own
+abbrev IsTold : Incarnations → (List Read → ℕ → Option ℕ) → (ℕ → ℕ) → Type 0
+IsTold a found_in own = (e : ℕ) (notes : List Note) (reads : List Read) (s c : ℕ) → reads ≡ reads_of notes →
+    AllByRecursion (IsGood a e) notes → IsHeldIncarnation a e s c → IsSome (found_in reads s) →
+    unwrap_or (found_in reads s) 0 ≡ own c
+
 word_is : {start : Start} {a : Incarnations} → SlotsSound start a →
     (word : NodeWord) (e : ℕ) (notes : List Note) (reads : List Read) (s c : ℕ) → reads ≡ reads_of notes →
     AllByRecursion (IsGood a e) notes → IsHeldIncarnation a e s c → IsSome (word_in word reads s) →
@@ -116,22 +122,13 @@ word_is {start} {a} snd word e notes reads s c q al h k =
     let x = word_found a e word notes s b (rw q at r) al in
     sym x.2 ∙ ap (word_of_node word a) (one_late snd x.0 c e (x.1.slot ∙ sym h.slot) x.1.late h.late x.1.birth h.birth))
 
-pub birth_is : {start : Start} {a : Incarnations} → SlotsSound start a →
-    (e : ℕ) (notes : List Note) (reads : List Read) (s c : ℕ) → reads ≡ reads_of notes →
-    AllByRecursion (IsGood a e) notes → IsHeldIncarnation a e s c → IsSome (birth_in reads s) →
-    unwrap_or (birth_in reads s) 0 ≡ a.birth c
+pub birth_is : {start : Start} {a : Incarnations} → SlotsSound start a → IsTold a birth_in a.birth
 birth_is snd = word_is snd Birth
 
-pub key_is : {start : Start} {a : Incarnations} → SlotsSound start a →
-    (e : ℕ) (notes : List Note) (reads : List Read) (s c : ℕ) → reads ≡ reads_of notes →
-    AllByRecursion (IsGood a e) notes → IsHeldIncarnation a e s c → IsSome (key_in reads s) →
-    unwrap_or (key_in reads s) 0 ≡ a.key c
+pub key_is : {start : Start} {a : Incarnations} → SlotsSound start a → IsTold a key_in a.key
 key_is snd = word_is snd Key
 
-pub value_is : {start : Start} {a : Incarnations} → SlotsSound start a →
-    (e : ℕ) (notes : List Note) (reads : List Read) (s c : ℕ) → reads ≡ reads_of notes →
-    AllByRecursion (IsGood a e) notes → IsHeldIncarnation a e s c → IsSome (value_in reads s) →
-    unwrap_or (value_in reads s) 0 ≡ a.value c
+pub value_is : {start : Start} {a : Incarnations} → SlotsSound start a → IsTold a value_in a.value
 value_is snd = word_is snd Value
 
 pub birth_of_is : {start : Start} {a : Incarnations} → SlotsSound start a →

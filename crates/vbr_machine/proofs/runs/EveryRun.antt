@@ -1,12 +1,12 @@
 -- Along every run the world, the incarnations and the notes agree, and the chronicle is lawful.
-use Rattle.std.proofs.Common.{◌≡◌, ℕ, List, [], ◌∷◌, ◌++◌, refl, ap, sym, ◌∙◌}
+use Rattle.std.proofs.Common.{◌≡◌, ℕ, List, [], ◌∷◌, ◌++◌, refl, ap, sym, ◌∙◌, subst}
 use Rattle.vbr_machine.specs.Start.{Start, IsStart}
 use Rattle.vbr_machine.specs.Put.{put}
 use Rattle.vbr_machine.specs.Keys.{Keys}
 use Rattle.vbr_machine.specs.Opened.{opening_keys}
 use Rattle.vbr_machine.specs.Acceptance.{Accepts}
 use Rattle.vbr_machine.specs.Machine.{World, opening, after}
-use Rattle.vbr_machine.specs.Runs.{AreAccepted, world_from, world_after, IsRun}
+use Rattle.vbr_machine.specs.Runs.{AreAccepted, Begins, IsRun, world_from, world_after}
 use Rattle.vbr_machine.specs.Incarnations.{Incarnations, at_opening}
 use Rattle.vbr_machine.specs.Chronicles.{Entry, IsLawful, becomes, incarnations_from}
 use Rattle.vbr_machine.specs.Sound.{Grows}
@@ -150,3 +150,10 @@ run_grows start passes xs ys is ok =
     accepted_parts start passes w [] ys ok = (tt, ok)
     accepted_parts start passes w (x ∷ xs) ys ok =
         let rest = accepted_parts start passes (after start w x.pass x.step) xs ys ok.1 in ((ok.0, rest.0), rest.1)
+
+pub begun_grows : (start : Start) (passes : ℕ) → IsStart start → (moment run : List Event) → Begins moment run →
+    IsRun start passes run → Grows (incarnations_after start moment) (incarnations_after start run)
+begun_grows start passes is moment run begins ok =
+    let P : List Event → Type 0 = IsRun start passes in
+    let Q : List Event → Type 0 = λ r. Grows (incarnations_after start moment) (incarnations_after start r) in
+    subst Q (sym begins.1) (run_grows start passes moment begins.0 is (subst P begins.1 ok))

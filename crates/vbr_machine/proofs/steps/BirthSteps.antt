@@ -30,7 +30,7 @@ use Rattle.vbr_machine.proofs.chronicles.ToldCalls.{tells_kept}
 use Rattle.vbr_machine.proofs.chronicles.Growth.{grows}
 use Rattle.vbr_machine.proofs.reads.Noted.{knows_on, knows_own}
 use Rattle.vbr_machine.proofs.steps.GivingUp.{AgreesAway, moved_link, free_away, given_up}
-use Rattle.vbr_machine.proofs.reads.OwnSlots.{owns_moved, owns_changed, lasts_differ}
+use Rattle.vbr_machine.proofs.reads.OwnSlots.{owns_moved, owns_changed, lasts_differ, untouched_in}
 use Rattle.vbr_machine.proofs.chronicles.Shown.{image_words, fits_kept, key_kept, value_kept, birth_kept, image_fits}
 use Rattle.vbr_machine.proofs.steps.Steps.{StepAgrees, agrees_owned, puts_same, at_put, hand_facts, unlinked_facts}
 use Rattle.vbr_machine.proofs.steps.Steps.{own_not_of, hand_not_of}
@@ -70,18 +70,9 @@ step_store_stamp start w a notes p s stamp g ok =
             place = refl;
             last = refl;
             stamp = put_other a.stamp (a.slot c) stamp k (λ e. ne (e ∙ slot));
-            untouched = λ d e.
-                let nd = lasts_differ g.sound.slots k s c d ne x.last e in
-                record {
-                  state = put_other a.state c (Stamped (unlinked_at (a.state c)) stamp) d nd;
-                  birth = refl;
-                  key = refl;
-                  is_keyed = refl;
-                  value = refl;
-                  is_valued = refl;
-                  link = refl;
-                  is_aimed = refl;
-                };
+            untouched = untouched_in a b
+                (λ d e. put_other a.state c (Stamped (unlinked_at (a.state c)) stamp) d
+                (lasts_differ g.sound.slots k s c d ne x.last e));
           })
           (rw (put_here (w.know p).own s (Some (Free stamp))) (
             x.place,

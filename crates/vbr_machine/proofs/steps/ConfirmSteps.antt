@@ -26,7 +26,7 @@ use Rattle.vbr_machine.specs.declared.event.Step.TheVariants.{ConfirmPresent, Co
 use Rattle.vbr_machine.proofs.chronicles.Growth.{grows}
 use Rattle.vbr_machine.proofs.reads.Searches.{key_is, value_is}
 use Rattle.vbr_machine.proofs.reads.Noted.{knows_on, knows_same}
-use Rattle.vbr_machine.proofs.reads.OwnSlots.{owns_kept}
+use Rattle.vbr_machine.proofs.reads.OwnSlots.{owns_same}
 use Rattle.vbr_machine.proofs.chronicles.Shown.{image_kept, fits_kept}
 use Rattle.vbr_machine.proofs.reads.ValueReads.{some_value}
 use Rattle.vbr_machine.proofs.reads.StandingLinks.{link_stands}
@@ -47,23 +47,7 @@ answer_allowed start w a notes p call g al =
     refl refl refl g.image)
     (knows_same b w.know notes p
     (knows_on g.sound (grows start (opening_keys start) a p (Confirms call) g.sound al) w.know notes g.knows))
-    (owns_kept a b w.know
-    (λ v. record {
-      place = refl;
-      last = refl;
-      stamp = refl;
-      untouched = λ c _.
-          record {
-            state = refl;
-            birth = refl;
-            key = refl;
-            is_keyed = refl;
-            value = refl;
-            is_valued = refl;
-            link = refl;
-            is_aimed = refl;
-          };
-    }) g.owns)
+    (owns_same a b w.know g.owns)
     (ap (λ l. l ++ call ∷ []) g.calls) g.births
 
 pub step_confirm_present : (start : Start) (w : World) (a : Incarnations) (notes : ℕ → Notes) (p : ℕ) (op : Op)

@@ -22,7 +22,7 @@ use Rattle.vbr_machine.specs.declared.knowledge.SlotPlace.{SlotPlace}
 use Rattle.vbr_machine.proofs.words.Puts.{put_here, put_other}
 use Rattle.vbr_machine.proofs.chronicles.Growth.{grows}
 use Rattle.vbr_machine.proofs.reads.Noted.{knows_on, knows_put, knows_same, noted_read}
-use Rattle.vbr_machine.proofs.reads.OwnSlots.{own_kept, owns_kept, untouched_here}
+use Rattle.vbr_machine.proofs.reads.OwnSlots.{own_kept, owns_same, untouched_in}
 use Rattle.vbr_machine.proofs.chronicles.Shown.{image_kept}
 use Rattle.vbr_machine.proofs.steps.Steps.{StepAgrees, agrees_next, agrees_still}
 
@@ -33,7 +33,7 @@ reread_fits : {start : Start} {a : Incarnations} → SlotsSound start a →
 reread_fits s p e f None place last stamp q le h = h
 reread_fits s p e f (Some (Free known)) place last stamp q le h = h
 reread_fits {start} {a} s p e f (Some (InHand known)) place last stamp q le h =
-    own_kept a a p e f (Some (InHand known)) place last stamp le (λ c _. untouched_here a c) h
+    own_kept a a p e f (Some (InHand known)) place last stamp le (untouched_in a a (λ c _. refl)) h
 reread_fits {start} {a} s p e f (Some (Unlinked seen)) place last stamp q le h =
     let x = h.1 in (
       h.0,
@@ -105,24 +105,7 @@ step_advance start w a notes p from g ok = go (cases_Bool (w.epoch == from))
               refl refl g.image.place refl refl refl refl refl refl refl refl refl refl g.image)
               (knows_same b w.know notes p
               (knows_on g.sound (grows start (opening_keys start) a p Advances g.sound al) w.know notes g.knows))
-              (owns_kept a b w.know
-              (λ v. record {
-                place = refl;
-                last = refl;
-                stamp = refl;
-                untouched = λ c _.
-                    record {
-                      state = refl;
-                      birth = refl;
-                      key = refl;
-                      is_keyed = refl;
-                      value = refl;
-                      is_valued = refl;
-                      link = refl;
-                      is_aimed = refl;
-                    };
-              }) g.owns)
-              g.calls g.births,
+              (owns_same a b w.know g.owns) g.calls g.births,
         )
 
 pub step_load_stamp : (start : Start) (w : World) (a : Incarnations) (notes : ℕ → Notes) (p s : ℕ) →

@@ -20,7 +20,7 @@ use Rattle.vbr_machine.proofs.chronicles.SoundAfter.{sound_kept}
 use Rattle.vbr_machine.proofs.chronicles.ToldCalls.{tells_kept}
 use Rattle.vbr_machine.proofs.chronicles.Growth.{grows}
 use Rattle.vbr_machine.proofs.reads.Noted.{knows_on}
-use Rattle.vbr_machine.proofs.reads.OwnSlots.{slot_kept, not_owned, lasts_differ}
+use Rattle.vbr_machine.proofs.reads.OwnSlots.{slot_kept, not_owned, lasts_differ, untouched_in}
 use Rattle.vbr_machine.proofs.chronicles.Shown.{fits_kept, to_next_same, in_state_same, link_kept, key_kept, value_kept}
 use Rattle.vbr_machine.proofs.chronicles.Shown.{birth_kept}
 use Rattle.vbr_machine.proofs.steps.Steps.{own_not_of, hand_not_of}
@@ -103,17 +103,8 @@ given_up start w a notes p s g last st place =
             place = refl;
             last = refl;
             stamp = refl;
-            untouched = λ d e.
-                record {
-                  state = put_other a.state c GivenUp d (lasts_differ g.sound.slots v s c d ne last e);
-                  birth = refl;
-                  key = refl;
-                  is_keyed = refl;
-                  value = refl;
-                  is_valued = refl;
-                  link = refl;
-                  is_aimed = refl;
-                };
+            untouched = untouched_in a b
+                (λ d e. put_other a.state c GivenUp d (lasts_differ g.sound.slots v s c d ne last e));
           })
           (g.owns q v);
       others = λ q ne.

@@ -31,7 +31,7 @@ use Rattle.vbr_machine.proofs.reads.HeldReads.{stays_held, stays_next}
 use Rattle.vbr_machine.proofs.reads.Searches.{key_is, value_is}
 use Rattle.vbr_machine.proofs.steps.LoadSteps.{link_read}
 use Rattle.vbr_machine.proofs.reads.Noted.{knows_on, knows_put, noted_checked}
-use Rattle.vbr_machine.proofs.reads.OwnSlots.{not_owned, owns_changed, lasts_differ}
+use Rattle.vbr_machine.proofs.reads.OwnSlots.{not_owned, owns_changed, lasts_differ, untouched_in}
 use Rattle.vbr_machine.proofs.chronicles.Shown.{fits_kept, to_next_same, linked_same, link_kept, key_kept, value_kept}
 use Rattle.vbr_machine.proofs.chronicles.Shown.{birth_kept}
 use Rattle.vbr_machine.proofs.reads.ValueReads.{known_kept}
@@ -119,17 +119,8 @@ step_mark start w a notes p s expected g ok = go (cases_Bool (word_of (w.link s)
           place = refl;
           last = refl;
           stamp = refl;
-          untouched = λ d f.
-              record {
-                state = put_other a.state c Marked d (lasts_differ g.sound.slots j s c d ne last f);
-                birth = refl;
-                key = refl;
-                is_keyed = refl;
-                value = refl;
-                is_valued = refl;
-                link = refl;
-                is_aimed = refl;
-              };
+          untouched = untouched_in a b
+              (λ d f. put_other a.state c Marked d (lasts_differ g.sound.slots j s c d ne last f));
         })
         (rw (not_owned a p (w.know p).epoch ((w.know p).own s) (a.place s) (a.last s) (a.stamp s) (g.owns p s) (away p))
         (away p))

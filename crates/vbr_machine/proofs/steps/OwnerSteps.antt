@@ -30,7 +30,7 @@ use Rattle.vbr_machine.proofs.chronicles.ToldCalls.{tells_kept}
 use Rattle.vbr_machine.proofs.chronicles.Growth.{grows}
 use Rattle.vbr_machine.proofs.reads.Noted.{knows_on, knows_own}
 use Rattle.vbr_machine.proofs.steps.GivingUp.{AgreesAway, free_away, given_up}
-use Rattle.vbr_machine.proofs.reads.OwnSlots.{IsSlotKept, owns_changed, owns_moved, lasts_differ}
+use Rattle.vbr_machine.proofs.reads.OwnSlots.{IsSlotKept, owns_changed, owns_moved, lasts_differ, untouched_in}
 use Rattle.vbr_machine.proofs.chronicles.Shown.{image_kept, image_words, fits_kept, link_kept, key_kept, value_kept}
 use Rattle.vbr_machine.proofs.steps.Steps.{StepAgrees, agrees_owned, agrees_still, puts_same, at_put, hand_facts}
 use Rattle.vbr_machine.proofs.steps.Steps.{own_not_of, hand_not_of}
@@ -43,17 +43,7 @@ moved_beside a s v place ne =
       place = put_other a.place s place v ne;
       last = refl;
       stamp = refl;
-      untouched = λ c _.
-          record {
-            state = refl;
-            birth = refl;
-            key = refl;
-            is_keyed = refl;
-            value = refl;
-            is_valued = refl;
-            link = refl;
-            is_aimed = refl;
-          };
+      untouched = untouched_in a (record a { place = put a.place s place }) (λ c _. refl);
     }
 
 -- the world once a slot was raised
@@ -342,12 +332,12 @@ step_store_link start w a notes p s next g ok =
                 record {
                   state = refl;
                   birth = refl;
+                  link = put_other a.link c link d nd;
+                  is_aimed = put_other a.is_aimed c true d nd;
                   key = refl;
                   is_keyed = refl;
                   value = refl;
                   is_valued = refl;
-                  link = put_other a.link c link d nd;
-                  is_aimed = put_other a.is_aimed c true d nd;
                 };
           })
           (rw (put_here (w.know p).own s own)

@@ -22,7 +22,7 @@ use Rattle.vbr_machine.specs.declared.history.Op.TheVariants.{Insert}
 use Rattle.vbr_machine.specs.declared.event.Step.TheVariants.{Publish}
 use Rattle.vbr_machine.specs.declared.knowledge.SlotPlace.TheVariants.{Listed}
 use Rattle.vbr_machine.proofs.words.Puts.{put_here, put_other}
-use Rattle.vbr_machine.proofs.reads.OwnSlots.{owns_changed, lasts_differ}
+use Rattle.vbr_machine.proofs.reads.OwnSlots.{owns_changed, lasts_differ, untouched_in}
 use Rattle.vbr_machine.proofs.chronicles.Shown.{fits_kept}
 use Rattle.vbr_machine.proofs.reads.StandingLinks.{link_stands}
 use Rattle.vbr_machine.proofs.steps.Exchanges.{exchanged_world, is_exchanged, link_leaves, image_exchanged}
@@ -89,17 +89,8 @@ made start w a notes p pred expected s g ok stands =
             place = place k ∙ put_other a.place s listed k ne;
             last = refl;
             stamp = refl;
-            untouched = λ d e.
-                record {
-                  state = put_other a.state c Linked d (lasts_differ g.sound.slots k s c d ne r.last e);
-                  birth = refl;
-                  key = refl;
-                  is_keyed = refl;
-                  value = refl;
-                  is_valued = refl;
-                  link = refl;
-                  is_aimed = refl;
-                };
+            untouched = untouched_in a b
+                (λ d e. put_other a.state c Linked d (lasts_differ g.sound.slots k s c d ne r.last e));
           })
           (rw (put_here (w.know p).own s None, place s ∙ put_here a.place s listed) tt)
           g.owns)

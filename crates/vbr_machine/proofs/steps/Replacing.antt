@@ -23,6 +23,7 @@ use Rattle.vbr_machine.specs.declared.event.Step.TheVariants.{Replace}
 use Rattle.vbr_machine.specs.declared.knowledge.SlotPlace.TheVariants.{Listed}
 use Rattle.vbr_machine.proofs.words.Puts.{put_here, put_other}
 use Rattle.vbr_machine.proofs.reads.OwnSlots.{IsSlotKept, not_owned, owns_changed, slot_kept, lasts_differ}
+use Rattle.vbr_machine.proofs.reads.OwnSlots.{untouched_in}
 use Rattle.vbr_machine.proofs.chronicles.Shown.{fits_kept}
 use Rattle.vbr_machine.proofs.reads.StandingLinks.{link_stands}
 use Rattle.vbr_machine.proofs.steps.Exchanges.{exchanged_world, is_exchanged, image_exchanged}
@@ -100,17 +101,8 @@ made start w a notes p s expected t g ok stands =
       place = refl;
       last = refl;
       stamp = refl;
-      untouched = λ d e.
-          record {
-            state = put_other a.state old Marked d (lasts_differ g.sound.slots k s old d ne m.last e);
-            birth = refl;
-            key = refl;
-            is_keyed = refl;
-            value = refl;
-            is_valued = refl;
-            link = refl;
-            is_aimed = refl;
-          };
+      untouched = untouched_in a one
+          (λ d e. put_other a.state old Marked d (lasts_differ g.sound.slots k s old d ne m.last e));
     }) g.owns in (
       al,
       agrees_won start w v a notes p (Replaces old c) (reads_won (w.know p) (Replace s expected t)) t None g al
@@ -128,18 +120,9 @@ made start w a notes p s expected t g ok stands =
             place = place k ∙ put_other a.place t listed k ne;
             last = refl;
             stamp = refl;
-            untouched = λ d e.
-                record {
-                  state =
-                      put_other (put a.state old Marked) c Linked d (lasts_differ g.sound.slots k t c d ne r.last e);
-                  birth = refl;
-                  key = refl;
-                  is_keyed = refl;
-                  value = refl;
-                  is_valued = refl;
-                  link = refl;
-                  is_aimed = refl;
-                };
+            untouched = untouched_in one b
+                (λ d e. put_other (put a.state old Marked) c Linked d
+                (lasts_differ g.sound.slots k t c d ne r.last e));
           })
           (rw (put_here (w.know p).own t None, place t ∙ put_here a.place t listed) tt)
           owns_one)

@@ -63,37 +63,29 @@ link_shown_at_first start s = go (opens_with_one_or_none start s)
     go (inr high) = cond-false (has_opening_key start s) _ _ high.1
         ∙ sym (ap (link_shown (at_opening start)) (cond-false (has_opening_key start s) (Some s) None high.1))
 
+-- what is shown of a slot at opening, where it has an opening key and where it has none
+shown_at_first : (start : Start) (s n : ℕ) (shown : Option ℕ → ℕ) → (has_opening_key start s ≡ true → n ≡ shown (Some s)) →
+    (key_count start ≤ s → has_opening_key start s ≡ false → n ≡ shown None) → n ≡ shown (opening_last start s)
+shown_at_first start s n shown one none = go (opens_with_one_or_none start s)
+  where
+    go : ((s < key_count start) × (has_opening_key start s ≡ true)) ⊎
+        ((key_count start ≤ s) × (has_opening_key start s ≡ false)) → n ≡ shown (opening_last start s)
+    go (inl low) = one low.1 ∙ sym (ap shown (cond-true (has_opening_key start s) (Some s) None low.1))
+    go (inr high) = none high.0 high.1 ∙ sym (ap shown (cond-false (has_opening_key start s) (Some s) None high.1))
+
 birth_shown_at_first : (start : Start) (s : ℕ) →
     opening_birth start s ≡ birth_shown (at_opening start) (opening_last start s)
-birth_shown_at_first start s = go (opens_with_one_or_none start s)
-  where
-    go : ((s < key_count start) × (has_opening_key start s ≡ true)) ⊎
-        ((key_count start ≤ s) × (has_opening_key start s ≡ false)) →
-        opening_birth start s ≡ birth_shown (at_opening start) (opening_last start s)
-    go (inl low) = sym (ap (birth_shown (at_opening start)) (cond-true (has_opening_key start s) (Some s) None low.1))
-    go (inr high) = cond-false (has_opening_key start s) 1 0 high.1
-        ∙ sym (ap (birth_shown (at_opening start)) (cond-false (has_opening_key start s) (Some s) None high.1))
+birth_shown_at_first start s = shown_at_first start s _ (birth_shown (at_opening start)) (λ _. refl)
+    (λ _ none. cond-false (has_opening_key start s) 1 0 none)
 
 key_shown_at_first : (start : Start) (s : ℕ) → key_number start s ≡ key_shown (at_opening start) (opening_last start s)
-key_shown_at_first start s = go (opens_with_one_or_none start s)
-  where
-    go : ((s < key_count start) × (has_opening_key start s ≡ true)) ⊎
-        ((key_count start ≤ s) × (has_opening_key start s ≡ false)) →
-        key_number start s ≡ key_shown (at_opening start) (opening_last start s)
-    go (inl low) = sym (ap (key_shown (at_opening start)) (cond-true (has_opening_key start s) (Some s) None low.1))
-    go (inr high) = get_or_past start.keys s 0 high.0
-        ∙ sym (ap (key_shown (at_opening start)) (cond-false (has_opening_key start s) (Some s) None high.1))
+key_shown_at_first start s = shown_at_first start s _ (key_shown (at_opening start)) (λ _. refl)
+    (λ high _. get_or_past start.keys s 0 high)
 
 value_shown_at_first : (start : Start) (s : ℕ) →
     value_number start s ≡ value_shown (at_opening start) (opening_last start s)
-value_shown_at_first start s = go (opens_with_one_or_none start s)
-  where
-    go : ((s < key_count start) × (has_opening_key start s ≡ true)) ⊎
-        ((key_count start ≤ s) × (has_opening_key start s ≡ false)) →
-        value_number start s ≡ value_shown (at_opening start) (opening_last start s)
-    go (inl low) = sym (ap (value_shown (at_opening start)) (cond-true (has_opening_key start s) (Some s) None low.1))
-    go (inr high) = cond-false (has_opening_key start s) _ 0 high.1
-        ∙ sym (ap (value_shown (at_opening start)) (cond-false (has_opening_key start s) (Some s) None high.1))
+value_shown_at_first start s = shown_at_first start s _ (value_shown (at_opening start)) (λ _. refl)
+    (λ _ none. cond-false (has_opening_key start s) _ 0 none)
 
 -- the words at opening are the image of the incarnations then
 image_at_first : (start : Start) → IsImage (opening start) (at_opening start)
@@ -147,11 +139,11 @@ pub agrees_next : (start : Start) (w v : World) (a : Incarnations) (notes new : 
     v.calls ≡ (becomes start a p what).calls → v.births ≡ min (becomes start a p what).count (2 ^ 64 - 1) →
     Agrees start v (becomes start a p what) new
 agrees_next start w v a notes new p what g al f i k o c n = record {
-  sound = sound_kept start (opening_keys start) a p what g.sound al;
-  tells = tells_kept start a p what g.sound g.tells al;
   fits = f;
   image = i;
   knows = k;
+  sound = sound_kept start (opening_keys start) a p what g.sound al;
+  tells = tells_kept start a p what g.sound g.tells al;
   owns = o;
   calls = c;
   births = n;

@@ -26,7 +26,7 @@ use Rattle.vbr_machine.specs.declared.knowledge.Holding.TheVariants.{Unlinked}
 use Rattle.vbr_machine.specs.declared.knowledge.SlotPlace.TheVariants.{Own}
 use Rattle.vbr_machine.proofs.words.Puts.{put_here, put_other}
 use Rattle.vbr_machine.proofs.reads.HeldReads.{stays_at, stays_next}
-use Rattle.vbr_machine.proofs.reads.OwnSlots.{owns_changed, lasts_differ}
+use Rattle.vbr_machine.proofs.reads.OwnSlots.{owns_changed, lasts_differ, untouched_in}
 use Rattle.vbr_machine.proofs.chronicles.Shown.{fits_kept}
 use Rattle.vbr_machine.proofs.reads.StandingLinks.{LinkStands, link_stands, node_at}
 use Rattle.vbr_machine.proofs.steps.MarkSteps.{listed_not_of}
@@ -116,18 +116,9 @@ made start w a notes p pred expected s g ok stands =
             place = place k ∙ put_other a.place s (Own p) k ne;
             last = refl;
             stamp = refl;
-            untouched = λ d e.
-                record {
-                  state =
-                      put_other a.state c (state.Unlinked p a.epoch) d (lasts_differ g.sound.slots k s c d ne r.last e);
-                  birth = refl;
-                  key = refl;
-                  is_keyed = refl;
-                  value = refl;
-                  is_valued = refl;
-                  link = refl;
-                  is_aimed = refl;
-                };
+            untouched = untouched_in a b
+                (λ d e. put_other a.state c (state.Unlinked p a.epoch) d
+                (lasts_differ g.sound.slots k s c d ne r.last e));
           })
           (rw (put_here (w.know p).own s (Some (Unlinked false))) (
             owned,

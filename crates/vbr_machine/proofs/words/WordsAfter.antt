@@ -195,177 +195,75 @@ flag_kept f s new e i = go (cases_eq i s)
     go (inl q) = rw (q, put_here f s new) (sym e)
     go (inr ne) = ap is_shared (put_other f s new i ne)
 
+words_but : {here : Place} {v w : World} → (place.Epoch ≢ here → v.epoch ≡ w.epoch) →
+    ((b : ℕ) → place.Head b ≢ here → v.head b ≡ w.head b) → ((s : ℕ) → place.LinkOf s ≢ here → v.link s ≡ w.link s) →
+    ((s : ℕ) → place.Birth s ≢ here → v.birth s ≡ w.birth s) →
+    ((s : ℕ) → place.Stamp s ≢ here → v.stamp s ≡ w.stamp s) →
+    ((s : ℕ) → place.Key s ≢ here → v.key s ≡ w.key s) → ((s : ℕ) → place.Value s ≢ here → v.value s ≡ w.value s) →
+    ((s : ℕ) → place.Flags (word_of_flag s) ≢ here → is_shared (v.place s) ≡ is_shared (w.place s)) → SameBut here v w
+words_but e h l b s k v f = record { epoch = e; head = h; link = l; birth = b; stamp = s; key = k; value = v; flag = f }
+
 -- a step changes no word but that at its place
 same_but : (start : Start) (w : World) (p : ℕ) (step : Step) → MovesUnshared w step →
     SameBut (place_of_step step) (after start w p step) w
 same_but start w p ReadEpoch moves = unchanged _ _ w refl refl refl refl refl refl refl refl
 same_but start w p (Advance from) moves =
     if_won (w.epoch == from) place.Epoch _ w
-    (λ _. record {
-      epoch = λ ne. absurd (ne refl);
-      head = λ _ _. refl;
-      link = λ _ _. refl;
-      birth = λ _ _. refl;
-      stamp = λ _ _. refl;
-      key = λ _ _. refl;
-      value = λ _ _. refl;
-      flag = λ _ _. refl;
-    })
+    (λ _. words_but (λ ne. absurd (ne refl)) (λ _ _. refl) (λ _ _. refl) (λ _ _. refl) (λ _ _. refl) (λ _ _. refl)
+    (λ _ _. refl) (λ _ _. refl))
 same_but start w p (LoadStamp s) moves = unchanged _ _ w refl refl refl refl refl refl refl refl
 same_but start w p (StoreStamp s stamp) moves =
-    record {
-      epoch = λ _. refl;
-      head = λ _ _. refl;
-      link = λ _ _. refl;
-      birth = λ _ _. refl;
-      stamp = λ i ne. put_other w.stamp s stamp i (λ e. ne (ap place.Stamp e));
-      key = λ _ _. refl;
-      value = λ _ _. refl;
-      flag = λ _ _. refl;
-    }
+    words_but (λ _. refl) (λ _ _. refl) (λ _ _. refl) (λ _ _. refl)
+    (λ i ne. put_other w.stamp s stamp i (λ e. ne (ap place.Stamp e))) (λ _ _. refl) (λ _ _. refl) (λ _ _. refl)
 same_but start w p (Raise s) moves =
-    record {
-      epoch = λ _. refl;
-      head = λ _ _. refl;
-      link = λ _ _. refl;
-      birth = λ _ _. refl;
-      stamp = λ _ _. refl;
-      key = λ _ _. refl;
-      value = λ _ _. refl;
-      flag = λ i ne. ap is_shared (put_other w.place s Shared i (λ e. ne (ap (λ t. place.Flags (word_of_flag t)) e)));
-    }
+    words_but (λ _. refl) (λ _ _. refl) (λ _ _. refl) (λ _ _. refl) (λ _ _. refl) (λ _ _. refl) (λ _ _. refl)
+    (λ i ne. ap is_shared (put_other w.place s Shared i (λ e. ne (ap (λ t. place.Flags (word_of_flag t)) e))))
 same_but start w p (TakeFlag s) moves =
     if_won (has_flag (found start w (TakeFlag s)) s) (place.Flags (word_of_flag s)) _ w
-    (λ _. record {
-      epoch = λ _. refl;
-      head = λ _ _. refl;
-      link = λ _ _. refl;
-      birth = λ _ _. refl;
-      stamp = λ _ _. refl;
-      key = λ _ _. refl;
-      value = λ _ _. refl;
-      flag = λ i ne. ap is_shared (put_other w.place s (Own p) i (λ e. ne (ap (λ t. place.Flags (word_of_flag t)) e)));
-    })
+    (λ _. words_but (λ _. refl) (λ _ _. refl) (λ _ _. refl) (λ _ _. refl) (λ _ _. refl) (λ _ _. refl) (λ _ _. refl)
+    (λ i ne. ap is_shared (put_other w.place s (Own p) i (λ e. ne (ap (λ t. place.Flags (word_of_flag t)) e)))))
 same_but start w p (StoreBirth s birth) moves =
-    record {
-      epoch = λ _. refl;
-      head = λ _ _. refl;
-      link = λ _ _. refl;
-      birth = λ i ne. put_other w.birth s birth i (λ e. ne (ap place.Birth e));
-      stamp = λ _ _. refl;
-      key = λ _ _. refl;
-      value = λ _ _. refl;
-      flag = λ i _. flag_kept w.place s (Hand p) moves i;
-    }
+    words_but (λ _. refl) (λ _ _. refl) (λ _ _. refl) (λ i ne. put_other w.birth s birth i (λ e. ne (ap place.Birth e)))
+    (λ _ _. refl) (λ _ _. refl) (λ _ _. refl) (λ i _. flag_kept w.place s (Hand p) moves i)
 same_but start w p (StoreKey s key) moves =
-    record {
-      epoch = λ _. refl;
-      head = λ _ _. refl;
-      link = λ _ _. refl;
-      birth = λ _ _. refl;
-      stamp = λ _ _. refl;
-      key = λ i ne. put_other w.key s key i (λ e. ne (ap place.Key e));
-      value = λ _ _. refl;
-      flag = λ _ _. refl;
-    }
+    words_but (λ _. refl) (λ _ _. refl) (λ _ _. refl) (λ _ _. refl) (λ _ _. refl)
+    (λ i ne. put_other w.key s key i (λ e. ne (ap place.Key e))) (λ _ _. refl) (λ _ _. refl)
 same_but start w p (StoreValue s value) moves =
-    record {
-      epoch = λ _. refl;
-      head = λ _ _. refl;
-      link = λ _ _. refl;
-      birth = λ _ _. refl;
-      stamp = λ _ _. refl;
-      key = λ _ _. refl;
-      value = λ i ne. put_other w.value s value i (λ e. ne (ap place.Value e));
-      flag = λ _ _. refl;
-    }
+    words_but (λ _. refl) (λ _ _. refl) (λ _ _. refl) (λ _ _. refl) (λ _ _. refl) (λ _ _. refl)
+    (λ i ne. put_other w.value s value i (λ e. ne (ap place.Value e))) (λ _ _. refl)
 same_but start w p (StoreLink s next) moves =
-    record {
-      epoch = λ _. refl;
-      head = λ _ _. refl;
-      link = λ i ne. put_other w.link s _ i (λ e. ne (ap place.LinkOf e));
-      birth = λ _ _. refl;
-      stamp = λ _ _. refl;
-      key = λ _ _. refl;
-      value = λ _ _. refl;
-      flag = λ _ _. refl;
-    }
+    words_but (λ _. refl) (λ _ _. refl) (λ i ne. put_other w.link s _ i (λ e. ne (ap place.LinkOf e))) (λ _ _. refl)
+    (λ _ _. refl) (λ _ _. refl) (λ _ _. refl) (λ _ _. refl)
 same_but start w p (LoadLink holder) moves = unchanged _ _ w refl refl refl refl refl refl refl refl
 same_but start w p (LoadBirth s) moves = unchanged _ _ w refl refl refl refl refl refl refl refl
 same_but start w p (LoadKey s) moves = unchanged _ _ w refl refl refl refl refl refl refl refl
 same_but start w p (LoadValue s) moves = unchanged _ _ w refl refl refl refl refl refl refl refl
 same_but start w p (Publish (Head b) expected s) moves =
     if_won (word_of (w.head b) == expected) (place.Head b) _ w
-    (λ _. record {
-      epoch = λ _. refl;
-      head = λ i ne. put_other w.head b _ i (λ e. ne (ap place.Head e));
-      link = λ _ _. refl;
-      birth = λ _ _. refl;
-      stamp = λ _ _. refl;
-      key = λ _ _. refl;
-      value = λ _ _. refl;
-      flag = λ i _. flag_kept w.place s (Listed _) moves i;
-    })
+    (λ _. words_but (λ _. refl) (λ i ne. put_other w.head b _ i (λ e. ne (ap place.Head e))) (λ _ _. refl) (λ _ _. refl)
+    (λ _ _. refl) (λ _ _. refl) (λ _ _. refl) (λ i _. flag_kept w.place s (Listed _) moves i))
 same_but start w p (Publish (Slot t) expected s) moves =
     if_won (word_of (w.link t) == expected) (place.LinkOf t) _ w
-    (λ _. record {
-      epoch = λ _. refl;
-      head = λ _ _. refl;
-      link = λ i ne. put_other w.link t _ i (λ e. ne (ap place.LinkOf e));
-      birth = λ _ _. refl;
-      stamp = λ _ _. refl;
-      key = λ _ _. refl;
-      value = λ _ _. refl;
-      flag = λ i _. flag_kept w.place s (Listed _) moves i;
-    })
+    (λ _. words_but (λ _. refl) (λ _ _. refl) (λ i ne. put_other w.link t _ i (λ e. ne (ap place.LinkOf e))) (λ _ _. refl)
+    (λ _ _. refl) (λ _ _. refl) (λ _ _. refl) (λ i _. flag_kept w.place s (Listed _) moves i))
 same_but start w p (Mark s expected) moves =
     if_won (word_of (w.link s) == expected) (place.LinkOf s) _ w
-    (λ _. record {
-      epoch = λ _. refl;
-      head = λ _ _. refl;
-      link = λ i ne. put_other w.link s _ i (λ e. ne (ap place.LinkOf e));
-      birth = λ _ _. refl;
-      stamp = λ _ _. refl;
-      key = λ _ _. refl;
-      value = λ _ _. refl;
-      flag = λ _ _. refl;
-    })
+    (λ _. words_but (λ _. refl) (λ _ _. refl) (λ i ne. put_other w.link s _ i (λ e. ne (ap place.LinkOf e))) (λ _ _. refl)
+    (λ _ _. refl) (λ _ _. refl) (λ _ _. refl) (λ _ _. refl))
 same_but start w p (Replace s expected t) moves =
     if_won (word_of (w.link s) == expected) (place.LinkOf s) _ w
-    (λ _. record {
-      epoch = λ _. refl;
-      head = λ _ _. refl;
-      link = λ i ne. put_other w.link s _ i (λ e. ne (ap place.LinkOf e));
-      birth = λ _ _. refl;
-      stamp = λ _ _. refl;
-      key = λ _ _. refl;
-      value = λ _ _. refl;
-      flag = λ i _. flag_kept w.place t (Listed _) moves i;
-    })
+    (λ _. words_but (λ _. refl) (λ _ _. refl) (λ i ne. put_other w.link s _ i (λ e. ne (ap place.LinkOf e))) (λ _ _. refl)
+    (λ _ _. refl) (λ _ _. refl) (λ _ _. refl) (λ i _. flag_kept w.place t (Listed _) moves i))
 same_but start w p (Unlink (Head b) expected s) moves =
     if_won (word_of (w.head b) == expected) (place.Head b) _ w
-    (λ won. record {
-      epoch = λ _. refl;
-      head = λ i ne. put_other w.head b _ i (λ e. ne (ap place.Head e));
-      link = λ _ _. refl;
-      birth = λ _ _. refl;
-      stamp = λ _ _. refl;
-      key = λ _ _. refl;
-      value = λ _ _. refl;
-      flag = λ i _. flag_kept w.place s (Own p) (moves (eqb-true (word_of (w.head b)) expected won)) i;
-    })
+    (λ won. words_but (λ _. refl) (λ i ne. put_other w.head b _ i (λ e. ne (ap place.Head e))) (λ _ _. refl) (λ _ _. refl)
+    (λ _ _. refl) (λ _ _. refl) (λ _ _. refl)
+    (λ i _. flag_kept w.place s (Own p) (moves (eqb-true (word_of (w.head b)) expected won)) i))
 same_but start w p (Unlink (Slot t) expected s) moves =
     if_won (word_of (w.link t) == expected) (place.LinkOf t) _ w
-    (λ won. record {
-      epoch = λ _. refl;
-      head = λ _ _. refl;
-      link = λ i ne. put_other w.link t _ i (λ e. ne (ap place.LinkOf e));
-      birth = λ _ _. refl;
-      stamp = λ _ _. refl;
-      key = λ _ _. refl;
-      value = λ _ _. refl;
-      flag = λ i _. flag_kept w.place s (Own p) (moves (eqb-true (word_of (w.link t)) expected won)) i;
-    })
+    (λ won. words_but (λ _. refl) (λ _ _. refl) (λ i ne. put_other w.link t _ i (λ e. ne (ap place.LinkOf e)))
+    (λ _ _. refl) (λ _ _. refl) (λ _ _. refl) (λ _ _. refl)
+    (λ i _. flag_kept w.place s (Own p) (moves (eqb-true (word_of (w.link t)) expected won)) i))
 same_but start w p (ConfirmPresent op s expected) moves =
     if_won (word_of (w.link s) == expected) (place.LinkOf s) _ w
     (λ _. unchanged _ _ w refl refl refl refl refl refl refl refl)

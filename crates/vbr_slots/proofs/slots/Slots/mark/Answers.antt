@@ -1,10 +1,7 @@
-use Rattle.vbr_slots.proofs.Counting.{counts, expects_took}
+use Rattle.vbr_slots.proofs.Counting.{exact, expects_took}
 use Rattle.vbr_slots.proofs.slots.Slots.mark.Goals as goal
 
 pub invariant_of-pass : goal.invariant_of-pass
 invariant_of-pass g c =
-    record {
-      steps =
-          counts 1 c.at.ensures.pass c.pass.invariant.steps c.steps_after-pass-inside.ensures
-          (expects_took _ _ _ _ c.mark.result c.mark.ensures.found c.mark.ensures.other);
-    }
+    exact c.at.ensures.pass c.pass.invariant.steps c.steps_after-pass-inside.ensures
+    (expects_took _ _ _ _ c.mark.result c.mark.ensures.found c.mark.ensures.other)

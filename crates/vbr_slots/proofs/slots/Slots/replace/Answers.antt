@@ -1,10 +1,7 @@
-use Rattle.vbr_slots.proofs.Counting.{counts, replaces_took}
+use Rattle.vbr_slots.proofs.Counting.{exact, replaces_took}
 use Rattle.vbr_slots.proofs.slots.Slots.replace.Goals as goal
 
 pub invariant_of-pass : goal.invariant_of-pass
 invariant_of-pass g c =
-    record {
-      steps =
-          counts 1 c.at.ensures.pass c.pass.invariant.steps c.steps_after-pass-inside.ensures
-          (replaces_took _ _ _ _ _ c.replace.result c.replace.ensures.found c.replace.ensures.other);
-    }
+    exact c.at.ensures.pass c.pass.invariant.steps c.steps_after-pass-inside.ensures
+    (replaces_took _ _ _ _ _ c.replace.result c.replace.ensures.found c.replace.ensures.other)
