@@ -1,5 +1,6 @@
--- A number with one binary digit set is a power of two: the remainder by it is a mask, and a part of 2^32 by it is a shift.
-use Rattle.std.proofs.Common.{◌≡◌, ℕ, zero, suc, ◌+◌, ◌-◌, ◌*◌, ◌/◌, ◌%◌, ◌^◌, ◌<◌, ◌≤◌, refl, sym, ap, subst, ◌∙◌, inl, inr, arith}
+-- Powers of two by their one binary digit: a remainder is a mask, and a part of 2^32 a shift.
+use Rattle.std.proofs.Common.{◌≡◌, ℕ, zero, suc, ◌+◌, ◌-◌, ◌*◌, ◌/◌, ◌%◌, ◌^◌, ◌<◌, ◌≤◌, refl, sym, ap, subst, ◌∙◌}
+use Rattle.std.proofs.Common.{inl, inr, arith}
 use Rattle.std.specs.Int.{bit_at, trailing_zeros, w32}
 use Rattle.std.specs.Prelude.{bit_and, count_ones}
 use Rattle.std.proofs.Math.Nat.{mul-div-mul_right, pow-suc}
@@ -45,8 +46,9 @@ power_is n fits one =
     elim (cases_eq (trailing_zeros w32 n) power.0) [
       | inl same ↦ power.1 ∙ ap (λ k. 2 ^ k) (sym same)
       | inr other ↦
-          let no : bit_at n (trailing_zeros w32 n) ≡ 0 =
-          subst (λ m. bit_at m (trailing_zeros w32 n) ≡ 0) (sym power.1) (bit_at-pow_other power.0 (trailing_zeros w32 n) other) in
+          let zeros = trailing_zeros w32 n in
+          let at_power : bit_at (2 ^ power.0) zeros ≡ 0 = bit_at-pow_other power.0 zeros other in
+          let no : bit_at n zeros ≡ 0 = subst (λ m. bit_at m zeros ≡ 0) (sym power.1) at_power in
           absurd (omega (arith, no, low.1))
     ]
 

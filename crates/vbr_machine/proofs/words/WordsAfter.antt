@@ -244,20 +244,20 @@ same_but start w p (Publish (Head b) expected s) moves =
     (λ _ _. refl) (λ _ _. refl) (λ _ _. refl) (λ i _. flag_kept w.place s (Listed _) moves i))
 same_but start w p (Publish (Slot t) expected s) moves =
     if_won (word_of (w.link t) == expected) (place.LinkOf t) _ w
-    (λ _. words_but (λ _. refl) (λ _ _. refl) (λ i ne. put_other w.link t _ i (λ e. ne (ap place.LinkOf e))) (λ _ _. refl)
-    (λ _ _. refl) (λ _ _. refl) (λ _ _. refl) (λ i _. flag_kept w.place s (Listed _) moves i))
+    (λ _. words_but (λ _. refl) (λ _ _. refl) (λ i ne. put_other w.link t _ i (λ e. ne (ap place.LinkOf e)))
+    (λ _ _. refl) (λ _ _. refl) (λ _ _. refl) (λ _ _. refl) (λ i _. flag_kept w.place s (Listed _) moves i))
 same_but start w p (Mark s expected) moves =
     if_won (word_of (w.link s) == expected) (place.LinkOf s) _ w
-    (λ _. words_but (λ _. refl) (λ _ _. refl) (λ i ne. put_other w.link s _ i (λ e. ne (ap place.LinkOf e))) (λ _ _. refl)
-    (λ _ _. refl) (λ _ _. refl) (λ _ _. refl) (λ _ _. refl))
+    (λ _. words_but (λ _. refl) (λ _ _. refl) (λ i ne. put_other w.link s _ i (λ e. ne (ap place.LinkOf e)))
+    (λ _ _. refl) (λ _ _. refl) (λ _ _. refl) (λ _ _. refl) (λ _ _. refl))
 same_but start w p (Replace s expected t) moves =
     if_won (word_of (w.link s) == expected) (place.LinkOf s) _ w
-    (λ _. words_but (λ _. refl) (λ _ _. refl) (λ i ne. put_other w.link s _ i (λ e. ne (ap place.LinkOf e))) (λ _ _. refl)
-    (λ _ _. refl) (λ _ _. refl) (λ _ _. refl) (λ i _. flag_kept w.place t (Listed _) moves i))
+    (λ _. words_but (λ _. refl) (λ _ _. refl) (λ i ne. put_other w.link s _ i (λ e. ne (ap place.LinkOf e)))
+    (λ _ _. refl) (λ _ _. refl) (λ _ _. refl) (λ _ _. refl) (λ i _. flag_kept w.place t (Listed _) moves i))
 same_but start w p (Unlink (Head b) expected s) moves =
     if_won (word_of (w.head b) == expected) (place.Head b) _ w
-    (λ won. words_but (λ _. refl) (λ i ne. put_other w.head b _ i (λ e. ne (ap place.Head e))) (λ _ _. refl) (λ _ _. refl)
-    (λ _ _. refl) (λ _ _. refl) (λ _ _. refl)
+    (λ won. words_but (λ _. refl) (λ i ne. put_other w.head b _ i (λ e. ne (ap place.Head e))) (λ _ _. refl)
+    (λ _ _. refl) (λ _ _. refl) (λ _ _. refl) (λ _ _. refl)
     (λ i _. flag_kept w.place s (Own p) (moves (eqb-true (word_of (w.head b)) expected won)) i))
 same_but start w p (Unlink (Slot t) expected s) moves =
     if_won (word_of (w.link t) == expected) (place.LinkOf t) _ w
