@@ -42,7 +42,8 @@ IsBack set pass Lost = Unit {0}
 IsBack set pass (Memory member) = member ≡ record { set = set; pass = pass }
 
 module _ {R : Type 0} (tells : TableView → List PassView → R → Type 0) where
-  -- the pass of the member gave its slots back, and then the member was closed: a report tells the end of its set with the pass as it was between the two, and where there is no memory, the member comes back with it
+  -- the pass of the member gave its slots back, and then the member was closed
+  -- A report tells the end of its set with the pass as it was in between. Where there is no memory, the member comes back with that pass.
   pub record ClosesMember (m : MemberView) (answer : Result (Option R) (EndError MemberView)) : Type 0 where
     pub between : PassView
     pub count : ℕ
