@@ -35,7 +35,7 @@ error_status error.Worker = NO_RESOURCES
 
 -- the line on standard error after an error
 abbrev pub error_line : RunError → List ℕ
-error_line (error.Script number kind) = line (codes "vbr_run: script fault " ++ decimal (fault_number kind) ++ codes " number line " ++ decimal number)
+error_line (error.Script number kind) = line (codes "vbr_run: script fault " ++ decimal (fault_number kind) ++ codes " at line " ++ decimal number)
 error_line error.Read = line (codes "vbr_run: read fault")
 error_line error.Write = line (codes "vbr_run: write fault")
 error_line error.Memory = line (codes "vbr_run: no memory")

@@ -12,7 +12,7 @@ joined : (a b c d e : List ℕ) → a ++ (b ++ (c ++ (d ++ (e ++ [])))) ≡ (((a
 joined a b c d e = simp (append_assoc, append-nil)
 
 line_is : (a b c d e : List ℕ) (number : ℕ) (kind : ScriptFault) → a ≡ codes "vbr_run: script fault " →
-    b ≡ decimal (fault_number kind) → c ≡ codes " number line " → d ≡ decimal number → e ≡ 10 ∷ [] →
+    b ≡ decimal (fault_number kind) → c ≡ codes " at line " → d ≡ decimal number → e ≡ 10 ∷ [] →
     a ++ (b ++ (c ++ (d ++ (e ++ [])))) ≡ error_line (Script number kind)
 line_is a b c d e number kind ea eb ec ed ee = joined a b c d e ∙ rw (ea, eb, ec, ed, ee) refl
 

@@ -7,5 +7,5 @@ use Rattle.vbr_world.proofs.world.passes.PassState.birth_at.Goals as goal
 pub returns-clause-fits : goal.returns-clause-fits
 returns-clause-fits c =
     let reads = c.self.inside.checked.items in
-    let is : c.unwrap_or.result ≡ unwrap_or (birth_at reads c.args.at) 0 = search rules in
-    rw is (birth_at-fits reads c.args.at c.self.invariant.checked)
+    let is : c.unwrap_or.result ≡ unwrap_or (birth_at reads c.args.place) 0 = search rules in
+    rw is (birth_at-fits reads c.args.place c.self.invariant.checked)
