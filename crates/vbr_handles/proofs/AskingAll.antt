@@ -4,17 +4,19 @@ use Rattle.std.proofs.Common.{refl, sym, ap, ◌∙◌, subst, arith}
 use Rattle.std.specs.Prelude.{IfSome, IsSome, Option, None, Some, slice_index_or, slice_set}
 use Rattle.std.proofs.lemmas.Bool.{false≢true}
 use Rattle.std.proofs.lemmas.List.{length-map}
-use Rattle.std.proofs.lemmas.List.Elements.{All-head, All-rest, All-same, All-tail}
+use Rattle.std.proofs.lemmas.List.Elements.{All-head, All-rest, All-same, All-tail, length_all_zip}
 use Rattle.vbr_words.specs.Dimensions.{Dimensions}
 use Rattle.vbr_machine.specs.Start.{start_with}
 use Rattle.vbr_slots.specs.Views.{PassView, TableView, new_passes}
 use Rattle.vbr_set.specs.Kinds.{KindOf}
 use Rattle.vbr_set.specs.Members.{MemberView as Member, new_members}
 use Rattle.vbr_set.specs.AllMembers.{AreTooFew}
-use Rattle.vbr_set.specs.RenewingAll.{AreNotAll, HasNoRoom, RenewsAllBy}
+use Rattle.vbr_set.specs.RenewingAll.{AreNotAll, HasNoRoom}
 use Rattle.vbr_handles.specs.AllHandles.{AreFull, StaySo, joined, members_by}
+use Rattle.vbr_handles.specs.AskingAll.{RenewsWithReserves}
 use Rattle.vbr_handles.specs.Listings.{Listing}
 use Rattle.vbr_handles.specs.Opening.{spread_shape}
+use Rattle.vbr_handles.specs.OpeningReserves.{StartWithReserves, StartsWithReserve}
 use Rattle.vbr_handles.specs.RenewingAll.{HasMoreThanSlots, RenewsTo}
 use Rattle.vbr_handles.specs.declared.opening.ShapeNumbers.{ShapeNumbers}
 use Rattle.vbr_handles.proofs.AllHandles.{moved}
@@ -63,13 +65,14 @@ module _ {H : Type 0} (member : H → Option Member) where
       (All-same (λ (h : H). IsSome (member h)) _ (drop i handles) (sym (from_here handles i d within)) full)
 
 -- as many members come back renewed
-pub as_many_renewed : {Item R : Type 0} (kind : KindOf Item R) (members fresh : List Member) (shape : Dimensions) →
-    RenewsAllBy kind members shape fresh → length fresh ≡ length members
-as_many_renewed kind members fresh shape r =
-    ap (λ (ms : List Member). length ms) r.new.are
-    ∙ length-map (new_passes r.new.set 0 (length members))
-    (λ (pass : PassView). record { set = r.new.set; pass = pass })
-    ∙ new_count r.new.set 0 (length members)
+pub as_many_renewed : {Item R : Type 0} (kind : KindOf Item R) (members back : List Member) (shape : Dimensions) →
+    RenewsWithReserves kind members shape back → length back ≡ length members
+as_many_renewed kind members back shape r =
+    let new = r.renews.new in
+    sym (length_all_zip StartsWithReserve r.fresh back r.reserves)
+    ∙ ap (λ (ms : List Member). length ms) new.are
+    ∙ length-map (new_passes new.set 0 (length members)) (λ (pass : PassView). record { set = new.set; pass = pass })
+    ∙ new_count new.set 0 (length members)
 
 -- and where there is no room there are more keys than slots
 pub more_than_slots : {Item R I : Type 0} (kind : KindOf Item R) (L : Listing R I) (members : List Member)
@@ -179,16 +182,17 @@ module _ {H : Type 0} (member : H → Option Member) where
       map member after ≡ map Some came → StaySo member before after
   stays before after came full same put = put ∙ ap (map Some) same ∙ all_members before full
 
-  -- and are opened where fresh members come
+  -- and are opened where fresh members come with their reserves
   pub renewed : {Item R I : Type 0} (kind : KindOf Item R) (L : Listing R I) (members : List Member)
       (numbers : ShapeNumbers) (shape : Dimensions) (after : List H) (came : List Member)
       → ((shape : Dimensions) (report : R) →
       kind.start shape (kind.contents report).listed.items
       ≡ start_with (record shape { values = L.values }) (L.keys (L.items report)) (L.payloads (L.items report)))
-      → shape ≡ spread_shape numbers false → map member after ≡ map Some came → RenewsAllBy kind members shape came →
+      → shape ≡ spread_shape numbers false → map member after ≡ map Some came
+      → RenewsWithReserves kind members shape came →
       RenewsTo kind L member members numbers after
   renewed kind L members numbers shape after came restarts spread full r =
-      let new = r.new in
+      let new = r.renews.new in
       let set : TableView = new.set in
       let count : length after ≡ length members =
       sym (length-map after member)
@@ -197,15 +201,19 @@ module _ {H : Type 0} (member : H → Option Member) where
       ∙ as_many_renewed kind members came shape r
       in
       record {
-        report = r.report;
-        reports = r.reports;
+        report = r.renews.report;
+        reports = r.renews.reports;
         opened = record {
           set = set;
-          shaped = new.shaped ∙ restarts shape r.report
+          shaped = new.shaped ∙ restarts shape r.renews.report
               ∙ ap (λ (d : Dimensions).
-              start_with (record d { values = L.values }) (L.keys (L.items r.report)) (L.payloads (L.items r.report)))
+              start_with (record d { values = L.values }) (L.keys (L.items r.renews.report))
+              (L.payloads (L.items r.renews.report)))
               spread;
           counted = new.counted ∙ sym count;
-          members = full ∙ ap (map Some) (new.are ∙ ap (new_members set) (sym count));
+          came = came;
+          reserves = subst (λ (ms : List Member). StartWithReserves ms came)
+              (new.are ∙ ap (new_members set) (sym count)) r.reserves;
+          members = full;
         };
       }

@@ -8,3 +8,4 @@ mod AskingAll
 mod EntryKeys
 mod InTurn
 mod ToppingUp
+mod OpeningReserves

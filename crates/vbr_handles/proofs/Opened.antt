@@ -1,24 +1,46 @@
 -- There are as many handles as members.
 use Rattle.std.proofs.Common.{◌≡◌, ℕ, zero, suc, List, [], ◌∷◌, ◌++◌, map, length, append_assoc, sym, refl, ap, ◌∙◌}
+use Rattle.std.proofs.Common.{subst}
 use Rattle.std.proofs.Common.{Option, Some}
 use Rattle.std.proofs.lemmas.List.{length-map, map-append}
+use Rattle.std.proofs.lemmas.List.Elements.{length_all_zip}
 use Rattle.vbr_machine.specs.Start.{Start}
 use Rattle.vbr_slots.specs.Views.{PassView, TableView, new_passes}
-use Rattle.vbr_set.specs.Members.{AreNew, MemberView}
+use Rattle.vbr_set.specs.Members.{AreNew, MemberView, new_members}
+use Rattle.vbr_handles.specs.Opening.{AreOpened}
+use Rattle.vbr_handles.specs.OpeningReserves.{StartWithReserves, StartsWithReserve}
 use Rattle.vbr_handles.specs.declared.owner.Owner.{Owner}
 
 pub new_count : (set : TableView) (who n : ℕ) → length (new_passes set who n) ≡ n
 new_count set who zero = refl
 new_count set who (suc n) = ap suc (new_count set (suc who) n)
 
-pub as_many : (start : Start) (count : ℕ) (members : List MemberView) (opened : List (Owner MemberView)) →
-    AreNew start count members → map (λ h. h.member) opened ≡ map Some members → length opened ≡ count
-as_many start count members opened new same =
+pub as_many : (start : Start) (count : ℕ) (members came : List MemberView) (opened : List (Owner MemberView)) →
+    AreNew start count members → StartWithReserves members came → map (λ h. h.member) opened ≡ map Some came →
+    length opened ≡ count
+as_many start count members came opened new reserves same =
     let mk : PassView → MemberView = λ p. record { set = new.set; pass = p } in
     sym (length-map opened (λ (h : Owner MemberView). h.member))
-    ∙ ap (λ (ms : List (Option MemberView)). length ms) same ∙ length-map members Some
+    ∙ ap (λ (ms : List (Option MemberView)). length ms) same
+    ∙ length-map came Some
+    ∙ sym (length_all_zip StartsWithReserve members came reserves)
     ∙ ap (λ (ms : List MemberView). length ms) new.are
     ∙ length-map (new_passes new.set 0 count) mk ∙ new_count new.set 0 count
+
+-- handles that have owners of fresh members which took their reserves
+pub opened_by : {H : Type 0} (member : H → Option MemberView) (start : Start) (count : ℕ) (handles : List H)
+    (members came : List MemberView) (owners : List (Owner MemberView)) → length handles ≡ count →
+    AreNew start count members → StartWithReserves members came → map (λ o. o.member) owners ≡ map Some came →
+    map member handles ≡ map (λ o. o.member) owners → AreOpened member start handles
+opened_by member start count handles members came owners long new reserves owned full = record {
+  set = new.set;
+  shaped = new.shaped;
+  counted = new.counted ∙ sym long;
+  came = came;
+  reserves = subst (λ (ms : List MemberView). StartWithReserves ms came)
+      (new.are ∙ ap (new_members new.set) (sym long)) reserves;
+  members = full ∙ owned;
+}
 
 -- one more member has an owner
 pub one_more_owned : (owners owners' : List (Owner MemberView)) (owner : Owner MemberView) (m : MemberView)

@@ -1,11 +1,13 @@
 -- What is asked of all members of handles at once, and what comes back to them. Only contracts of private functions cite this.
 use Rattle.std.specs.Prelude.{◌≡◌, List, map, Option, Some, Result, Ok, Err}
+use Rattle.vbr_words.specs.Dimensions.{Dimensions}
 use Rattle.vbr_set.specs.AllMembers.{AreTooFew, ReportsAllBy}
 use Rattle.vbr_set.specs.Closing.{ClosesBy}
 use Rattle.vbr_set.specs.Kinds.{KindOf}
 use Rattle.vbr_set.specs.Members.{MemberView as Member}
 use Rattle.vbr_set.specs.RenewingAll.{AreNotAll, HasNoRoom, RenewsAllBy}
 use Rattle.vbr_handles.specs.AllHandles.{AreFull, members_by}
+use Rattle.vbr_handles.specs.OpeningReserves.{StartWithReserves}
 use Rattle.vbr_handles.specs.declared.asking_all.AskRefusal.{AskRefusal}
 use Rattle.vbr_handles.specs.declared.asking_all.AskRefusal.TheVariants as asking
 use Rattle.vbr_handles.specs.declared.asking_all.Question.{Question}
@@ -19,12 +21,18 @@ Lack question.Report members = AreTooFew members
 Lack (question.Renew shape) members = AreNotAll members
 
 module _ {Item R : Type 0} (kind : KindOf Item R) where
+  -- members are renewed, and the fresh ones then took their reserves
+  pub record RenewsWithReserves (members : List Member) (shape : Dimensions) (back : List Member) : Type 0 where
+    pub fresh : List Member
+    pub renews : RenewsAllBy kind members shape fresh
+    pub reserves : StartWithReserves fresh back
+
   -- members that are asked for their report come back as they were, with it or with why there is none; those that are to be renewed are, or come back as they were with why not
   abbrev pub AnswersQuestion : Question → List Member → List Member → Answer R → Type 0
   AnswersQuestion question.Report members back (told.Report report) = (back ≡ members) × ReportsAllBy (ClosesBy kind) members report
   AnswersQuestion question.Report members back told.Memory = back ≡ members
   AnswersQuestion question.Report members back _ = ⊥
-  AnswersQuestion (question.Renew shape) members back told.Renewed = RenewsAllBy kind members shape back
+  AnswersQuestion (question.Renew shape) members back told.Renewed = RenewsWithReserves members shape back
   AnswersQuestion (question.Renew shape) members back told.Room = (back ≡ members) × HasNoRoom kind members shape
   AnswersQuestion (question.Renew shape) members back told.Memory = back ≡ members
   AnswersQuestion (question.Renew shape) members back _ = ⊥

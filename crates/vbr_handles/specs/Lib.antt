@@ -5,6 +5,8 @@ pub mod Passes
 pub mod Handles
 pub mod Listings
 pub mod ListedKeys
+pub mod ToppingUp
+pub mod OpeningReserves
 pub mod Opening
 pub mod Closing
 pub mod Codes
@@ -12,7 +14,6 @@ pub mod AllHandles
 pub mod AskingAll
 pub mod RenewingAll
 pub mod OpeningCodes
-pub mod ToppingUp
 pub mod Calls
 pub mod ValueCalls
 pub mod Iterating

@@ -7,6 +7,7 @@ use Rattle.vbr_machine.specs.Start.{Start, start_with}
 use Rattle.vbr_slots.specs.Views.{TableView}
 use Rattle.vbr_set.specs.Members.{MemberView as Member, new_members}
 use Rattle.vbr_handles.specs.Listings.{Listing, as_entries}
+use Rattle.vbr_handles.specs.OpeningReserves.{StartWithReserves}
 use Rattle.vbr_handles.specs.declared.entry.Entry.{Entry}
 use Rattle.vbr_handles.specs.declared.opening.OpenRefusal.{OpenRefusal}
 use Rattle.vbr_handles.specs.declared.opening.ShapeNumbers.{ShapeNumbers}
@@ -48,12 +49,14 @@ module _ {H : Type 0} (member : H → Option Member) where
   abbrev pub AreEmpty : List H → Type 0
   AreEmpty handles = All (λ handle. member handle ≡ None) handles
 
-  -- each handle is full, all are of one set that starts so, which was opened with so many passes, and each has the fresh pass of its number
+  -- each handle is full, all are of one set that starts so, which was opened with so many passes, and each has the fresh pass of its number, which then took its reserve
   pub record AreOpened (start : Start) (handles : List H) : Type 0 where
     pub set : TableView
     pub shaped : set.start ≡ start
     pub counted : set.passes ≡ length handles
-    pub members : map member handles ≡ map Some (new_members set (length handles))
+    pub came : List Member
+    pub reserves : StartWithReserves (new_members set (length handles)) came
+    pub members : map member handles ≡ map Some came
 
   -- of handles up to a number: they are opened where they were empty, the numbers are in range and the keys ascend; and else they are as they were, and the answer is the first test that failed
   abbrev pub Opens : ℕ → List H → List H → Start → Result (Unit {0}) OpenRefusal → Type 0

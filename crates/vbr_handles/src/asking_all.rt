@@ -7,6 +7,7 @@ ghost use Rattle.vbr_handles.specs.AskingAll.{AsksAllOf, Lack, AnswersQuestion};
 
 use crate::handle_of::HandleOf;
 use crate::owner::Owner;
+use crate::reserves::with_reserves;
 use std::alloc::Global;
 use std_alloc::room::Vacant;
 use vbr_set::member::Member;
@@ -33,7 +34,7 @@ pub enum AskRefusal {
 pub(crate) enum Question {
     /// For the report of their set; they come back as they were.
     Report,
-    /// To go on over a fresh set of this shape, of which others come in their place.
+    /// To go on over a fresh set of this shape, of which others come in their place, with their reserves.
     Renew(Shape),
 }
 
@@ -168,7 +169,7 @@ fn ask<N: Kind>(
             Err(CloseAllError::Memory(members)) => (Answer::Memory, members),
         },
         Question::Renew(shape) => match Member::<N>::renew_all(alloc, members, shape) {
-            Ok(fresh) => (Answer::Renewed, fresh),
+            Ok(fresh) => (Answer::Renewed, with_reserves(fresh)),
             Err(RenewAllError::Missing(_)) => unreachable!(),
             Err(RenewAllError::Room(members)) => (Answer::Room, members),
             Err(RenewAllError::Memory(members)) => (Answer::Memory, members),

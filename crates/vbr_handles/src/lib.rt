@@ -25,6 +25,7 @@ pub mod owner;
 mod parts;
 pub mod renewing_all;
 pub mod report_numbers;
+pub mod reserves;
 pub mod shown;
 
 pub use asking_all::AskRefusal;

@@ -7,6 +7,7 @@ ghost use Rattle.vbr_handles.specs.Opening.{AreEmpty, Opens, listed_start, sprea
 use crate::handle_of::HandleOf;
 use crate::listed::Listed;
 use crate::owner::Owner;
+use crate::reserves::with_reserves;
 use std::alloc::{AllocError, Global};
 use vbr_set::member::Member;
 use vbr_set::{Kind, MAX_MANY_PASSES, MAX_PASSES, OpenManyError, Shape};
@@ -55,6 +56,7 @@ impl ShapeNumbers {
 /// Opens a set of these keys, which ascend, each above the one before, with a pass for each of the
 /// handles, 64 at most, in the order of the passes' numbers. It goes once over the keys, and takes 8 bytes
 /// for each while it runs. For the handles of a map it opens one of these entries, and takes 48 bytes for each.
+/// Each handle takes its reserve, unless the set has fewer than 64 slots for each.
 pub fn open_with<N: Kind, I: Listed<N>, H: HandleOf<N>>(
     alloc: Global,
     handles: &mut [H],
@@ -109,7 +111,7 @@ fn open_up_to<N: Kind, I: Listed<N>, H: HandleOf<N>>(
         return Err(OpenRefusal::Keys);
     }
     let members = match I::open(alloc, shape, handles.len() as u32, items) {
-        Ok(members) => members,
+        Ok(members) => with_reserves(members),
         Err(OpenManyError::Passes) => return Err(OpenRefusal::Passes),
         Err(OpenManyError::Memory) => return Err(OpenRefusal::Memory),
     };

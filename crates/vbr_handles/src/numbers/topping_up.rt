@@ -63,8 +63,8 @@ fn left_of(budget: u32, before: u64, since: u64) -> u32
     }
 }
 
-// How many slots a member keeps in reserve.
-fn reserve_of<N: Nodes>(member: &Member<N>) -> u32
+/// How many slots a member keeps in reserve.
+pub(crate) fn reserve_of<N: Nodes>(member: &Member<N>) -> u32
     ensures { result ≡ reserve_of member.now.set }
 {
     member.pass().law();
