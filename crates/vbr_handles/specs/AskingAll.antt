@@ -11,7 +11,7 @@ use Rattle.vbr_handles.specs.declared.asking_all.AskRefusal.TheVariants as askin
 use Rattle.vbr_handles.specs.declared.asking_all.Question.{Question}
 use Rattle.vbr_handles.specs.declared.asking_all.Question.TheVariants as question
 use Rattle.vbr_handles.specs.declared.asking_all.Answer.{Answer}
-use Rattle.vbr_handles.specs.declared.asking_all.Answer.TheVariants as answer
+use Rattle.vbr_handles.specs.declared.asking_all.Answer.TheVariants as given
 
 -- there are fewer members than a report wants, or not as many as a renewal does
 abbrev pub Lack : Question → List Member → Type 0
@@ -21,12 +21,12 @@ Lack (question.Renew shape) members = AreNotAll members
 module _ {Item R : Type 0} (kind : KindOf Item R) where
   -- members that are asked for their report come back as they were, with it or with why there is none; those that are to be renewed are, or come back as they were with why not
   abbrev pub AnswersQuestion : Question → List Member → List Member → Answer R → Type 0
-  AnswersQuestion question.Report members back (told.Report report) = (back ≡ members) × ReportsAllBy (ClosesBy kind) members report
-  AnswersQuestion question.Report members back told.Memory = back ≡ members
+  AnswersQuestion question.Report members back (given.Report report) = (back ≡ members) × ReportsAllBy (ClosesBy kind) members report
+  AnswersQuestion question.Report members back given.Memory = back ≡ members
   AnswersQuestion question.Report members back _ = ⊥
-  AnswersQuestion (question.Renew shape) members back told.Renewed = RenewsAllBy kind members shape back
-  AnswersQuestion (question.Renew shape) members back told.Room = (back ≡ members) × HasNoRoom kind members shape
-  AnswersQuestion (question.Renew shape) members back told.Memory = back ≡ members
+  AnswersQuestion (question.Renew shape) members back given.Renewed = RenewsAllBy kind members shape back
+  AnswersQuestion (question.Renew shape) members back given.Room = (back ≡ members) × HasNoRoom kind members shape
+  AnswersQuestion (question.Renew shape) members back given.Memory = back ≡ members
   AnswersQuestion (question.Renew shape) members back _ = ⊥
 
   module _ {H : Type 0} (member : H → Option Member) (asked : Question) where
