@@ -87,7 +87,8 @@ all_events start a who (entry ∷ entries) =
 one_more : (who : ℕ) (calls made : List Call) → inserts_in (calls_by who made) ≡ 1 →
     inserts_in (calls_by who calls) + 1 ≤ inserts_in (calls_by who (calls ++ made))
 one_more who calls made one =
-    let e = ap inserts_in (calls_by-append who calls made) ∙ inserts_in-append (calls_by who calls) (calls_by who made) in
+    let e = ap inserts_in (calls_by-append who calls made)
+    ∙ inserts_in-append (calls_by who calls) (calls_by who made) in
     omega (arith, e, one)
 
 -- an insert of the pass adds one, and so does a replacement

@@ -64,7 +64,8 @@ link_shown_at_first start s = go (opens_with_one_or_none start s)
         ∙ sym (ap (link_shown (at_opening start)) (cond-false (has_opening_key start s) (Some s) None high.1))
 
 -- what is shown of a slot at opening, where it has an opening key and where it has none
-shown_at_first : (start : Start) (s n : ℕ) (shown : Option ℕ → ℕ) → (has_opening_key start s ≡ true → n ≡ shown (Some s)) →
+shown_at_first : (start : Start) (s n : ℕ) (shown : Option ℕ → ℕ) →
+    (has_opening_key start s ≡ true → n ≡ shown (Some s)) →
     (key_count start ≤ s → has_opening_key start s ≡ false → n ≡ shown None) → n ≡ shown (opening_last start s)
 shown_at_first start s n shown one none = go (opens_with_one_or_none start s)
   where

@@ -195,13 +195,14 @@ flag_kept f s new e i = go (cases_eq i s)
     go (inl q) = rw (q, put_here f s new) (sym e)
     go (inr ne) = ap is_shared (put_other f s new i ne)
 
-words_but : {here : Place} {v w : World} → (place.Epoch ≢ here → v.epoch ≡ w.epoch) →
+-- so it is where each word but that one is the same
+outside : {here : Place} {v w : World} → (place.Epoch ≢ here → v.epoch ≡ w.epoch) →
     ((b : ℕ) → place.Head b ≢ here → v.head b ≡ w.head b) → ((s : ℕ) → place.LinkOf s ≢ here → v.link s ≡ w.link s) →
     ((s : ℕ) → place.Birth s ≢ here → v.birth s ≡ w.birth s) →
     ((s : ℕ) → place.Stamp s ≢ here → v.stamp s ≡ w.stamp s) →
     ((s : ℕ) → place.Key s ≢ here → v.key s ≡ w.key s) → ((s : ℕ) → place.Value s ≢ here → v.value s ≡ w.value s) →
     ((s : ℕ) → place.Flags (word_of_flag s) ≢ here → is_shared (v.place s) ≡ is_shared (w.place s)) → SameBut here v w
-words_but e h l b s k v f = record { epoch = e; head = h; link = l; birth = b; stamp = s; key = k; value = v; flag = f }
+outside e h l b s k v f = record { epoch = e; head = h; link = l; birth = b; stamp = s; key = k; value = v; flag = f }
 
 -- a step changes no word but that at its place
 same_but : (start : Start) (w : World) (p : ℕ) (step : Step) → MovesUnshared w step →
@@ -209,30 +210,30 @@ same_but : (start : Start) (w : World) (p : ℕ) (step : Step) → MovesUnshared
 same_but start w p ReadEpoch moves = unchanged _ _ w refl refl refl refl refl refl refl refl
 same_but start w p (Advance from) moves =
     if_won (w.epoch == from) place.Epoch _ w
-    (λ _. words_but (λ ne. absurd (ne refl)) (λ _ _. refl) (λ _ _. refl) (λ _ _. refl) (λ _ _. refl) (λ _ _. refl)
+    (λ _. outside (λ ne. absurd (ne refl)) (λ _ _. refl) (λ _ _. refl) (λ _ _. refl) (λ _ _. refl) (λ _ _. refl)
     (λ _ _. refl) (λ _ _. refl))
 same_but start w p (LoadStamp s) moves = unchanged _ _ w refl refl refl refl refl refl refl refl
 same_but start w p (StoreStamp s stamp) moves =
-    words_but (λ _. refl) (λ _ _. refl) (λ _ _. refl) (λ _ _. refl)
+    outside (λ _. refl) (λ _ _. refl) (λ _ _. refl) (λ _ _. refl)
     (λ i ne. put_other w.stamp s stamp i (λ e. ne (ap place.Stamp e))) (λ _ _. refl) (λ _ _. refl) (λ _ _. refl)
 same_but start w p (Raise s) moves =
-    words_but (λ _. refl) (λ _ _. refl) (λ _ _. refl) (λ _ _. refl) (λ _ _. refl) (λ _ _. refl) (λ _ _. refl)
+    outside (λ _. refl) (λ _ _. refl) (λ _ _. refl) (λ _ _. refl) (λ _ _. refl) (λ _ _. refl) (λ _ _. refl)
     (λ i ne. ap is_shared (put_other w.place s Shared i (λ e. ne (ap (λ t. place.Flags (word_of_flag t)) e))))
 same_but start w p (TakeFlag s) moves =
     if_won (has_flag (found start w (TakeFlag s)) s) (place.Flags (word_of_flag s)) _ w
-    (λ _. words_but (λ _. refl) (λ _ _. refl) (λ _ _. refl) (λ _ _. refl) (λ _ _. refl) (λ _ _. refl) (λ _ _. refl)
+    (λ _. outside (λ _. refl) (λ _ _. refl) (λ _ _. refl) (λ _ _. refl) (λ _ _. refl) (λ _ _. refl) (λ _ _. refl)
     (λ i ne. ap is_shared (put_other w.place s (Own p) i (λ e. ne (ap (λ t. place.Flags (word_of_flag t)) e)))))
 same_but start w p (StoreBirth s birth) moves =
-    words_but (λ _. refl) (λ _ _. refl) (λ _ _. refl) (λ i ne. put_other w.birth s birth i (λ e. ne (ap place.Birth e)))
+    outside (λ _. refl) (λ _ _. refl) (λ _ _. refl) (λ i ne. put_other w.birth s birth i (λ e. ne (ap place.Birth e)))
     (λ _ _. refl) (λ _ _. refl) (λ _ _. refl) (λ i _. flag_kept w.place s (Hand p) moves i)
 same_but start w p (StoreKey s key) moves =
-    words_but (λ _. refl) (λ _ _. refl) (λ _ _. refl) (λ _ _. refl) (λ _ _. refl)
+    outside (λ _. refl) (λ _ _. refl) (λ _ _. refl) (λ _ _. refl) (λ _ _. refl)
     (λ i ne. put_other w.key s key i (λ e. ne (ap place.Key e))) (λ _ _. refl) (λ _ _. refl)
 same_but start w p (StoreValue s value) moves =
-    words_but (λ _. refl) (λ _ _. refl) (λ _ _. refl) (λ _ _. refl) (λ _ _. refl) (λ _ _. refl)
+    outside (λ _. refl) (λ _ _. refl) (λ _ _. refl) (λ _ _. refl) (λ _ _. refl) (λ _ _. refl)
     (λ i ne. put_other w.value s value i (λ e. ne (ap place.Value e))) (λ _ _. refl)
 same_but start w p (StoreLink s next) moves =
-    words_but (λ _. refl) (λ _ _. refl) (λ i ne. put_other w.link s _ i (λ e. ne (ap place.LinkOf e))) (λ _ _. refl)
+    outside (λ _. refl) (λ _ _. refl) (λ i ne. put_other w.link s _ i (λ e. ne (ap place.LinkOf e))) (λ _ _. refl)
     (λ _ _. refl) (λ _ _. refl) (λ _ _. refl) (λ _ _. refl)
 same_but start w p (LoadLink at) moves = unchanged _ _ w refl refl refl refl refl refl refl refl
 same_but start w p (LoadBirth s) moves = unchanged _ _ w refl refl refl refl refl refl refl refl
@@ -240,28 +241,28 @@ same_but start w p (LoadKey s) moves = unchanged _ _ w refl refl refl refl refl 
 same_but start w p (LoadValue s) moves = unchanged _ _ w refl refl refl refl refl refl refl refl
 same_but start w p (Publish (Head b) expected s) moves =
     if_won (word_of (w.head b) == expected) (place.Head b) _ w
-    (λ _. words_but (λ _. refl) (λ i ne. put_other w.head b _ i (λ e. ne (ap place.Head e))) (λ _ _. refl) (λ _ _. refl)
+    (λ _. outside (λ _. refl) (λ i ne. put_other w.head b _ i (λ e. ne (ap place.Head e))) (λ _ _. refl) (λ _ _. refl)
     (λ _ _. refl) (λ _ _. refl) (λ _ _. refl) (λ i _. flag_kept w.place s (Listed _) moves i))
 same_but start w p (Publish (Slot t) expected s) moves =
     if_won (word_of (w.link t) == expected) (place.LinkOf t) _ w
-    (λ _. words_but (λ _. refl) (λ _ _. refl) (λ i ne. put_other w.link t _ i (λ e. ne (ap place.LinkOf e))) (λ _ _. refl)
+    (λ _. outside (λ _. refl) (λ _ _. refl) (λ i ne. put_other w.link t _ i (λ e. ne (ap place.LinkOf e))) (λ _ _. refl)
     (λ _ _. refl) (λ _ _. refl) (λ _ _. refl) (λ i _. flag_kept w.place s (Listed _) moves i))
 same_but start w p (Mark s expected) moves =
     if_won (word_of (w.link s) == expected) (place.LinkOf s) _ w
-    (λ _. words_but (λ _. refl) (λ _ _. refl) (λ i ne. put_other w.link s _ i (λ e. ne (ap place.LinkOf e))) (λ _ _. refl)
+    (λ _. outside (λ _. refl) (λ _ _. refl) (λ i ne. put_other w.link s _ i (λ e. ne (ap place.LinkOf e))) (λ _ _. refl)
     (λ _ _. refl) (λ _ _. refl) (λ _ _. refl) (λ _ _. refl))
 same_but start w p (Replace s expected t) moves =
     if_won (word_of (w.link s) == expected) (place.LinkOf s) _ w
-    (λ _. words_but (λ _. refl) (λ _ _. refl) (λ i ne. put_other w.link s _ i (λ e. ne (ap place.LinkOf e))) (λ _ _. refl)
+    (λ _. outside (λ _. refl) (λ _ _. refl) (λ i ne. put_other w.link s _ i (λ e. ne (ap place.LinkOf e))) (λ _ _. refl)
     (λ _ _. refl) (λ _ _. refl) (λ _ _. refl) (λ i _. flag_kept w.place t (Listed _) moves i))
 same_but start w p (Unlink (Head b) expected s) moves =
     if_won (word_of (w.head b) == expected) (place.Head b) _ w
-    (λ won. words_but (λ _. refl) (λ i ne. put_other w.head b _ i (λ e. ne (ap place.Head e))) (λ _ _. refl) (λ _ _. refl)
+    (λ won. outside (λ _. refl) (λ i ne. put_other w.head b _ i (λ e. ne (ap place.Head e))) (λ _ _. refl) (λ _ _. refl)
     (λ _ _. refl) (λ _ _. refl) (λ _ _. refl)
     (λ i _. flag_kept w.place s (Own p) (moves (eqb-true (word_of (w.head b)) expected won)) i))
 same_but start w p (Unlink (Slot t) expected s) moves =
     if_won (word_of (w.link t) == expected) (place.LinkOf t) _ w
-    (λ won. words_but (λ _. refl) (λ _ _. refl) (λ i ne. put_other w.link t _ i (λ e. ne (ap place.LinkOf e)))
+    (λ won. outside (λ _. refl) (λ _ _. refl) (λ i ne. put_other w.link t _ i (λ e. ne (ap place.LinkOf e)))
     (λ _ _. refl) (λ _ _. refl) (λ _ _. refl) (λ _ _. refl)
     (λ i _. flag_kept w.place s (Own p) (moves (eqb-true (word_of (w.link t)) expected won)) i))
 same_but start w p (ConfirmPresent op s expected) moves =
