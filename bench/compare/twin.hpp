@@ -108,8 +108,9 @@ template <class N> class Table {
     // in a slot, behind its link
     static constexpr uint64_t BIRTH = 1, STAMP = 2, KEY = 3, VALUE = 4, WORDS = N::VALUES ? 5 : 4;
     static constexpr unsigned POOL = 64;
-    // a reserve is no more than this, and where no more than this part of it is lacking it isn't topped up
-    static constexpr unsigned RESERVE = 32, PARTS = 8;
+    // a reserve is no more than this, and where no more than this part of it is lacking it isn't topped up; where a pass has so
+    // many slots for its share it takes it at the opening
+    static constexpr unsigned RESERVE = 32, PARTS = 8, SHARE = 64;
 
     const uint64_t slots, buckets, last_epoch, slots_at, flags_at;
     Word *words;
@@ -135,10 +136,11 @@ public:
     Table &operator=(const Table &) = delete;
 
     // A pass of so many: they begin to look for a slot at words of flags that lie apart. It keeps slots in reserve as a handle does.
-    Pass pass(unsigned who, unsigned passes) const {
+    Pass pass(unsigned who, unsigned passes) {
         Pass pass;
         pass.reserve = static_cast<uint32_t>(std::min<uint64_t>(slots / passes / PARTS, RESERVE));
         pass.tried = static_cast<uint32_t>(who * ((slots + 63) / 64) / passes * 64);
+        if (slots / passes >= SHARE) top_up(pass, pass.reserve);
         return pass;
     }
 

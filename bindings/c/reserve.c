@@ -1,5 +1,5 @@
-/* Slots that a handle keeps in reserve by itself: how many, in small sets none, and that a set sized by the rule has room for all
-   of its keys whatever the handles keep. */
+/* Slots that a handle keeps in reserve by itself: how many, from the opening on or by its inserts, in small sets none, and that a
+   set sized by the rule has room for all of its keys whatever the handles keep. */
 #include "vbr.h"
 
 #include <stdio.h>
@@ -30,28 +30,87 @@ static uint32_t kept(size_t count, uint32_t slots, uint64_t added) {
     return spare;
 }
 
+/* Each handle of a fresh set keeps as many, and each of a renewed one. */
+static uint32_t kept_at_once(size_t count, uint32_t slots) {
+    open_some(count, slots);
+    uint32_t first = vbr_spare(&handle[0]);
+    for (size_t i = 1; i < count; i++) CHECK(vbr_spare(&handle[i]) == first);
+    CHECK(vbr_renew_all(handle, count, slots, 16, VBR_MAX_EPOCH) == VBR_OK);
+    for (size_t i = 0; i < count; i++) CHECK(vbr_spare(&handle[i]) == first);
+    end(count);
+    return first;
+}
+
+/* The reserve is taken at the opening where there are 64 slots for each handle, and else by inserts. */
+static void take_at_once(void) {
+    CHECK(kept_at_once(1, 1) == 0 && kept_at_once(1, 63) == 0 && kept_at_once(2, 127) == 0 && kept_at_once(4, 255) == 0);
+    CHECK(kept_at_once(1, 64) == 8 && kept_at_once(2, 128) == 8 && kept_at_once(4, 256) == 8 && kept_at_once(4, SLOTS) == 11);
+    CHECK(kept_at_once(4, 1023) == 31 && kept_at_once(4, 1024) == 32 && kept_at_once(1, 100000) == 32);
+}
+
+/* So another handle that fills the set leaves it to its owner, whose first 32 inserts find a slot each. They advance no epoch. */
+static void are_there_before_any_insert(void) {
+    uint64_t key = 0;
+    open_some(2, 512);
+    while (vbr_insert(&handle[1], key) == VBR_YES) key++;
+    CHECK(key == 512 - 32 && vbr_insert(&handle[1], key) == VBR_NO_SLOT);
+    for (int i = 0; i < 32; i++) CHECK(vbr_insert(&handle[0], key + (uint64_t)i) == VBR_YES && vbr_epoch(&handle[0]) == 1);
+    CHECK(vbr_insert(&handle[0], 1000) == VBR_NO_SLOT);
+    end(2);
+    CHECK(report.live == 512 && report.epoch == 1);
+}
+
+/* Nor do they where each key is removed again before the next one; the one after them does. */
+static void last_for_32_keys(void) {
+    open_some(1, 512);
+    for (uint64_t key = 0; key < 32; key++) {
+        CHECK(vbr_insert(&handle[0], key) == VBR_YES && vbr_remove(&handle[0], key) == VBR_YES);
+        CHECK(vbr_epoch(&handle[0]) == 1);
+    }
+    CHECK(vbr_insert(&handle[0], 32) == VBR_YES && vbr_epoch(&handle[0]) == 2);
+    end(1);
+}
+
+/* A set that opens with keys, which lie in the first slots. The first handle looks there: a try fails, and the next one is behind
+   them, or 64 slots further on. Where all of its tries fail it has none, and its inserts find one each as ever. */
+static void bounded_tries(void) {
+    static uint64_t some[4096];
+    for (uint64_t key = 0; key < 4096; key++) some[key] = key;
+    CHECK(vbr_open_with(handle, 2, 1024, 16, VBR_MAX_EPOCH, some, 3) == VBR_OK);
+    CHECK(vbr_spare(&handle[0]) == 31 && vbr_spare(&handle[1]) == 32);
+    end(2);
+    CHECK(vbr_open_with(handle, 2, 1024, 16, VBR_MAX_EPOCH, some, 200) == VBR_OK);
+    CHECK(vbr_spare(&handle[0]) == 32 - 4 && vbr_spare(&handle[1]) == 32);
+    end(2);
+    CHECK(vbr_open_with(handle, 1, 4096 + 64, 4096, VBR_MAX_EPOCH, some, 4096) == VBR_OK);
+    CHECK(vbr_spare(&handle[0]) == 0);
+    for (uint64_t key = 4096; key < 4096 + 64; key++) CHECK(vbr_insert(&handle[0], key) == VBR_YES);
+    vbr_end_all(handle, 1);
+}
+
 /* An eighth of the slots at most: none with fewer than eight for each handle. Of 11 slots two are taken where nine are left, and of
    31 four where 27 are. */
 static void keep_an_eighth(void) {
     CHECK(kept(1, 1, 1) == 0 && kept(1, 7, 1) == 0 && kept(1, 7, 7) == 0);
     CHECK(kept(1, 8, 1) == 1 && kept(2, 15, 1) == 0 && kept(2, 16, 1) == 1);
     CHECK(kept(4, 355, 60) == 11 && kept(4, 355, 61) == 10);
-    CHECK(kept(1, 255, 60) == 29 && kept(1, 255, 61) == 28 && kept(1, 255, 62) == 31);
+    CHECK(kept(1, 255, 60) == 31 && kept(1, 255, 61) == 30 && kept(1, 255, 63) == 28);
 }
 
-/* An insert takes one slot, and five come where 27 are left, or fewer. So they grow by four an insert, and are then 28 to 32. */
-static void grow(void) {
-    CHECK(kept(1, 1000, 1) == 5 && kept(1, 1000, 2) == 9 && kept(1, 1000, 6) == 25 && kept(1, 1000, 7) == 29);
-    CHECK(kept(1, 1000, 8) == 28 && kept(1, 1000, 9) == 32 && kept(1, 1000, 13) == 28 && kept(1, 1000, 499) == 32);
+/* An insert takes one slot, and five come where 27 are left: 28 to 32 are kept. */
+static void stay(void) {
+    CHECK(kept(1, 1000, 1) == 31 && kept(1, 1000, 4) == 28 && kept(1, 1000, 5) == 32 && kept(1, 1000, 499) == 28);
 }
 
-/* What is given back comes again with the next insert that adds a key, and with no other call. */
+/* What is given back comes again with the next inserts that add a key, and with no other call: four more with each of them. */
 static void give_back(void) {
     open_some(1, 1000);
     for (uint64_t key = 0; key < 40; key++) CHECK(vbr_insert(&handle[0], key) == VBR_YES);
-    CHECK(vbr_spare(&handle[0]) == 31);
+    CHECK(vbr_spare(&handle[0]) == 32);
     CHECK(vbr_insert(&handle[0], 5) == VBR_NO && vbr_has(&handle[0], 5) == VBR_YES && vbr_spare(&handle[0]) == 0);
     CHECK(vbr_insert(&handle[0], 40) == VBR_YES && vbr_spare(&handle[0]) == 5);
+    for (uint64_t key = 41; key < 48; key++) CHECK(vbr_insert(&handle[0], key) == VBR_YES);
+    CHECK(vbr_spare(&handle[0]) == 29);
     end(1);
 }
 
@@ -68,8 +127,12 @@ static void fit_all(void) {
 }
 
 int main(void) {
+    take_at_once();
+    are_there_before_any_insert();
+    last_for_32_keys();
+    bounded_tries();
     keep_an_eighth();
-    grow();
+    stay();
     give_back();
     fit_all();
     puts("slots kept in reserve in C: passed");

@@ -180,7 +180,8 @@ typedef vbr_report vbr_totals VBR_DEPRECATED("vbr_report");
 /* Opening a set */
 
 /* Opens an empty set and fills `count` handles, which are empty, so each is {0}, or has a budget: VBR_OK. Else VBR_IN_USE,
-   VBR_BAD_SHAPE, VBR_BAD_COUNT or VBR_NO_MEMORY, tested in this order, and the handles are as they were.
+   VBR_BAD_SHAPE, VBR_BAD_COUNT or VBR_NO_MEMORY, tested in this order, and the handles are as they were. Each handle takes its
+   reserve, as vbr_reserve says.
 
        vbr_handle handle[2] = {{0}};
        if (vbr_open(handle, 2, 1024 + 2 * 64, 1024, VBR_MAX_EPOCH) != VBR_OK) return 1; */
@@ -233,7 +234,7 @@ VBR_NODISCARD vbr_answer vbr_open_many_seeded(vbr_handle *handles, size_t count,
 
 /* Adds a key: VBR_YES if it was absent, VBR_NO if it was there. Else VBR_OUT_OF_STEPS, VBR_NO_SLOT, VBR_EPOCH_SPENT or
    VBR_NO_HANDLE. At VBR_NO_SLOT have other handles give their slots back (vbr_spare), remove keys, or make it again. Where it adds
-   the key, the handle then takes slots in reserve for the next inserts, as vbr_reserve says. It takes no memory and never waits.
+   the key, the handle then fills its reserve for the next inserts, as vbr_reserve says. It takes no memory and never waits.
 
        if (vbr_insert(&handle[0], 5) == VBR_YES) added++; // this call added 5 */
 VBR_NODISCARD static inline vbr_answer vbr_insert(vbr_handle *handle, uint64_t key) VBR_NOEXCEPT VBR_NONNULL;
@@ -371,11 +372,13 @@ uint32_t vbr_spare(vbr_handle *handle) VBR_NOEXCEPT VBR_NONNULL;
    memory and can't fail. vbr_spare gives the slots back.
 
    A handle keeps a reserve by itself: 32 slots, or slots / (8 * handles) where that is less, so none in a set with fewer than 8 slots
-   for each handle. After an insert that added a key, where more than an eighth of the reserve is lacking, it makes up to 5 tries to
-   take a slot, within the budget of the call. So a handle that takes a key out before each that it puts in, as a cache does that is
-   full, advances the epoch in about one of 30 inserts, and not in each. With r slots in reserve it is one of r + 1: call this for
-   more than 32, or of a small set. Inserts take slots of the handle first, so those that fill the set use the rest up. The reserve
-   is part of the 64 slots that are counted for each handle.
+   for each handle. With 64 slots or more for each it takes them when it is opened or renewed, in as many tries. A try fails at a
+   slot that has a key, and the next one is up to 64 slots further on. So it takes all where the set opens empty, and often none
+   where it opens with thousands of keys. After an insert that added a key, where more than an eighth of the reserve is lacking, it
+   makes up to 5 tries to take a slot, within the budget of the call. So a handle that takes a key out before each that it puts in,
+   as a cache does that is full, advances the epoch in about one of 30 inserts, and not in each. With r slots in reserve it is one of
+   r + 1: call this for more than 32, or of a small set. Inserts take slots of the handle first, so those that fill the set use the
+   rest up. The reserve is part of the 64 slots that are counted for each handle. A handle that won't insert may give it back at once.
 
        uint32_t taken = vbr_reserve(&handle[0], 32); // for its inserts to come */
 uint32_t vbr_reserve(vbr_handle *handle, uint32_t wanted) VBR_NOEXCEPT VBR_NONNULL;
@@ -521,7 +524,7 @@ VBR_NODISCARD vbr_answer vbr_map_open_many_seeded(vbr_map_handle *handles, size_
 
 /* Adds a key with its value: VBR_YES if the key was absent, VBR_NO if it was there; then it keeps the value that it has. Else
    VBR_OUT_OF_STEPS, VBR_NO_SLOT, VBR_EPOCH_SPENT or VBR_NO_HANDLE. At VBR_NO_SLOT have other handles give their slots back
-   (vbr_map_spare), remove keys, or make it again. Where it adds the key, the handle then takes slots in reserve, as vbr_reserve says.
+   (vbr_map_spare), remove keys, or make it again. Where it adds the key, the handle then fills its reserve, as vbr_reserve says.
    So do vbr_map_put and vbr_map_get_or_insert. It takes no memory and never waits.
 
        if (vbr_map_insert(&map[0], 5, 70) == VBR_YES) added++; // this call stored 70 for 5 */

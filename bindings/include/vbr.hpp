@@ -801,7 +801,7 @@ public:
     std::uint32_t spare() noexcept { return Kind::spare(&raw); }
 
     /* Takes slots out of the pool that all handles share until the handle keeps `wanted` to itself, or 63 if that is less, and
-       returns how many it took: fewer only where it finds no more. A handle keeps up to 32 by itself, which its inserts take:
+       returns how many it took: fewer only where it finds no more. A handle keeps up to 32 by itself, from its opening on:
        vbr_reserve says how many, what they are for, and when to take more. spare gives the slots back.
 
            std::uint32_t reserved = mine.reserve(32); // for its inserts to come */

@@ -444,16 +444,19 @@ impl<T: Kind> PassOf<T> {
     /// memory and can't fail. [`PassOf::spare`] gives the slots back.
     ///
     /// A handle keeps a reserve by itself: 32 slots, or slots / (8 * handles) where that is less, so none in a set with fewer
-    /// than 8 slots for each handle. After an insert that added a key, where more than an eighth of the reserve is lacking, it
-    /// makes up to 5 tries to take a slot, within the budget of the call. So a handle that takes a key out before each that it
-    /// puts in, as a cache does that is full, advances the epoch in about one of 30 inserts, and not in each. With r slots in
-    /// reserve it is one of r + 1: call this for more than 32, or of a small set. Inserts take slots of the handle first, so
-    /// those that fill the set use the rest up. The reserve is part of the 64 slots that are counted for each handle.
+    /// than 8 slots for each handle. With 64 slots or more for each it takes them when it is opened or renewed, in as many
+    /// tries. A try fails at a slot that has a key, and the next one is up to 64 slots further on. So it takes all where the set
+    /// opens empty, and often none where it opens with thousands of keys. After an insert that added a key, where more than an
+    /// eighth of the reserve is lacking, it makes up to 5 tries to take a slot, within the budget of the call. So a handle that
+    /// takes a key out before each that it puts in, as a cache does that is full, advances the epoch in about one of 30 inserts,
+    /// and not in each. With r slots in reserve it is one of r + 1: call this for more than 32, or of a small set. Inserts take
+    /// slots of the handle first, so those that fill the set use the rest up. The reserve is part of the 64 slots that are
+    /// counted for each handle. A handle that won't insert may give it back at once.
     ///
     /// ```
     /// # use vbr::{Set, Shape};
     /// let mut handles = Set::handles(Shape::new(100, 8, 1_000))?;
-    /// assert_eq!(handles[0].reserve(32), 32);
+    /// assert_eq!(handles[0].reserve(32), 20); // twelve it has since its opening
     /// for key in 0..330 {
     ///     assert!(handles[0].insert(key)? && handles[0].remove(key)?);
     /// }

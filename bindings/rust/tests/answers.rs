@@ -28,6 +28,7 @@ of_sets_and_maps! {
     look_ups_through_a_shared_reference
     budgets_of_handles
     spared_slots
+    reserves_of_fresh_handles
     a_set_that_ends
 }
 
@@ -42,6 +43,15 @@ fn spared_slots<K: Both>() {
     assert_eq!((handles[0].spare(), handles[0].spare()), (1, 0));
     assert_eq!(K::insert(&mut handles[1], 6), Ok(true));
     assert_eq!(K::insert(&mut handles[0], 5), Err(Refusal::NoSlot));
+}
+
+/// A handle has its reserve before it has made a call, where there are 64 slots for each handle.
+fn reserves_of_fresh_handles<K: Both>() {
+    let kept = |slots: u32| {
+        let handles = Table::<K>::handles(Shape::new(slots, 8, 10).with_handles(2)).expect("a set");
+        handles.into_iter().map(|mut handle| handle.spare()).collect::<Vec<u32>>()
+    };
+    assert_eq!([kept(127), kept(128), kept(511), kept(512)], [[0, 0], [8, 8], [31, 31], [32, 32]]);
 }
 
 /// Closes the last handle.
