@@ -199,8 +199,12 @@ private:
         madvise(reinterpret_cast<void *>(first), ((start + size) & ~(PAGE - 1)) - first, MADV_HUGEPAGE);
     }
 
-    // By multiplicative hashing, as the library spreads keys with seed 0.
-    uint64_t head_of(uint64_t key) const { return HEADS + ((key * 0x9e3779b97f4a7c15u >> 32) * buckets >> 32); }
+    // By multiplicative hashing, as the library spreads keys with seed 0: by a shift where the buckets are a power of two.
+    uint64_t head_of(uint64_t key) const {
+        const uint64_t mixed = key * 0x9e3779b97f4a7c15u >> 32;
+        const bool is_power = (buckets & (buckets - 1)) == 0;
+        return HEADS + (is_power ? mixed >> (32 - __builtin_ctzll(buckets)) : mixed * buckets >> 32);
+    }
     uint64_t link_of(uint64_t named) const { return slots_at + WORDS * (named - 1); }
 
     uint64_t read_epoch(Pass &pass) const {
