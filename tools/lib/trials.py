@@ -7,7 +7,7 @@ def trial(name, words, *after, what="passed"):
 
 
 def short(library, program):
-    """The trials of `make test`. The library and the program stand in target/ behind the tasks of these names."""
+    """The trials of `make test`. The library and the program stand in target/ after the tasks of these names."""
     return [
         trial("tools", ["tests/tools"]),
         trial("clients", ["bindings/test"], library),
