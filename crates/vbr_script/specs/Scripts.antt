@@ -124,5 +124,6 @@ HasSome kind workers text = 0 < length (script_of kind workers text) + length (r
 -- what is read of a text: the script that it is, or its first fault; where there is no memory, it has an operation or a renewal before that
 pub record ReadsScript (kind : Kind) (workers : ℕ) (text : List ℕ) (result : Result Script ScriptError) : Type 0 where
   pub script : IfOk result (IsScriptOf kind workers text)
-  pub fault : (line : ℕ) (fault : ScriptFault) → IsErrOf result (refused.Fault line fault) → first_fault kind workers text ≡ Some (line, fault)
+  pub fault : (line : ℕ) (fault : ScriptFault) → IsErrOf result (refused.Fault line fault) →
+    first_fault kind workers text ≡ Some (line, fault)
   pub memory_only_for_a_line : IsErrOf result refused.Memory → HasSome kind workers text
