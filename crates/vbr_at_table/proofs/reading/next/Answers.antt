@@ -13,7 +13,7 @@ pub returns-in_default-clause-reads : goal.returns-in_default-clause-reads
 returns-in_default-clause-reads g c =
     let names = ap (λ (l : Link). l.slot) (sym c.decode.ensures.link) ∙ c.in_default.is in
     let P : Option ℕ → Type 0 = λ slot. ReadsIn c.args.at.now.stepper.now c.args.at.now.stepper.now (next_steps slot) in
-    subst P (sym names) (reads_none c.args.at.now.stepper.now c.law.ensures)
+    subst P (sym names) (reads_none c.args.at.now.stepper.now)
 
 pub read_node-birth-requires-clause-slot : goal.read_node-birth-requires-clause-slot
 read_node-birth-requires-clause-slot g c =
