@@ -57,19 +57,11 @@ unlink-requires-clause-new g c =
 
 pub returns-in-Ok-clause-stays : goal.returns-in-Ok-clause-stays
 returns-in-Ok-clause-stays g c =
-    record {
-      took = search rules;
-      quiet = quiet_on c.birth_after.ensures.reads.quiet (unlink_quiet c.in-Ok.ensures.found.did);
-      own = search rules;
-    }
+    let quiet = quiet_on c.birth_after.ensures.reads.quiet (unlink_quiet c.in-Ok.ensures.found.did) in search rules
 
 pub returns-in-Err-clause-stays : goal.returns-in-Err-clause-stays
 returns-in-Err-clause-stays g c =
-    record {
-      took = search rules;
-      quiet = quiet_on c.birth_after.ensures.reads.quiet (unlink_quiet c.in-Err.ensures.other.did);
-      own = search rules;
-    }
+    let quiet = quiet_on c.birth_after.ensures.reads.quiet (unlink_quiet c.in-Err.ensures.other.did) in search rules
 
 pub returns-in-Ok-clause-unlinked : goal.returns-in-Ok-clause-unlinked
 returns-in-Ok-clause-unlinked g c =
