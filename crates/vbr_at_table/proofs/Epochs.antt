@@ -53,10 +53,12 @@ moves (Advance from) = true
 moves (StoreStamp s stamp) = true
 moves _ = false
 
+-- a link that is written leaves the epoch and the stamps
 linked_same : (w : World) (place : At) (link : Link) → epoch_and_stamps (with_link_at w place link) ≡ epoch_and_stamps w
 linked_same w (Head b) link = refl
 linked_same w (Slot s) link = refl
 
+-- and so does what any other step writes
 written_same : (start : Start) (p : ℕ) (step : Step) (link : Link) (key : ℕ) (w : World) → moves step ≡ false →
     epoch_and_stamps (written start p step link key w) ≡ epoch_and_stamps w
 written_same start p (Advance from) link key w none = absurd (cc)
@@ -65,11 +67,13 @@ written_same start p (Publish pred expected s) link key w none = linked_same w p
 written_same start p (Unlink pred expected s) link key w none = linked_same w pred link
 written_same start p _ link key w none = refl
 
+-- what a pass learns leaves them
 learned_same : (start : Start) (w : World) (p : ℕ) (step : Step) →
     epoch_and_stamps (learned start w p step) ≡ epoch_and_stamps w
 learned_same start w p (Advance from) = refl
 learned_same start w p _ = refl
 
+-- and so does a call that is made
 called_same : (w : World) (call : Option Call) → epoch_and_stamps (with_call w call) ≡ epoch_and_stamps w
 called_same w None = refl
 called_same w (Some call) = refl

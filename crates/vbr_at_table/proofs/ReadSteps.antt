@@ -52,6 +52,7 @@ pub record Loads (step : Step) (found : ℕ) (read : Read) : Type 0 where
   pub no_gift : advances_or_gives step ≡ false
   pub teaches : (know : Know) (stamp : ℕ) → learn step found stamp know ≡ with_pending know read
 
+-- the loads of a link, of a birth, of a key and of a value
 pub loads_link : (place : At) (word : ℕ) → Loads (LoadLink place) word (LinkAt place (link_of word))
 loads_link place word = search rules
 

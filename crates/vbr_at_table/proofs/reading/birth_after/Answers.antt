@@ -22,6 +22,7 @@ load_birth-birth-requires-clause-held g c =
     named_found c.args.at.now.stepper.now c.law.ensures c.args.held.now c.in-Some.slot c.requires.held
     (ap (λ (l : Link). l.slot) (sym c.decode.ensures.link) ∙ c.in-Some.is)
 
+-- two steps were made, a load of the birth and a read of the epoch
 in_two : (g : Over) (c : After-read_epoch-now g) →
     ReadsIn c.args.at.now.stepper.now c.read_epoch-now.new.self.stepper.now (steps_to_birth c.args.held.now.word)
 in_two g c =

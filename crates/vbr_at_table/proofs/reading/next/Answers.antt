@@ -25,6 +25,7 @@ read_node-birth-requires-clause-held g c =
     named_found c.args.at.now.stepper.now c.law.ensures c.args.held.now c.in-Some.slot c.requires.held
     (ap (λ (l : Link). l.slot) (sym c.decode.ensures.link) ∙ c.in-Some.is)
 
+-- three steps were made, where the link names a slot
 in_three : (g : Over) (c : After-read_node-birth g) →
     ReadsIn c.args.at.now.stepper.now c.read_node-birth.new.self.stepper.now
     (next_steps (link_of c.args.held.now.word).slot)

@@ -30,6 +30,7 @@ returns-then-not-affords-clause-none g c =
 
 -- ---- the epoch is read, and the own pool looked through
 
+-- so far no call was made, and no slot was lost
 looked : (g : Over) (c : After-scan g) → Chooses c.args.at.now.stepper.now c.scan.new.at.stepper.now
 looked g c =
     chooses_then c.args.at.now.stepper.now c.read_epoch-epoch.new.self.stepper.now c.scan.new.at.stepper.now

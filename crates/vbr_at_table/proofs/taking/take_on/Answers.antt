@@ -6,6 +6,7 @@ use Rattle.vbr_at_table.proofs.taking.take_on.Goals as goal
 
 -- ---- no slot was won
 
+-- then the call tells why no slot was won
 none_won : (g : Over) (c : After-from_residual g) →
     TakesOn c.args.at.now.stepper.now c.win_slot.new.at.stepper.now c.args.budget c.from_residual.result
 none_won g c =
@@ -28,6 +29,7 @@ returns-in_err-used-clause-refused g c =
 
 -- ---- none was chosen
 
+-- then the call tells why none was chosen
 none_chosen : (g : Over) (c : After-from_residual-in_err-slot g) →
     TakesOn c.args.at.now.stepper.now c.choose.new.at.stepper.now c.args.budget c.from_residual-in_err-slot.result
 none_chosen g c =
@@ -51,6 +53,7 @@ returns-in_err-slot-clause-refused g c =
 
 -- ---- one was chosen
 
+-- then the call tells what came of the birth
 ended : (g : Over) (c : After-bear g) →
     TakesOn c.args.at.now.stepper.now c.bear.new.at.stepper.now c.args.budget c.bear.result
 ended g c =

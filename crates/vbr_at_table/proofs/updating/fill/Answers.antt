@@ -20,6 +20,7 @@ use Rattle.vbr_at_table.proofs.updating.fill.Given.{Over}
 use Rattle.vbr_at_table.proofs.updating.fill.Goals.{After-link_to-link, After-put_value}
 use Rattle.vbr_at_table.proofs.updating.fill.Goals as goal
 
+-- the slot is ready for its link once its key and its value are stored
 is_ready : (g : Over) (c : After-put_value g) →
     IsReady c.put_value.new.at.stepper.now c.args.pred.now c.slot-slot.result c.args.hand.now.birth c.args.birth
 is_ready g c =
