@@ -4,7 +4,7 @@ here."""
 import re
 
 # COLUMNS: how many lines may be wider.
-LIMITS = {120: 27, 240: 4}
+LIMITS = {120: 24, 240: 2}
 
 
 def wider(texts):
