@@ -1,13 +1,8 @@
 //! Stores that lose their exchange: pass 1 stands before it, with a slot in hand, while pass 0 is first, and goes on
 //! over what that left.
 ghost use Rattle.std.specs.Prelude.{◌≡◌, None, IfOk, IfErr};
-ghost use Rattle.vbr_slots.specs.AtTables.{IsSameTable, pass_of, trace_of};
-ghost use Rattle.vbr_slots.specs.Calls.{Took};
-ghost use Rattle.vbr_slots.specs.Views.{IsOf, knows};
-ghost use Rattle.vbr_at_table.specs.Exchanges.{GivesBack};
-ghost use Rattle.vbr_at_table.specs.Hands.{IsHandOf};
-ghost use Rattle.vbr_at_table.specs.KeptKnowledge.{Keeps, KeepsOwn};
-ghost use Rattle.vbr_at_table.specs.Replacing.{IsReplaceable, ReplacesHeld};
+ghost use Rattle.vbr_table_tests.specs.Names.{GivesBack, IsHandOf, IsOf, IsReplaceable, IsSameTable, Keeps};
+ghost use Rattle.vbr_table_tests.specs.Names.{KeepsOwn, ReplacesHeld, Took, knows, pass_of, trace_of};
 ghost use Rattle.vbr_table_tests.specs.Buckets.{HasEntryLists};
 
 use crate::entries;

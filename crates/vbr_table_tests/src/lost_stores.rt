@@ -1,11 +1,7 @@
 //! A reader stands on a node while another pass replaces its value: what its next calls tell.
 ghost use Rattle.std.specs.Prelude.{◌≡◌, true, None, IfOk};
 ghost use Rattle.vbr_words.specs.declared.place.At.TheVariants.{Slot};
-ghost use Rattle.vbr_slots.specs.Views.{IsOf, knows};
-ghost use Rattle.vbr_at_table.specs.Exchanges.{IsUnmarked};
-ghost use Rattle.vbr_at_table.specs.Held.{IsHeld, Names};
-ghost use Rattle.vbr_at_table.specs.KeptKnowledge.{KeepsOwn};
-ghost use Rattle.vbr_at_table.specs.Replacing.{IsReplaceable};
+ghost use Rattle.vbr_table_tests.specs.Names.{IsHeld, IsOf, IsReplaceable, IsUnmarked, KeepsOwn, Names, knows};
 ghost use Rattle.vbr_table_tests.specs.Buckets.{HasEntryLists};
 
 use crate::retiring::{head_of, last_node};

@@ -1,14 +1,8 @@
 //! Retiring: the stamp of a slot is an epoch that was read after the slot was unlinked.
 ghost use Rattle.std.specs.Prelude.{◌≡◌, ℕ, ◌<◌, false, None};
-ghost use Rattle.vbr_words.specs.Words.{link_of};
 ghost use Rattle.vbr_words.specs.declared.place.At.TheVariants.{Head, Slot};
-ghost use Rattle.vbr_machine.specs.Acceptance.{IsUnlinked};
-ghost use Rattle.vbr_slots.specs.Views.{IsOf, knows};
-ghost use Rattle.vbr_at_table.specs.Answering.{IsPresent};
-ghost use Rattle.vbr_at_table.specs.Exchanges.{IsUnmarked};
-ghost use Rattle.vbr_at_table.specs.Held.{IsHeld, Names};
-ghost use Rattle.vbr_at_table.specs.KeptKnowledge.{Keeps, KeepsOwn};
-ghost use Rattle.vbr_at_table.specs.Values.{IsValued};
+ghost use Rattle.vbr_table_tests.specs.Names.{IsHeld, IsOf, IsPresent, IsUnlinked, IsUnmarked, IsValued, Keeps};
+ghost use Rattle.vbr_table_tests.specs.Names.{KeepsOwn, Names, knows, link_of};
 
 use crate::running_table::{Opened, expect_pass, expect_words, two_passes};
 use std::alloc::Global;
