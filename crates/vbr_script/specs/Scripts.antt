@@ -125,5 +125,5 @@ HasSome kind workers text = 0 < length (script_of kind workers text) + length (r
 pub record ReadsScript (kind : Kind) (workers : ℕ) (text : List ℕ) (result : Result Script ScriptError) : Type 0 where
   pub script : IfOk result (IsScriptOf kind workers text)
   pub fault : (line : ℕ) (fault : ScriptFault) → IsErrOf result (refused.Fault line fault) →
-    first_fault kind workers text ≡ Some (line, fault)
+      first_fault kind workers text ≡ Some (line, fault)
   pub memory_only_for_a_line : IsErrOf result refused.Memory → HasSome kind workers text
