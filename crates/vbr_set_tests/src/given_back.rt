@@ -77,7 +77,7 @@ fn expect_handed_over(
     for key in keys {
         assert_eq!(rt; other.insert(*key, 100), Err(Refusal::NoSlot));
     }
-    expect_given(rt, one, keys.len() as u32);
+    expect_given(rt, one, u32::try_from(keys.len()).unwrap_or(u32::MAX));
     expect_given(rt, one, 0);
     for key in keys {
         expect_insert(rt, other, *key, true);

@@ -261,8 +261,10 @@ pub(crate) fn table_after<R: Abort, N: Opened>(
     ensures own { IfSome result (λ r. IsOf r.1.trace r.0 × IsOf r.2.trace r.0) }
 {
     let (slots, last_epoch) = numbers;
-    let shape = shape_of::<N>((slots, 1, last_epoch)).ok()?;
-    table_of::<R, N>(rt, alloc, shape, rows, words)
+    match shape_of::<N>((slots, 1, last_epoch)) {
+        Ok(shape) => table_of::<R, N>(rt, alloc, shape, rows, words),
+        Err(_) => None,
+    }
 }
 
 // Makes a list on such a table, and compares the words of the closing.

@@ -107,7 +107,7 @@ pub(crate) fn expect_both(
     slots: &[(SlotPlace, u64)],
     incarnations: u64,
 ) -> Result<(), Fail> {
-    let shape = Shape::new(slots.len() as u32, 1, 10)?;
+    let shape = Shape::new(u32::try_from(slots.len()).unwrap_or(u32::MAX), 1, 10)?;
     let (plain, world) = follow_both(rt, alloc, shape, rows, looks)?;
     let places: Vec<SlotPlace> = slots.iter().map(|(place, _)| *place).collect(alloc)?;
     expect(rt, &plain, shape, calls, &places, incarnations);

@@ -9,4 +9,4 @@ use Rattle.vbr_table_tests.proofs.listed_calls.table_after.Goals as goal
 pub table_of-requires-clause-worked : goal.table_of-requires-clause-worked
 table_of-requires-clause-worked g c =
     subst (λ (d : Dimensions). AreWorked (empty_start d) (opening (empty_start d)) c.args.rows.now c.args.words.now)
-    (sym c.shape_of.ensures.whole) c.requires
+    (sym (rw c.in-Ok.is at c.shape_of.ensures.whole)) c.requires
